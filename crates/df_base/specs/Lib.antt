@@ -1,0 +1,6 @@
+pub mod Causes
+pub mod Fields
+pub mod Streams
+pub mod Image
+pub mod Log
+pub mod Moments
