@@ -1,0 +1,5 @@
+mod Written
+mod Lines
+mod Rounds
+mod Turns
+mod Whole

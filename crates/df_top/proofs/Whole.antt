@@ -1,0 +1,147 @@
+-- A whole run: the barrier, the opening, and the session behind it.
+use Rattle.std.proofs.Common.{◌≡◌, ◌⊎◌, inl, inr, ℕ, ◌+◌, ◌≤◌, Bool, true, false, List, [], ◌∷◌, ◌++◌, length, take, Option, Some, None, refl, sym, ◌∙◌, ap, subst, arith}
+use Rattle.df_base.specs.Log.{Log, Sync, add, now}
+use Rattle.df_base.specs.Moments.{EachMoment, Extends}
+use Rattle.df_base.specs.Streams.{Appends}
+use Rattle.df_base.proofs.Goes.{started, extends_self, extends_add, weaker, from_before, more}
+use Rattle.df_disk.specs.Told.{Told, did, after, IsHonest}
+use Rattle.df_format.specs.declared.wal.Wal.{Wal}
+use Rattle.df_format.specs.Unit.{Prepare}
+use Rattle.df_prepares.specs.declared.head.Head.{Head}
+use Rattle.df_prepares.specs.Laws.{NextMayBeWritten, RestIsKept, SyncRests}
+use Rattle.df_prepares.specs.Ring.{IsRing, IsHead}
+use Rattle.df_prepares.specs.Steady.{IsSafe, IsAtRest}
+use Rattle.df_script.specs.Grammar.{Said}
+use Rattle.df_script.specs.Text.{unread}
+use Rattle.df_top.specs.Appends.{ring_after, IsGood, LeavesSome, IsAfterSome}
+use Rattle.df_top.specs.Script.{Begins}
+use Rattle.df_top.specs.Session.{State, Rests, Since}
+use Rattle.df_top.specs.Ending.{EndsText, IsAnswered, IsAfter, LeavesRing, Ended}
+use Rattle.df_top.specs.Run.{line_bound, script_budget, Printed, Prints, FromBarrier, NoBarrier, Ran, Runs}
+use Rattle.df_top.specs.declared.status.Status.{Status}
+use Rattle.df_top.specs.declared.status.Status.TheVariants.{Done, DiskFault, Memory}
+use Rattle.df_top.proofs.Written.{appends_none}
+use Rattle.df_top.proofs.Rounds.{rest_good, honest_sync, one_disk}
+
+-- before anything was taken, all of the source is unread
+pub unread_all : (held : List ℕ) (left : Option (List ℕ)) → held ≡ [] → unread held left ≡ left
+unread_all held None none = refl
+unread_all held (Some text) none = ap (λ (h : List ℕ). Some (h ++ text)) none
+
+-- the end of the ring that a disk shows, where it tells that
+abbrev pub HeadIsOf : Wal → Option Told → Head → Type 0
+HeadIsOf wal told head = (t : Told) (ps : List Prepare) → told ≡ Some t → IsRing wal t.shown ps → IsHead head ps
+
+-- the state in which a session begins behind the barrier
+abbrev pub begun : Option Told → Option (List ℕ) → Option (List ℕ) → Head → State
+begun told text written head = record { told = after Sync told; text = text; written = written; budget = script_budget; lines = 0; head = head }
+
+-- ---- what is printed
+
+pub prints_ended : (wal : Wal) (told : Option Told) (text written : Option (List ℕ)) (head : Head) (new : State) (status : Status) → HeadIsOf wal told head → Ended wal line_bound (begun told text written head) new status
+    → Prints wal told text new.text written new.written status
+prints_ended wal told text written head new status head_of ended t opening bytes is ring is_bytes real =
+    let ends = ended.text bytes is_bytes in
+    record {
+      asked = ended.asked;
+      done = ended.done;
+      cut = ended.cut;
+      within = ended.within;
+      budget = ends.0;
+      rest = ends.1;
+      begins = ends.2;
+      ends = ends.3;
+      written = subst (λ (n : ℕ). IsAnswered wal.slots n 0 written new.written ended.asked ended.done ended.cut status) (head_of t opening is ring).op ended.written;
+    }
+
+-- where the disk failed before the session
+pub prints_nothing : (wal : Wal) (told : Option Told) (text left old new : Option (List ℕ)) → new ≡ old → Prints wal told text left old new DiskFault
+prints_nothing wal told text left old new same t opening bytes is ring is_bytes real = record {
+  asked = [];
+  done = 0;
+  cut = false;
+  within = (omega arith, omega arith);
+  budget = script_budget;
+  rest = bytes;
+  begins = (refl, refl);
+  ends = record { refused = λ no. absurd (cc); finished = λ no. absurd (cc) };
+  written = (refl, subst (λ (o : Option (List ℕ)). Appends old o []) (sym same) (appends_none old));
+}
+
+pub prints_memory : (wal : Wal) (told : Option Told) (text left old new : Option (List ℕ)) → Prints wal told text left old new Memory
+prints_memory wal told text left old new t opening bytes is ring is_bytes real = absurd (real refl)
+
+-- ---- what is left at each moment
+
+-- no barrier returned
+pub runs_nothing : (wal : Wal) (told later : Option Told) (text old new : Option (List ℕ)) (status : Status) → later ≡ told → new ≡ old → (status ≡ DiskFault) ⊎ (status ≡ Memory) → Runs wal told later text old new status
+runs_nothing wal told later text old new status same silent cause before opening is honest safe ring = record {
+  after = before;
+  is = same ∙ is;
+  honest = honest;
+  safe = started before.log (IsSafe wal) safe;
+  asked = [];
+  done = 0;
+  within = (omega arith, omega arith);
+  script = λ bytes _. (script_budget, bytes, (refl, refl));
+  course = inl (record { same = refl; silent = silent; cause = cause });
+}
+
+module _ (wal : Wal) (may_be_written : NextMayBeWritten wal) (is_kept : RestIsKept wal) (syncs : SyncRests wal) where
+  module _ (before : Told) (opening : List Prepare) (honest : IsHonest before) (safe : IsSafe wal before.log) (ring : IsRing wal (now before.log) opening) where
+    abbrev barrier : Log
+    barrier = add Sync before.log
+
+    at_rest : IsAtRest wal barrier opening
+    at_rest = syncs before.log opening safe ring
+
+    good : IsGood wal opening [] barrier
+    good = rest_good wal may_be_written is_kept opening [] barrier at_rest
+
+    good_since : Since barrier (Some (did Sync before)) (IsGood wal opening [])
+    good_since = record { disk = did Sync before; is = refl; grown = extends_self barrier; moments = started barrier (IsGood wal opening []) good }
+
+    rests : (head : Head) → IsHead head opening → Rests wal (Some (did Sync before)) head opening
+    rests head head_is = record { disk = did Sync before; is = refl; honest = honest_sync before honest; rest = at_rest; head_is = head_is }
+
+    -- the disk failed while the ring was read
+    pub ran_opening : (later : Option Told) (text old new : Option (List ℕ)) → later ≡ Some (did Sync before) → new ≡ old → Ran wal before later opening text old new DiskFault
+    ran_opening later text old new is same = record {
+      after = did Sync before;
+      is = is;
+      honest = honest_sync before honest;
+      safe = more Sync before.log before.log (IsSafe wal) (started before.log (IsSafe wal) safe) good.0;
+      asked = [];
+      done = 0;
+      within = (omega arith, omega arith);
+      script = λ bytes _. (script_budget, bytes, (refl, refl));
+      course = inr (record {
+          barrier = extends_self barrier;
+          moments = started barrier (LeavesSome wal opening []) good.1;
+          left = λ image left fair. inl (is_kept barrier opening at_rest image left fair);
+          cut = false;
+          answered = (refl, subst (λ (o : Option (List ℕ)). Appends old o []) (sym same) (appends_none old));
+      });
+    }
+
+    -- the session was executed to its end
+    pub ran_session : (text old : Option (List ℕ)) (head : Head) (new : State) (status : Status) → IsHead head opening → Ended wal line_bound (begun (Some before) text old head) new status → Ran wal before new.told opening text old new.written status
+    ran_session text old head new status head_is ended =
+        let left = ended.ring barrier opening (rests head head_is) good_since in
+        record {
+          after = left.since.disk;
+          is = left.since.is;
+          honest = left.honest;
+          safe = from_before Sync before.log left.since.disk.log (IsSafe wal) safe left.since.grown (weaker barrier left.since.disk.log (IsGood wal opening ended.asked) (IsSafe wal) (λ log each. each.0) left.since.moments);
+          asked = ended.asked;
+          done = ended.done;
+          within = ended.within;
+          script = λ bytes is. let ends = ended.text bytes is in (ends.0, ends.1, ends.2);
+          course = inr (record {
+              barrier = left.since.grown;
+              moments = weaker barrier left.since.disk.log (IsGood wal opening ended.asked) (LeavesSome wal opening ended.asked) (λ log each. each.1) left.since.moments;
+              left = left.left;
+              cut = ended.cut;
+              answered = subst (λ (n : ℕ). IsAnswered wal.slots n 0 old new.written ended.asked ended.done ended.cut status) head_is.op ended.written;
+          });
+        }

@@ -1,0 +1,35 @@
+// How a run ends.
+
+/// How a run ended. `number` is the status of the program's exit.
+#[derive(Clone, Copy, Debug, PartialEq, Eq)]
+pub enum Status {
+    /// The command was carried out; the script was read to its end.
+    Done,
+    /// The words have no meaning.
+    Words,
+    /// The next line is no line of a script, too long, or past the budget of bytes.
+    Script,
+    /// The disk failed.
+    DiskFault,
+    /// The source of the script failed.
+    ReadFault,
+    /// The sink failed, whatever else happened.
+    WriteFault,
+    /// Want of memory, before anything was read or written.
+    Memory,
+}
+
+impl Status {
+    /// The exit status of the program.
+    pub fn number(self) -> u8 {
+        match self {
+            Status::Done => 0,
+            Status::Words => 2,
+            Status::Script => 3,
+            Status::DiskFault => 5,
+            Status::ReadFault => 6,
+            Status::WriteFault => 7,
+            Status::Memory => 8,
+        }
+    }
+}
