@@ -1,3 +1,3 @@
+pub mod FieldBytes
 pub mod Fronts
-pub mod Lengths
 pub mod Goes

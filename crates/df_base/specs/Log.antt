@@ -1,6 +1,5 @@
 -- What a disk has been asked to do, what a stop may leave of it, and what has been made durable.
-use Rattle.std.specs.Prelude.{◌≡◌, ◌==◌, ℕ, true, false, Bool, ◌||◌, List, [], ◌∷◌}
-use Rattle.std.specs.List.{AllByRecursion}
+use Rattle.std.specs.Prelude.{◌≡◌, ℕ, true, false, Bool, ◌||◌, List, [], ◌∷◌}
 use Rattle.df_base.specs.Image.{Image, IsSector, IsImage, IsPiece, blank, covers, written, changed}
 
 -- a write of whole sectors from sector at on, a sync, or a stop (a power cut, say) that changed these sectors

@@ -3,3 +3,5 @@ pub mod Spelling
 pub mod Reading
 pub mod Unit
 pub mod Chance
+pub mod Laws
+pub mod Making

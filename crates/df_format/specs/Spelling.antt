@@ -1,6 +1,6 @@
 -- The one spelling of a prepare's header, and the rules that its fields obey.
-use Rattle.std.specs.Prelude.{◌≡◌, ◌<◌, ◌≤◌, ◌^◌, ℕ, List, ◌∷◌, ◌++◌, length, replicate, slice_index}
-use Rattle.df_base.specs.Fields.{spelled, check_of}
+use Rattle.std.specs.Prelude.{◌≡◌, ◌<◌, ◌≤◌, ◌^◌, ℕ, List, ◌∷◌, ◌++◌, length, replicate}
+use Rattle.df_base.specs.Fields.{AreBytes, spelled, check_of}
 use Rattle.df_format.specs.declared.header.Header.{Header}
 
 -- sixteen zeros, where a checksum would stand
@@ -24,7 +24,7 @@ spelling h = h.checksum ++ spelling_rest h
 -- bytes of a checksum
 pub record IsCheck (bytes : List ℕ) : Type 0 where
   pub size : length bytes ≡ 16
-  pub each : (i : ℕ) → slice_index bytes i < 256
+  pub each : AreBytes bytes
 
 -- what a prepare's header says is in range, whatever the layout
 pub record ObeysRules (h : Header) : Type 0 where

@@ -1,7 +1,7 @@
 -- The prepare that a slot shows.
 use Rattle.std.specs.Prelude.{◌≡◌, ◌≤◌, ◌+◌, ◌-◌, ◌*◌, ◌/◌, ◌%◌, ◌==◌, ℕ, List, Bool, ◌&&◌, ◌++◌, nat_le, if◌then◌else◌, length, take, drop, replicate, Option, Some, None}
 use Rattle.std.specs.Str.{bytes_eq}
-use Rattle.df_base.specs.Fields.{check_of}
+use Rattle.df_base.specs.Fields.{AreBytes, check_of}
 use Rattle.df_base.specs.Image.{Image, bytes_at}
 use Rattle.df_format.specs.declared.header.Header.{Header}
 use Rattle.df_format.specs.declared.wal.Wal.{Wal}
@@ -21,6 +21,7 @@ pub record IsPrepare (wal : Wal) (p : Prepare) : Type 0 where
   pub size : p.header.size ≡ 256 + length p.body
   pub fits : p.header.size ≤ wal.message_size
   pub body : p.header.checksum_body ≡ check_of p.body
+  pub each : AreBytes p.body
   pub slot : p.header.slot ≡ p.header.op % wal.slots
 
 -- the bytes of a whole prepare
@@ -51,6 +52,11 @@ with_body wal slot bytes (Some h) = if is_whole wal slot bytes h then Some (reco
 -- the prepare that is valid in a slot with these bytes
 unfoldable pub prepare_in : Wal → ℕ → List ℕ → Option Prepare
 prepare_in wal slot bytes = with_body wal slot bytes (header_in (take 256 bytes))
+
+-- its header
+abbrev pub header_of : Option Prepare → Option Header
+header_of None = None
+header_of (Some p) = Some p.header
 
 -- sectors of a slot
 abbrev pub slot_sectors : Wal → ℕ
