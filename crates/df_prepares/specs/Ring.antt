@@ -4,7 +4,6 @@ use Rattle.df_base.specs.Image.{Image}
 use Rattle.df_format.specs.declared.wal.Wal.{Wal}
 use Rattle.df_format.specs.Spelling.{no_checksum}
 use Rattle.df_format.specs.Unit.{Prepare, prepare_at}
-use Rattle.df_prepares.specs.declared.head.Head.{Head}
 
 -- these prepares stand in the slots of the ops from op on, each with the checksum of the one before as parent
 abbrev pub IsChain : Wal → Image → ℕ → List ℕ → List Prepare → Type 0
@@ -40,8 +39,3 @@ pub record IsNext (wal : Wal) (ps : List Prepare) (p : Prepare) : Type 0 where
   pub room : length ps < wal.slots
   pub op : p.header.op ≡ length ps + 1
   pub parent : p.header.parent ≡ end_of no_checksum ps
-
--- the end of a ring: how many prepares it has, and the checksum of the last of them
-pub record IsHead (head : Head) (ps : List Prepare) : Type 0 where
-  pub op : head.op ≡ length ps
-  pub checksum : head.checksum ≡ end_of no_checksum ps

@@ -1,6 +1,2 @@
 //! The ring of prepares: what it holds, how a prepare is written into it, and what a stop may leave of that.
 #![tactic(auto)]
-
-mod head;
-
-pub use head::Head;

@@ -46,7 +46,7 @@ goes_on wal bound old new said takes wrote count lines step origin asked so_far 
           after_line before.0,
           line.1,
           subst (λ (n : ℕ). Begins wal bound origin.budget text (asked ++ said ∷ []) n (after_line before.0)) (sym line.2)
-          (begins_more wal bound origin.budget text asked old.budget before.0 said before.2 line.0),
+              (begins_more wal bound origin.budget text asked old.budget before.0 said before.2 line.0),
         );
     written =
         subst (λ (l : List ℕ). Appends origin.written new.written l) (sym (answers_more wal.slots origin.head.op asked said))
@@ -117,8 +117,12 @@ module _ (wal : Wal) (bound : ℕ) (is_kept : RestIsKept wal) where
         text = λ text is.
             let before = so_far.text text is in
             (old.budget, before.0, before.2, record { refused = λ yes. refused before.0 before.1; finished = λ no. absurd (cc) });
-        written = (refl, refl, appends_more origin.written old.written new.written (answers wal.slots origin.head.op asked) _ so_far.written
-            (subst (λ (n : ℕ). Appends old.written new.written (script_line (n + 1))) so_far.lines wrote));
+        written = (
+          refl,
+          refl,
+          appends_more origin.written old.written new.written (answers wal.slots origin.head.op asked) _ so_far.written
+              (subst (λ (n : ℕ). Appends old.written new.written (script_line (n + 1))) so_far.lines wrote),
+        );
         ring = stays origin asked Script so_far;
       }
 
@@ -131,8 +135,11 @@ module _ (wal : Wal) (bound : ℕ) (is_kept : RestIsKept wal) where
         text = λ text is.
             let before = so_far.text text is in
             (old.budget, before.0, before.2, record { refused = λ yes. refused before.0 before.1; finished = λ no. absurd (cc) });
-        written = (refl, appends_part origin.written old.written new.written (answers wal.slots origin.head.op asked) _ so_far.written
-            (subst (λ (n : ℕ). AppendsPart old.written new.written (script_line (n + 1))) so_far.lines wrote));
+        written = (
+          refl,
+          appends_part origin.written old.written new.written (answers wal.slots origin.head.op asked) _ so_far.written
+              (subst (λ (n : ℕ). AppendsPart old.written new.written (script_line (n + 1))) so_far.lines wrote),
+        );
         ring = stays origin asked WriteFault so_far;
       }
 
@@ -157,8 +164,11 @@ module _ (wal : Wal) (bound : ℕ) (is_kept : RestIsKept wal) where
       cut = false;
       within = (omega (arith, length-append asked (said ∷ [])), omega (arith, length-append asked (said ∷ [])));
       text = more_text origin asked DiskFault (λ no. cc) so_far;
-      written = (refl, subst (λ (l : List Said). Appends origin.written new.written (answers wal.slots origin.head.op l)) (sym (front_of asked))
-          (subst (λ (o : Option (List ℕ)). Appends origin.written o (answers wal.slots origin.head.op asked)) (sym same_written) so_far.written));
+      written = (
+        refl,
+        subst (λ (l : List Said). Appends origin.written new.written (answers wal.slots origin.head.op l)) (sym (front_of asked))
+            (subst (λ (o : Option (List ℕ)). Appends origin.written o (answers wal.slots origin.head.op asked)) (sym same_written) so_far.written),
+      );
       ring = λ entry opening rests since.
           let now = so_far.ring entry opening rests since in
           step entry opening asked now.0 now.1;
@@ -175,9 +185,12 @@ module _ (wal : Wal) (bound : ℕ) (is_kept : RestIsKept wal) where
       cut = false;
       within = (omega arith, omega arith);
       text = more_text origin asked WriteFault (λ no. cc) so_far;
-      written = (refl, subst (λ (l : List ℕ). AppendsPart origin.written new.written l) (sym (answers_more wal.slots origin.head.op asked said))
-          (appends_part origin.written old.written new.written (answers wal.slots origin.head.op asked) (answer wal.slots (counts_after wal.slots origin.head.op asked)) so_far.written
-          (subst (λ (n : ℕ). AppendsPart old.written new.written (answer wal.slots n)) so_far.count wrote)));
+      written = (
+        refl,
+        subst (λ (l : List ℕ). AppendsPart origin.written new.written l) (sym (answers_more wal.slots origin.head.op asked said))
+            (appends_part origin.written old.written new.written (answers wal.slots origin.head.op asked) (answer wal.slots (counts_after wal.slots origin.head.op asked)) so_far.written
+            (subst (λ (n : ℕ). AppendsPart old.written new.written (answer wal.slots n)) so_far.count wrote)),
+      );
       ring = λ entry opening rests since.
           let now = so_far.ring entry opening rests since in
           let later = step entry opening asked now.0 now.1 in

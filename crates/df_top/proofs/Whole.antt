@@ -116,11 +116,11 @@ module _ (wal : Wal) (may_be_written : NextMayBeWritten wal) (is_kept : RestIsKe
       within = (omega arith, omega arith);
       script = λ bytes _. (script_budget, bytes, (refl, refl));
       course = inr (record {
-          barrier = extends_self barrier;
-          moments = started barrier (LeavesSome wal opening []) good.1;
-          left = λ image left fair. inl (is_kept barrier opening at_rest image left fair);
-          cut = false;
-          answered = (refl, subst (λ (o : Option (List ℕ)). Appends old o []) (sym same) (appends_none old));
+        barrier = extends_self barrier;
+        moments = started barrier (LeavesSome wal opening []) good.1;
+        left = λ image left fair. inl (is_kept barrier opening at_rest image left fair);
+        cut = false;
+        answered = (refl, subst (λ (o : Option (List ℕ)). Appends old o []) (sym same) (appends_none old));
       });
     }
 
@@ -138,10 +138,10 @@ module _ (wal : Wal) (may_be_written : NextMayBeWritten wal) (is_kept : RestIsKe
           within = ended.within;
           script = λ bytes is. let ends = ended.text bytes is in (ends.0, ends.1, ends.2);
           course = inr (record {
-              barrier = left.since.grown;
-              moments = weaker barrier left.since.disk.log (IsGood wal opening ended.asked) (LeavesSome wal opening ended.asked) (λ log each. each.1) left.since.moments;
-              left = left.left;
-              cut = ended.cut;
-              answered = subst (λ (n : ℕ). IsAnswered wal.slots n 0 old new.written ended.asked ended.done ended.cut status) head_is.op ended.written;
+            barrier = left.since.grown;
+            moments = weaker barrier left.since.disk.log (IsGood wal opening ended.asked) (LeavesSome wal opening ended.asked) (λ log each. each.1) left.since.moments;
+            left = left.left;
+            cut = ended.cut;
+            answered = subst (λ (n : ℕ). IsAnswered wal.slots n 0 old new.written ended.asked ended.done ended.cut status) head_is.op ended.written;
           });
         }
