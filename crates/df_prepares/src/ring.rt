@@ -3,6 +3,7 @@ ghost use Rattle.std.specs.Prelude.{◌≡◌, ◌<◌, ◌+◌, ◌%◌, length
 ghost use Rattle.df_base.specs.Causes.{HasCause};
 ghost use Rattle.df_format.specs.Unit.{prepare_in};
 ghost use Rattle.df_prepares.specs.Found.{IsHeadOf, MovesOn, ShowsNext};
+ghost use Rattle.df_prepares.specs.Ring.{IsEnd};
 
 use crate::read_slot;
 use df_base::{Check, Failed};
@@ -60,6 +61,7 @@ fn read_next<D: Disk>(
 pub fn find_ring<D: Disk>(disk: &mut D, wal: &Wal, room: &mut [u8]) -> Result<Head, Failed>
     requires room { length room.old ≡ wal.now.message_size }
     ensures head { IfOk result (IsHeadOf wal.now (D.told disk.old)) }
+    ensures end { IfOk result (IsEnd wal.now) }
     ensures same { D.told disk.new ≡ D.told disk.old }
     ensures cause { HasCause (D.faults disk.old) (D.faults disk.new) result }
 {
