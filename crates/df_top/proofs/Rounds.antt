@@ -11,7 +11,7 @@ use Rattle.df_disk.specs.Adds.{Adds, AddsPart, after_all}
 use Rattle.df_format.specs.declared.wal.Wal.{Wal}
 use Rattle.df_format.specs.Unit.{Prepare, IsPrepare, slot_start, sectors_of}
 use Rattle.df_format.specs.Chance.{NoChance, EachLeft}
-use Rattle.df_prepares.specs.declared.head.Head.{Head}
+use Rattle.df_prepares.specs.declared.ring.Head.{Head}
 use Rattle.df_prepares.specs.Ring.{IsRing, IsHead, IsNext}
 use Rattle.df_prepares.specs.Steady.{IsSafe, IsAtRest}
 use Rattle.df_prepares.specs.Laws.{wrote, HasOldOrNew, WriteKeeps, NextMayBeWritten, RestIsKept}
@@ -136,10 +136,10 @@ module _ (wal : Wal) (may_be_written : NextMayBeWritten wal) (is_kept : RestIsKe
     honest_wrote = honest_write (slot_start wal p.header.slot) (sectors_of p) rests.disk rests.honest
 
     -- the append was done
-    pub step_done : (later : Option Told) (next : Head) → IsHead next (ps ++ p ∷ []) → later ≡ after_all (event ∷ Sync ∷ []) told → Rests wal later next (ring_after wal opening more_asked) × Since entry later (IsGood wal opening more_asked)
+    pub step_done : (later : Option Told) (next : Head) → IsHead (ps ++ p ∷ []) next → later ≡ after_all (event ∷ Sync ∷ []) told → Rests wal later next (ring_after wal opening more_asked) × Since entry later (IsGood wal opening more_asked)
     step_done later next head_is adds =
         let told_is : later ≡ Some (did Sync wrote_disk) = adds ∙ ap (after_all (event ∷ Sync ∷ [])) rests.is in (
-          record { disk = did Sync wrote_disk; is = told_is; honest = honest_sync wrote_disk honest_wrote; rest = synced; head_is = subst (λ (l : List Prepare). IsHead next l) (sym after_is) head_is },
+          record { disk = did Sync wrote_disk; is = told_is; honest = honest_sync wrote_disk honest_wrote; rest = synced; head_is = subst (λ (l : List Prepare). IsHead l next) (sym after_is) head_is },
           record { disk = did Sync wrote_disk; is = told_is; grown = extends_add Sync (wrote wal p log) entry (extends_add event log entry grown); moments = after_sync },
         )
 

@@ -9,7 +9,7 @@ use Rattle.df_format.specs.declared.wal.Wal.{Wal}
 use Rattle.df_format.specs.Unit.{Prepare}
 use Rattle.df_prepares.specs.Laws.{RestIsKept}
 use Rattle.df_prepares.specs.Ring.{IsRing}
-use Rattle.df_prepares.specs.declared.head.Head.{Head}
+use Rattle.df_prepares.specs.declared.ring.Head.{Head}
 use Rattle.df_script.specs.Grammar.{Said}
 use Rattle.df_script.specs.Text.{after_line, taken}
 use Rattle.df_top.specs.Script.{IsAppend, Begins, IsRefused}
@@ -79,7 +79,7 @@ module _ (wal : Wal) (bound : ℕ) (is_kept : RestIsKept wal) where
         subst (λ (o : Option Told). LeavesRing wal entry opening asked (length asked) o status) (sym same_told) (leaves_rest entry opening asked old.told old.head status now.0 now.1)
 
     -- the text is at its end
-    pub ends_done : new.written ≡ old.written → ((rest : List ℕ) → old.text ≡ Some rest → (rest ≡ []) × (new.text ≡ Some [])) → Ends wal bound old new Done
+    pub ends_done : new.written ≡ old.written → ((rest : List ℕ) → old.text ≡ Some rest → (rest ≡ []) × (new.left ≡ Some [])) → Ends wal bound old new Done
     ends_done same_written at_end origin asked so_far = record {
       asked = asked;
       done = length asked;
@@ -146,7 +146,7 @@ module _ (wal : Wal) (bound : ℕ) (is_kept : RestIsKept wal) where
   -- the session ends within an append, or with its answer
   module _ (old new : State) (said : Said) (takes : Takes wal bound old said new.text new.budget) where
     more_text : (origin : State) (asked : List Said) (status : Status) → (status ≡ Done → ⊥) → Executed wal bound origin old asked → (text : List ℕ) → origin.text ≡ Some text
-        → (budget : ℕ) × (rest : List ℕ) × Begins wal bound origin.budget text (asked ++ said ∷ []) budget rest × EndsText wal bound budget rest new.text false status
+        → (budget : ℕ) × (rest : List ℕ) × Begins wal bound origin.budget text (asked ++ said ∷ []) budget rest × EndsText wal bound budget rest new.left false status
     more_text origin asked status unfinished so_far text is =
         let before = so_far.text text is in
         let line = takes before.0 before.1 in (

@@ -7,7 +7,7 @@ use Rattle.df_base.proofs.Goes.{started, extends_self, extends_add, weaker, from
 use Rattle.df_disk.specs.Told.{Told, did, after, IsHonest}
 use Rattle.df_format.specs.declared.wal.Wal.{Wal}
 use Rattle.df_format.specs.Unit.{Prepare}
-use Rattle.df_prepares.specs.declared.head.Head.{Head}
+use Rattle.df_prepares.specs.declared.ring.Head.{Head}
 use Rattle.df_prepares.specs.Laws.{NextMayBeWritten, RestIsKept, SyncRests}
 use Rattle.df_prepares.specs.Ring.{IsRing, IsHead}
 use Rattle.df_prepares.specs.Steady.{IsSafe, IsAtRest}
@@ -30,16 +30,16 @@ unread_all held (Some text) none = ap (λ (h : List ℕ). Some (h ++ text)) none
 
 -- the end of the ring that a disk shows, where it tells that
 abbrev pub HeadIsOf : Wal → Option Told → Head → Type 0
-HeadIsOf wal told head = (t : Told) (ps : List Prepare) → told ≡ Some t → IsRing wal t.shown ps → IsHead head ps
+HeadIsOf wal told head = (t : Told) (ps : List Prepare) → told ≡ Some t → IsRing wal t.shown ps → IsHead ps head
 
 -- the state in which a session begins behind the barrier
 abbrev pub begun : Option Told → Option (List ℕ) → Option (List ℕ) → Head → State
-begun told text written head = record { told = after Sync told; text = text; written = written; budget = script_budget; lines = 0; head = head }
+begun told text written head = record { told = after Sync told; text = text; left = text; written = written; budget = script_budget; lines = 0; head = head }
 
 -- ---- what is printed
 
 pub prints_ended : (wal : Wal) (told : Option Told) (text written : Option (List ℕ)) (head : Head) (new : State) (status : Status) → HeadIsOf wal told head → Ended wal line_bound (begun told text written head) new status
-    → Prints wal told text new.text written new.written status
+    → Prints wal told text new.left written new.written status
 prints_ended wal told text written head new status head_of ended t opening bytes is ring is_bytes real =
     let ends = ended.text bytes is_bytes in
     record {
@@ -101,7 +101,7 @@ module _ (wal : Wal) (may_be_written : NextMayBeWritten wal) (is_kept : RestIsKe
     good_since : Since barrier (Some (did Sync before)) (IsGood wal opening [])
     good_since = record { disk = did Sync before; is = refl; grown = extends_self barrier; moments = started barrier (IsGood wal opening []) good }
 
-    rests : (head : Head) → IsHead head opening → Rests wal (Some (did Sync before)) head opening
+    rests : (head : Head) → IsHead opening head → Rests wal (Some (did Sync before)) head opening
     rests head head_is = record { disk = did Sync before; is = refl; honest = honest_sync before honest; rest = at_rest; head_is = head_is }
 
     -- the disk failed while the ring was read
@@ -125,7 +125,7 @@ module _ (wal : Wal) (may_be_written : NextMayBeWritten wal) (is_kept : RestIsKe
     }
 
     -- the session was executed to its end
-    pub ran_session : (text old : Option (List ℕ)) (head : Head) (new : State) (status : Status) → IsHead head opening → Ended wal line_bound (begun (Some before) text old head) new status → Ran wal before new.told opening text old new.written status
+    pub ran_session : (text old : Option (List ℕ)) (head : Head) (new : State) (status : Status) → IsHead opening head → Ended wal line_bound (begun (Some before) text old head) new status → Ran wal before new.told opening text old new.written status
     ran_session text old head new status head_is ended =
         let left = ended.ring barrier opening (rests head head_is) good_since in
         record {

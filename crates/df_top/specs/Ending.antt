@@ -51,7 +51,7 @@ pub record Ended (wal : Wal) (bound : ℕ) (origin now : State) (status : Status
   pub cut : Bool
   pub within : (done ≤ length asked) × (length asked ≤ done + 1)
   pub text : (text : List ℕ) → origin.text ≡ Some text
-      → (budget : ℕ) × (rest : List ℕ) × Begins wal bound origin.budget text asked budget rest × EndsText wal bound budget rest now.text cut status
+      → (budget : ℕ) × (rest : List ℕ) × Begins wal bound origin.budget text asked budget rest × EndsText wal bound budget rest now.left cut status
   pub written : IsAnswered wal.slots origin.head.op origin.lines origin.written now.written asked done cut status
   pub ring : (entry : Log) (opening : List Prepare) → Rests wal origin.told origin.head opening → Since entry origin.told (IsGood wal opening [])
       → LeavesRing wal entry opening asked done now.told status

@@ -5,3 +5,4 @@ pub mod Session
 pub mod Ending
 pub mod Step
 pub mod Run
+pub mod Serving

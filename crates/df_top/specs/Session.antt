@@ -6,7 +6,7 @@ use Rattle.df_base.specs.Streams.{Appends}
 use Rattle.df_disk.specs.Told.{Told, IsHonest}
 use Rattle.df_format.specs.declared.wal.Wal.{Wal}
 use Rattle.df_format.specs.Unit.{Prepare}
-use Rattle.df_prepares.specs.declared.head.Head.{Head}
+use Rattle.df_prepares.specs.declared.ring.Head.{Head}
 use Rattle.df_prepares.specs.Ring.{IsHead}
 use Rattle.df_prepares.specs.Steady.{IsAtRest}
 use Rattle.df_script.specs.Grammar.{Said}
@@ -14,11 +14,13 @@ use Rattle.df_top.specs.Script.{Begins}
 use Rattle.df_top.specs.Appends.{ring_after, IsGood}
 use Rattle.df_top.specs.Texts.{answers, counts_after}
 
--- What a session has before it: what the disk tells, the text that is unread where the source tells it, what the sink
--- has taken where it tells that, how many bytes may still be taken, how many lines were executed, and the ring's end.
+-- What a session has before it: what the disk tells, the text that is unread and what the source has left of it where
+-- the source tells that, what the sink has taken where it tells that, how many bytes may still be taken, how many lines
+-- were executed, and the ring's end.
 pub record State : Type 0 where
   pub told : Option Told
   pub text : Option (List ℕ)
+  pub left : Option (List ℕ)
   pub written : Option (List ℕ)
   pub budget : ℕ
   pub lines : ℕ
@@ -30,7 +32,7 @@ pub record Rests (wal : Wal) (told : Option Told) (head : Head) (ps : List Prepa
   pub is : told ≡ Some disk
   pub honest : IsHonest disk
   pub rest : IsAtRest wal disk.log ps
-  pub head_is : IsHead head ps
+  pub head_is : IsHead ps head
 
 -- P held at each moment since entry
 pub record Since (entry : Log) (told : Option Told) (P : Log → Type 0) : Type 0 where

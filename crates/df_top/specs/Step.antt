@@ -5,7 +5,7 @@ use Rattle.df_disk.specs.Told.{Told}
 use Rattle.df_format.specs.declared.wal.Wal.{Wal}
 use Rattle.df_format.specs.Spelling.{no_checksum}
 use Rattle.df_format.specs.Unit.{Prepare, slot_start, sectors_of}
-use Rattle.df_prepares.specs.declared.head.Head.{Head}
+use Rattle.df_prepares.specs.declared.ring.Head.{Head}
 use Rattle.df_script.specs.Grammar.{Said}
 use Rattle.df_script.specs.Text.{after_line, taken}
 use Rattle.df_top.specs.Script.{IsAppend}

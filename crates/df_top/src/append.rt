@@ -4,9 +4,11 @@ ghost use Rattle.df_base.specs.Causes.{HasCause};
 ghost use Rattle.df_disk.specs.Adds.{Adds};
 ghost use Rattle.df_format.specs.Spelling.{no_checksum};
 ghost use Rattle.df_format.specs.Unit.{IsPrepare, sectors_of};
+ghost use Rattle.df_prepares.specs.Ring.{IsEnd};
 ghost use Rattle.df_script.specs.Grammar.{Append};
 ghost use Rattle.df_top.specs.Script.{IsTaken};
-ghost use Rattle.df_top.specs.Step.{behind, append_events, AreSlotful, IsNextHead};
+ghost use Rattle.df_top.specs.Step.{behind, append_events, AreSlotful, IsNextHead, Steps};
+ghost use Rattle.df_top.specs.Texts.{count_after};
 
 use df_base::Failed;
 use df_disk::Disk;
@@ -53,8 +55,8 @@ fn make_behind(
     make_prepare(wal, header, body, room)
 }
 
-/// Writes an append behind the head of the ring and makes it durable. At an error the disk may have the write.
-pub fn append_behind<D: Disk>(
+// Writes an append behind the head of the ring and makes it durable. At an error the disk may have the write.
+fn append_behind<D: Disk>(
     disk: &mut D,
     wal: &Wal,
     head: &mut Head,
@@ -81,4 +83,29 @@ pub fn append_behind<D: Disk>(
         checksum,
     };
     Ok(())
+}
+
+/// Appends behind the head of the ring, which moves on; a full ring stays as it is. At an error the disk may have
+/// the write, and the head stays.
+pub fn append<D: Disk>(
+    disk: &mut D,
+    wal: &Wal,
+    head: &mut Head,
+    client: u128,
+    request: u64,
+    body: &[u8],
+    room: &mut [u8],
+) -> Result<(), Failed>
+    requires room { length room.old ≡ wal.now.message_size }
+    requires taken { IsTaken wal.now (Append client request body.now) }
+    requires end { IsEnd wal.now head.old }
+    ensures steps { Steps wal.now (D.told disk.old) head.old (Append client request body.now) (D.told disk.new) head.new result }
+    ensures count { OnOk result (head.new.op ≡ count_after wal.now.slots head.old.op) }
+    ensures end { IsEnd wal.now head.new }
+    ensures cause { HasCause (D.faults disk.old) (D.faults disk.new) result }
+{
+    if head.op >= u64::from(wal.slots) {
+        return Ok(());
+    }
+    append_behind(disk, wal, head, client, request, body, room)
 }
