@@ -2,5 +2,9 @@
 #![tactic(auto)]
 
 mod line;
+mod number;
+mod parser;
+mod words;
 
 pub use line::Line;
+pub use parser::{one_meaning, parse};
