@@ -1,3 +1,5 @@
 pub mod Decimals
 pub mod Cutting
 pub mod Meanings
+pub mod Pieces
+pub mod Finding

@@ -2,9 +2,12 @@
 #![tactic(auto)]
 
 mod line;
+mod next;
 mod number;
 mod parser;
+mod window;
 mod words;
 
 pub use line::Line;
+pub use next::Next;
 pub use parser::{one_meaning, parse};
