@@ -3,3 +3,4 @@ pub mod Cutting
 pub mod Meanings
 pub mod Pieces
 pub mod Finding
+pub mod Texts

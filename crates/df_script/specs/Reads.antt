@@ -1,11 +1,11 @@
 -- What a reader gives for the next line.
-use Rattle.std.specs.Prelude.{◌≡◌, ◌≢◌, ◌⊎◌, ◌<◌, ◌≤◌, ◌-◌, ℕ, List, [], length, Option, Some, None}
+use Rattle.std.specs.Prelude.{◌≡◌, ◌≢◌, ◌⊎◌, ◌<◌, ◌≤◌, ◌-◌, ℕ, List, [], length, take, drop, Option, Some, None}
 use Rattle.df_script.specs.declared.line.Line.{Line}
 use Rattle.df_script.specs.declared.next.Next.{Next}
 use Rattle.df_script.specs.declared.next.Next.TheVariants as nexts
 use Rattle.df_script.specs.Grammar.{Said, Says, said_with, body_length}
 use Rattle.df_script.specs.Text.{Reading, IsWithin, line_of, after_line, taken, unread}
-use Rattle.df_script.specs.Room.{Room}
+use Rattle.df_script.specs.Room.{Contents, Room}
 
 -- the first line of the text says this, within the bound and the budget
 pub record IsLine (bound budget : ℕ) (text : List ℕ) (said : Said) : Type 0 where
@@ -47,3 +47,9 @@ abbrev pub Spends : Room → Room → Next → Type 0
 Spends old new (nexts.Line l) = (new.reading.budget < old.reading.budget) × (body_length l ≤ length new.body)
 Spends old new nexts.Refused = new.reading.budget ≡ old.reading.budget
 Spends old new nexts.End = new.reading.budget ≡ old.reading.budget
+
+-- a line of the window's front was taken, with its byte 10, or none was since it is past the budget or says nothing
+abbrev pub Takes : Contents → Contents → ℕ → ℕ → List ℕ → ℕ → ℕ → Next → Type 0
+Takes old new budget rest body size taken (nexts.Line l) = (taken ≤ budget) × (rest ≡ budget - taken) × (new.bytes ≡ drop taken old.bytes) × (new.ended ≡ old.ended) × Says (take size old.bytes) (said_with body l) × (body_length l ≤ length body)
+Takes old new budget rest body size taken nexts.Refused = (new ≡ old) × (rest ≡ budget) × ((said : Said) → taken ≤ budget → Says (take size old.bytes) said → ⊥)
+Takes old new budget rest body size taken nexts.End = ⊥

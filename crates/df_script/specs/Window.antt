@@ -13,9 +13,10 @@ is_feed byte = byte == 10
 abbrev pub line_end : List ℕ → ℕ
 line_end bytes = position_or_len is_feed bytes
 
--- a line that is whole: it ends before a byte 10 or with the source
+-- a line of this size is whole: it ends before a byte 10 or with the source, and the buffer has room for a byte more
 pub record IsWhole (window : Contents) (size taken : ℕ) : Type 0 where
   pub line : size ≡ line_end window.bytes
+  pub fits : size < window.size
   pub ends : ((size < length window.bytes) × (taken ≡ size + 1)) ⊎ (IsTrue window.ended × (size ≡ length window.bytes) × (taken ≡ size) × (0 < size))
 
 -- the buffer is full, and has no byte 10

@@ -57,7 +57,8 @@ impl Window {
     }
 
     pub(crate) fn bytes(&self) -> &[u8]
-        ensures { result.now ≡ self.now.bytes }
+        ensures value { result.now ≡ self.now.bytes }
+        ensures within { length self.now.bytes ≤ self.now.size }
     {
         &self.buffer[self.start..self.end]
     }
@@ -123,11 +124,11 @@ impl Window {
                 });
             }
             seen = self.bytes().len();
-            if self.has_ended() {
-                return Ok(last_line(seen));
-            }
             if self.is_full() {
                 return Ok(Found::TooLong);
+            }
+            if self.has_ended() {
+                return Ok(last_line(seen));
             }
             self.fill(source)?;
         }
@@ -136,7 +137,7 @@ impl Window {
 
 /// What is left where a source has ended and no byte 10 is held.
 fn last_line(held: usize) -> Found
-    ensures { (window : Contents) → IsTrue window.ended → line_end window.bytes ≡ length window.bytes → held ≡ length window.bytes → Finds window result }
+    ensures { (window : Contents) → IsTrue window.ended → line_end window.bytes ≡ length window.bytes → held ≡ length window.bytes → held < window.size → Finds window result }
 {
     if held == 0 {
         Found::End
