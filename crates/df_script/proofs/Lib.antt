@@ -1,0 +1,6 @@
+pub mod Decimals
+pub mod Cutting
+pub mod Meanings
+pub mod Pieces
+pub mod Finding
+pub mod Texts

@@ -1,3 +1,6 @@
 pub mod Grammar
+pub mod Words
 pub mod Text
+pub mod Room
+pub mod Window
 pub mod Reads

@@ -2,5 +2,14 @@
 #![tactic(auto)]
 
 mod line;
+mod next;
+mod number;
+mod parser;
+mod reader;
+mod window;
+mod words;
 
 pub use line::Line;
+pub use next::Next;
+pub use parser::{one_meaning, parse};
+pub use reader::LineRoom;
