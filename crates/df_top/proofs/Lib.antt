@@ -3,5 +3,7 @@ mod Lines
 mod Rounds
 mod Ring
 mod Steps
-mod Turns
+mod Progress
+mod LineEnds
+mod Small
 mod Whole

@@ -6,15 +6,21 @@ use Rattle.df_base.specs.Streams.{Appends}
 use Rattle.df_base.proofs.Goes.{started, extends_self, extends_add, weaker, from_before, more}
 use Rattle.df_disk.specs.Told.{Told, did, after, IsHonest}
 use Rattle.df_format.specs.declared.wal.Wal.{Wal}
-use Rattle.df_format.specs.Unit.{Prepare}
+use Rattle.df_format.specs.Unit.{Prepare, slot_start}
+use Rattle.df_format.proofs.Shown.{shown_same}
+use Rattle.df_prepares.proofs.Rings.{ring_same}
 use Rattle.df_prepares.specs.declared.ring.Head.{Head}
 use Rattle.df_prepares.specs.Laws.{NextMayBeWritten, RestIsKept, SyncRests}
+use Rattle.df_prepares.specs.Found.{IsHeadOf}
 use Rattle.df_prepares.specs.Ring.{IsRing, IsHead}
 use Rattle.df_prepares.specs.Steady.{IsSafe, IsAtRest}
 use Rattle.df_script.specs.Grammar.{Said}
-use Rattle.df_script.specs.Text.{unread}
+use Rattle.df_script.specs.Room.{Room}
+use Rattle.df_script.specs.Text.{Reading, unread}
 use Rattle.df_top.specs.Appends.{ring_after, IsGood, LeavesSome, IsAfterSome}
 use Rattle.df_top.specs.Script.{Begins}
+use Rattle.df_top.specs.Serving.{IsFreshSession, IsOpened, state}
+use Rattle.df_top.specs.declared.session.Session.{Session}
 use Rattle.df_top.specs.Session.{State, Rests, Since}
 use Rattle.df_top.specs.Ending.{EndsText, IsAnswered, IsAfter, LeavesRing, Ended}
 use Rattle.df_top.specs.Run.{line_bound, script_budget, Printed, Prints, FromBarrier, NoBarrier, Ran, Runs}
@@ -35,6 +41,25 @@ HeadIsOf wal told head = (t : Told) (ps : List Prepare) → told ≡ Some t → 
 -- the state in which a session begins behind the barrier
 abbrev pub begun : Option Told → Option (List ℕ) → Option (List ℕ) → Head → State
 begun told text written head = record { told = after Sync told; text = text; left = text; written = written; budget = script_budget; lines = 0; head = head }
+
+-- a session that was opened begins there
+pub begun_is : (told later : Option Told) (left written : Option (List ℕ)) (fresh opened : Session) → later ≡ after Sync told → IsFreshSession fresh → IsOpened fresh opened → state later left written opened ≡ begun told left written opened.head
+begun_is told later left written fresh opened synced is_fresh is_opened i =
+    let reading = ap (λ (l : Room). l.reading) is_opened.lines ∙ is_fresh.lines.reading in
+    record {
+      told = synced i;
+      text = unread_all opened.lines.reading.held left (ap (λ (r : Reading). r.held) reading) i;
+      left = left;
+      written = written;
+      budget = ap (λ (r : Reading). r.budget) reading i;
+      lines = (is_opened.count ∙ is_fresh.count) i;
+      head = opened.head;
+    }
+
+head_of_told : (wal : Wal) (told later : Option Told) (head : Head) → later ≡ after Sync told → IsHeadOf wal later head → HeadIsOf wal told head
+head_of_told wal told later head synced is t ps is_t ring =
+    let now : later ≡ Some (did Sync t) = synced ∙ ap (after Sync) is_t in
+    subst (λ (o : Option Told). IsHeadOf wal o head) now is ps ring
 
 -- ---- what is printed
 
@@ -72,6 +97,10 @@ pub prints_memory : (wal : Wal) (told : Option Told) (text left old new : Option
 prints_memory wal told text left old new t opening bytes is ring is_bytes real = absurd (real refl)
 
 -- ---- what is left at each moment
+
+-- an honest disk shows the ring of its log
+shown_ring : (wal : Wal) (t : Told) (ps : List Prepare) → IsHonest t → IsRing wal (now t.log) ps → IsRing wal t.shown ps
+shown_ring wal t ps honest ring = ring_same wal t.shown (now t.log) ps (λ slot below. shown_same wal t.shown (now t.log) slot (λ k inside. honest.shows (slot_start wal slot + k))) ring
 
 -- no barrier returned
 pub runs_nothing : (wal : Wal) (told later : Option Told) (text old new : Option (List ℕ)) (status : Status) → later ≡ told → new ≡ old → (status ≡ DiskFault) ⊎ (status ≡ Memory) → Runs wal told later text old new status
@@ -145,3 +174,27 @@ module _ (wal : Wal) (may_be_written : NextMayBeWritten wal) (is_kept : RestIsKe
             answered = subst (λ (n : ℕ). IsAnswered wal.slots n 0 old new.written ended.asked ended.done ended.cut status) head_is.op ended.written;
           });
         }
+
+-- ---- over what the opening and the session say
+
+module _ (wal : Wal) (told mid later : Option Told) (left written : Option (List ℕ)) (fresh opened : Session) (new : State) (status : Status) (is_fresh : IsFreshSession fresh) (is_opened : IsOpened fresh opened) (synced : mid ≡ after Sync told)
+    (head_of : IsHeadOf wal mid opened.head) (ended : Ended wal line_bound (state mid left written opened) new status) where
+  from_begun : Ended wal line_bound (begun told left written opened.head) new status
+  from_begun = subst (λ (s : State). Ended wal line_bound s new status) (begun_is told mid left written fresh opened synced is_fresh is_opened) ended
+
+  pub prints_whole : Prints wal told left new.left written new.written status
+  prints_whole = prints_ended wal told left written opened.head new status (head_of_told wal told mid opened.head synced head_of) from_begun
+
+  pub runs_whole : NextMayBeWritten wal → RestIsKept wal → SyncRests wal → Runs wal told new.told left written new.written status
+  runs_whole may_be_written is_kept syncs before opening is honest safe ring =
+      let shown : IsRing wal before.shown opening = shown_ring wal before opening honest ring in
+      ran_session wal may_be_written is_kept syncs before opening honest safe ring left written opened.head new status
+      (head_of_told wal told mid opened.head synced head_of before opening is shown)
+      (subst (λ (o : Option Told). Ended wal line_bound (begun o left written opened.head) new status) is from_begun)
+
+-- the disk failed before the session
+pub runs_failed : (wal : Wal) (told later : Option Told) (left written : Option (List ℕ)) → NextMayBeWritten wal → RestIsKept wal → SyncRests wal → (later ≡ told) ⊎ (later ≡ after Sync told) → Runs wal told later left written written DiskFault
+runs_failed wal told later left written may_be_written is_kept syncs (inl none) before opening is honest safe ring =
+    runs_nothing wal told later left written written DiskFault none refl (inl refl) before opening is honest safe ring
+runs_failed wal told later left written may_be_written is_kept syncs (inr synced) before opening is honest safe ring =
+    ran_opening wal may_be_written is_kept syncs before opening honest safe ring later left written written (synced ∙ ap (after Sync) is) refl

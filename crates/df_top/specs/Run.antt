@@ -91,3 +91,9 @@ pub record Ran (wal : Wal) (before : Told) (told : Option Told) (opening : List 
 abbrev pub Runs : Wal → Option Told → Option Told → Option (List ℕ) → Option (List ℕ) → Option (List ℕ) → Status → Type 0
 Runs wal told later text old new status =
     (before : Told) (opening : List Prepare) → told ≡ Some before → IsHonest before → IsSafe wal before.log → IsRing wal (now before.log) opening → Ran wal before later opening text old new status
+
+-- nothing was written to the disk or to the sink, and nothing was read of the source
+pub record IsUntouched (told later : Option Told) (left after old new : Option (List ℕ)) : Type 0 where
+  pub disk : later ≡ told
+  pub source : after ≡ left
+  pub sink : new ≡ old

@@ -1,17 +1,18 @@
 -- What the functions that serve a script say of their session.
-use Rattle.std.specs.Prelude.{◌≡◌, ◌≤◌, ◌<◌, ◌+◌, ◌^◌, ℕ, List, take, length, vec_len, IsTrue, Option, Result, Ok, Err}
+use Rattle.std.specs.Prelude.{◌≡◌, ◌⊎◌, ◌+◌, ℕ, List, vec_len, IsTrue, Option, Result, Ok, Err, IsErrOf}
 use Rattle.df_base.specs.Causes.{Rose}
 use Rattle.df_base.specs.Streams.{Appends, AppendsPart}
 use Rattle.df_disk.specs.Told.{Told}
 use Rattle.df_format.specs.declared.wal.Wal.{Wal}
 use Rattle.df_prepares.specs.Ring.{IsEnd}
 use Rattle.df_script.specs.Grammar.{Said}
-use Rattle.df_script.specs.Room.{IsAtEnd}
+use Rattle.df_script.specs.Room.{IsAtEnd, IsFresh}
 use Rattle.df_script.specs.Text.{unread}
+use Rattle.df_top.specs.Script.{IsTaken}
 use Rattle.df_top.specs.Session.{State}
 use Rattle.df_top.specs.Step.{StepDone, StepFailed}
 use Rattle.df_top.specs.Texts.{answer, count_after, script_line}
-use Rattle.df_top.specs.Run.{line_bound}
+use Rattle.df_top.specs.Run.{line_bound, IsSmall}
 use Rattle.df_top.specs.declared.session.Session.{Session}
 use Rattle.df_top.specs.declared.status.Status.{Status}
 use Rattle.df_top.specs.declared.status.Status.TheVariants.{Script, DiskFault, WriteFault}
@@ -28,14 +29,20 @@ state told left written s = record {
   head = s.head;
 }
 
--- Its buffers are those of its log, its head is one of a ring, its count of lines is small, and a source that has said
--- that it has ended has nothing left.
-pub record IsReady (s : Session) (left : Option (List ℕ)) : Type 0 where
+-- Its buffers are those of its log, and its head is one of a ring.
+pub record IsReady (s : Session) : Type 0 where
   pub room : vec_len s.room ≡ s.wal.message_size
   pub head : IsEnd s.wal s.head
   pub bound : s.lines.reading.bound ≡ line_bound
-  pub count : s.count + s.lines.reading.budget ≤ 2 ^ 33
-  pub ended : IsTrue s.lines.ended → IsAtEnd left
+
+-- a source that has said that it has ended has nothing left
+abbrev pub EndedIsEnd : Session → Option (List ℕ) → Type 0
+EndedIsEnd s left = IsTrue s.lines.ended → IsAtEnd left
+
+-- the log and what was read of the script are as they were
+pub record KeepsReader (old new : Session) : Type 0 where
+  pub wal : new.wal ≡ old.wal
+  pub lines : new.lines ≡ old.lines
 
 -- the call ended with this status, and only a call that ended with the fault has raised the count
 pub record Blames (fault : Status) (before now : ℕ) (status : Status) : Type 0 where
@@ -54,9 +61,30 @@ RefusesLine lines old new WriteFault = AppendsPart old new (script_line (lines +
 RefusesLine lines old new status = ⊥
 
 -- an append was done and answered; or the disk failed within it; or the sink with its answer
-abbrev pub AnswersAppend : {T : Type 0} → Wal → State → State → Said → Result T Status → Type 0
-AnswersAppend wal old new said (Ok x) =
-    StepDone wal old.told old.head said new.told new.head × Appends old.written new.written (answer wal.slots old.head.op) × (new.head.op ≡ count_after wal.slots old.head.op) × (new.lines ≡ old.lines + 1)
-AnswersAppend wal old new said (Err DiskFault) = StepFailed wal old.told old.head said new.told × (new.written ≡ old.written)
-AnswersAppend wal old new said (Err WriteFault) = StepDone wal old.told old.head said new.told new.head × AppendsPart old.written new.written (answer wal.slots old.head.op)
-AnswersAppend wal old new said (Err status) = ⊥
+abbrev pub AnswersAppend : {T : Type 0} → Wal → Option Told → Option (List ℕ) → Session → Said → Option Told → Option (List ℕ) → Session → Result T Status → Type 0
+AnswersAppend wal told written old said later took new (Ok x) =
+    StepDone wal told old.head said later new.head × Appends written took (answer wal.slots old.head.op) × (new.head.op ≡ count_after wal.slots old.head.op) × (new.count ≡ old.count + 1)
+AnswersAppend wal told written old said later took new (Err DiskFault) = StepFailed wal told old.head said later × (took ≡ written)
+AnswersAppend wal told written old said later took new (Err WriteFault) = StepDone wal told old.head said later new.head × AppendsPart written took (answer wal.slots old.head.op)
+AnswersAppend wal told written old said later took new (Err status) = ⊥
+
+-- the ring takes what the line asks for, and it was appended and answered; or it doesn't, and the line that refuses it
+-- was written, or a front of that where the sink failed
+abbrev pub AnswersLine : {T : Type 0} → Wal → Option Told → Option (List ℕ) → Session → Said → Option Told → Option (List ℕ) → Session → Result T Status → Type 0
+AnswersLine wal told written old said later took new result =
+    (IsTaken wal said × AnswersAppend wal told written old said later took new result) ⊎ ((IsTaken wal said → ⊥) × (status : Status) × (IsErrOf result status) × RefusesLine old.count written took status × (later ≡ told) × (new ≡ old))
+
+-- a session that was just made: of layout `small`, with a reader that has read nothing
+pub record IsFreshSession (s : Session) : Type 0 where
+  pub small : IsSmall s.wal
+  pub lines : IsFresh line_bound s.lines
+  pub room : vec_len s.room ≡ s.wal.message_size
+  pub count : s.count ≡ 0
+
+-- the session is as it was, but for its head, which is one of a ring
+pub record IsOpened (old new : Session) : Type 0 where
+  pub wal : new.wal ≡ old.wal
+  pub lines : new.lines ≡ old.lines
+  pub count : new.count ≡ old.count
+  pub room : vec_len new.room ≡ vec_len old.room
+  pub head : IsEnd new.wal new.head

@@ -2,8 +2,13 @@
 #![tactic(auto)]
 
 mod append;
+mod engine;
+mod serve;
+mod session;
 mod status;
 mod texts;
+mod turns;
 mod words;
 
+pub use engine::run;
 pub use status::Status;

@@ -1,11 +1,8 @@
 // A script is served line by line: each append is durable before its answer is written.
-ghost use Rattle.std.specs.Prelude.{◌≡◌, ◌↔◌, ◌<◌, ◌≤◌, ◌^◌, IsTrue, length, take, OnOk, IfErr};
-ghost use Rattle.df_script.specs.Grammar.{Append, body_length};
-ghost use Rattle.df_top.specs.Ending.{Ended};
+ghost use Rattle.std.specs.Prelude.{◌≡◌, ◌↔◌, ◌<◌, ◌≤◌, ◌+◌, ◌^◌, IsTrue, length, take};
+ghost use Rattle.df_script.specs.Grammar.{Append};
 ghost use Rattle.df_top.specs.Script.{IsTaken};
-ghost use Rattle.df_top.specs.Step.{GoesOn, Ends};
-ghost use Rattle.df_top.specs.Run.{line_bound};
-ghost use Rattle.df_top.specs.Serving.{AnswersAppend, Blames, BlamesIfErr, IsReady, RefusesLine, state};
+ghost use Rattle.df_top.specs.Serving.{AnswersAppend, Blames, BlamesIfErr, IsReady, KeepsReader, RefusesLine, state};
 
 use crate::append::append;
 use crate::session::Session;
@@ -14,13 +11,12 @@ use crate::texts::{answer_line, refusal_line};
 use df_base::{HEADER, Sink, Source};
 use df_disk::Disk;
 use df_format::Wal;
-use df_script::{Line, Next};
 
 // The greatest request.
 const GREATEST_REQUEST: u64 = 1 << 62;
 
-// Writes the line that refuses the next line of a script, of which `lines` were executed.
-fn refuse<W: Sink>(sink: &mut W, lines: u64) -> Status
+/// Writes the line that refuses the next line of a script, of which `lines` were executed.
+pub fn refuse<W: Sink>(sink: &mut W, lines: u64) -> Status
     requires { lines < 2 ^ 63 }
     ensures line { RefusesLine lines (W.written sink.old) (W.written sink.new) result }
     ensures fault { Blames Status.WriteFault (W.faults sink.old) (W.faults sink.new) result }
@@ -31,17 +27,18 @@ fn refuse<W: Sink>(sink: &mut W, lines: u64) -> Status
     }
 }
 
-// Whether the ring takes an append of a body of `size` bytes.
-fn is_taken(wal: &Wal, client: u128, request: u64, size: u64) -> bool
+/// Whether the ring takes an append with a body of `size` bytes.
+pub fn is_taken(wal: &Wal, client: u128, request: u64, size: u64) -> bool
     ensures { IsTrue result ↔ ((0 < client) × (0 < request) × (request ≤ 2 ^ 62) × (256 + size ≤ wal.now.message_size)) }
 {
     0 < client
-        && (1..=GREATEST_REQUEST).contains(&request)
+        && 0 < request
+        && request <= GREATEST_REQUEST
         && size <= u64::from(wal.message_size) - HEADER as u64
 }
 
-// Appends, and writes the answer.
-fn serve_append<D: Disk, W: Sink>(
+/// Appends the line that was taken last, and writes its answer.
+pub fn serve_append<D: Disk, W: Sink>(
     disk: &mut D,
     sink: &mut W,
     session: &mut Session,
@@ -49,15 +46,34 @@ fn serve_append<D: Disk, W: Sink>(
     request: u64,
     size: u64,
 ) -> Result<(), Status>
+    requires ready { IsReady session.old }
+    requires room { session.old.count < 2 ^ 33 }
+    requires size { size ≤ length session.old.lines.body }
+    requires taken { IsTaken session.old.wal (Append client request (take size session.old.lines.body)) }
+    ensures answers { AnswersAppend session.old.wal (D.told disk.old) (W.written sink.old) session.old (Append client request (take size session.old.lines.body)) (D.told disk.new) (W.written sink.new) session.new result }
+    ensures ready { IsReady session.new }
+    ensures reader { KeepsReader session.old session.new }
+    ensures disk { BlamesIfErr Status.DiskFault (D.faults disk.old) (D.faults disk.new) result }
+    ensures sink { BlamesIfErr Status.WriteFault (W.faults sink.old) (W.faults sink.new) result }
 {
     let answer = answer_line(session.wal.slots, session.head.op);
     let wal = session.wal;
     let body = session.lines.body(size);
-    if append(disk, &wal, &mut session.head, client, request, body, &mut session.room).is_err() {
-        return Err(Status::DiskFault);
+    match append(
+        disk,
+        &wal,
+        &mut session.head,
+        client,
+        request,
+        body,
+        &mut session.room,
+    ) {
+        Ok(()) => {}
+        Err(_) => return Err(Status::DiskFault),
     }
-    if sink.write(answer.as_slice()).is_err() {
-        return Err(Status::WriteFault);
+    match sink.write(answer.as_slice()) {
+        Ok(()) => {}
+        Err(_) => return Err(Status::WriteFault),
     }
     session.count += 1;
     Ok(())
