@@ -1,4 +1,6 @@
 // Each call once, on rows whose outcome is known beforehand.
+ghost use Rattle.std.specs.Prelude.{◌<◌};
+
 use super::*;
 use df_base::{Failed, SECTOR};
 use df_disk::Disk;
