@@ -3,5 +3,7 @@
 
 mod file;
 mod positioned;
+#[cfg(test)]
+mod tests;
 
 pub use file::FileDisk;
