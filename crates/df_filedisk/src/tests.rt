@@ -45,7 +45,7 @@ impl<'a> FileExt for Scripted<'a> {
     }
 }
 
-fn scripted<'a>(turns: &'a [Turn]) -> Scripted<'a> {
+fn make_scripted<'a>(turns: &'a [Turn]) -> Scripted<'a> {
     Scripted {
         turns,
         reads: Cell::new(0),
@@ -61,34 +61,40 @@ fn short_reads_go_on_and_end_in_zeros(rt: HostRuntime) {
         Turn::Gives(0),
     ];
     let mut into = [9u8; 8];
-    assert!(rt; read_whole(&scripted(&short), &mut into, 4096).is_ok());
+    assert!(rt; read_whole(&make_scripted(&short), &mut into, 4096).is_ok());
     assert_eq!(rt; into, [0, 0, 0, 3, 3, 0, 0, 0]);
     let broken = [Turn::Gives(3), Turn::Breaks, Turn::Gives(8)];
-    assert!(rt; read_whole(&scripted(&broken), &mut into, 4096).is_err());
+    assert!(rt; read_whole(&make_scripted(&broken), &mut into, 4096).is_err());
 }
 
 #[test]
-fn a_file_is_made_written_and_read_past_its_end(rt: HostRuntime) -> Result<(), Fail> {
+fn a_file_is_made_and_keeps_what_was_written(rt: HostRuntime) -> Result<(), Fail> {
     let name = "file_of_a_test";
     let _ = fs::remove_file(&rt, name);
     let mut disk = FileDisk::new(&rt, String::from_str(rt.alloc(), name)?);
-    let mut two = [7u8; 2 * SECTOR];
-    assert_eq!(rt; disk.read(5, &mut two), Ok(()));
-    assert_eq!(rt; two, [0u8; 2 * SECTOR], "an absent file is a blank disk");
+    let mut sector = [7u8; SECTOR];
+    assert_eq!(rt; disk.read(5, &mut sector), Ok(()));
+    assert_eq!(rt; sector, [0u8; SECTOR], "an absent file is a blank disk");
     assert_eq!(rt; disk.write(2, &[3u8; SECTOR]), Ok(()));
     assert_eq!(rt; disk.sync(), Ok(()));
     assert_eq!(rt; fs::metadata(&rt, name)?.len(), 3 * SECTOR as u64);
-
     let mut again = FileDisk::new(&rt, String::from_str(rt.alloc(), name)?);
-    assert_eq!(rt; again.read(1, &mut two), Ok(()));
-    assert!(rt; two[..SECTOR] == [0u8; SECTOR] && two[SECTOR..] == [3u8; SECTOR]);
+    assert_eq!(rt; again.read(2, &mut sector), Ok(()));
+    assert_eq!(rt; sector, [3u8; SECTOR]);
+    fs::remove_file(&rt, name)?;
+    Ok(())
+}
 
+#[test]
+fn a_truncated_file_has_blank_sectors(rt: HostRuntime) -> Result<(), Fail> {
+    let name = "truncated_file_of_a_test";
     fs::write(&rt, name, [5u8; SECTOR + 10].as_slice())?;
-    let mut cut = FileDisk::new(&rt, String::from_str(rt.alloc(), name)?);
-    assert_eq!(rt; cut.read(0, &mut two), Ok(()));
+    let mut disk = FileDisk::new(&rt, String::from_str(rt.alloc(), name)?);
+    let mut two = [7u8; 2 * SECTOR];
+    assert_eq!(rt; disk.read(0, &mut two), Ok(()));
     let mut wanted = [0u8; 2 * SECTOR];
     wanted[..SECTOR + 10].fill(5);
-    assert_eq!(rt; two, wanted, "a truncated file has blank sectors");
+    assert_eq!(rt; two, wanted);
     fs::remove_file(&rt, name)?;
     Ok(())
 }
