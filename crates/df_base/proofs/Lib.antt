@@ -1,3 +1,4 @@
 pub mod FieldBytes
 pub mod Fronts
 pub mod Goes
+pub mod Pieces

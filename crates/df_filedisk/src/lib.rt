@@ -1,0 +1,9 @@
+//! One file as a disk: the trusted edge to the operating system.
+#![tactic(auto)]
+
+mod file;
+mod positioned;
+#[cfg(test)]
+mod tests;
+
+pub use file::FileDisk;

@@ -1,0 +1,109 @@
+// What no contract can say: which bytes reach a file and come from it, and what short and
+// interrupted reads leave in the buffer.
+use super::*;
+use crate::positioned::read_whole;
+use df_base::{Failed, SECTOR};
+use df_disk::Disk;
+use std::cell::Cell;
+use std::fs;
+use std::io::{self, ErrorKind};
+use std::os::unix::fs::FileExt;
+use std::test::Fail;
+
+// What a file does at one read.
+#[derive(Clone, Copy)]
+enum Turn {
+    Gives(usize),
+    Interrupted,
+    Breaks,
+}
+
+// A file whose reads follow a list of turns. Each byte that it gives is the last of the offset.
+#[derive(Drop)]
+struct Scripted<'a> {
+    turns: &'a [Turn],
+    reads: Cell<usize>,
+}
+
+impl<'a> FileExt for Scripted<'a> {
+    fn read_at(&self, into: &mut [u8], offset: u64) -> io::Result<usize> {
+        let read = self.reads.get();
+        self.reads.set(read.wrapping_add(1));
+        match self.turns.get(read).copied() {
+            Some(Turn::Gives(most)) => {
+                let count = most.min(into.len());
+                into[..count].fill((offset & 0xff) as u8);
+                Ok(count)
+            }
+            Some(Turn::Interrupted) => Err(ErrorKind::Interrupted.into()),
+            Some(Turn::Breaks) | None => Err(ErrorKind::Other.into()),
+        }
+    }
+
+    fn write_at(&self, _bytes: &[u8], _offset: u64) -> io::Result<usize> {
+        Err(ErrorKind::Other.into())
+    }
+}
+
+fn make_scripted<'a>(turns: &'a [Turn]) -> Scripted<'a> {
+    Scripted {
+        turns,
+        reads: Cell::new(0),
+    }
+}
+
+#[test]
+fn short_reads_go_on_and_end_in_zeros(rt: HostRuntime) {
+    let short = [
+        Turn::Gives(3),
+        Turn::Interrupted,
+        Turn::Gives(2),
+        Turn::Gives(0),
+    ];
+    let mut into = [9u8; 8];
+    assert!(rt; read_whole(&make_scripted(&short), &mut into, 4096).is_ok());
+    assert_eq!(rt; into, [0, 0, 0, 3, 3, 0, 0, 0]);
+    let broken = [Turn::Gives(3), Turn::Breaks, Turn::Gives(8)];
+    assert!(rt; read_whole(&make_scripted(&broken), &mut into, 4096).is_err());
+}
+
+#[test]
+fn a_file_is_made_and_keeps_what_was_written(rt: HostRuntime) -> Result<(), Fail> {
+    let name = "file_of_a_test";
+    let _ = fs::remove_file(&rt, name);
+    let mut disk = FileDisk::new(&rt, String::from_str(rt.alloc(), name)?);
+    let mut sector = [7u8; SECTOR];
+    assert_eq!(rt; disk.read(5, &mut sector), Ok(()));
+    assert_eq!(rt; sector, [0u8; SECTOR], "an absent file is a blank disk");
+    assert_eq!(rt; disk.write(2, &[3u8; SECTOR]), Ok(()));
+    assert_eq!(rt; disk.sync(), Ok(()));
+    assert_eq!(rt; fs::metadata(&rt, name)?.len(), 3 * SECTOR as u64);
+    let mut again = FileDisk::new(&rt, String::from_str(rt.alloc(), name)?);
+    assert_eq!(rt; again.read(2, &mut sector), Ok(()));
+    assert_eq!(rt; sector, [3u8; SECTOR]);
+    fs::remove_file(&rt, name)?;
+    Ok(())
+}
+
+#[test]
+fn a_truncated_file_has_blank_sectors(rt: HostRuntime) -> Result<(), Fail> {
+    let name = "truncated_file_of_a_test";
+    fs::write(&rt, name, [5u8; SECTOR + 10].as_slice())?;
+    let mut disk = FileDisk::new(&rt, String::from_str(rt.alloc(), name)?);
+    let mut two = [7u8; 2 * SECTOR];
+    assert_eq!(rt; disk.read(0, &mut two), Ok(()));
+    let mut wanted = [0u8; 2 * SECTOR];
+    wanted[..SECTOR + 10].fill(5);
+    assert_eq!(rt; two, wanted);
+    fs::remove_file(&rt, name)?;
+    Ok(())
+}
+
+#[test]
+fn a_file_that_cannot_be_opened_fails_each_call(rt: HostRuntime) -> Result<(), Fail> {
+    let mut disk = FileDisk::new(&rt, String::from_str(rt.alloc(), "no_such_folder/file")?);
+    assert_eq!(rt; disk.read(0, &mut [0u8; SECTOR]), Err(Failed));
+    assert_eq!(rt; disk.write(0, &[0u8; SECTOR]), Err(Failed));
+    assert_eq!(rt; disk.sync(), Err(Failed));
+    Ok(())
+}

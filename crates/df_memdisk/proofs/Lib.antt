@@ -1,0 +1,4 @@
+pub mod Covering
+pub mod Past
+pub mod Shown
+pub mod Buffers

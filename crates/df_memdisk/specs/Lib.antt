@@ -1,0 +1,4 @@
+pub mod History
+pub mod Newest
+pub mod State
+pub mod Refusals

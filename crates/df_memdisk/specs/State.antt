@@ -1,0 +1,30 @@
+-- What contracts see of a disk in memory.
+use Rattle.std.specs.Prelude.{◌≡◌, ◌⊎◌, ℕ, true, not, List, ◌∷◌, map, find, Option, Result, OnErr, OnOk}
+use Rattle.df_base.specs.Causes.{counted}
+use Rattle.df_base.specs.Image.{blank}
+use Rattle.df_base.specs.Log.{Event, Log, loose_of, now}
+use Rattle.df_base.specs.Plan.{Plan, is_listed}
+use Rattle.df_disk.specs.Told.{Told}
+
+-- the events since the disk was blank, the newest first; which calls fail; how many growths were refused
+pub record DiskState : Type 0 where
+  pub events : List Event
+  pub plan : Plan
+  pub refused : ℕ
+
+abbrev pub log_of : DiskState → Log
+log_of state = record { start = blank; events = state.events }
+
+-- the disk tells its log, and shows what the log leaves
+abbrev pub told_of : DiskState → Told
+told_of state = record { log = log_of state; shown = now (log_of state) }
+
+-- A call adds this event. Where it fails, its number was listed and the event is there all the same,
+-- or memory for the event was refused and it isn't there.
+pub record AddsEvent {T E : Type 0} (event : Event) (old new : DiskState) (result : Result T E) : Type 0 where
+  pub ok : OnOk result (new.events ≡ event ∷ old.events)
+  pub err : OnErr result (((is_listed old.plan ≡ true) × (new.events ≡ event ∷ old.events) × (new.refused ≡ old.refused)) ⊎ ((new.events ≡ old.events) × (new.refused ≡ counted old.refused)))
+
+-- the first of the named sectors that wasn't written since the last sync or stop
+abbrev pub first_firm : List Event → List (ℕ × List ℕ) → Option ℕ
+first_firm events changes = find (λ sector. not (loose_of events sector)) (map (λ (change : ℕ × List ℕ). change.0) changes)

@@ -1,0 +1,161 @@
+// The disk itself: it keeps each event, so that its log is real, and shows what the log leaves.
+ghost use Rattle.std.specs.Prelude.{◌≡◌, ◌≤◌, ◌⊎◌, [], ◌∷◌, length, true, is_err, Some, OnOk, OnErr};
+ghost use Rattle.df_base.specs.Causes.{HasCause, counted};
+ghost use Rattle.df_base.specs.Image.{blank};
+ghost use Rattle.df_base.specs.Log.{new_log, Write, Sync};
+ghost use Rattle.df_base.specs.Plan.{new_plan, is_listed, after_call, FailsExactly};
+ghost use Rattle.df_disk.specs.Told.{AreSectors, Shows, after};
+ghost use Rattle.df_memdisk.specs.State.{told_of, AddsEvent};
+
+use crate::history::{Happened, show_sectors};
+use crate::written::Written;
+use df_base::{Failed, FaultPlan, OutOfMemory};
+use df_disk::Disk;
+use std::alloc::Global;
+use std::marker::Model;
+
+/// A disk in memory. A read fails exactly where its number, counted over all device calls from 1, is
+/// listed; a write or a sync also where memory for its event was refused.
+#[derive(Drop)]
+pub struct MemoryDisk {
+    alloc: Global,
+    pub(crate) past: Vec<Happened>,
+    plan: FaultPlan,
+    refused: u64,
+}
+
+impl Model for MemoryDisk {
+    ghost use Rattle.df_memdisk.specs.State.{DiskState};
+    ghost use Rattle.df_memdisk.specs.History.{events_of};
+
+    ghost Value = { DiskState };
+
+    ghost view = { λ d. record { events = events_of d.past.items; plan = d.plan; refused = d.refused } };
+}
+
+impl MemoryDisk {
+    /// A blank disk whose device calls of these numbers, counted from 1, fail. It takes no memory.
+    pub fn new(alloc: Global, failing: Vec<u64>) -> MemoryDisk
+        ensures state { result ≡ record { events = []; plan = new_plan failing.items; refused = 0 } }
+        ensures blank { told_of result ≡ record { log = new_log; shown = blank } }
+    {
+        MemoryDisk {
+            alloc,
+            past: Vec::new(alloc),
+            plan: FaultPlan::new(failing),
+            refused: 0,
+        }
+    }
+
+    /// How many events its log has.
+    pub fn events(&self) -> u64
+        ensures { result ≡ length self.now.events }
+    {
+        self.past.as_slice().len() as u64
+    }
+
+    /// How many device calls failed because memory was refused. The count stops at `u64::MAX`.
+    pub fn refused(&self) -> u64
+        ensures { result ≡ self.now.refused }
+    {
+        self.refused
+    }
+}
+
+impl MemoryDisk {
+    ghost use Rattle.df_memdisk.specs.History.{event_of};
+
+    // Keeps an event, unless memory for it is refused, which is the caller's to count.
+    pub(crate) fn keep(&mut self, happened: Happened) -> Result<(), OutOfMemory>
+        ensures ok { OnOk result (self.new ≡ record self.old { events = event_of happened ∷ self.old.events }) }
+        ensures err { OnErr result (self.new ≡ self.old) }
+    {
+        match self.past.push(happened) {
+            Ok(()) => Ok(()),
+            Err(_) => Err(OutOfMemory),
+        }
+    }
+
+    // Keeps a write, with a copy of its bytes.
+    fn keep_write(&mut self, at: u64, bytes: &[u8]) -> Result<(), OutOfMemory>
+        requires { AreSectors at (length bytes.now) }
+        ensures ok { OnOk result (self.new ≡ record self.old { events = Write at bytes.now ∷ self.old.events }) }
+        ensures err { OnErr result (self.new ≡ self.old) }
+    {
+        match Vec::from_slice(self.alloc, bytes) {
+            Ok(bytes) => self.keep(Happened::Wrote(Written { at, bytes })),
+            Err(_) => Err(OutOfMemory),
+        }
+    }
+
+    // Counts a fault for which memory was refused.
+    fn refuse(&mut self) -> Failed
+        ensures counted { self.new ≡ record self.old { plan = record self.old.plan { faults = counted self.old.plan.faults }; refused = counted self.old.refused } }
+        ensures later { self.old.plan.faults ≤ self.new.plan.faults }
+    {
+        self.refused = self.refused.saturating_add(1);
+        self.plan.fail()
+    }
+}
+
+impl Disk for MemoryDisk {
+    ghost told = { λ d. Some (told_of d) };
+
+    ghost faults = { λ d. d.plan.faults };
+
+    fn read(&mut self, at: u64, into: &mut [u8]) -> Result<(), Failed>
+        requires { AreSectors at (length into.old) }
+        ensures bytes { OnOk result (Shows (Some (told_of self.old)) at into.new) }
+        ensures same { Some (told_of self.new) ≡ Some (told_of self.old) }
+        ensures cause { HasCause self.old.plan.faults self.new.plan.faults result }
+
+        ensures fails_exactly { is_err result ≡ is_listed self.old.plan }
+        ensures state { self.new ≡ record self.old { plan = after_call self.old.plan result } }
+    {
+        if self.plan.begin_call() {
+            return Err(self.plan.fail());
+        }
+        show_sectors(&self.past, at, into);
+        Ok(())
+    }
+
+    fn write(&mut self, at: u64, bytes: &[u8]) -> Result<(), Failed>
+        requires { AreSectors at (length bytes.now) }
+        ensures ok { OnOk result (Some (told_of self.new) ≡ after (Write at bytes.now) (Some (told_of self.old))) }
+        ensures err { OnErr result ((Some (told_of self.new) ≡ Some (told_of self.old)) ⊎ (Some (told_of self.new) ≡ after (Write at bytes.now) (Some (told_of self.old)))) }
+        ensures cause { HasCause self.old.plan.faults self.new.plan.faults result }
+
+        ensures fails_exactly { FailsExactly self.old.plan self.old.refused self.new.refused result }
+        ensures event { AddsEvent (Write at bytes.now) self.old self.new result }
+        ensures plan { self.new.plan ≡ after_call self.old.plan result }
+    {
+        let listed = self.plan.begin_call();
+        if self.keep_write(at, bytes).is_err() {
+            return Err(self.refuse());
+        }
+        if listed {
+            return Err(self.plan.fail());
+        }
+        Ok(())
+    }
+
+    fn sync(&mut self) -> Result<(), Failed>
+        ensures ok { OnOk result (Some (told_of self.new) ≡ after Sync (Some (told_of self.old))) }
+        ensures err { OnErr result (Some (told_of self.new) ≡ Some (told_of self.old)) }
+        ensures cause { HasCause self.old.plan.faults self.new.plan.faults result }
+
+        ensures fails_exactly { FailsExactly self.old.plan self.old.refused self.new.refused result }
+        ensures event { OnOk result (self.new.events ≡ Sync ∷ self.old.events) }
+        ensures no_event { OnErr result (self.new.events ≡ self.old.events) }
+        ensures listed_asks_for_nothing { is_listed self.old.plan ≡ true → self.new.refused ≡ self.old.refused }
+        ensures plan { self.new.plan ≡ after_call self.old.plan result }
+    {
+        if self.plan.begin_call() {
+            return Err(self.plan.fail());
+        }
+        if self.keep(Happened::Synced).is_err() {
+            return Err(self.refuse());
+        }
+        Ok(())
+    }
+}
