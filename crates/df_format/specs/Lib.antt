@@ -3,3 +3,4 @@ pub mod Spelling
 pub mod Reading
 pub mod Unit
 pub mod Chance
+pub mod Laws

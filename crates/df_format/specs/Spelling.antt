@@ -21,10 +21,14 @@ spelling_rest h =
 abbrev pub spelling : Header → List ℕ
 spelling h = h.checksum ++ spelling_rest h
 
+-- numbers below 256
+abbrev pub AreBytes : List ℕ → Type 0
+AreBytes bytes = (i : ℕ) → slice_index bytes i < 256
+
 -- bytes of a checksum
 pub record IsCheck (bytes : List ℕ) : Type 0 where
   pub size : length bytes ≡ 16
-  pub each : (i : ℕ) → slice_index bytes i < 256
+  pub each : AreBytes bytes
 
 -- what a prepare's header says is in range, whatever the layout
 pub record ObeysRules (h : Header) : Type 0 where

@@ -5,7 +5,7 @@ use Rattle.df_base.specs.Fields.{check_of}
 use Rattle.df_base.specs.Image.{Image, bytes_at}
 use Rattle.df_format.specs.declared.header.Header.{Header}
 use Rattle.df_format.specs.declared.wal.Wal.{Wal}
-use Rattle.df_format.specs.Spelling.{spelling, IsSealed}
+use Rattle.df_format.specs.Spelling.{spelling, AreBytes, IsSealed}
 use Rattle.df_format.specs.Reading.{header_in}
 
 -- a header and the body that follows it
@@ -21,6 +21,7 @@ pub record IsPrepare (wal : Wal) (p : Prepare) : Type 0 where
   pub size : p.header.size ≡ 256 + length p.body
   pub fits : p.header.size ≤ wal.message_size
   pub body : p.header.checksum_body ≡ check_of p.body
+  pub each : AreBytes p.body
   pub slot : p.header.slot ≡ p.header.op % wal.slots
 
 -- the bytes of a whole prepare
