@@ -37,12 +37,13 @@ has_numbers h =
     && nat_le 256 h.size
     && (not (h.op == 1) || bytes_eq h.parent no_checksum)
 
+-- the checksum is right, and the bytes that no field of a prepare varies are as they have to be
+unfoldable pub is_spelled : List ℕ → Bool
+is_spelled bytes = bytes_eq (take 16 bytes) (check_of (take 240 (drop 16 bytes))) && bytes_eq (take 136 (drop 120 bytes)) tail_bytes
+
 -- the bytes pass every test of a header that needs no layout
-unfoldable pub is_header : List ℕ → Bool
-is_header bytes =
-    bytes_eq (take 16 bytes) (check_of (take 240 (drop 16 bytes)))
-    && bytes_eq (take 136 (drop 120 bytes)) tail_bytes
-    && has_numbers (fields_of bytes)
+abbrev pub is_header : List ℕ → Bool
+is_header bytes = is_spelled bytes && has_numbers (fields_of bytes)
 
 -- the header that 256 bytes are, where they are one
 unfoldable pub header_in : List ℕ → Option Header

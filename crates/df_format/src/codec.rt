@@ -1,0 +1,160 @@
+// The 256 bytes of a header: how they are written, and how they are tested and read. A header has one spelling.
+ghost use Rattle.std.specs.Prelude.{◌≡◌, ◌+◌, ◌≤◌, ◌++◌, length, take, drop};
+ghost use Rattle.std.specs.Str.{bytes_eq};
+ghost use Rattle.df_format.specs.Spelling.{ObeysRules, IsSealed, sealed, spelling, spelling_rest, tail_bytes};
+ghost use Rattle.df_format.specs.Reading.{fields_of, is_counter, has_numbers, is_spelled, header_in};
+
+use crate::Header;
+use df_base::{
+    Check, HEADER, check, put_u32, put_u64, put_u128, u32_at, u64_at, u128_at,
+};
+
+// The end of the checksum, which covers all that follows it.
+const SUMMED: usize = 16;
+
+// Where the kind begins, and behind it version, boot and zeros.
+const TAIL: usize = 120;
+
+// Bytes 120 to 256 of a prepare's header: its kind, no block kind, version 1, boot 0, and zeros.
+const TAIL_BYTES: [u8; 136] = [
+    2, 0, 1, 0, 0, 0, 0, 0, 0, 0, 0, 0, 0, 0, 0, 0, 0, 0, 0, 0, 0, 0, 0, 0, 0, 0, 0, 0, 0, 0, 0, 0,
+    0, 0, 0, 0, 0, 0, 0, 0, 0, 0, 0, 0, 0, 0, 0, 0, 0, 0, 0, 0, 0, 0, 0, 0, 0, 0, 0, 0, 0, 0, 0, 0,
+    0, 0, 0, 0, 0, 0, 0, 0, 0, 0, 0, 0, 0, 0, 0, 0, 0, 0, 0, 0, 0, 0, 0, 0, 0, 0, 0, 0, 0, 0, 0, 0,
+    0, 0, 0, 0, 0, 0, 0, 0, 0, 0, 0, 0, 0, 0, 0, 0, 0, 0, 0, 0, 0, 0, 0, 0, 0, 0, 0, 0, 0, 0, 0, 0,
+    0, 0, 0, 0, 0, 0, 0, 0,
+];
+
+// The greatest op, request and sequence.
+const GREATEST: u64 = 1 << 62;
+
+// What stands in place of a checksum where there is none.
+const NO_CHECKSUM: Check = [0; 16];
+
+// Writes a checksum over 16 bytes.
+fn put_check(into: &mut [u8], at: usize, value: &Check)
+    requires { at + 16 ≤ length into.old }
+    ensures { take (at + 16) into.new ≡ take at into.old ++ value.now }
+{
+    into[at..at + 16].copy_from_slice(value);
+}
+
+#[tactic(auto, unfolding(crate::specs::Spelling::tail_bytes))]
+fn put_tail(into: &mut [u8])
+    requires { length into.old ≡ 256 }
+    ensures { into.new ≡ take 120 into.old ++ tail_bytes }
+{
+    into[TAIL..].copy_from_slice(&TAIL_BYTES);
+}
+
+// Writes all that the checksum covers.
+fn put_fields(into: &mut [u8], header: &Header)
+    requires { length into.old ≡ 256 }
+    ensures { into.new ≡ take 16 into.old ++ spelling_rest header.now }
+{
+    put_check(into, 16, &header.checksum_body);
+    put_u128(into, 32, header.cluster);
+    put_check(into, 48, &header.parent);
+    put_u128(into, 64, header.client);
+    put_u64(into, 80, header.op);
+    put_u64(into, 88, header.request);
+    put_u64(into, 96, header.mark);
+    put_u64(into, 104, header.checkpoint);
+    put_u32(into, 112, header.size);
+    put_u32(into, 116, header.slot);
+    put_tail(into);
+}
+
+/// The header with the checksum that its other fields give.
+pub fn seal_header(header: Header) -> Header
+    requires { ObeysRules header }
+    ensures { result ≡ sealed header }
+{
+    let mut bytes = [0u8; HEADER];
+    put_fields(&mut bytes, &header);
+    Header {
+        checksum: check(&bytes[SUMMED..]),
+        ..header
+    }
+}
+
+/// Writes the 256 bytes of a sealed header over `into`.
+pub fn encode_header(header: &Header, into: &mut [u8])
+    requires header { IsSealed header.now }
+    requires room { length into.old ≡ 256 }
+    ensures { into.new ≡ spelling header.now }
+{
+    put_check(into, 0, &header.checksum);
+    put_fields(into, header);
+}
+
+fn check_at(bytes: &[u8], at: usize) -> Check
+    requires { at + 16 ≤ length bytes.now }
+    ensures { result ≡ take 16 (drop at bytes.now) }
+{
+    let mut found = [0u8; 16];
+    found.copy_from_slice(&bytes[at..at + 16]);
+    found
+}
+
+#[tactic(auto, unfolding(crate::specs::Reading::fields_of))]
+fn fields_of(bytes: &[u8]) -> Header
+    requires { length bytes.now ≡ 256 }
+    ensures { result ≡ fields_of bytes.now }
+{
+    Header {
+        checksum: check_at(bytes, 0),
+        checksum_body: check_at(bytes, 16),
+        cluster: u128_at(bytes, 32),
+        parent: check_at(bytes, 48),
+        client: u128_at(bytes, 64),
+        op: u64_at(bytes, 80),
+        request: u64_at(bytes, 88),
+        mark: u64_at(bytes, 96),
+        checkpoint: u64_at(bytes, 104),
+        size: u32_at(bytes, 112),
+        slot: u32_at(bytes, 116),
+    }
+}
+
+fn is_counter(n: u64) -> bool
+    ensures { result ≡ is_counter n }
+{
+    0 < n && n <= GREATEST
+}
+
+#[tactic(auto, unfolding(crate::specs::Reading::has_numbers, crate::specs::Spelling::no_checksum))]
+fn has_numbers(header: &Header) -> bool
+    ensures { result ≡ has_numbers header.now }
+{
+    0 < header.cluster
+        && 0 < header.client
+        && is_counter(header.op)
+        && is_counter(header.request)
+        && header.mark < header.op
+        && is_counter(header.checkpoint)
+        && HEADER as u32 <= header.size
+        && (header.op != 1 || header.parent == NO_CHECKSUM)
+}
+
+#[tactic(auto, unfolding(crate::specs::Reading::is_spelled, crate::specs::Spelling::tail_bytes))]
+fn is_spelled(bytes: &[u8]) -> bool
+    requires { length bytes.now ≡ 256 }
+    ensures { result ≡ is_spelled bytes.now }
+{
+    &bytes[..SUMMED] == check(&bytes[SUMMED..HEADER]).as_slice() && &bytes[TAIL..HEADER] == TAIL_BYTES.as_slice()
+}
+
+/// The header that 256 bytes are the spelling of; None where they are that of no prepare's header that obeys the
+/// rules. The rules that need a layout aren't tested.
+#[tactic(auto, unfolding(crate::specs::Reading::header_in))]
+pub fn decode_header(bytes: &[u8]) -> Option<Header>
+    requires { length bytes.now ≡ 256 }
+    ensures { result ≡ header_in bytes.now }
+{
+    let header = fields_of(bytes);
+    if is_spelled(bytes) && has_numbers(&header) {
+        Some(header)
+    } else {
+        None
+    }
+}
