@@ -105,11 +105,11 @@ chain_more wal image (p ∷ ps) q op parent chain behind = (
   chain_more wal image ps q (op + 1) p.header.checksum chain.3 (behind_next wal image (op + 1 + length ps) (op + suc (length ps)) (end_of p.header.checksum ps) q (omega arith) behind),
 )
 
--- the last of a longer chain stands behind the chain before it
-pub chain_last : (wal : Wal) (image : Image) (ps : List Prepare) (q : Prepare) (op : ℕ) (parent : List ℕ) → IsChain wal image op parent (ps ++ q ∷ []) → IsBehind wal image (op + length ps) (end_of parent ps) q
-chain_last wal image [] q op parent chain = behind_next wal image (op + 0) op parent q (omega arith) (record { shown = chain.0; is_op = chain.1; is_parent = chain.2 })
-chain_last wal image (p ∷ ps) q op parent chain =
-    behind_next wal image (op + suc (length ps)) (op + 1 + length ps) (end_of p.header.checksum ps) q (omega arith) (chain_last wal image ps q (op + 1) p.header.checksum chain.3)
+-- what a longer chain has behind a shorter one
+pub chain_behind : (wal : Wal) (image : Image) (ps rest : List Prepare) (q : Prepare) (op : ℕ) (parent : List ℕ) → IsChain wal image op parent (ps ++ q ∷ rest) → IsBehind wal image (op + length ps) (end_of parent ps) q
+chain_behind wal image [] rest q op parent chain = behind_next wal image (op + 0) op parent q (omega arith) (record { shown = chain.0; is_op = chain.1; is_parent = chain.2 })
+chain_behind wal image (p ∷ ps) rest q op parent chain =
+    behind_next wal image (op + suc (length ps)) (op + 1 + length ps) (end_of p.header.checksum ps) q (omega arith) (chain_behind wal image ps rest q (op + 1) p.header.checksum chain.3)
 
 -- the checksum of the last
 pub end_of-append : (parent : List ℕ) (ps : List Prepare) (q : Prepare) → end_of parent (ps ++ q ∷ []) ≡ q.header.checksum

@@ -6,3 +6,4 @@ pub mod Firm
 pub mod Quiet
 pub mod Steps
 pub mod Rests
+pub mod Finds

@@ -10,7 +10,7 @@ use Rattle.df_format.specs.Laws.{ShownHasOp}
 use Rattle.df_prepares.specs.Ring.{IsChain, IsTail, IsRing, ShowsOnly, IsFront, IsNext, end_of}
 use Rattle.df_prepares.specs.Laws.{HasOneRing}
 use Rattle.df_prepares.proofs.Slots.{slot_below, op_apart}
-use Rattle.df_prepares.proofs.Chains.{HasOp, IsBehind, IsWithin, AgreeOn, Longest, chain_front, chain_has, chain_within, chain_same, chain_more, longest_chain}
+use Rattle.df_prepares.proofs.Chains.{HasOp, IsBehind, IsWithin, AgreeOn, Longest, chain_front, chain_has, chain_within, chain_same, chain_more, chain_behind, longest_chain}
 
 front_is_all : (ps qs : List Prepare) → IsFront ps qs → length qs ≤ length ps → ps ≡ qs
 front_is_all ps qs (rest, is) shorter = nothing_more rest is
@@ -22,6 +22,26 @@ front_is_all ps qs (rest, is) shorter = nothing_more rest is
 pub same_ring : (wal : Wal) (image : Image) (ps qs : List Prepare) → IsRing wal image ps → IsRing wal image qs → ps ≡ qs
 same_ring wal image ps qs one two =
     front_is_all ps qs (chain_front wal image ps qs 1 no_checksum one.tail.chain two.tail.chain (two.longest ps one.tail)) (one.longest qs two.tail)
+
+-- a chain from op 1 on is the ring where nothing stands behind it, or where it fills each slot
+pub ring_ends : (wal : Wal) (image : Image) (ps : List Prepare) → IsTail wal image ps → ((p : Prepare) → IsBehind wal image (1 + length ps) (end_of no_checksum ps) p → ⊥) → IsRing wal image ps
+ring_ends wal image ps tail none = record { tail = tail; longest = longest }
+  where
+    nothing_more : (qs rest : List Prepare) → IsTail wal image qs → ps ++ rest ≡ qs → length qs ≤ length ps
+    nothing_more qs [] longer is = omega (arith, ap length is, length-append ps [])
+    nothing_more qs (r ∷ rest) longer is =
+        absurd (none r (chain_behind wal image ps rest r 1 no_checksum (subst (λ (l : List Prepare). IsChain wal image 1 no_checksum l) (sym is) longer.chain)))
+
+    longest : (qs : List Prepare) → IsTail wal image qs → length qs ≤ length ps
+    longest qs longer = elim (cases_lt (length ps) (length qs)) [
+      | inl more ↦
+          let front : IsFront ps qs = chain_front wal image ps qs 1 no_checksum tail.chain longer.chain (omega arith) in
+          nothing_more qs front.0 longer front.1
+      | inr less ↦ less
+    ]
+
+pub ring_full : (wal : Wal) (image : Image) (ps : List Prepare) → IsTail wal image ps → wal.slots ≤ length ps → IsRing wal image ps
+ring_full wal image ps tail full = record { tail = tail; longest = λ qs other. omega (arith, other.fits) }
 
 pub one_ring : (wal : Wal) (image : Image) → HasOneRing wal image
 one_ring wal image =

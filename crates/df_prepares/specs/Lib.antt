@@ -1,3 +1,4 @@
 pub mod Ring
+pub mod Found
 pub mod Steady
 pub mod Laws

@@ -4,6 +4,7 @@ use Rattle.df_base.specs.Image.{Image}
 use Rattle.df_format.specs.declared.wal.Wal.{Wal}
 use Rattle.df_format.specs.Spelling.{no_checksum}
 use Rattle.df_format.specs.Unit.{Prepare, prepare_at}
+use Rattle.df_prepares.specs.declared.ring.Head.{Head}
 
 -- these prepares stand in the slots of the ops from op on, each with the checksum of the one before as parent
 abbrev pub IsChain : Wal → Image → ℕ → List ℕ → List Prepare → Type 0
@@ -39,3 +40,8 @@ pub record IsNext (wal : Wal) (ps : List Prepare) (p : Prepare) : Type 0 where
   pub room : length ps < wal.slots
   pub op : p.header.op ≡ length ps + 1
   pub parent : p.header.parent ≡ end_of no_checksum ps
+
+-- the head of these prepares: the last op and its checksum, 0 and zeros where there are none
+pub record IsHead (ps : List Prepare) (head : Head) : Type 0 where
+  pub op : head.op ≡ length ps
+  pub checksum : head.checksum ≡ end_of no_checksum ps
