@@ -7,18 +7,6 @@ use Rattle.std.proofs.Math.ListN.{replicate}
 use Rattle.df_base.specs.Image.{Image, IsSector, IsImage, IsPiece, blank, covers, written, changed}
 use Rattle.df_base.specs.Log.{Event, Write, Sync, Stop, AreLoose, AreEvents, now_of}
 
-pub blank_is_image : IsImage blank
-unfolding blank
-blank_is_image = record {
-  sectors = λ sector. record { size = length-replicate {A = ℕ} 4096 0; each = zero_byte };
-}
-  where
-    zero_byte : (i : ℕ) → get_or (replicate 4096 0) i 0 < 256
-    zero_byte i = elim (cases_lt i 4096) [
-      | inl inside ↦ omega (arith, get_or-replicate {A = ℕ} 4096 i 0 0 inside)
-      | inr past ↦ omega (arith, get_or_past {X = ℕ} (replicate 4096 0) i 0 (omega (arith, length-replicate {A = ℕ} 4096 0)))
-    ]
-
 -- a sector of whole sectors
 part_is_sector : (bytes : List ℕ) (k : ℕ) → IsPiece bytes → 4096 * k < length bytes → IsSector (take 4096 (drop (4096 * k) bytes))
 part_is_sector bytes k piece inside =

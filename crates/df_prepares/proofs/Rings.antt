@@ -6,7 +6,7 @@ use Rattle.df_base.specs.Image.{Image}
 use Rattle.df_format.specs.declared.wal.Wal.{Wal}
 use Rattle.df_format.specs.Spelling.{no_checksum}
 use Rattle.df_format.specs.Unit.{Prepare, prepare_at}
-use Rattle.df_format.specs.Laws.{ShownHasOp}
+use Rattle.df_format.proofs.Shown.{shown_op}
 use Rattle.df_prepares.specs.Ring.{IsChain, IsTail, IsRing, ShowsOnly, IsFront, IsNext, end_of}
 use Rattle.df_prepares.specs.Laws.{HasOneRing}
 use Rattle.df_prepares.proofs.Slots.{slot_below, op_apart}
@@ -73,9 +73,9 @@ holds_from_ring wal image ps ring only = record {
       omega (arith, within.below);
 }
 
-pub only_from_holds : (wal : Wal) (image : Image) (ps : List Prepare) → ShownHasOp wal → Holds wal image ps → ShowsOnly wal image ps
-only_from_holds wal image ps shown_op holds slot p below shown =
-    let of_slot = shown_op image slot p shown in
+pub only_from_holds : (wal : Wal) (image : Image) (ps : List Prepare) → Holds wal image ps → ShowsOnly wal image ps
+only_from_holds wal image ps holds slot p below shown =
+    let of_slot = shown_op wal image slot p shown in
     let low : p.header.op ≤ length ps = holds.inside slot p below shown in
     let one : HasOp wal image ps (1 + (p.header.op - 1)) = chain_has wal image ps 1 (p.header.op - 1) no_checksum holds.tail.chain (omega (arith, of_slot.some)) in
     let place : (1 + (p.header.op - 1)) % wal.slots ≡ slot = ap (λ (n : ℕ). n % wal.slots) (omega (arith, of_slot.some)) ∙ of_slot.op in

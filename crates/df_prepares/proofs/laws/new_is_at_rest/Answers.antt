@@ -1,0 +1,5 @@
+use Rattle.df_prepares.proofs.Rests.{new_rests}
+use Rattle.df_prepares.proofs.laws.new_is_at_rest.Goals as goal
+
+pub returns : goal.returns
+returns c = new_rests c.args.wal.now
