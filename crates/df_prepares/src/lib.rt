@@ -4,6 +4,8 @@
 mod laws;
 mod ring;
 mod slot;
+#[cfg(test)]
+mod tests;
 
 pub use laws::{new_is_at_rest, next_may_be_written, one_ring, rest_is_kept, safe_comes_to_rest};
 pub use ring::{Head, find_ring};

@@ -1,6 +1,7 @@
 // The head of the ring that a disk shows, found slot by slot from op 1 on.
-ghost use Rattle.std.specs.Prelude.{◌≡◌, ◌<◌, ◌+◌, ◌%◌, length, IfOk, IfSome};
+ghost use Rattle.std.specs.Prelude.{◌≡◌, ◌≤◌, ◌<◌, ◌+◌, ◌%◌, length, IfOk, IfSome};
 ghost use Rattle.df_base.specs.Causes.{HasCause};
+ghost use Rattle.df_format.specs.Spelling.{no_checksum};
 ghost use Rattle.df_format.specs.Unit.{prepare_in};
 ghost use Rattle.df_prepares.specs.Found.{IsHeadOf, MovesOn, ShowsNext};
 
@@ -60,6 +61,8 @@ fn read_next<D: Disk>(
 pub fn find_ring<D: Disk>(disk: &mut D, wal: &Wal, room: &mut [u8]) -> Result<Head, Failed>
     requires room { length room.old ≡ wal.now.message_size }
     ensures head { IfOk result (IsHeadOf wal.now (D.told disk.old)) }
+    ensures bound { IfOk result (λ head. head.op ≤ wal.now.slots) }
+    ensures empty { IfOk result (λ head. head.op ≡ 0 → head.checksum ≡ no_checksum) }
     ensures same { D.told disk.new ≡ D.told disk.old }
     ensures cause { HasCause (D.faults disk.old) (D.faults disk.new) result }
 {

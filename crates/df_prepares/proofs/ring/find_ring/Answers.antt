@@ -12,7 +12,7 @@ unfolding no_checksum
 zeros = refl
 
 pub loop-head-init : goal.loop-head-init
-loop-head-init g c = record { room = omega arith; same = refl; faults = refl; found = found_none c.args.wal.now (g.D.Disk.told c.args.disk.now) _ refl zeros }
+loop-head-init g c = record { room = omega arith; empty = λ _. zeros; same = refl; faults = refl; found = found_none c.args.wal.now (g.D.Disk.told c.args.disk.now) _ refl zeros }
 
 pub loop-head-preserved : goal.loop-head-preserved
 loop-head-preserved g c =
@@ -24,6 +24,7 @@ loop-head-preserved g c =
     let op : later.op ≡ head.op + 1 = subst (λ (o : Option Head). IfSome o (λ h. h.op ≡ head.op + 1)) c.in-Some.is c.in_ok-later.ensures.op in
     record {
       room = omega (arith, op);
+      empty = λ none. absurd (omega (arith, op, none));
       same = c.in_ok-later.ensures.same ∙ c.loop-head.invariant.same;
       faults = c.in_ok-later.ensures.cause.same ∙ c.loop-head.invariant.faults;
       found = found_more wal (g.D.Disk.told c.args.disk.now) head later (omega arith) c.loop-head.invariant.found shows;
