@@ -1,10 +1,10 @@
 -- What the head of a ring says of the next prepare, and of the ring that an honest disk shows.
-use Rattle.std.proofs.Common.{◌≡◌, inl, inr, ℕ, ◌+◌, ◌<◌, List, [], ◌∷◌, length, get_or, refl, sym, ◌∙◌, ap, subst, arith}
+use Rattle.std.proofs.Common.{◌≡◌, inl, inr, ℕ, ◌+◌, ◌<◌, List, [], ◌∷◌, get_or, refl, sym, ◌∙◌, subst, arith}
 use Rattle.std.proofs.lemmas.Bool.{cases_lt}
 use Rattle.std.proofs.lemmas.List.{get_or-replicate, get_or_past, length-replicate}
 use Rattle.std.proofs.Math.ListN.{replicate}
 use Rattle.df_base.proofs.FieldBytes.{length-check_of, AreBytes-check_of}
-use Rattle.df_base.specs.Fields.{AreBytes, check_of}
+use Rattle.df_base.specs.Fields.{check_of}
 use Rattle.df_base.specs.Image.{Image, IsImage}
 use Rattle.df_base.specs.Log.{now}
 use Rattle.df_disk.specs.Told.{Told, IsHonest}

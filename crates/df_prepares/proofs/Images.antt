@@ -1,10 +1,9 @@
 -- Writes of whole sectors and fair stops leave images of whole sectors.
-use Rattle.std.proofs.Common.{◌≡◌, inl, inr, ℕ, ◌+◌, ◌-◌, ◌*◌, ◌%◌, ◌==◌, ◌<◌, ◌≤◌, Bool, true, false, cond, List, [], ◌∷◌, length, get_or, take, drop, if◌then◌else◌, refl, sym, ◌∙◌, ap, subst, arith, length-drop}
-use Rattle.std.proofs.lemmas.Bool.{cases_lt, cases_Bool}
+use Rattle.std.proofs.Common.{◌≡◌, inl, inr, ℕ, ◌+◌, ◌-◌, ◌*◌, ◌==◌, ◌<◌, ◌≤◌, Bool, true, false, cond, List, [], ◌∷◌, length, take, drop, if◌then◌else◌, refl, arith, length-drop}
+use Rattle.std.proofs.lemmas.Bool.{cases_lt}
 use Rattle.std.proofs.lemmas.Bool.Decides.{nat_tests}
-use Rattle.std.proofs.lemmas.List.{get_or-take, get_or-drop, get_or-replicate, get_or_past, length-take-le, length-replicate}
-use Rattle.std.proofs.Math.ListN.{replicate}
-use Rattle.df_base.specs.Image.{Image, IsSector, IsImage, IsPiece, blank, covers, written, changed}
+use Rattle.std.proofs.lemmas.List.{get_or-take, get_or-drop, get_or_past, length-take-le}
+use Rattle.df_base.specs.Image.{Image, IsSector, IsImage, IsPiece, covers, written, changed}
 use Rattle.df_base.specs.Log.{Event, Write, Sync, Stop, AreLoose, AreEvents, now_of}
 
 -- a sector of whole sectors

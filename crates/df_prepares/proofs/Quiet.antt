@@ -1,7 +1,7 @@
 -- A ring with nothing loose: what was made durable last shows it, and no pending write reaches it.
-use Rattle.std.proofs.Common.{◌≡◌, ◌⊎◌, inl, inr, ℕ, ◌+◌, ◌%◌, ◌<◌, ◌≤◌, false, ◌||◌, List, [], ◌∷◌, ◌++◌, length, Option, Some, None, refl, sym, ◌∙◌, ap, arith, length-append}
+use Rattle.std.proofs.Common.{◌≡◌, inl, inr, ℕ, ◌+◌, ◌<◌, ◌≤◌, false, List, [], ◌∷◌, length, ap, arith, length-append}
 use Rattle.df_base.specs.Image.{Image, blank, covers, written}
-use Rattle.df_base.specs.Log.{Event, Write, Sync, Stop, Log, IsLeft, now, now_of, loose, loose_of, settled, settled_of}
+use Rattle.df_base.specs.Log.{Event, Write, Sync, Stop, Log, IsLeft, now, loose_of, settled}
 use Rattle.df_format.specs.declared.wal.Wal.{Wal}
 use Rattle.df_format.specs.Unit.{Prepare, prepare_at, slot_start, slot_sectors}
 use Rattle.df_format.specs.Chance.{InImages, InWrites}
@@ -53,7 +53,7 @@ pub none_pending : (wal : Wal) (es : List Event) (slot : ℕ) (p : Prepare) → 
 none_pending wal [] slot p quiet below pending = pending
 none_pending wal ((Write at bytes) ∷ es) slot p quiet below (inl shows) =
     let same : prepare_at wal (written at bytes blank) slot ≡ prepare_at wal blank slot =
-      shown_same wal (written at bytes blank) blank slot (λ k inside. written_other at bytes blank (slot_start wal slot + k) (or_parts (covers at bytes (slot_start wal slot + k)) (loose_of es (slot_start wal slot + k)) (quiet slot k below inside)).0) in
+    shown_same wal (written at bytes blank) blank slot (λ k inside. written_other at bytes blank (slot_start wal slot + k) (or_parts (covers at bytes (slot_start wal slot + k)) (loose_of es (slot_start wal slot + k)) (quiet slot k below inside)).0) in
     cc (same, blank_none wal slot, shows blank blank_image)
 none_pending wal ((Write at bytes) ∷ es) slot p quiet below (inr pending) =
     none_pending wal es slot p (λ other k in_ring inside. (or_parts (covers at bytes (slot_start wal other + k)) (loose_of es (slot_start wal other + k)) (quiet other k in_ring inside)).1) below pending

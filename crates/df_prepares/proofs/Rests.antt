@@ -1,12 +1,12 @@
 -- Rings at rest: a new disk's, and those that a sync or a stop leaves; and that a stop can't change one.
-use Rattle.std.proofs.Common.{◌≡◌, ◌%◌, ℕ, ◌<◌, ◌≤◌, List, [], ◌∷◌, length, Option, Some, None, refl, sym, ap, subst, arith}
-use Rattle.df_base.specs.Image.{Image, blank, changed}
-use Rattle.df_base.specs.Log.{Event, Sync, Stop, Log, AreLoose, add, now, new_log, settled}
+use Rattle.std.proofs.Common.{List, [], refl, arith}
+use Rattle.df_base.specs.Image.{blank}
+use Rattle.df_base.specs.Log.{Sync, Stop, add, now, new_log, settled}
 use Rattle.df_format.specs.declared.wal.Wal.{Wal}
-use Rattle.df_format.specs.Unit.{Prepare, prepare_at}
+use Rattle.df_format.specs.Unit.{Prepare}
 use Rattle.df_format.proofs.Shown.{blank_none, blank_image}
 use Rattle.df_prepares.specs.Ring.{IsRing, ShowsOnly}
-use Rattle.df_prepares.specs.Steady.{IsSteady, IsSafe, IsAtRest}
+use Rattle.df_prepares.specs.Steady.{IsSteady}
 use Rattle.df_prepares.specs.Laws.{NewIsAtRest, NextMayBeWritten, RestIsKept, SyncRests, StopRests}
 use Rattle.df_prepares.proofs.Firm.{firm_safe}
 use Rattle.df_prepares.proofs.Rings.{Holds, ring_same, ring_from_holds}

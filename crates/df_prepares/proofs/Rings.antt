@@ -1,5 +1,5 @@
 -- The ring of an image, and the images that show nothing outside their ring.
-use Rattle.std.proofs.Common.{◌≡◌, ◌≢◌, inl, inr, ℕ, ◌+◌, ◌-◌, ◌%◌, ◌<◌, ◌≤◌, List, [], ◌∷◌, ◌++◌, length, Option, Some, None, Contains, refl, sym, ◌∙◌, ap, subst, arith, length-append}
+use Rattle.std.proofs.Common.{◌≡◌, ◌≢◌, inl, inr, ℕ, ◌+◌, ◌-◌, ◌%◌, ◌<◌, ◌≤◌, List, [], ◌∷◌, ◌++◌, length, Some, None, Contains, sym, ◌∙◌, ap, subst, arith, length-append}
 use Rattle.std.proofs.lemmas.Bool.{cases_eq, cases_lt}
 use Rattle.std.proofs.lemmas.List.{append-nil}
 use Rattle.df_base.specs.Image.{Image}
@@ -10,7 +10,7 @@ use Rattle.df_format.proofs.Shown.{shown_op}
 use Rattle.df_prepares.specs.Ring.{IsChain, IsTail, IsRing, ShowsOnly, IsFront, IsNext, end_of}
 use Rattle.df_prepares.specs.Laws.{HasOneRing}
 use Rattle.df_prepares.proofs.Slots.{slot_below, op_apart}
-use Rattle.df_prepares.proofs.Chains.{HasOp, IsBehind, IsWithin, AgreeOn, Longest, chain_front, chain_has, chain_within, chain_same, chain_more, chain_behind, longest_chain}
+use Rattle.df_prepares.proofs.Chains.{HasOp, IsBehind, IsWithin, Longest, chain_front, chain_has, chain_within, chain_same, chain_more, chain_behind, longest_chain}
 
 front_is_all : (ps qs : List Prepare) → IsFront ps qs → length qs ≤ length ps → ps ≡ qs
 front_is_all ps qs (rest, is) shorter = nothing_more rest is

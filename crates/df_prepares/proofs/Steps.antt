@@ -1,7 +1,7 @@
 -- The write of the next prepare: whatever a stop leaves has the ring before it or after it, and the log stays safe.
-use Rattle.std.proofs.Common.{◌≡◌, ◌≢◌, ◌⊎◌, inl, inr, ℕ, ◌+◌, ◌%◌, ◌<◌, ◌≤◌, false, ◌||◌, List, [], ◌∷◌, ◌++◌, length, Option, Some, None, refl, sym, ◌∙◌, ap, subst, arith}
-use Rattle.df_base.specs.Image.{Image, IsImage, blank, covers, written, changed}
-use Rattle.df_base.specs.Log.{Event, Write, Sync, Stop, Log, AreLoose, IsLog, IsLeft, add, now, loose, settled}
+use Rattle.std.proofs.Common.{◌≡◌, ◌≢◌, ◌⊎◌, inl, inr, ℕ, ◌+◌, ◌%◌, ◌<◌, ◌≤◌, false, ◌||◌, List, [], ◌∷◌, ◌++◌, length, Option, Some, None, refl, sym, ◌∙◌, ap, subst}
+use Rattle.df_base.specs.Image.{Image, IsImage, blank, covers, changed}
+use Rattle.df_base.specs.Log.{Sync, Log, IsLog, IsLeft, add, now, loose, settled}
 use Rattle.df_format.specs.declared.wal.Wal.{Wal}
 use Rattle.df_format.specs.Unit.{Prepare, IsPrepare, prepare_at, slot_start, slot_sectors, sectors_of}
 use Rattle.df_format.specs.Chance.{InImages, NoChance}
@@ -13,7 +13,7 @@ use Rattle.df_prepares.specs.Laws.{WriteKeeps, HasOldOrNew, wrote}
 use Rattle.df_prepares.proofs.Slots.{slot_below, op_apart}
 use Rattle.df_prepares.proofs.Images.{now_is_image}
 use Rattle.df_prepares.proofs.Firm.{last_of, older_of, settled_is, written_other, stop_leaves, front_self, all_grow_more, firm_safe}
-use Rattle.df_prepares.proofs.Rings.{Holds, ShowSame, ShowSameBut, same_ring, ring_same, ring_from_holds, only_from_holds, holds_none, holds_next, show_same_turned}
+use Rattle.df_prepares.proofs.Rings.{Holds, ShowSameBut, same_ring, ring_same, ring_from_holds, only_from_holds, holds_none, holds_next, show_same_turned}
 use Rattle.df_prepares.proofs.Quiet.{last_shows, rest_holds, old_inside, none_pending}
 
 -- an image has the prepares before the write, or those after it

@@ -27,10 +27,11 @@ fn following(wal: &Wal, head: &Head, slot: u32, bytes: &[u8]) -> Option<Head>
     ensures { MovesOn head.now (prepare_in wal.now slot bytes.now) result }
 {
     let header = decode_prepare(wal, slot, bytes)?;
+    let checksum = header.checksum;
     if header.op == head.op + 1 && header.parent == head.checksum {
         Some(Head {
             op: header.op,
-            checksum: header.checksum,
+            checksum,
         })
     } else {
         None

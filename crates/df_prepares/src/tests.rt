@@ -123,7 +123,11 @@ fn each_prepare_that_is_written_is_found(rt: HostRuntime) -> Result<(), Fail> {
         assert!(rt; head.op < 32);
         assert_eq!(rt; head.op, turn as u64);
         let later = append(&mut board, &mut room, &head, 256 * turn)?;
-        assert_eq!(rt; find_ring(&mut board, &wal, &mut room)?, later, "behind op {turn}");
+        assert_eq!(rt;
+            find_ring(&mut board, &wal, &mut room)?,
+            later,
+            "behind op {turn}"
+        );
     }
     Ok(())
 }
@@ -160,7 +164,10 @@ fn a_failed_call_is_answered_once(rt: HostRuntime) -> Result<(), Fail> {
         assert_eq!(rt; written.is_err(), failing <= 2, "call {failing}");
         let found = find_ring(&mut board, &wal, &mut room);
         assert_eq!(rt; found.is_err(), 2 < failing, "call {failing}");
-        assert_eq!(rt; find_ring(&mut board, &wal, &mut room)?.op, if failing == 1 { 0 } else { 1 });
+        assert_eq!(rt;
+            find_ring(&mut board, &wal, &mut room)?.op,
+            if failing == 1 { 0 } else { 1 }
+        );
     }
     Ok(())
 }

@@ -1,3 +1,4 @@
+-- The next prepare may be written.
 use Rattle.df_prepares.proofs.Rests.{next_written}
 use Rattle.df_prepares.proofs.laws.next_may_be_written.Goals as goal
 

@@ -1,3 +1,4 @@
+-- Each image has one ring.
 use Rattle.df_prepares.proofs.Rings.{one_ring}
 use Rattle.df_prepares.proofs.laws.one_ring.Goals as goal
 

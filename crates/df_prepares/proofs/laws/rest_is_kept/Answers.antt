@@ -1,3 +1,4 @@
+-- A ring at rest is kept.
 use Rattle.df_prepares.proofs.Rests.{rest_kept}
 use Rattle.df_prepares.proofs.laws.rest_is_kept.Goals as goal
 

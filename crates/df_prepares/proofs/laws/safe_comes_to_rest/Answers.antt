@@ -1,3 +1,4 @@
+-- A sync and a fair stop bring a safe log to rest.
 use Rattle.df_prepares.proofs.Rests.{sync_rests, stop_rests}
 use Rattle.df_prepares.proofs.laws.safe_comes_to_rest.Goals as goal
 

@@ -1,5 +1,5 @@
 -- Each turn moves the head on to its child; without one, or where the ring is full, it is the head of the ring.
-use Rattle.std.proofs.Common.{◌≡◌, ◌+◌, ◌<◌, [], ◌∷◌, Option, Some, None, refl, sym, ◌∙◌, subst, arith, IfSome}
+use Rattle.std.proofs.Common.{◌≡◌, ◌+◌, [], ◌∷◌, Option, Some, None, refl, ◌∙◌, subst, arith, IfSome}
 use Rattle.df_disk.specs.Told.{Told}
 use Rattle.df_format.specs.Spelling.{no_checksum}
 use Rattle.df_prepares.specs.declared.ring.Head.{Head}
