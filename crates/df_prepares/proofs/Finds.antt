@@ -1,10 +1,10 @@
 -- The head of the ring is found slot by slot.
-use Rattle.std.proofs.Common.{◌≡◌, ℕ, ◌+◌, ◌/◌, ◌%◌, ◌<◌, ◌≤◌, List, [], ◌∷◌, ◌++◌, length, Option, Some, None, refl, sym, ◌∙◌, ap, subst, arith, length-append}
+use Rattle.std.proofs.Common.{◌≡◌, ℕ, ◌+◌, ◌/◌, ◌%◌, ◌<◌, ◌≤◌, List, [], ◌∷◌, ◌++◌, length, Option, Some, None, sym, ◌∙◌, ap, subst, arith, length-append}
 use Rattle.df_base.specs.Image.{Image, bytes_at}
 use Rattle.df_disk.specs.Told.{Told, Shows}
 use Rattle.df_format.specs.declared.wal.Wal.{Wal}
 use Rattle.df_format.specs.Spelling.{no_checksum}
-use Rattle.df_format.specs.Unit.{Prepare, prepare_in, prepare_at, slot_start, slot_sectors}
+use Rattle.df_format.specs.Unit.{Prepare, prepare_in, prepare_at, slot_start}
 use Rattle.df_prepares.specs.declared.ring.Head.{Head}
 use Rattle.df_prepares.specs.Ring.{IsTail, IsRing, IsHead, end_of}
 use Rattle.df_prepares.specs.Found.{IsHeadOf, IsChild, MovesOn, ShowsNext, head_of}

@@ -1,13 +1,12 @@
 -- The sectors that aren't loose, and logs with none that is.
-use Rattle.std.proofs.Common.{◌≡◌, inl, inr, ℕ, ◌==◌, ◌<◌, ◌≤◌, Bool, true, false, ◌||◌, List, [], ◌∷◌, ◌++◌, length, refl, sym, ◌∙◌, ap, subst, arith, length-append}
-use Rattle.std.proofs.lemmas.Bool.{cases_eq, cases_Bool}
+use Rattle.std.proofs.Common.{◌≡◌, inl, inr, ℕ, Bool, true, false, ◌||◌, List, [], ◌∷◌, refl, sym, ◌∙◌, ap, subst, arith}
+use Rattle.std.proofs.lemmas.Bool.{cases_eq}
 use Rattle.std.proofs.lemmas.Bool.Decides.{nat_tests}
 use Rattle.std.proofs.lemmas.List.{append-nil}
-use Rattle.df_base.specs.Image.{Image, IsImage, covers, written, changed}
-use Rattle.df_base.specs.Log.{Event, Write, Sync, Stop, Log, AreLoose, IsLog, IsLeft, add, now, now_of, loose, loose_of, settled, settled_of}
+use Rattle.df_base.specs.Image.{Image, covers, written, changed}
+use Rattle.df_base.specs.Log.{Event, Write, Sync, Stop, Log, AreLoose, IsLog, IsLeft, now, now_of, loose, loose_of, settled, settled_of}
 use Rattle.df_format.specs.declared.wal.Wal.{Wal}
 use Rattle.df_format.specs.Unit.{Prepare}
-use Rattle.df_format.specs.Chance.{NoChance}
 use Rattle.df_prepares.specs.Ring.{IsRing, IsFront, ShowsOnly}
 use Rattle.df_prepares.specs.Steady.{Grows, AllGrow, AllInside, IsSteady, IsSafe}
 use Rattle.df_prepares.proofs.Images.{now_is_image, changed_is_image}

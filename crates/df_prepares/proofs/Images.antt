@@ -1,23 +1,10 @@
 -- Writes of whole sectors and fair stops leave images of whole sectors.
-use Rattle.std.proofs.Common.{◌≡◌, inl, inr, ℕ, ◌+◌, ◌-◌, ◌*◌, ◌%◌, ◌==◌, ◌<◌, ◌≤◌, Bool, true, false, cond, List, [], ◌∷◌, length, get_or, take, drop, if◌then◌else◌, refl, sym, ◌∙◌, ap, subst, arith, length-drop}
-use Rattle.std.proofs.lemmas.Bool.{cases_lt, cases_Bool}
+use Rattle.std.proofs.Common.{◌≡◌, inl, inr, ℕ, ◌+◌, ◌-◌, ◌*◌, ◌==◌, ◌<◌, ◌≤◌, Bool, true, false, cond, List, [], ◌∷◌, length, take, drop, if◌then◌else◌, refl, arith, length-drop}
+use Rattle.std.proofs.lemmas.Bool.{cases_lt}
 use Rattle.std.proofs.lemmas.Bool.Decides.{nat_tests}
-use Rattle.std.proofs.lemmas.List.{get_or-take, get_or-drop, get_or-replicate, get_or_past, length-take-le, length-replicate}
-use Rattle.std.proofs.Math.ListN.{replicate}
-use Rattle.df_base.specs.Image.{Image, IsSector, IsImage, IsPiece, blank, covers, written, changed}
+use Rattle.std.proofs.lemmas.List.{get_or-take, get_or-drop, get_or_past, length-take-le}
+use Rattle.df_base.specs.Image.{Image, IsSector, IsImage, IsPiece, covers, written, changed}
 use Rattle.df_base.specs.Log.{Event, Write, Sync, Stop, AreLoose, AreEvents, now_of}
-
-pub blank_is_image : IsImage blank
-unfolding blank
-blank_is_image = record {
-  sectors = λ sector. record { size = length-replicate {A = ℕ} 4096 0; each = zero_byte };
-}
-  where
-    zero_byte : (i : ℕ) → get_or (replicate 4096 0) i 0 < 256
-    zero_byte i = elim (cases_lt i 4096) [
-      | inl inside ↦ omega (arith, get_or-replicate {A = ℕ} 4096 i 0 0 inside)
-      | inr past ↦ omega (arith, get_or_past {X = ℕ} (replicate 4096 0) i 0 (omega (arith, length-replicate {A = ℕ} 4096 0)))
-    ]
 
 -- a sector of whole sectors
 part_is_sector : (bytes : List ℕ) (k : ℕ) → IsPiece bytes → 4096 * k < length bytes → IsSector (take 4096 (drop (4096 * k) bytes))

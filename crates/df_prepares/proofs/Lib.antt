@@ -7,3 +7,4 @@ pub mod Quiet
 pub mod Steps
 pub mod Rests
 pub mod Finds
+pub mod Heads

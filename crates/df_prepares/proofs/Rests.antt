@@ -1,49 +1,48 @@
 -- Rings at rest: a new disk's, and those that a sync or a stop leaves; and that a stop can't change one.
-use Rattle.std.proofs.Common.{◌≡◌, ◌%◌, ℕ, ◌<◌, ◌≤◌, List, [], ◌∷◌, length, Option, Some, None, refl, sym, ap, subst, arith}
-use Rattle.df_base.specs.Image.{Image, blank, changed}
-use Rattle.df_base.specs.Log.{Event, Sync, Stop, Log, AreLoose, add, now, new_log, settled}
+use Rattle.std.proofs.Common.{List, [], refl, arith}
+use Rattle.df_base.specs.Image.{blank}
+use Rattle.df_base.specs.Log.{Sync, Stop, add, now, new_log, settled}
 use Rattle.df_format.specs.declared.wal.Wal.{Wal}
-use Rattle.df_format.specs.Unit.{Prepare, prepare_at}
-use Rattle.df_format.specs.Laws.{SameIsShown, BlankShowsNone}
+use Rattle.df_format.specs.Unit.{Prepare}
+use Rattle.df_format.proofs.Shown.{blank_none, blank_image}
 use Rattle.df_prepares.specs.Ring.{IsRing, ShowsOnly}
-use Rattle.df_prepares.specs.Steady.{IsSteady, IsSafe, IsAtRest}
+use Rattle.df_prepares.specs.Steady.{IsSteady}
 use Rattle.df_prepares.specs.Laws.{NewIsAtRest, NextMayBeWritten, RestIsKept, SyncRests, StopRests}
-use Rattle.df_prepares.proofs.Images.{blank_is_image}
 use Rattle.df_prepares.proofs.Firm.{firm_safe}
 use Rattle.df_prepares.proofs.Rings.{Holds, ring_same, ring_from_holds}
 use Rattle.df_prepares.proofs.Quiet.{left_shows}
-use Rattle.df_prepares.proofs.Steps.{SlotLaws, write_keeps}
+use Rattle.df_prepares.proofs.Steps.{write_keeps}
 
-blank_only : (wal : Wal) → BlankShowsNone wal → (ps : List Prepare) → IsRing wal blank ps → ShowsOnly wal blank ps
-blank_only wal blank_none ps ring slot p below shown = absurd (cc (blank_none slot, shown))
+blank_only : (wal : Wal) → (ps : List Prepare) → IsRing wal blank ps → ShowsOnly wal blank ps
+blank_only wal ps ring slot p below shown = absurd (cc (blank_none wal slot, shown))
 
-blank_holds : (wal : Wal) → BlankShowsNone wal → Holds wal blank []
-blank_holds wal blank_none = record {
+blank_holds : (wal : Wal) → Holds wal blank []
+blank_holds wal = record {
   tail = record { chain = tt; fits = omega arith };
-  inside = λ slot p below shown. absurd (cc (blank_none slot, shown));
+  inside = λ slot p below shown. absurd (cc (blank_none wal slot, shown));
 }
 
-new_steady : (wal : Wal) → BlankShowsNone wal → IsSteady wal new_log
-new_steady wal blank_none = record {
-  whole = record { start = blank_is_image; events = tt };
+new_steady : (wal : Wal) → IsSteady wal new_log
+new_steady wal = record {
+  whole = record { start = blank_image; events = tt };
   begins = λ sector. refl;
   fair = tt;
   grows = tt;
-  inside = (blank_only wal blank_none, tt);
+  inside = (blank_only wal, tt);
 }
 
-pub new_rests : (wal : Wal) → BlankShowsNone wal → NewIsAtRest wal
-new_rests wal blank_none = record {
-  safe = firm_safe wal new_log [] (new_steady wal blank_none) (λ sector. refl) refl;
+pub new_rests : (wal : Wal) → NewIsAtRest wal
+new_rests wal = record {
+  safe = firm_safe wal new_log [] (new_steady wal) (λ sector. refl) refl;
   quiet = λ slot k below inside. refl;
-  ring = ring_from_holds wal blank [] (blank_holds wal blank_none);
+  ring = ring_from_holds wal blank [] (blank_holds wal);
 }
 
-pub next_written : (wal : Wal) → SlotLaws wal → NextMayBeWritten wal
-next_written wal laws log ps p rest is next = write_keeps wal laws log ps p rest is next
+pub next_written : (wal : Wal) → NextMayBeWritten wal
+next_written wal log ps p rest is next = write_keeps wal log ps p rest is next
 
-pub rest_kept : (wal : Wal) → SameIsShown wal → RestIsKept wal
-rest_kept wal shown_same log ps rest image left fair = ring_same wal image (now log) ps (left_shows wal log image shown_same rest.quiet left) rest.ring
+pub rest_kept : (wal : Wal) → RestIsKept wal
+rest_kept wal log ps rest image left fair = ring_same wal image (now log) ps (left_shows wal log image rest.quiet left) rest.ring
 
 pub sync_rests : (wal : Wal) → SyncRests wal
 sync_rests wal log ps safe ring = record {

@@ -1,16 +1,16 @@
 -- The ring of an image, and the images that show nothing outside their ring.
-use Rattle.std.proofs.Common.{◌≡◌, ◌≢◌, inl, inr, ℕ, ◌+◌, ◌-◌, ◌%◌, ◌<◌, ◌≤◌, List, [], ◌∷◌, ◌++◌, length, Option, Some, None, Contains, refl, sym, ◌∙◌, ap, subst, arith, length-append}
+use Rattle.std.proofs.Common.{◌≡◌, ◌≢◌, inl, inr, ℕ, ◌+◌, ◌-◌, ◌%◌, ◌<◌, ◌≤◌, List, [], ◌∷◌, ◌++◌, length, Some, None, Contains, sym, ◌∙◌, ap, subst, arith, length-append}
 use Rattle.std.proofs.lemmas.Bool.{cases_eq, cases_lt}
 use Rattle.std.proofs.lemmas.List.{append-nil}
 use Rattle.df_base.specs.Image.{Image}
 use Rattle.df_format.specs.declared.wal.Wal.{Wal}
 use Rattle.df_format.specs.Spelling.{no_checksum}
 use Rattle.df_format.specs.Unit.{Prepare, prepare_at}
-use Rattle.df_format.specs.Laws.{ShownHasOp}
+use Rattle.df_format.proofs.Shown.{shown_op}
 use Rattle.df_prepares.specs.Ring.{IsChain, IsTail, IsRing, ShowsOnly, IsFront, IsNext, end_of}
 use Rattle.df_prepares.specs.Laws.{HasOneRing}
 use Rattle.df_prepares.proofs.Slots.{slot_below, op_apart}
-use Rattle.df_prepares.proofs.Chains.{HasOp, IsBehind, IsWithin, AgreeOn, Longest, chain_front, chain_has, chain_within, chain_same, chain_more, chain_behind, longest_chain}
+use Rattle.df_prepares.proofs.Chains.{HasOp, IsBehind, IsWithin, Longest, chain_front, chain_has, chain_within, chain_same, chain_more, chain_behind, longest_chain}
 
 front_is_all : (ps qs : List Prepare) → IsFront ps qs → length qs ≤ length ps → ps ≡ qs
 front_is_all ps qs (rest, is) shorter = nothing_more rest is
@@ -73,9 +73,9 @@ holds_from_ring wal image ps ring only = record {
       omega (arith, within.below);
 }
 
-pub only_from_holds : (wal : Wal) (image : Image) (ps : List Prepare) → ShownHasOp wal → Holds wal image ps → ShowsOnly wal image ps
-only_from_holds wal image ps shown_op holds slot p below shown =
-    let of_slot = shown_op image slot p shown in
+pub only_from_holds : (wal : Wal) (image : Image) (ps : List Prepare) → Holds wal image ps → ShowsOnly wal image ps
+only_from_holds wal image ps holds slot p below shown =
+    let of_slot = shown_op wal image slot p shown in
     let low : p.header.op ≤ length ps = holds.inside slot p below shown in
     let one : HasOp wal image ps (1 + (p.header.op - 1)) = chain_has wal image ps 1 (p.header.op - 1) no_checksum holds.tail.chain (omega (arith, of_slot.some)) in
     let place : (1 + (p.header.op - 1)) % wal.slots ≡ slot = ap (λ (n : ℕ). n % wal.slots) (omega (arith, of_slot.some)) ∙ of_slot.op in

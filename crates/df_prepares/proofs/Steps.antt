@@ -1,39 +1,31 @@
 -- The write of the next prepare: whatever a stop leaves has the ring before it or after it, and the log stays safe.
-use Rattle.std.proofs.Common.{◌≡◌, ◌≢◌, ◌⊎◌, inl, inr, ℕ, ◌+◌, ◌%◌, ◌<◌, ◌≤◌, false, ◌||◌, List, [], ◌∷◌, ◌++◌, length, Option, Some, None, refl, sym, ◌∙◌, ap, subst, arith}
-use Rattle.df_base.specs.Image.{Image, IsImage, blank, covers, written, changed}
-use Rattle.df_base.specs.Log.{Event, Write, Sync, Stop, Log, AreLoose, IsLog, IsLeft, add, now, loose, settled}
+use Rattle.std.proofs.Common.{◌≡◌, ◌≢◌, ◌⊎◌, inl, inr, ℕ, ◌+◌, ◌%◌, ◌<◌, ◌≤◌, false, ◌||◌, List, [], ◌∷◌, ◌++◌, length, Option, Some, None, refl, sym, ◌∙◌, ap, subst}
+use Rattle.df_base.specs.Image.{Image, IsImage, blank, covers, changed}
+use Rattle.df_base.specs.Log.{Sync, Log, IsLog, IsLeft, add, now, loose, settled}
 use Rattle.df_format.specs.declared.wal.Wal.{Wal}
 use Rattle.df_format.specs.Unit.{Prepare, IsPrepare, prepare_at, slot_start, slot_sectors, sectors_of}
 use Rattle.df_format.specs.Chance.{InImages, NoChance}
-use Rattle.df_format.specs.Laws.{HasOpOf, ShownHasOp, SameIsShown, WrittenIsShown, WrittenIsApart, SectorsFitSlot, BlankShowsNone}
+use Rattle.df_format.specs.Laws.{HasOpOf}
+use Rattle.df_format.proofs.Shown.{shown_op, shown_same, sectors_piece, written_shows, written_apart, blank_image}
 use Rattle.df_prepares.specs.Ring.{IsRing, IsFront, IsNext, ShowsOnly}
 use Rattle.df_prepares.specs.Steady.{Grows, AllGrow, AllInside, IsSteady, IsSafe, IsAtRest}
 use Rattle.df_prepares.specs.Laws.{WriteKeeps, HasOldOrNew, wrote}
 use Rattle.df_prepares.proofs.Slots.{slot_below, op_apart}
-use Rattle.df_prepares.proofs.Images.{blank_is_image, now_is_image}
+use Rattle.df_prepares.proofs.Images.{now_is_image}
 use Rattle.df_prepares.proofs.Firm.{last_of, older_of, settled_is, written_other, stop_leaves, front_self, all_grow_more, firm_safe}
-use Rattle.df_prepares.proofs.Rings.{Holds, ShowSame, ShowSameBut, same_ring, ring_same, ring_from_holds, only_from_holds, holds_none, holds_next, show_same_turned}
+use Rattle.df_prepares.proofs.Rings.{Holds, ShowSameBut, same_ring, ring_same, ring_from_holds, only_from_holds, holds_none, holds_next, show_same_turned}
 use Rattle.df_prepares.proofs.Quiet.{last_shows, rest_holds, old_inside, none_pending}
-
--- what the bytes of slots owe to the ring
-pub record SlotLaws (wal : Wal) : Type 0 where
-  pub shown_op : ShownHasOp wal
-  pub shown_same : SameIsShown wal
-  pub written_shows : WrittenIsShown wal
-  pub written_apart : WrittenIsApart wal
-  pub sectors_fit : SectorsFitSlot wal
-  pub blank_none : BlankShowsNone wal
 
 -- an image has the prepares before the write, or those after it
 abbrev pub HoldsEither : Wal → List Prepare → Prepare → Image → Type 0
 HoldsEither wal ps p image = Holds wal image ps ⊎ Holds wal image (ps ++ p ∷ [])
 
-module _ (wal : Wal) (laws : SlotLaws wal) (log : Log) (ps : List Prepare) (p : Prepare) (rest : IsAtRest wal log ps) (is : IsPrepare wal p) (next : IsNext wal ps p) where
+module _ (wal : Wal) (log : Log) (ps : List Prepare) (p : Prepare) (rest : IsAtRest wal log ps) (is : IsPrepare wal p) (next : IsNext wal ps p) where
   abbrev last : Image
   last = last_of log.start log.events
 
   holds : Holds wal (now log) ps
-  holds = rest_holds wal log ps laws.shown_same rest
+  holds = rest_holds wal log ps rest
 
   place : p.header.slot ≡ (length ps + 1) % wal.slots
   place = is.slot ∙ ap (λ (n : ℕ). n % wal.slots) next.op
@@ -43,19 +35,19 @@ module _ (wal : Wal) (laws : SlotLaws wal) (log : Log) (ps : List Prepare) (p : 
 
   -- what the write leaves shows the same in all other slots
   others : (image : Image) → IsLeft (wrote wal p log) image → ShowSameBut wal ((length ps + 1) % wal.slots) image (now log)
-  others image left other below elsewhere = laws.shown_same image (now log) other same
+  others image left other below elsewhere = shown_same wal image (now log) other same
     where
       apart : other ≢ p.header.slot
       apart here = elsewhere (here ∙ place)
 
       same : (k : ℕ) → k < slot_sectors wal → image (slot_start wal other + k) ≡ now log (slot_start wal other + k)
       same k inside =
-          let out : covers (slot_start wal p.header.slot) (sectors_of p) (slot_start wal other + k) ≡ false = laws.written_apart p other k is apart inside in
+          let out : covers (slot_start wal p.header.slot) (sectors_of p) (slot_start wal other + k) ≡ false = written_apart wal p other k is apart inside in
           let firm : loose log (slot_start wal other + k) ≡ false = rest.quiet other k below inside in
           left.kept (slot_start wal other + k) (λ i. out i || firm i) ∙ written_other (slot_start wal p.header.slot) (sectors_of p) (now log) (slot_start wal other + k) out
 
   last_ring : IsRing wal last ps
-  last_ring = ring_same wal last (now log) ps (show_same_turned wal (now log) last (last_shows wal log laws.shown_same rest.quiet)) rest.ring
+  last_ring = ring_same wal last (now log) ps (show_same_turned wal (now log) last (last_shows wal log rest.quiet)) rest.ring
 
   -- an older prepare can't come back in that slot
   none_old : (q : Prepare) → HasOpOf wal p.header.slot q → InImages wal (settled log) p.header.slot q → ⊥
@@ -71,10 +63,10 @@ module _ (wal : Wal) (laws : SlotLaws wal) (log : Log) (ps : List Prepare) (p : 
   none_or_new : (image : Image) → NoChance wal (wrote wal p log) image → (o : Option Prepare) → prepare_at wal image p.header.slot ≡ o → (o ≡ None) ⊎ (o ≡ Some p)
   none_or_new image fair None shown = inl refl
   none_or_new image fair (Some q) shown = elim (fair.known p.header.slot q in_ring shown) [
-    | inl old ↦ absurd (none_old q (laws.shown_op image p.header.slot q shown) old)
+    | inl old ↦ absurd (none_old q (shown_op wal image p.header.slot q shown) old)
     | inr pending ↦ elim pending [
-      | inl new ↦ inr (sym (new blank blank_is_image) ∙ laws.written_shows blank p blank_is_image is)
-      | inr earlier ↦ absurd (none_pending wal log.events p.header.slot q laws.shown_same laws.blank_none rest.quiet in_ring earlier)
+      | inl new ↦ inr (sym (new blank blank_image) ∙ written_shows wal blank p blank_image is)
+      | inr earlier ↦ absurd (none_pending wal log.events p.header.slot q rest.quiet in_ring earlier)
     ]
   ]
 
@@ -88,7 +80,7 @@ module _ (wal : Wal) (laws : SlotLaws wal) (log : Log) (ps : List Prepare) (p : 
   ]
 
   wrote_log : IsLog (wrote wal p log)
-  wrote_log = record { start = rest.safe.steady.whole.start; events = ((laws.sectors_fit p is).piece, rest.safe.steady.whole.events) }
+  wrote_log = record { start = rest.safe.steady.whole.start; events = ((sectors_piece wal p is).piece, rest.safe.steady.whole.events) }
 
   now_left : IsLeft (wrote wal p log) (now (wrote wal p log))
   now_left = record { whole = now_is_image (wrote wal p log).start (wrote wal p log).events wrote_log.start wrote_log.events; kept = λ sector firm. refl }
@@ -96,7 +88,7 @@ module _ (wal : Wal) (laws : SlotLaws wal) (log : Log) (ps : List Prepare) (p : 
   pub now_holds : Holds wal (now (wrote wal p log)) (ps ++ p ∷ [])
   now_holds =
       let whole : IsImage (now log) = now_is_image log.start log.events rest.safe.steady.whole.start rest.safe.steady.whole.events in
-      holds_next wal (now (wrote wal p log)) (now log) ps p next (others (now (wrote wal p log)) now_left) (shown_next (now (wrote wal p log)) (Some p) (laws.written_shows (now log) p whole is)) holds
+      holds_next wal (now (wrote wal p log)) (now log) ps p next (others (now (wrote wal p log)) now_left) (shown_next (now (wrote wal p log)) (Some p) (written_shows wal (now log) p whole is)) holds
 
   grows_either : (image : Image) → HoldsEither wal ps p image → Grows wal last image
   grows_either image (inl same) before qs one two =
@@ -109,7 +101,7 @@ module _ (wal : Wal) (laws : SlotLaws wal) (log : Log) (ps : List Prepare) (p : 
       subst (λ (l : List Prepare). IsFront l qs) (same_ring wal last ps before last_ring one) (subst (λ (l : List Prepare). IsFront ps l) is_qs front)
 
   only_of : (image : Image) (rs qs : List Prepare) → Holds wal image rs → IsRing wal image qs → ShowsOnly wal image qs
-  only_of image rs qs held ring = subst (λ (l : List Prepare). ShowsOnly wal image l) (same_ring wal image rs qs (ring_from_holds wal image rs held) ring) (only_from_holds wal image rs laws.shown_op held)
+  only_of image rs qs held ring = subst (λ (l : List Prepare). ShowsOnly wal image l) (same_ring wal image rs qs (ring_from_holds wal image rs held) ring) (only_from_holds wal image rs held)
 
   inside_either : (image : Image) → HoldsEither wal ps p image → (qs : List Prepare) → IsRing wal image qs → ShowsOnly wal image qs
   inside_either image (inl same) qs ring = only_of image ps qs same ring

@@ -1,7 +1,7 @@
 -- What holds of every log, ring and prepare: the laws that a program over the ring rests on.
-use Rattle.std.specs.Prelude.{◌≡◌, ◌⊎◌, ◌%◌, ℕ, List, [], ◌∷◌, ◌++◌}
+use Rattle.std.specs.Prelude.{◌≡◌, ◌⊎◌, ℕ, List, [], ◌∷◌, ◌++◌}
 use Rattle.df_base.specs.Image.{Image, changed}
-use Rattle.df_base.specs.Log.{Event, Write, Sync, Stop, Log, AreLoose, new_log, add, now}
+use Rattle.df_base.specs.Log.{Write, Sync, Stop, Log, AreLoose, new_log, add, now}
 use Rattle.df_format.specs.declared.wal.Wal.{Wal}
 use Rattle.df_format.specs.Unit.{Prepare, IsPrepare, slot_start, sectors_of}
 use Rattle.df_format.specs.Chance.{NoChance, EachLeft}

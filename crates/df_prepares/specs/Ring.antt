@@ -45,8 +45,3 @@ pub record IsNext (wal : Wal) (ps : List Prepare) (p : Prepare) : Type 0 where
 pub record IsHead (ps : List Prepare) (head : Head) : Type 0 where
   pub op : head.op ≡ length ps
   pub checksum : head.checksum ≡ end_of no_checksum ps
-
--- what is so of the head of any ring: its op is within the ring, and an empty ring has no checksum
-pub record IsEnd (wal : Wal) (head : Head) : Type 0 where
-  pub within : head.op ≤ wal.slots
-  pub empty : head.op ≡ 0 → head.checksum ≡ no_checksum

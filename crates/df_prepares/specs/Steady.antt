@@ -1,7 +1,7 @@
 -- Logs whose ring only grows, and logs that stay so whatever happens next.
 use Rattle.std.specs.Prelude.{◌≡◌, ℕ, ◌+◌, ◌<◌, false, List, [], ◌∷◌}
 use Rattle.df_base.specs.Image.{Image, blank, changed}
-use Rattle.df_base.specs.Log.{Event, Sync, Stop, Log, AreLoose, IsLog, add, now, loose, settled}
+use Rattle.df_base.specs.Log.{Sync, Stop, Log, AreLoose, IsLog, add, now, loose, settled}
 use Rattle.df_format.specs.declared.wal.Wal.{Wal}
 use Rattle.df_format.specs.Unit.{Prepare, slot_start, slot_sectors}
 use Rattle.df_format.specs.Chance.{NoChance, AreFair}

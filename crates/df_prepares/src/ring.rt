@@ -1,9 +1,9 @@
 // The head of the ring that a disk shows, found slot by slot from op 1 on.
-ghost use Rattle.std.specs.Prelude.{◌≡◌, ◌<◌, ◌+◌, ◌%◌, length, IfOk, IfSome};
+ghost use Rattle.std.specs.Prelude.{◌≡◌, ◌≤◌, ◌<◌, ◌+◌, ◌%◌, length, IfOk, IfSome};
 ghost use Rattle.df_base.specs.Causes.{HasCause};
+ghost use Rattle.df_format.specs.Spelling.{no_checksum};
 ghost use Rattle.df_format.specs.Unit.{prepare_in};
 ghost use Rattle.df_prepares.specs.Found.{IsHeadOf, MovesOn, ShowsNext};
-ghost use Rattle.df_prepares.specs.Ring.{IsEnd};
 
 use crate::read_slot;
 use df_base::{Check, Failed};
@@ -27,10 +27,11 @@ fn following(wal: &Wal, head: &Head, slot: u32, bytes: &[u8]) -> Option<Head>
     ensures { MovesOn head.now (prepare_in wal.now slot bytes.now) result }
 {
     let header = decode_prepare(wal, slot, bytes)?;
+    let checksum = header.checksum;
     if header.op == head.op + 1 && header.parent == head.checksum {
         Some(Head {
             op: header.op,
-            checksum: header.checksum,
+            checksum,
         })
     } else {
         None
@@ -61,7 +62,8 @@ fn read_next<D: Disk>(
 pub fn find_ring<D: Disk>(disk: &mut D, wal: &Wal, room: &mut [u8]) -> Result<Head, Failed>
     requires room { length room.old ≡ wal.now.message_size }
     ensures head { IfOk result (IsHeadOf wal.now (D.told disk.old)) }
-    ensures end { IfOk result (IsEnd wal.now) }
+    ensures bound { IfOk result (λ head. head.op ≤ wal.now.slots) }
+    ensures empty { IfOk result (λ head. head.op ≡ 0 → head.checksum ≡ no_checksum) }
     ensures same { D.told disk.new ≡ D.told disk.old }
     ensures cause { HasCause (D.faults disk.old) (D.faults disk.new) result }
 {

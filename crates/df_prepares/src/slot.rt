@@ -30,12 +30,7 @@ pub fn write_prepare<D: Disk>(
 }
 
 /// Reads a whole slot into a room of its length. After an error the room holds any bytes.
-pub fn read_slot<D: Disk>(
-    disk: &mut D,
-    wal: &Wal,
-    slot: u32,
-    room: &mut [u8],
-) -> Result<(), Failed>
+pub fn read_slot<D: Disk>(disk: &mut D, wal: &Wal, slot: u32, room: &mut [u8]) -> Result<(), Failed>
     requires slot { slot < wal.now.slots }
     requires room { length room.old ≡ wal.now.message_size }
     ensures bytes { OnOk result (Shows (D.told disk.old) (slot_start wal.now slot) room.new) }

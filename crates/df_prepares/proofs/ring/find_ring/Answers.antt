@@ -1,5 +1,5 @@
 -- Each turn moves the head on to its child; without one, or where the ring is full, it is the head of the ring.
-use Rattle.std.proofs.Common.{◌≡◌, ◌+◌, ◌<◌, [], ◌∷◌, Option, Some, None, refl, sym, ◌∙◌, subst, arith, IfSome}
+use Rattle.std.proofs.Common.{◌≡◌, ◌+◌, [], ◌∷◌, Option, Some, None, refl, ◌∙◌, subst, arith, IfSome}
 use Rattle.df_disk.specs.Told.{Told}
 use Rattle.df_format.specs.Spelling.{no_checksum}
 use Rattle.df_prepares.specs.declared.ring.Head.{Head}
@@ -12,7 +12,7 @@ unfolding no_checksum
 zeros = refl
 
 pub loop-head-init : goal.loop-head-init
-loop-head-init g c = record { end = record { within = omega arith; empty = λ _. zeros }; same = refl; faults = refl; found = found_none c.args.wal.now (g.D.Disk.told c.args.disk.now) _ refl zeros }
+loop-head-init g c = record { room = omega arith; empty = λ _. zeros; same = refl; faults = refl; found = found_none c.args.wal.now (g.D.Disk.told c.args.disk.now) _ refl zeros }
 
 pub loop-head-preserved : goal.loop-head-preserved
 loop-head-preserved g c =
@@ -23,7 +23,8 @@ loop-head-preserved g c =
     let shows : ShowsNext wal (g.D.Disk.told c.args.disk.now) head (Some later) = subst (λ (o : Option Told). ShowsNext wal o head (Some later)) c.loop-head.invariant.same next in
     let op : later.op ≡ head.op + 1 = subst (λ (o : Option Head). IfSome o (λ h. h.op ≡ head.op + 1)) c.in-Some.is c.in_ok-later.ensures.op in
     record {
-      end = record { within = omega (arith, op); empty = λ none. absurd (omega (arith, op, none)) };
+      room = omega (arith, op);
+      empty = λ none. absurd (omega (arith, op, none));
       same = c.in_ok-later.ensures.same ∙ c.loop-head.invariant.same;
       faults = c.in_ok-later.ensures.cause.same ∙ c.loop-head.invariant.faults;
       found = found_more wal (g.D.Disk.told c.args.disk.now) head later (omega arith) c.loop-head.invariant.found shows;

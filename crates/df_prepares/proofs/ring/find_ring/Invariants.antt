@@ -1,12 +1,13 @@
 -- The head is that of a chain from op 1 on, and reads change nothing.
-use Rattle.std.proofs.Common.{◌≡◌, ◌-◌}
-use Rattle.df_prepares.specs.Ring.{IsEnd}
+use Rattle.std.proofs.Common.{◌≡◌, ◌-◌, ◌≤◌}
+use Rattle.df_format.specs.Spelling.{no_checksum}
 use Rattle.df_prepares.proofs.Finds.{IsFound}
 use Rattle.df_prepares.proofs.ring.find_ring.Given as goal
 
 abbrev pub invariant-loop-head : goal.invariant-loop-head
 invariant-loop-head g l = record {
-  end : IsEnd l.wal l.head;
+  room : l.head.op ≤ l.wal.slots;
+  empty : l.head.op ≡ 0 → l.head.checksum ≡ no_checksum;
   same : g.D.Disk.told l.disk ≡ g.D.Disk.told l.initial.disk;
   faults : g.D.Disk.faults l.disk ≡ g.D.Disk.faults l.initial.disk;
   found : IsFound l.wal (g.D.Disk.told l.initial.disk) l.head;
