@@ -1,7 +1,6 @@
 mod Written
 mod Lines
 mod Rounds
-mod Ring
 mod Steps
 mod Progress
 mod LineEnds

@@ -17,7 +17,7 @@ use Rattle.df_top.specs.Serving.{AnswersAppend, AnswersLine, EndedIsEnd, KeepsRe
 use Rattle.df_top.specs.declared.session.Session.{Session}
 use Rattle.df_top.specs.declared.status.Status.{Status}
 use Rattle.df_top.specs.declared.status.Status.TheVariants.{Done, Words, Script, DiskFault, ReadFault, WriteFault, Memory}
-use Rattle.df_top.proofs.Ring.{is_kept}
+use Rattle.df_prepares.proofs.Rests.{rest_kept}
 use Rattle.df_top.proofs.Progress.{goes_on, ends_disk, ends_answer, ends_script, ends_script_fault}
 
 -- an empty line says nothing
@@ -26,8 +26,8 @@ nothing_said (Append client request body) says = absurd (cc (says.is))
 
 -- the line that refuses the next line ends the session
 pub ends_refused : (wal : Wal) (old new : State) → new.told ≡ old.told → ((rest : List ℕ) → old.text ≡ Some rest → IsRefused wal line_bound old.budget rest) → (status : Status) → RefusesLine old.lines old.written new.written status → Ends wal line_bound old new status
-ends_refused wal old new same refused Script wrote = ends_script wal line_bound (is_kept wal) old new same refused wrote
-ends_refused wal old new same refused WriteFault wrote = ends_script_fault wal line_bound (is_kept wal) old new same refused wrote
+ends_refused wal old new same refused Script wrote = ends_script wal line_bound (rest_kept wal) old new same refused wrote
+ends_refused wal old new same refused WriteFault wrote = ends_script_fault wal line_bound (rest_kept wal) old new same refused wrote
 ends_refused wal old new same refused Done wrote = absurd wrote
 ends_refused wal old new same refused Words wrote = absurd wrote
 ends_refused wal old new same refused DiskFault wrote = absurd wrote
@@ -91,8 +91,8 @@ module _ (told later : Option Told) (left after_left written took : Option (List
 
     answered_end : {T : Type 0} (r : Result T Status) → IsTaken old.wal said → AnswersAppend old.wal told written mid said later took new r → IfErr r (Ends old.wal line_bound before after)
     answered_end (Ok x) ring did = tt
-    answered_end (Err DiskFault) ring did = ends_disk old.wal line_bound (is_kept old.wal) before after said (takes ring) did.1 did.0
-    answered_end (Err WriteFault) ring did = ends_answer old.wal line_bound (is_kept old.wal) before after said (takes ring) did.1 did.0
+    answered_end (Err DiskFault) ring did = ends_disk old.wal line_bound (rest_kept old.wal) before after said (takes ring) did.1 did.0
+    answered_end (Err WriteFault) ring did = ends_answer old.wal line_bound (rest_kept old.wal) before after said (takes ring) did.1 did.0
     answered_end (Err Done) ring did = absurd did
     answered_end (Err Words) ring did = absurd did
     answered_end (Err Script) ring did = absurd did

@@ -8,14 +8,15 @@ use Rattle.df_format.specs.declared.wal.Wal.{Wal}
 use Rattle.df_format.specs.Spelling.{no_checksum}
 use Rattle.df_format.specs.Unit.{Prepare, IsPrepare, slot_start, sectors_of}
 use Rattle.df_prepares.specs.declared.ring.Head.{Head}
-use Rattle.df_prepares.specs.Ring.{IsHead, IsEnd, end_of}
+use Rattle.df_prepares.specs.Ring.{IsHead, end_of}
+use Rattle.df_top.specs.Heads.{IsEnd}
 use Rattle.df_prepares.proofs.Chains.{end_of-append}
 use Rattle.df_script.specs.Grammar.{Said, Append}
 use Rattle.df_top.specs.Appends.{prepare_for, next_of, ring_after, IsGood}
 use Rattle.df_top.specs.Texts.{count_after}
 use Rattle.df_top.specs.Session.{Rests, Since}
 use Rattle.df_top.specs.Step.{behind, append_events, IsNextHead, StepDone, StepFailed, Steps}
-use Rattle.df_top.proofs.Ring.{may_be_written, is_kept}
+use Rattle.df_prepares.proofs.Rests.{next_written, rest_kept}
 use Rattle.df_top.proofs.Rounds.{step_done, step_failed, step_refused, next_is}
 
 behind_is : (wal : Wal) (head : Head) (ps : List Prepare) (said : Said) → IsHead ps head → behind wal head said ≡ next_of wal ps said
@@ -32,7 +33,7 @@ module _ (wal : Wal) (told later : Option Told) (head next : Head) (said : Said)
   step_ok adds is_next entry opening asked rests since =
       let ps = ring_after wal opening asked in
       let same = behind_is wal head ps said rests.head_is in
-      step_done wal (may_be_written wal) (is_kept wal) entry opening asked said told head rests since (subst (λ (n : ℕ). n < wal.slots) rests.head_is.op room) (subst (IsPrepare wal) same is) later next
+      step_done wal (next_written wal) (rest_kept wal) entry opening asked said told head rests since (subst (λ (n : ℕ). n < wal.slots) rests.head_is.op room) (subst (IsPrepare wal) same is) later next
       (record {
         op = is_next.op ∙ (λ i. rests.head_is.op i + 1) ∙ sym (length-append ps (next_of wal ps said ∷ []));
         checksum = is_next.checksum ∙ ap (λ (p : Prepare). p.header.checksum) same ∙ sym (end_of-append no_checksum ps (next_of wal ps said));
@@ -43,7 +44,7 @@ module _ (wal : Wal) (told later : Option Told) (head next : Head) (said : Said)
   step_err adds entry opening asked rests since =
       let ps = ring_after wal opening asked in
       let same = behind_is wal head ps said rests.head_is in
-      step_failed wal (may_be_written wal) (is_kept wal) entry opening asked said told head rests since (subst (λ (n : ℕ). n < wal.slots) rests.head_is.op room) (subst (IsPrepare wal) same is) later
+      step_failed wal (next_written wal) (rest_kept wal) entry opening asked said told head rests since (subst (λ (n : ℕ). n < wal.slots) rests.head_is.op room) (subst (IsPrepare wal) same is) later
       (subst (λ (p : Prepare). AddsPart (Write (slot_start wal p.header.slot) (sectors_of p) ∷ Sync ∷ []) told later) same adds)
 
   pub step_result : {T E : Type 0} (r : Result T E) → Adds (append_events wal head said) told later r → OnOk r (IsNextHead wal head said next) → Steps wal told head said later next r
@@ -52,7 +53,7 @@ module _ (wal : Wal) (told later : Option Told) (head next : Head) (said : Said)
 
 pub step_full : (wal : Wal) (told : Option Told) (head : Head) (said : Said) → wal.slots ≤ head.op → StepDone wal told head said told head
 step_full wal told head said full entry opening asked rests since =
-    step_refused wal (may_be_written wal) (is_kept wal) entry opening asked said told head (subst (λ (n : ℕ). wal.slots ≤ n) rests.head_is.op full) rests since
+    step_refused wal (next_written wal) (rest_kept wal) entry opening asked said told head (subst (λ (n : ℕ). wal.slots ≤ n) rests.head_is.op full) rests since
 
 pub count_room : (slots n : ℕ) → n < slots → n + 1 ≡ count_after slots n
 count_room slots n room = sym (cond-true (ltb n slots) (n + 1) n (lt-ltb n slots room))

@@ -1,3 +1,4 @@
+pub mod Heads
 pub mod Script
 pub mod Appends
 pub mod Texts

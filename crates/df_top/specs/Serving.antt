@@ -4,7 +4,7 @@ use Rattle.df_base.specs.Causes.{Rose}
 use Rattle.df_base.specs.Streams.{Appends, AppendsPart}
 use Rattle.df_disk.specs.Told.{Told}
 use Rattle.df_format.specs.declared.wal.Wal.{Wal}
-use Rattle.df_prepares.specs.Ring.{IsEnd}
+use Rattle.df_top.specs.Heads.{IsEnd}
 use Rattle.df_script.specs.Grammar.{Said}
 use Rattle.df_script.specs.Room.{IsAtEnd, IsFresh}
 use Rattle.df_script.specs.Text.{unread}

@@ -4,7 +4,7 @@ ghost use Rattle.df_base.specs.Causes.{HasCause};
 ghost use Rattle.df_disk.specs.Adds.{Adds};
 ghost use Rattle.df_format.specs.Spelling.{no_checksum};
 ghost use Rattle.df_format.specs.Unit.{IsPrepare, sectors_of};
-ghost use Rattle.df_prepares.specs.Ring.{IsEnd};
+ghost use Rattle.df_top.specs.Heads.{IsEnd};
 ghost use Rattle.df_script.specs.Grammar.{Append};
 ghost use Rattle.df_top.specs.Script.{IsTaken};
 ghost use Rattle.df_top.specs.Step.{behind, append_events, AreSlotful, IsNextHead, Steps};

@@ -4,8 +4,7 @@ use Rattle.df_format.specs.declared.wal.Wal.{Wal}
 use Rattle.df_top.specs.Ending.{Ended}
 use Rattle.df_top.specs.Run.{line_bound}
 use Rattle.df_top.specs.Serving.{state}
-use Rattle.df_prepares.proofs.Rests.{sync_rests}
-use Rattle.df_top.proofs.Ring.{may_be_written, is_kept}
+use Rattle.df_prepares.proofs.Rests.{next_written, rest_kept, sync_rests}
 use Rattle.df_top.proofs.Whole.{prints_nothing, runs_failed, runs_whole}
 use Rattle.df_top.proofs.engine.execute.Goals as goal
 
@@ -15,7 +14,7 @@ returns-in-Err-clause-prints g c = prints_nothing c.args.session.now.wal (g.D.Di
 pub returns-in-Err-clause-runs : goal.returns-in-Err-clause-runs
 returns-in-Err-clause-runs g c =
     let wal = c.args.session.now.wal in
-    runs_failed wal (g.D.Disk.told c.args.disk.now) (g.D.Disk.told c.open.new.disk) (g.S.Source.left c.args.source.now) (g.W.Sink.written c.args.sink.now) (may_be_written wal) (is_kept wal) (sync_rests wal) c.in-Err.ensures.failed
+    runs_failed wal (g.D.Disk.told c.args.disk.now) (g.D.Disk.told c.open.new.disk) (g.S.Source.left c.args.source.now) (g.W.Sink.written c.args.sink.now) (next_written wal) (rest_kept wal) (sync_rests wal) c.in-Err.ensures.failed
 
 pub returns-in-Ok-clause-runs : goal.returns-in-Ok-clause-runs
 returns-in-Ok-clause-runs g c =
@@ -23,4 +22,4 @@ returns-in-Ok-clause-runs g c =
     runs_whole wal (g.D.Disk.told c.args.disk.now) (g.D.Disk.told c.open.new.disk) (g.D.Disk.told c.serve.new.disk) (g.S.Source.left c.args.source.now) (g.W.Sink.written c.args.sink.now) c.args.session.now c.open.new.session
     (state (g.D.Disk.told c.serve.new.disk) (g.S.Source.left c.serve.new.source) (g.W.Sink.written c.serve.new.sink) c.serve.new.session) c.serve.result c.requires c.in-Ok.ensures.opened c.in-Ok.ensures.synced c.in-Ok.ensures.head
     (subst (λ (w : Wal). Ended w line_bound (state (g.D.Disk.told c.open.new.disk) (g.S.Source.left c.args.source.now) (g.W.Sink.written c.args.sink.now) c.open.new.session) (state (g.D.Disk.told c.serve.new.disk) (g.S.Source.left c.serve.new.source) (g.W.Sink.written c.serve.new.sink) c.serve.new.session) c.serve.result) c.in-Ok.ensures.opened.wal c.serve.ensures.session)
-    (may_be_written wal) (is_kept wal) (sync_rests wal)
+    (next_written wal) (rest_kept wal) (sync_rests wal)

@@ -4,7 +4,7 @@ use Rattle.df_script.specs.Reads.{GivesNext}
 use Rattle.df_top.specs.Script.{IsRefused}
 use Rattle.df_top.specs.Run.{line_bound}
 use Rattle.df_top.specs.Serving.{state}
-use Rattle.df_top.proofs.Ring.{is_kept}
+use Rattle.df_prepares.proofs.Rests.{rest_kept}
 use Rattle.df_top.proofs.Progress.{ends_done, ends_read}
 use Rattle.df_top.proofs.LineEnds.{line_on, line_end, ends_refused, refused_next}
 use Rattle.df_top.proofs.turns.turn.Goals as goal
@@ -28,10 +28,10 @@ returns-in-Ok-Refused-clause-ends g c =
 
 pub returns-in-Ok-End-clause-ends : goal.returns-in-Ok-End-clause-ends
 returns-in-Ok-End-clause-ends g c =
-    ends_done c.args.session.now.wal line_bound (is_kept c.args.session.now.wal) (state (g.D.Disk.told c.args.disk.now) (g.S.Source.left c.args.source.now) (g.W.Sink.written c.args.sink.now) c.args.session.now) _ refl refl
+    ends_done c.args.session.now.wal line_bound (rest_kept c.args.session.now.wal) (state (g.D.Disk.told c.args.disk.now) (g.S.Source.left c.args.source.now) (g.W.Sink.written c.args.sink.now) c.args.session.now) _ refl refl
     (λ rest is.
     let ends = subst (GivesNext c.args.session.now.lines c.next.new.self rest (g.S.Source.left c.next.new.source)) c.in-Ok-End.field-0-is (c.in-Ok-End.ensures.gives rest (record { is = is; ended = c.requires.at_end })) in
     (ends.none, ends.ended))
 
 pub returns-in-Err-clause-ends : goal.returns-in-Err-clause-ends
-returns-in-Err-clause-ends g c = ends_read c.args.session.now.wal line_bound (is_kept c.args.session.now.wal) (state (g.D.Disk.told c.args.disk.now) (g.S.Source.left c.args.source.now) (g.W.Sink.written c.args.sink.now) c.args.session.now) _ refl refl
+returns-in-Err-clause-ends g c = ends_read c.args.session.now.wal line_bound (rest_kept c.args.session.now.wal) (state (g.D.Disk.told c.args.disk.now) (g.S.Source.left c.args.source.now) (g.W.Sink.written c.args.sink.now) c.args.session.now) _ refl refl
