@@ -6,24 +6,27 @@ ghost use Rattle.df_base.specs.Log.{Write, Sync};
 ghost use Rattle.df_disk.specs.Told.{AreSectors, Shows, after};
 ghost use Rattle.df_filedisk.specs.Tells.{tells};
 
+use crate::opening::{Opened, open_or_make, sync_folder};
 use crate::positioned::{read_whole, write_whole};
 use df_base::{Failed, SECTOR};
 use df_disk::Disk;
-use std::fs::{OpenFile, OpenOptions};
+use std::fs::OpenFile;
 use std::io::{self, ErrorKind};
 use std::marker::Model;
 use std::os::unix::fs::FileExt;
 use std::rt::Files;
 
 /// A disk over one file, which is opened for reading and writing on first use, and made where there
-/// is none. A read behind the end of the file gives zeros. `sync` asks the operating system for the
-/// data and what is needed to read it again. Contracts see the disk as its count of faults, which
-/// stops at `u64::MAX`.
+/// is none. A read behind the end of the file gives zeros. `sync` asks the operating system to make
+/// the data durable, with what is needed to read it again; the first sync of a file that was made
+/// also syncs its folder. Each call that fails counts as one fault, and none is tried again.
+/// Contracts see the disk as its count of faults, which stops at `u64::MAX`.
 #[derive(Drop)]
 pub struct FileDisk<'a, R: Files> {
     rt: &'a R,
     path: String,
     file: Option<R::File>,
+    is_new: bool,
     faults: u64,
 }
 
@@ -44,6 +47,7 @@ impl<'a, R: Files> FileDisk<'a, R> {
             rt,
             path,
             file: None,
+            is_new: false,
             faults: 0,
         }
     }
@@ -53,12 +57,20 @@ impl<'a, R: Files> FileDisk<'a, R> {
         ensures { self.new ≡ self.old }
     {
         if self.file.is_none() {
-            let file = OpenOptions::new()
-                .read(true)
-                .write(true)
-                .create(true)
-                .open(self.rt, self.path.as_str())?;
+            let Opened { file, is_new } = open_or_make(self.rt, self.path.as_str())?;
             self.file = Some(file);
+            self.is_new = is_new;
+        }
+        Ok(())
+    }
+
+    // Makes the name of a new file durable.
+    fn sync_name(&mut self) -> io::Result<()>
+        ensures { self.new ≡ self.old }
+    {
+        if self.is_new {
+            sync_folder(self.rt, self.path.as_str())?;
+            self.is_new = false;
         }
         Ok(())
     }
@@ -109,9 +121,10 @@ where
     {
         self.open_once()?;
         match &self.file {
-            Some(file) => file.sync_data(),
-            None => Err(ErrorKind::NotFound.into()),
+            Some(file) => file.sync_data()?,
+            None => return Err(ErrorKind::NotFound.into()),
         }
+        self.sync_name()
     }
 }
 

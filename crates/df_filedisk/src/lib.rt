@@ -2,6 +2,7 @@
 #![tactic(auto)]
 
 mod file;
+mod opening;
 mod positioned;
 #[cfg(test)]
 mod tests;
