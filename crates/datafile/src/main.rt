@@ -5,7 +5,9 @@ use df_base::{FromRead, ToWrite};
 use df_filedisk::FileDisk;
 use df_top::{Status, run};
 use std::env;
+use std::fs::{OpenFile, OpenOptions};
 use std::process::ExitCode;
+use std::rt::Files;
 
 // The words behind the program's name.
 fn words(rt: &HostRuntime) -> Result<Vec<String>, Status> {
@@ -16,6 +18,11 @@ fn words(rt: &HostRuntime) -> Result<Vec<String>, Status> {
         Ok(words) => Ok(words),
         Err(_) => Err(Status::Memory),
     }
+}
+
+// Opens the root folder. Its handle can be neither read from nor written to.
+fn hold<R: Files>(rt: &R) -> Option<R::File> {
+    OpenOptions::new().read(true).open(rt, "/").ok()
 }
 
 // Takes the path off the words and does what the others say. Without a path the file is never opened.
@@ -29,6 +36,9 @@ fn act(rt: &HostRuntime) -> Status {
     } else {
         words.remove(0)
     };
+    // Where the caller closed standard input or output, the next file that is opened would stand in its place, and
+    // the script would be read from the data file or the answers be written into it. These three take such places.
+    let _held = (hold(rt), hold(rt), hold(rt));
     let mut disk = FileDisk::new(rt, path);
     let mut source = FromRead::new(rt.stdin());
     let mut sink = ToWrite::new(rt.stdout());
