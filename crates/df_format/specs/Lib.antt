@@ -4,3 +4,4 @@ pub mod Reading
 pub mod Unit
 pub mod Chance
 pub mod Laws
+pub mod Making

@@ -3,8 +3,11 @@
 
 mod codec;
 mod header;
+mod places;
+mod unit;
 mod wal;
 
 pub use codec::{decode_header, encode_header, seal_header};
 pub use header::Header;
+pub use unit::{Made, decode_prepare, make_prepare};
 pub use wal::Wal;

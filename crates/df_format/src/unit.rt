@@ -1,0 +1,102 @@
+// The prepare that a slot shows: how its bytes are tested, and how they are made.
+ghost use Rattle.std.specs.Prelude.{◌≡◌, ◌+◌, ◌-◌, ◌*◌, ◌/◌, ◌≤◌, ◌<◌, ◌++◌, length, take, drop, replicate};
+ghost use Rattle.df_base.specs.Fields.{check_of};
+ghost use Rattle.df_format.specs.Spelling.{IsSealed, ObeysRules, spelling, sealed};
+ghost use Rattle.df_format.specs.Unit.{IsPrepare, prepare_in, header_of, is_whole, sectors_end, sectors_of};
+ghost use Rattle.df_format.specs.Making.{AreGiven, filled};
+
+use crate::{Header, Wal, decode_header, encode_header, seal_header};
+use df_base::{HEADER, SECTOR, check};
+
+// The tests of a header for the slot that it was read from, and of the body behind it.
+fn is_whole(wal: &Wal, slot: u32, bytes: &[u8], header: &Header) -> bool
+    requires size { length bytes.now ≡ wal.now.message_size }
+    requires least { 256 ≤ header.now.size }
+    ensures { result ≡ is_whole wal.now slot bytes.now header.now }
+{
+    header.cluster == wal.cluster
+        && header.size <= wal.message_size
+        && u64::from(header.slot) == header.op % u64::from(wal.slots)
+        && header.slot == slot
+        && &header.checksum_body == &check(&bytes[HEADER..header.size as usize])
+}
+
+/// The header of the prepare that is valid in a slot of this log, where the slot's bytes begin with one; the body
+/// follows it. None where they begin with no prepare, or with one of another cluster or another slot.
+#[tactic(auto, unfolding(crate::specs::Unit::prepare_in))]
+pub fn decode_prepare(wal: &Wal, slot: u32, bytes: &[u8]) -> Option<Header>
+    requires size { length bytes.now ≡ wal.now.message_size }
+    requires slot { slot < wal.now.slots }
+    ensures { result ≡ header_of (prepare_in wal.now slot bytes.now) }
+{
+    let header = decode_header(&bytes[..HEADER])?;
+    if is_whole(wal, slot, bytes, &header) {
+        Some(header)
+    } else {
+        None
+    }
+}
+
+/// A prepare that was made in a buffer.
+#[derive(Clone, Copy, Debug, PartialEq, Eq)]
+pub struct Made {
+    pub header: Header,
+    /// Bytes of its whole sectors, at the front of the buffer.
+    pub length: usize,
+}
+
+// How many bytes of whole sectors so many bytes cover.
+fn sectors_end(size: usize) -> usize
+    requires { size ≤ 1048576 }
+    ensures { result ≡ sectors_end size }
+{
+    SECTOR * ((size + SECTOR - 1) / SECTOR)
+}
+
+// The header with the fields that follow from the log, the op and the body.
+fn fill(wal: &Wal, header: Header, body: &[u8]) -> Header
+    requires { 256 + length body.now ≤ wal.now.message_size }
+    ensures { result ≡ filled wal.now header body.now }
+{
+    Header {
+        cluster: wal.cluster,
+        checksum_body: check(body),
+        size: (HEADER + body.len()) as u32,
+        slot: (header.op % u64::from(wal.slots)) as u32,
+        ..header
+    }
+}
+
+// Writes header, body and zeros up to the end of a sector, and gives that end.
+fn write_sectors(header: &Header, body: &[u8], into: &mut [u8]) -> usize
+    requires header { IsSealed header.now }
+    requires room { sectors_end (256 + length body.now) ≤ length into.old }
+    requires size { 256 + length body.now ≤ 1048576 }
+    ensures length { result ≡ sectors_end (256 + length body.now) }
+    ensures sectors { take result into.new ≡ sectors_of (record { header = header.now; body = body.now }) }
+    ensures rest { drop result into.new ≡ drop result into.old }
+{
+    let size = HEADER + body.len();
+    let end = sectors_end(size);
+    encode_header(header, &mut into[..HEADER]);
+    into[HEADER..size].copy_from_slice(body);
+    into[size..end].fill(0);
+    end
+}
+
+/// Makes a prepare with this body at the front of a buffer of a slot's length: it sets the header's cluster, size,
+/// slot and checksums, writes header, body and zeros up to the last whole sector, and leaves the rest of the buffer.
+pub fn make_prepare(wal: &Wal, header: Header, body: &[u8], into: &mut [u8]) -> Made
+    requires given { AreGiven header }
+    requires body { 256 + length body.now ≤ wal.now.message_size }
+    requires room { length into.old ≡ wal.now.message_size }
+    ensures header { result.header ≡ sealed (filled wal.now header body.now) }
+    ensures length { result.length ≡ sectors_end (256 + length body.now) }
+    ensures prepare { IsPrepare wal.now (record { header = result.header; body = body.now }) }
+    ensures sectors { take result.length into.new ≡ sectors_of (record { header = result.header; body = body.now }) }
+    ensures rest { drop result.length into.new ≡ drop result.length into.old }
+{
+    let header = seal_header(fill(wal, header, body));
+    let length = write_sectors(&header, body, into);
+    Made { header, length }
+}
