@@ -5,6 +5,7 @@ ghost use Rattle.df_format.specs.Spelling.{ObeysRules, IsSealed, sealed, spellin
 ghost use Rattle.df_format.specs.Reading.{fields_of, is_counter, has_numbers, is_spelled, header_in};
 
 use crate::Header;
+use crate::pieces::put_bytes;
 use df_base::{
     Check, HEADER, check, put_u32, put_u64, put_u128, u32_at, u64_at, u128_at,
 };
@@ -35,7 +36,7 @@ fn put_check(into: &mut [u8], at: usize, value: &Check)
     requires { at + 16 ≤ length into.old }
     ensures { take (at + 16) into.new ≡ take at into.old ++ value.now }
 {
-    into[at..at + 16].copy_from_slice(value);
+    put_bytes(into, at, value);
 }
 
 #[tactic(auto, unfolding(crate::specs::Spelling::tail_bytes))]
@@ -43,7 +44,7 @@ fn put_tail(into: &mut [u8])
     requires { length into.old ≡ 256 }
     ensures { into.new ≡ take 120 into.old ++ tail_bytes }
 {
-    into[TAIL..].copy_from_slice(&TAIL_BYTES);
+    put_bytes(into, TAIL, &TAIL_BYTES);
 }
 
 // Writes all that the checksum covers.

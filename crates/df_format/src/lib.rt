@@ -3,6 +3,7 @@
 
 mod codec;
 mod header;
+mod pieces;
 mod places;
 mod unit;
 mod wal;

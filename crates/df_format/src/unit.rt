@@ -5,6 +5,7 @@ ghost use Rattle.df_format.specs.Spelling.{IsSealed, ObeysRules, spelling, seale
 ghost use Rattle.df_format.specs.Unit.{IsPrepare, prepare_in, header_of, is_whole, sectors_end, sectors_of};
 ghost use Rattle.df_format.specs.Making.{AreGiven, filled};
 
+use crate::pieces::{put_bytes, put_zeros};
 use crate::{Header, Wal, decode_header, encode_header, seal_header};
 use df_base::{HEADER, SECTOR, check};
 
@@ -67,6 +68,16 @@ fn fill(wal: &Wal, header: Header, body: &[u8]) -> Header
     }
 }
 
+// Writes the header over the first 256 bytes.
+fn put_header(into: &mut [u8], header: &Header)
+    requires header { IsSealed header.now }
+    requires room { 256 ≤ length into.old }
+    ensures front { take 256 into.new ≡ spelling header.now }
+    ensures rest { drop 256 into.new ≡ drop 256 into.old }
+{
+    encode_header(header, &mut into[..HEADER]);
+}
+
 // Writes header, body and zeros up to the end of a sector, and gives that end.
 fn write_sectors(header: &Header, body: &[u8], into: &mut [u8]) -> usize
     requires header { IsSealed header.now }
@@ -78,9 +89,9 @@ fn write_sectors(header: &Header, body: &[u8], into: &mut [u8]) -> usize
 {
     let size = HEADER + body.len();
     let end = sectors_end(size);
-    encode_header(header, &mut into[..HEADER]);
-    into[HEADER..size].copy_from_slice(body);
-    into[size..end].fill(0);
+    put_header(into, header);
+    put_bytes(into, HEADER, body);
+    put_zeros(into, size, end);
     end
 }
 
