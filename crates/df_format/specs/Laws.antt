@@ -1,9 +1,10 @@
 -- What holds of every header, prepare and image: the laws that a ring of prepares rests on.
 use Rattle.std.specs.Prelude.{◌≡◌, ◌≢◌, ◌↔◌, ◌<◌, ◌≤◌, ◌+◌, ◌%◌, ℕ, false, List, length, Some, None}
+use Rattle.df_base.specs.Fields.{AreBytes}
 use Rattle.df_base.specs.Image.{Image, IsImage, IsPiece, blank, covers, written}
 use Rattle.df_format.specs.declared.header.Header.{Header}
 use Rattle.df_format.specs.declared.wal.Wal.{Wal}
-use Rattle.df_format.specs.Spelling.{spelling, AreBytes, IsSealed}
+use Rattle.df_format.specs.Spelling.{spelling, IsSealed}
 use Rattle.df_format.specs.Reading.{header_in}
 use Rattle.df_format.specs.Unit.{Prepare, IsPrepare, BeginsWith, prepare_in, prepare_at, slot_start, slot_sectors, sectors_of}
 

@@ -1,6 +1,6 @@
 -- The one spelling of a prepare's header, and the rules that its fields obey.
-use Rattle.std.specs.Prelude.{◌≡◌, ◌<◌, ◌≤◌, ◌^◌, ℕ, List, ◌∷◌, ◌++◌, length, replicate, slice_index}
-use Rattle.df_base.specs.Fields.{spelled, check_of}
+use Rattle.std.specs.Prelude.{◌≡◌, ◌<◌, ◌≤◌, ◌^◌, ℕ, List, ◌∷◌, ◌++◌, length, replicate}
+use Rattle.df_base.specs.Fields.{AreBytes, spelled, check_of}
 use Rattle.df_format.specs.declared.header.Header.{Header}
 
 -- sixteen zeros, where a checksum would stand
@@ -20,10 +20,6 @@ spelling_rest h =
 -- the 256 bytes of a header
 abbrev pub spelling : Header → List ℕ
 spelling h = h.checksum ++ spelling_rest h
-
--- numbers below 256
-abbrev pub AreBytes : List ℕ → Type 0
-AreBytes bytes = (i : ℕ) → slice_index bytes i < 256
 
 -- bytes of a checksum
 pub record IsCheck (bytes : List ℕ) : Type 0 where

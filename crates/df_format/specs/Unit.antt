@@ -1,11 +1,11 @@
 -- The prepare that a slot shows.
 use Rattle.std.specs.Prelude.{◌≡◌, ◌≤◌, ◌+◌, ◌-◌, ◌*◌, ◌/◌, ◌%◌, ◌==◌, ℕ, List, Bool, ◌&&◌, ◌++◌, nat_le, if◌then◌else◌, length, take, drop, replicate, Option, Some, None}
 use Rattle.std.specs.Str.{bytes_eq}
-use Rattle.df_base.specs.Fields.{check_of}
+use Rattle.df_base.specs.Fields.{AreBytes, check_of}
 use Rattle.df_base.specs.Image.{Image, bytes_at}
 use Rattle.df_format.specs.declared.header.Header.{Header}
 use Rattle.df_format.specs.declared.wal.Wal.{Wal}
-use Rattle.df_format.specs.Spelling.{spelling, AreBytes, IsSealed}
+use Rattle.df_format.specs.Spelling.{spelling, IsSealed}
 use Rattle.df_format.specs.Reading.{header_in}
 
 -- a header and the body that follows it

@@ -56,8 +56,10 @@ fn sectors_end(size: usize) -> usize
 
 // The header with the fields that follow from the log, the op and the body.
 fn fill(wal: &Wal, header: Header, body: &[u8]) -> Header
-    requires { 256 + length body.now ≤ wal.now.message_size }
-    ensures { result ≡ filled wal.now header body.now }
+    requires given { AreGiven header }
+    requires body { 256 + length body.now ≤ wal.now.message_size }
+    ensures header { result ≡ filled wal.now header body.now }
+    ensures rules { ObeysRules (filled wal.now header body.now) }
 {
     Header {
         cluster: wal.cluster,

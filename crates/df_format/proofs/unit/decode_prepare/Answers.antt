@@ -1,5 +1,6 @@
 use Rattle.std.proofs.Common.{arith, sym}
 use Rattle.std.proofs.lemmas.List.{length-take-le}
+use Rattle.df_format.proofs.Spelled.{read_as}
 use Rattle.df_format.proofs.unit.decode_prepare.Goals as goal
 
 pub slice_bounds-decode_header-end : goal.slice_bounds-decode_header-end
@@ -9,4 +10,4 @@ pub decode_header-requires : goal.decode_header-requires
 decode_header-requires c = length-take-le 256 c.args.bytes.now (omega (arith, c.requires.size, c.args.wal.now.limits.least))
 
 pub is_whole-requires-clause-least : goal.is_whole-requires-clause-least
-is_whole-requires-clause-least c = let h = c.decode_header.ensures in let k = c.in_ok-header.ensures in let m = c.in_ok-header.was in let o = c.branch-header.ensures in ?
+is_whole-requires-clause-least c = (read_as _ c.in_ok-header.header (sym c.in_ok-header.ensures)).ranges.size
