@@ -3,6 +3,7 @@
 
 mod codec;
 mod header;
+mod laws;
 mod pieces;
 mod places;
 mod unit;
@@ -10,5 +11,9 @@ mod wal;
 
 pub use codec::{decode_header, encode_header, seal_header};
 pub use header::Header;
+pub use laws::{
+    blank_shows_none, headers_have_one_spelling, same_is_shown, shown_belongs,
+    slots_have_one_prepare, written_is_shown,
+};
 pub use unit::{Made, decode_prepare, make_prepare};
 pub use wal::Wal;
