@@ -1,7 +1,7 @@
 -- What is made is a prepare of its log, and its sectors stand at the front of the buffer.
-use Rattle.std.proofs.Common.{◌≡◌, ℕ, ◌+◌, ◌-◌, ◌*◌, ◌/◌, ◌≤◌, List, ◌++◌, length, take, drop, replicate, refl, sym, ◌∙◌, ap, subst, arith}
+use Rattle.std.proofs.Common.{◌≡◌, ℕ, ◌+◌, ◌-◌, ◌≤◌, List, ◌++◌, length, take, drop, replicate, refl, sym, ◌∙◌, ap, subst, arith}
 use Rattle.std.proofs.lemmas.List.{drop-drop}
-use Rattle.df_base.specs.Fields.{AreBytes, check_of}
+use Rattle.df_base.specs.Fields.{AreBytes}
 use Rattle.df_format.specs.declared.header.Header.{Header}
 use Rattle.df_format.specs.declared.wal.Wal.{Wal}
 use Rattle.df_format.specs.Spelling.{spelling, spelling_rest, ObeysRules, IsSealed, sealed}

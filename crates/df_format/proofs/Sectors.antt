@@ -1,5 +1,5 @@
 -- The bytes of some sectors of an image, and what a write of whole sectors makes of them.
-use Rattle.std.proofs.Common.{◌≡◌, ◌⊎◌, inl, inr, ◌<◌, ◌≤◌, ◌+◌, ◌-◌, ◌*◌, ℕ, zero, suc, List, [], ◌++◌, length, take, drop, refl, sym, ◌∙◌, ap, subst, arith, append_assoc, length-append}
+use Rattle.std.proofs.Common.{◌≡◌, inl, inr, ◌<◌, ◌≤◌, ◌+◌, ◌-◌, ◌*◌, ℕ, zero, suc, List, [], ◌++◌, length, take, drop, refl, sym, ◌∙◌, ap, subst, arith, append_assoc, length-append}
 use Rattle.std.proofs.lemmas.Bool.{cases_lt}
 use Rattle.std.proofs.lemmas.Bool.Decides.{nat_tests}
 use Rattle.std.proofs.lemmas.List.{drop_all, take-append-drop, drop-drop}
@@ -47,18 +47,16 @@ written_from at bytes image k (suc n) fits = elim (cases_lt (4096 * k) (length b
       let offset : 4096 * k + 4096 ≡ 4096 * (k + 1) = omega arith in
       let behind : drop (4096 * (k + 1)) bytes ≡ drop 4096 (drop (4096 * k) bytes) = ap (λ (m : ℕ). drop m bytes) (sym offset) ∙ sym (drop-drop 4096 (4096 * k) bytes) in
       let tail : bytes_at (written at bytes image) ((at + k) + 1) n ≡ drop 4096 (drop (4096 * k) bytes) ++ later.0 =
-          ap (λ (s : ℕ). bytes_at (written at bytes image) s n) place ∙ later.1 ∙ ap (λ (l : List ℕ). l ++ later.0) behind in
-      (
+      ap (λ (s : ℕ). bytes_at (written at bytes image) s n) place ∙ later.1 ∙ ap (λ (l : List ℕ). l ++ later.0) behind in (
         later.0,
         (λ i. covered at bytes image k inside i ++ tail i)
-        ∙ sym (append_assoc (take 4096 (drop (4096 * k) bytes)) (drop 4096 (drop (4096 * k) bytes)) later.0)
-        ∙ ap (λ (l : List ℕ). l ++ later.0) (take-append-drop 4096 (drop (4096 * k) bytes)),
+            ∙ sym (append_assoc (take 4096 (drop (4096 * k) bytes)) (drop 4096 (drop (4096 * k) bytes)) later.0)
+            ∙ ap (λ (l : List ℕ). l ++ later.0) (take-append-drop 4096 (drop (4096 * k) bytes)),
       )
-  | inr outside ↦
-      (
-        bytes_at (written at bytes image) (at + k) (suc n),
-        sym (λ i. drop_all (4096 * k) bytes outside i ++ bytes_at (written at bytes image) (at + k) (suc n)),
-      )
+  | inr outside ↦ (
+    bytes_at (written at bytes image) (at + k) (suc n),
+    sym (λ i. drop_all (4096 * k) bytes outside i ++ bytes_at (written at bytes image) (at + k) (suc n)),
+  )
 ]
 
 -- what is read where a write began, begins with what was written

@@ -1,16 +1,16 @@
 -- What an image shows in its slots: the laws that the ring of prepares rests on.
-use Rattle.std.proofs.Common.{◌≡◌, ◌≢◌, ◌⊎◌, inl, inr, ◌<◌, ◌≤◌, ◌+◌, ◌-◌, ◌*◌, ◌/◌, ◌%◌, ◌&&◌, ℕ, zero, suc, Bool, true, false, List, [], ◌∷◌, ◌++◌, length, take, drop, replicate, nat_le, nat_lt, Option, Some, None, refl, sym, ◌∙◌, ap, subst, arith, append_assoc, length-append}
+use Rattle.std.proofs.Common.{◌≡◌, inl, inr, ◌<◌, ◌≤◌, ◌+◌, ◌-◌, ◌*◌, ℕ, zero, suc, false, List, ◌∷◌, ◌++◌, length, take, drop, replicate, Option, Some, None, refl, sym, ◌∙◌, ap, subst, arith, append_assoc, length-append}
 use Rattle.std.proofs.lemmas.Bool.{and_left, and_right, lt-leb, le-ltb, cases_order}
-use Rattle.std.proofs.lemmas.List.{length-replicate, take-append-le, take-replicate, drop-replicate}
+use Rattle.std.proofs.lemmas.List.{length-replicate, take-append-le, take-replicate}
 use Rattle.std.proofs.Math.Nat.{mul-le-mul_right}
-use Rattle.df_base.specs.Fields.{AreBytes, spelled, check_of}
-use Rattle.df_base.specs.Image.{Image, IsImage, IsSector, IsPiece, blank, bytes_at, covers, written}
+use Rattle.df_base.specs.Fields.{AreBytes, spelled}
+use Rattle.df_base.specs.Image.{IsImage, blank, covers}
 use Rattle.df_base.proofs.FieldBytes.{AreBytes-check_of, AreBytes-spelled}
 use Rattle.df_format.specs.declared.header.Header.{Header}
 use Rattle.df_format.specs.declared.wal.Wal.{Wal}
 use Rattle.df_format.specs.Spelling.{spelling, spelling_rest, tail_bytes, IsSealed}
-use Rattle.df_format.specs.Unit.{Prepare, IsPrepare, BeginsWith, unit_of, prepare_in, prepare_at, slot_start, slot_sectors, sectors_of, sectors_end}
-use Rattle.df_format.specs.Laws.{ShownHasOp, ShownIsPrepare, SameIsShown, WrittenIsShown, WrittenIsApart, AreForSlot, SectorsFitSlot, BlankShowsNone}
+use Rattle.df_format.specs.Unit.{Prepare, IsPrepare, unit_of, prepare_in, prepare_at, slot_start, slot_sectors, sectors_of, sectors_end}
+use Rattle.df_format.specs.Laws.{ShownHasOp, ShownIsPrepare, SameIsShown, WrittenIsShown, WrittenIsApart, SectorsFitSlot, BlankShowsNone}
 use Rattle.df_format.proofs.Parts.{bytes-append}
 use Rattle.df_format.proofs.Spelled.{read_as, length-spelling}
 use Rattle.df_format.proofs.Slots.{found_header, found_op, begun_is_found, one_prepare}
@@ -121,11 +121,11 @@ written_apart wal p other k is apart inside =
     elim (cases_order other p.header.slot) [
       | inl same ↦ absurd (apart same)
       | inr differ ↦ elim differ [
-          | inl before ↦ uncovered_below _ _ _ (below wal.first_sector other p.header.slot k s before inside)
-          | inr behind ↦
-              let row = below wal.first_sector p.header.slot other (s - 1) s behind (omega arith) in
-              uncovered_above _ _ _ s (omega (arith, sectors_fit wal p is, whole_slot wal)) (omega (arith, row))
-        ]
+        | inl before ↦ uncovered_below _ _ _ (below wal.first_sector other p.header.slot k s before inside)
+        | inr behind ↦
+            let row = below wal.first_sector p.header.slot other (s - 1) s behind (omega arith) in
+            uncovered_above _ _ _ s (omega (arith, sectors_fit wal p is, whole_slot wal)) (omega (arith, row))
+      ]
     ]
 
 none_unless : {X : Type 0} (o : Option X) → ((x : X) → o ≡ Some x → ⊥) → o ≡ None

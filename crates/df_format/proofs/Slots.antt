@@ -1,5 +1,5 @@
 -- Which prepare the bytes of a slot show: exactly the one that they begin with.
-use Rattle.std.proofs.Common.{◌≡◌, ◌<◌, ◌≤◌, ◌+◌, ◌-◌, ◌%◌, ◌==◌, ℕ, Bool, true, List, ◌++◌, length, take, drop, Option, Some, None, nat_le, refl, sym, ◌∙◌, ap, subst, arith, append_assoc, length-append}
+use Rattle.std.proofs.Common.{◌≡◌, ◌≤◌, ◌+◌, ◌-◌, ◌%◌, ℕ, true, List, ◌++◌, length, take, drop, Option, Some, None, refl, sym, ◌∙◌, ap, subst, arith, append_assoc}
 use Rattle.std.proofs.lemmas.Bool.{cond-true, and_parts, and_from, eqb-true, eq-eqb, leb-true, le-leb}
 use Rattle.std.proofs.lemmas.List.{take_at, drop_at, take-append-drop, length-take-le, length-drop}
 use Rattle.std.proofs.lemmas.Slice.Eq.{bytes_eq-Decides}
@@ -8,7 +8,7 @@ use Rattle.df_format.specs.declared.header.Header.{Header}
 use Rattle.df_format.specs.declared.wal.Wal.{Wal}
 use Rattle.df_format.specs.Spelling.{spelling, IsSealed}
 use Rattle.df_format.specs.Reading.{header_in}
-use Rattle.df_format.specs.Unit.{Prepare, IsPrepare, BeginsWith, unit_of, is_whole, with_body, prepare_in}
+use Rattle.df_format.specs.Unit.{Prepare, BeginsWith, is_whole, with_body, prepare_in}
 use Rattle.df_format.specs.Laws.{SlotsHaveOnePrepare, HasOpOf}
 use Rattle.df_format.proofs.Parts.{bytes-take, bytes-drop}
 use Rattle.df_format.proofs.Spelled.{guard_is, read_as, reads, was_spelled, length-spelling}

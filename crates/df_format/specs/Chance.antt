@@ -1,7 +1,7 @@
 -- Which prepares a stop may leave: none that came about by chance.
 use Rattle.std.specs.Prelude.{◌≡◌, ◌⊎◌, ◌<◌, ℕ, List, [], ◌∷◌, Some}
 use Rattle.df_base.specs.Image.{Image, IsImage, written, changed}
-use Rattle.df_base.specs.Log.{Event, Write, Sync, Stop, Log, AreLoose, IsLeft, now_of, settled}
+use Rattle.df_base.specs.Log.{Event, Write, Sync, Stop, Log, IsLeft, now_of, settled}
 use Rattle.df_format.specs.declared.wal.Wal.{Wal}
 use Rattle.df_format.specs.Unit.{Prepare, prepare_at}
 

@@ -1,5 +1,5 @@
 -- The fields of a header at their offsets, and the tests that its bytes have to pass.
-use Rattle.std.specs.Prelude.{◌≡◌, ◌+◌, ◌^◌, ◌==◌, ℕ, List, Bool, ◌&&◌, ◌||◌, not, nat_lt, nat_le, if◌then◌else◌, take, drop, Option, Some, None}
+use Rattle.std.specs.Prelude.{◌^◌, ◌==◌, ℕ, List, Bool, ◌&&◌, ◌||◌, not, nat_lt, nat_le, if◌then◌else◌, take, drop, Option, Some, None}
 use Rattle.std.specs.Str.{bytes_eq}
 use Rattle.df_base.specs.Fields.{field_at, check_of}
 use Rattle.df_format.specs.declared.header.Header.{Header}

@@ -6,9 +6,7 @@ ghost use Rattle.df_format.specs.Reading.{fields_of, is_counter, has_numbers, is
 
 use crate::Header;
 use crate::pieces::put_bytes;
-use df_base::{
-    Check, HEADER, check, put_u32, put_u64, put_u128, u32_at, u64_at, u128_at,
-};
+use df_base::{Check, HEADER, check, put_u32, put_u64, put_u128, u32_at, u64_at, u128_at};
 
 // The end of the checksum, which covers all that follows it.
 const SUMMED: usize = 16;
@@ -68,7 +66,8 @@ fn put_fields(into: &mut [u8], header: &Header)
 /// The header with the checksum that its other fields give.
 pub fn seal_header(header: Header) -> Header
     requires { ObeysRules header }
-    ensures { result ≡ sealed header }
+    ensures value { result ≡ sealed header }
+    ensures sealed { IsSealed result }
 {
     let mut bytes = [0u8; HEADER];
     put_fields(&mut bytes, &header);
@@ -142,7 +141,8 @@ fn is_spelled(bytes: &[u8]) -> bool
     requires { length bytes.now ≡ 256 }
     ensures { result ≡ is_spelled bytes.now }
 {
-    &bytes[..SUMMED] == check(&bytes[SUMMED..HEADER]).as_slice() && &bytes[TAIL..HEADER] == TAIL_BYTES.as_slice()
+    &bytes[..SUMMED] == check(&bytes[SUMMED..HEADER]).as_slice()
+        && &bytes[TAIL..HEADER] == TAIL_BYTES.as_slice()
 }
 
 /// The header that 256 bytes are the spelling of; None where they are that of no prepare's header that obeys the

@@ -6,6 +6,8 @@ mod header;
 mod laws;
 mod pieces;
 mod places;
+#[cfg(test)]
+mod tests;
 mod unit;
 mod wal;
 

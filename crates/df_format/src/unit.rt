@@ -1,5 +1,5 @@
 // The prepare that a slot shows: how its bytes are tested, and how they are made.
-ghost use Rattle.std.specs.Prelude.{◌≡◌, ◌+◌, ◌-◌, ◌*◌, ◌/◌, ◌≤◌, ◌<◌, ◌++◌, length, take, drop, replicate};
+ghost use Rattle.std.specs.Prelude.{◌≡◌, ◌+◌, ◌-◌, ◌*◌, ◌/◌, ◌≤◌, ◌++◌, length, take, drop, replicate};
 ghost use Rattle.df_base.specs.Fields.{check_of};
 ghost use Rattle.df_format.specs.Spelling.{IsSealed, ObeysRules, spelling, sealed};
 ghost use Rattle.df_format.specs.Unit.{IsPrepare, prepare_in, header_of, is_whole, sectors_end, sectors_of};
@@ -26,8 +26,7 @@ fn is_whole(wal: &Wal, slot: u32, bytes: &[u8], header: &Header) -> bool
 /// follows it. None where they begin with no prepare, or with one of another cluster or another slot.
 #[tactic(auto, unfolding(crate::specs::Unit::prepare_in))]
 pub fn decode_prepare(wal: &Wal, slot: u32, bytes: &[u8]) -> Option<Header>
-    requires size { length bytes.now ≡ wal.now.message_size }
-    requires slot { slot < wal.now.slots }
+    requires { length bytes.now ≡ wal.now.message_size }
     ensures { result ≡ header_of (prepare_in wal.now slot bytes.now) }
 {
     let header = decode_header(&bytes[..HEADER])?;

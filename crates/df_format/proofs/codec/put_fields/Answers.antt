@@ -1,4 +1,4 @@
-use Rattle.std.proofs.Common.{arith, ◌∙◌, ap, List, ℕ, ◌++◌, refl, sym, append_assoc}
+use Rattle.std.proofs.Common.{arith, ◌∙◌, ap, List, ℕ, ◌++◌, refl, append_assoc}
 use Rattle.df_format.specs.Spelling.{spelling_rest, tail_bytes}
 use Rattle.df_format.proofs.Behind.{number_behind, bytes_behind}
 use Rattle.df_format.proofs.codec.put_fields.Goals as goal
