@@ -19,7 +19,7 @@ fn is_whole(wal: &Wal, slot: u32, bytes: &[u8], header: &Header) -> bool
         && header.size <= wal.message_size
         && u64::from(header.slot) == header.op % u64::from(wal.slots)
         && header.slot == slot
-        && &header.checksum_body == &check(&bytes[HEADER..header.size as usize])
+        && header.checksum_body == check(&bytes[HEADER..header.size as usize])
 }
 
 /// The header of the prepare that is valid in a slot of this log, where the slot's bytes begin with one; the body
