@@ -6,3 +6,4 @@ mod Progress
 mod LineEnds
 mod Small
 mod Whole
+mod Follows

@@ -21,7 +21,7 @@ use Rattle.df_prepares.proofs.Rests.{rest_kept}
 use Rattle.df_top.proofs.Progress.{goes_on, ends_disk, ends_answer, ends_script, ends_script_fault}
 
 -- an empty line says nothing
-nothing_said : (said : Said) → Says [] said → ⊥
+pub nothing_said : (said : Said) → Says [] said → ⊥
 nothing_said (Append client request body) says = absurd (cc (says.is))
 
 -- the line that refuses the next line ends the session

@@ -1,6 +1,6 @@
 -- A whole run: the barrier, the opening, and the session behind it.
-use Rattle.std.proofs.Common.{◌≡◌, ◌⊎◌, inl, inr, ℕ, ◌+◌, ◌≤◌, Bool, true, false, List, [], ◌∷◌, ◌++◌, length, take, Option, Some, None, refl, sym, ◌∙◌, ap, subst, arith}
-use Rattle.df_base.specs.Log.{Log, Sync, add, now}
+use Rattle.std.proofs.Common.{◌≡◌, ◌⊎◌, inl, inr, ℕ, ◌+◌, ◌≤◌, Bool, true, false, List, [], ◌∷◌, ◌++◌, length, take, Option, Some, None, refl, sym, ◌∙◌, ap, subst, arith, append_assoc}
+use Rattle.df_base.specs.Log.{Event, Log, Sync, add, now}
 use Rattle.df_base.specs.Moments.{EachMoment, Extends}
 use Rattle.df_base.specs.Streams.{Appends}
 use Rattle.df_base.proofs.Goes.{started, extends_self, extends_add, weaker, from_before, more}
@@ -28,6 +28,10 @@ use Rattle.df_top.specs.declared.status.Status.{Status}
 use Rattle.df_top.specs.declared.status.Status.TheVariants.{Done, DiskFault, Memory}
 use Rattle.df_top.proofs.Written.{appends_none}
 use Rattle.df_top.proofs.Rounds.{rest_good, honest_sync, one_disk}
+
+-- what goes on from a log with one event more goes on from the log
+extends_before : (e : Event) (earlier later : Log) → Extends later (add e earlier) → Extends later earlier
+extends_before e earlier later more = (more.0 ++ e ∷ [], more.1 ∙ sym (append_assoc more.0 (e ∷ []) earlier.events), more.2)
 
 -- before anything was taken, all of the source is unread
 pub unread_all : (held : List ℕ) (left : Option (List ℕ)) → held ≡ [] → unread held left ≡ left
@@ -108,6 +112,7 @@ runs_nothing wal told later text old new status same silent cause before opening
   after = before;
   is = same ∙ is;
   honest = honest;
+  grown = extends_self before.log;
   safe = started before.log (IsSafe wal) safe;
   asked = [];
   done = 0;
@@ -139,6 +144,7 @@ module _ (wal : Wal) (may_be_written : NextMayBeWritten wal) (is_kept : RestIsKe
       after = did Sync before;
       is = is;
       honest = honest_sync before honest;
+      grown = extends_add Sync before.log before.log (extends_self before.log);
       safe = more Sync before.log before.log (IsSafe wal) (started before.log (IsSafe wal) safe) good.0;
       asked = [];
       done = 0;
@@ -161,6 +167,7 @@ module _ (wal : Wal) (may_be_written : NextMayBeWritten wal) (is_kept : RestIsKe
           after = left.since.disk;
           is = left.since.is;
           honest = left.honest;
+          grown = extends_before Sync before.log left.since.disk.log left.since.grown;
           safe = from_before Sync before.log left.since.disk.log (IsSafe wal) safe left.since.grown (weaker barrier left.since.disk.log (IsGood wal opening ended.asked) (IsSafe wal) (λ log each. each.0) left.since.moments);
           asked = ended.asked;
           done = ended.done;

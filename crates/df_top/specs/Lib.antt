@@ -7,3 +7,4 @@ pub mod Ending
 pub mod Step
 pub mod Run
 pub mod Serving
+pub mod Laws

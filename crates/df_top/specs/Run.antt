@@ -81,6 +81,7 @@ pub record Ran (wal : Wal) (before : Told) (told : Option Told) (opening : List 
   pub after : Told
   pub is : told ≡ Some after
   pub honest : IsHonest after
+  pub grown : Extends after.log before.log
   pub safe : EachMoment before.log after.log (IsSafe wal)
   pub asked : List Said
   pub done : ℕ

@@ -1,5 +1,5 @@
 -- Which appends a script's text asks for, and how the script ends.
-use Rattle.std.specs.Prelude.{◌≡◌, ◌≢◌, ◌<◌, ◌≤◌, ◌+◌, ◌-◌, ◌^◌, ℕ, List, [], ◌∷◌, length}
+use Rattle.std.specs.Prelude.{◌≡◌, ◌≢◌, ◌⊎◌, ◌<◌, ◌≤◌, ◌+◌, ◌-◌, ◌^◌, ℕ, List, [], ◌∷◌, length}
 use Rattle.df_format.specs.declared.wal.Wal.{Wal}
 use Rattle.df_script.specs.Grammar.{Said, Append}
 use Rattle.df_script.specs.Text.{after_line, taken}
@@ -24,13 +24,9 @@ pub record IsRefused (wal : Wal) (bound budget : ℕ) (text : List ℕ) : Type 0
   pub some : text ≢ []
   pub none : (said : Said) → IsAppend wal bound budget text said → ⊥
 
--- the text is the lines of these appends, and no other
-abbrev pub IsWholeScript : Wal → ℕ → ℕ → List ℕ → List Said → Type 0
-IsWholeScript wal bound budget text appends = (left : ℕ) × Begins wal bound budget text appends left []
-
--- the text is the lines of these appends, and then one that asks for none
-pub record IsCutScript (wal : Wal) (bound budget : ℕ) (text : List ℕ) (appends : List Said) : Type 0 where
+-- The script of a text: these appends are its first lines, and then it ends, or there is a line that asks for none.
+pub record IsScript (wal : Wal) (bound budget : ℕ) (text : List ℕ) (appends : List Said) : Type 0 where
   pub left : ℕ
   pub rest : List ℕ
   pub begins : Begins wal bound budget text appends left rest
-  pub refused : IsRefused wal bound left rest
+  pub ends : (rest ≡ []) ⊎ IsRefused wal bound left rest

@@ -3,6 +3,7 @@
 
 mod append;
 mod engine;
+mod laws;
 mod serve;
 mod session;
 mod status;
@@ -11,4 +12,5 @@ mod turns;
 mod words;
 
 pub use engine::run;
+pub use laws::{new_disk_is_safe, one_script, runs_follow};
 pub use status::Status;
