@@ -8,10 +8,11 @@ use Rattle.df_script.specs.Window.{is_feed, line_end}
 use Rattle.df_script.proofs.Cutting.{position_past, position_none, position_some}
 
 -- some reads after the start: nothing is lost, and the first bytes are known to have no byte 10
-pub record Searches (start now : Contents) (before after : Option (List ℕ)) (faults_before faults_after seen : ℕ) : Type 0 where
+pub record Searches {S : Type 0} (first source : S) (start now : Contents) (before after : Option (List ℕ)) (faults_before faults_after seen : ℕ) : Type 0 where
   pub size : now.size ≡ start.size
   pub same_text : unread now.bytes after ≡ unread start.bytes before
   pub at_end : (IsTrue start.ended → IsAtEnd before) → IsTrue now.ended → IsAtEnd after
+  pub unasked : IsTrue start.ended → (now ≡ start) × (source ≡ first)
   pub faults : faults_after ≡ faults_before
   pub within : seen ≤ length now.bytes
   pub none : line_end (take seen now.bytes) ≡ seen

@@ -60,6 +60,7 @@ impl LineRoom {
         ensures spends { IfOk result (Spends self.old self.new) }
         ensures at_end { (IsTrue self.old.ended → IsAtEnd (S.left source.old))
             → IsTrue self.new.ended → IsAtEnd (S.left source.new) }
+        ensures unasked { IsTrue self.old.ended → source.new ≡ source.old }
         ensures bound { self.new.reading.bound ≡ self.old.reading.bound }
         ensures room { length self.new.body ≡ length self.old.body }
         ensures text_kept { OnErr result (unread self.new.reading.held (S.left source.new)

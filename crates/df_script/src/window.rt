@@ -113,6 +113,7 @@ impl Window {
         ensures same_text { unread self.new.bytes (S.left source.new) ≡ unread self.old.bytes (S.left source.old) }
         ensures ended { (IsTrue self.old.ended → IsAtEnd (S.left source.old)) → IsTrue self.new.ended → IsAtEnd (S.left source.new) }
         ensures found { IfOk result (λ found. Finds self.new found) }
+        ensures unasked { IsTrue self.old.ended → source.new ≡ source.old }
         ensures cause { HasCause (S.faults source.old) (S.faults source.new) result }
     {
         let mut seen = 0;
