@@ -7,17 +7,26 @@ use df_base::{Failed, MemorySource, Source};
 use std::process::Abort;
 use std::test::Fail;
 
-/// Three lines, the second of which is as long as a reader for 64 bytes takes. The last has no byte 10.
-const SCRIPT: &[u8] = b"append 4 1 -\nappend 55 1 000102030405060708090a0b0c0d0e0f10111213141516171819\nappend 6 2 ff";
+/// Three lines. The second is as long as a reader for 64 bytes takes, and the last has no byte 10.
+const SCRIPT: &[u8] = b"append 4 1 -\n\
+    append 55 1 000102030405060708090a0b0c0d0e0f10111213141516171819\n\
+    append 6 2 ff";
 
-const LONG_BODY: &[u8] = b"\x00\x01\x02\x03\x04\x05\x06\x07\x08\x09\x0a\x0b\x0c\x0d\x0e\x0f\x10\x11\x12\x13\x14\x15\x16\x17\x18\x19";
+const LONG_BODY: &[u8] = &[
+    0, 1, 2, 3, 4, 5, 6, 7, 8, 9, 10, 11, 12, 13, 14, 15, 16, 17, 18, 19, 20, 21, 22, 23, 24, 25,
+];
 
 #[test]
 fn script_lines_are_read_with_their_bodies(rt: HostRuntime) {
     let lines = [
         (b"append 5 1 -".as_slice(), 5, 1, b"".as_slice()),
         (b"append 0 0 00".as_slice(), 0, 0, b"\x00".as_slice()),
-        (b"append 10 90 aBcDeF".as_slice(), 10, 90, b"\xab\xcd\xef".as_slice()),
+        (
+            b"append 10 90 aBcDeF".as_slice(),
+            10,
+            90,
+            b"\xab\xcd\xef".as_slice(),
+        ),
         (
             b"append 340282366920938463463374607431768211455 18446744073709551615 7f".as_slice(),
             u128::MAX,
@@ -110,7 +119,11 @@ fn a_failed_read_loses_nothing(rt: HostRuntime) -> Result<(), Fail> {
 #[test]
 fn a_line_past_the_bound_is_refused(rt: HostRuntime) -> Result<(), Fail> {
     let line = b"append 555 1 000102030405060708090a0b0c0d0e0f10111213141516171819";
-    for ending in [b"".as_slice(), b"\n".as_slice(), b"\nappend 6 1 -\n".as_slice()] {
+    for ending in [
+        b"".as_slice(),
+        b"\n".as_slice(),
+        b"\nappend 6 1 -\n".as_slice(),
+    ] {
         let mut text = b"append 4 1 -\n".to_vec(rt.alloc())?;
         text.extend_from_slice(line)?;
         text.extend_from_slice(ending)?;
@@ -125,7 +138,10 @@ fn a_line_past_the_bound_is_refused(rt: HostRuntime) -> Result<(), Fail> {
 
 #[test]
 fn an_empty_line_is_refused_and_an_empty_script_ends(rt: HostRuntime) -> Result<(), Fail> {
-    for (text, want) in [(b"".as_slice(), Next::End), (b"\n".as_slice(), Next::Refused)] {
+    for (text, want) in [
+        (b"".as_slice(), Next::End),
+        (b"\n".as_slice(), Next::Refused),
+    ] {
         let mut source = MemorySource::new(text.to_vec(rt.alloc())?, Vec::new(rt.alloc()));
         let mut room = LineRoom::reserve(rt.alloc(), 64)?;
         assert_eq!(rt; room.next(&mut source), Ok(want));

@@ -9,9 +9,9 @@ returns-in-Line-clause-gives g c =
     let window = c.find.new.self in
     let whole = subst (Finds window) c.in-Line.is c.in_ok-length.ensures.found in
     rw (← c.self.view_is) (λ text tells.
-      let is = c.in_ok-length.ensures.same_text ∙ tells.is in
-      let front = front_line window c.in-Line.length c.in-Line.taken (g.S.Source.left c.find.new.source) text whole is (c.in_ok-length.ensures.ended tells.ended) in
-      gives_line (the_view c.self.inside) window c.take_line.new.window c.in-Line.length c.in-Line.taken c.take_line.new.budget _ text _ c.take_line.result (omega arith) whole.fits is front c.take_line.ensures.takes)
+    let is = c.in_ok-length.ensures.same_text ∙ tells.is in
+    let front = front_line window c.in-Line.length c.in-Line.taken (g.S.Source.left c.find.new.source) text whole is (c.in_ok-length.ensures.ended tells.ended) in
+    gives_line (the_view c.self.inside) window c.take_line.new.window c.in-Line.length c.in-Line.taken c.take_line.new.budget _ text _ c.take_line.result (omega arith) whole.fits is front c.take_line.ensures.takes)
 
 pub returns-in-TooLong-clause-gives : goal.returns-in-TooLong-clause-gives
 returns-in-TooLong-clause-gives g c =
