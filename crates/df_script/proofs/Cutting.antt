@@ -1,6 +1,6 @@
 -- The first element that passes a test, in a list that is two.
 use Rattle.std.proofs.Common.{◌≡◌, ℕ, suc, ◌+◌, ◌-◌, ◌^◌, ◌<◌, ◌≤◌, Bool, true, false, not, cond, nat_lt, eqb, List, [], ◌∷◌, ◌++◌, length, get_or, take, drop, refl, sym, ap, ◌∙◌, arith, length-append, length-drop}
-use Rattle.std.specs.Prelude.{Option, None, Some, decimal}
+use Rattle.std.specs.Prelude.{None, Some, decimal}
 use Rattle.std.specs.List.{before_first, after_first, position_or_len, position}
 use Rattle.std.specs.Char.{digit_value}
 use Rattle.std.specs.Str.Parse.{AllDigits}

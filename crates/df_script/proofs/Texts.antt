@@ -1,12 +1,12 @@
 -- The next line of a text, from what a window holds of it.
-use Rattle.std.proofs.Common.{◌≡◌, ◌≢◌, ℕ, ◌+◌, ◌-◌, ◌<◌, ◌≤◌, ◌⊎◌, inl, inr, IsTrue, List, [], ◌∷◌, ◌++◌, length, take, drop, refl, sym, ap, subst, ◌∙◌, arith, length-append, length-drop}
+use Rattle.std.proofs.Common.{◌≡◌, ◌≢◌, ℕ, ◌+◌, ◌-◌, ◌<◌, inl, inr, IsTrue, List, [], ◌++◌, length, take, drop, refl, sym, ap, subst, ◌∙◌, arith, length-append, length-drop}
 use Rattle.std.proofs.lemmas.List.{length-take-le}
 use Rattle.std.specs.Prelude.{Option, None, Some}
-use Rattle.std.proofs.lemmas.List.{append-nil, take_all, drop_all, take-append-le, drop-append-le}
+use Rattle.std.proofs.lemmas.List.{append-nil, drop_all, take-append-le, drop-append-le}
 use Rattle.df_script.specs.declared.next.Next.{Next}
 use Rattle.df_script.specs.declared.next.Next.TheVariants as nexts
-use Rattle.df_script.specs.Grammar.{Said, Says, said_with}
-use Rattle.df_script.specs.Reads.{IsLine, GivesNext, Takes}
+use Rattle.df_script.specs.Grammar.{Says, said_with}
+use Rattle.df_script.specs.Reads.{GivesNext, Takes}
 use Rattle.df_script.specs.Room.{Contents, Room, IsAtEnd}
 use Rattle.df_script.specs.Text.{IsWithin, Reading, line_of, after_line, unread}
 use Rattle.df_script.specs.Text as text

@@ -1,6 +1,5 @@
 -- What a reader gives for the next line.
-use Rattle.std.specs.Prelude.{◌≡◌, ◌≢◌, ◌⊎◌, ◌<◌, ◌≤◌, ◌-◌, ℕ, List, [], length, take, drop, Option, Some, None}
-use Rattle.df_script.specs.declared.line.Line.{Line}
+use Rattle.std.specs.Prelude.{◌≡◌, ◌≢◌, ◌⊎◌, ◌<◌, ◌≤◌, ◌-◌, ℕ, List, [], length, take, drop, Option, Some}
 use Rattle.df_script.specs.declared.next.Next.{Next}
 use Rattle.df_script.specs.declared.next.Next.TheVariants as nexts
 use Rattle.df_script.specs.Grammar.{Said, Says, said_with, body_length}

@@ -1,5 +1,5 @@
 -- The bytes that were read of a source and are still to be taken.
-use Rattle.std.specs.Prelude.{◌≡◌, ◌<◌, ◌≤◌, ◌+◌, ◌==◌, ◌⊎◌, ℕ, Bool, IsTrue, List, [], length, Option, Some, None, ⊤}
+use Rattle.std.specs.Prelude.{◌≡◌, ◌<◌, ◌≤◌, ◌+◌, ◌==◌, ◌⊎◌, ℕ, Bool, IsTrue, List, [], length}
 use Rattle.std.specs.List.{position_or_len}
 use Rattle.df_script.specs.declared.window.Found.{Found}
 use Rattle.df_script.specs.declared.window.Found.TheVariants as founds

@@ -9,7 +9,7 @@ use crate::words::cut;
 use hex::decode_to_slice;
 
 /// What the line says, with its decoded body at the front of `body`; None where it is no line of a
-/// script. After None `body` holds any bytes. The line has no byte 10.
+/// script. After None `body` holds any bytes. The line is given without its byte 10.
 pub fn parse(line: &[u8], body: &mut [u8]) -> Option<Line>
     requires { length line.now ≤ 2 * length body.old }
     ensures found { IfSome result (λ l. Says line.now (said_with body.new l)) }
