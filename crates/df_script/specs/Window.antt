@@ -17,7 +17,8 @@ line_end bytes = position_or_len is_feed bytes
 pub record IsWhole (window : Contents) (size taken : ℕ) : Type 0 where
   pub line : size ≡ line_end window.bytes
   pub fits : size < window.size
-  pub ends : ((size < length window.bytes) × (taken ≡ size + 1)) ⊎ (IsTrue window.ended × (size ≡ length window.bytes) × (taken ≡ size) × (0 < size))
+  pub ends : ((size < length window.bytes) × (taken ≡ size + 1))
+      ⊎ (IsTrue window.ended × (size ≡ length window.bytes) × (taken ≡ size) × (0 < size))
 
 -- the buffer is full, and has no byte 10
 pub record IsOverfull (window : Contents) : Type 0 where

@@ -10,6 +10,7 @@ is_space byte = byte == 32
 abbrev pub space_in : List ℕ → Option ℕ
 space_in line = position is_space line
 
+-- no byte is a space
 abbrev pub HasNoSpace : List ℕ → Type 0
 HasNoSpace line = position_or_len is_space line ≡ length line
 
