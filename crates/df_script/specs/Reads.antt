@@ -1,5 +1,5 @@
 -- What a reader gives for the next line.
-use Rattle.std.specs.Prelude.{◌≡◌, ◌≢◌, ◌⊎◌, ◌<◌, ◌≤◌, ◌-◌, ℕ, List, [], length, take, drop, Option, Some}
+use Rattle.std.specs.Prelude.{◌≡◌, ◌≢◌, ◌⊎◌, ◌<◌, ◌≤◌, ◌-◌, ℕ, List, [], length, take, drop, Option, Some, Result, Ok, Err}
 use Rattle.df_script.specs.declared.next.Next.{Next}
 use Rattle.df_script.specs.declared.next.Next.TheVariants as nexts
 use Rattle.df_script.specs.Grammar.{Said, Says, said_with, body_length}
@@ -42,6 +42,13 @@ GivesNext old new text left (nexts.Line l) =
 GivesNext old new text left nexts.Refused =
     RefusesNext old.reading new.reading text (unread new.reading.held left)
 GivesNext old new text left nexts.End = Ends text (unread new.reading.held left) left
+
+-- the text that is still to be executed after an answer
+abbrev pub text_after : {E : Type 0} → Result Next E → List ℕ → List ℕ
+text_after (Ok (nexts.Line l)) text = after_line text
+text_after (Ok nexts.Refused) text = text
+text_after (Ok nexts.End) text = text
+text_after (Err e) text = text
 
 -- a line costs at least one byte of the budget and has its body in the buffer; nothing else costs any
 abbrev pub Spends : Room → Room → Next → Type 0
