@@ -1,6 +1,6 @@
 -- The first element that passes a test, in a list that is two.
 use Rattle.std.proofs.Common.{◌≡◌, ℕ, suc, ◌+◌, ◌-◌, ◌^◌, ◌<◌, ◌≤◌, Bool, true, false, not, cond, nat_lt, eqb, List, [], ◌∷◌, ◌++◌, length, get_or, take, drop, refl, sym, ap, ◌∙◌, arith, length-append, length-drop}
-use Rattle.std.specs.Prelude.{Option, None, Some, decimal}
+use Rattle.std.specs.Prelude.{None, Some, decimal}
 use Rattle.std.specs.List.{before_first, after_first, position_or_len, position}
 use Rattle.std.specs.Char.{digit_value}
 use Rattle.std.specs.Str.Parse.{AllDigits}
@@ -85,8 +85,7 @@ no_cut line a b none is front =
 -- a line is cut in one way
 pub one_cut : (line before after a b : List ℕ) → Cuts line before after → line ≡ a ++ (32 ∷ b) → HasNoSpace a → (before ≡ a) × (after ≡ b)
 one_cut line before after a b cuts is front =
-    let at = space_at a b front in
-    (
+    let at = space_at a b front in (
       cuts.front ∙ ap (before_first is_space) is ∙ ap (λ (n : ℕ). take n (a ++ (32 ∷ b))) at ∙ take_at a (32 ∷ b) (length a) refl,
       cuts.rest ∙ ap (after_first is_space) is ∙ ap (λ (n : ℕ). drop (n + 1) (a ++ (32 ∷ b))) at ∙ drop-append-add a (32 ∷ b) 1,
     )
@@ -101,10 +100,10 @@ cut_is line at some =
     let passes : eqb (get_or line (position_or_len is_space line) 0) 32 ≡ true = passes_at_first is_space line 0 within in
     let space = byte_is _ _ passes in
     let whole : line ≡ before_first is_space line ++ (32 ∷ after_first is_space line) =
-        split_at_first is_space line 0 within ∙ ap (λ (b : ℕ). before_first is_space line ++ (b ∷ after_first is_space line)) space in
+    split_at_first is_space line 0 within ∙ ap (λ (b : ℕ). before_first is_space line ++ (b ∷ after_first is_space line)) space in
     let front : take at line ≡ before_first is_space line = ap (λ (n : ℕ). take n line) (sym found.0) in
     let rest : take (length line - (at + 1)) (drop (at + 1) line) ≡ after_first is_space line =
-        take_all (length line - (at + 1)) (drop (at + 1) line) (omega (arith, length-drop (at + 1) line)) ∙ ap (λ (n : ℕ). drop (n + 1) line) (sym found.0) in
+    take_all (length line - (at + 1)) (drop (at + 1) line) (omega (arith, length-drop (at + 1) line)) ∙ ap (λ (n : ℕ). drop (n + 1) line) (sym found.0) in
     record {
       whole = whole ∙ ap (λ (l : List ℕ). l ++ (32 ∷ after_first is_space line)) (sym front) ∙ ap (λ (l : List ℕ). take at line ++ (32 ∷ l)) (sym rest);
       front = front;

@@ -1,5 +1,5 @@
 -- How the search for a line's end goes on from read to read.
-use Rattle.std.proofs.Common.{◌≡◌, ℕ, ◌+◌, ◌-◌, ◌<◌, ◌≤◌, IsTrue, List, [], ◌++◌, length, take, drop, refl, sym, ap, ◌∙◌, arith, length-drop}
+use Rattle.std.proofs.Common.{◌≡◌, ℕ, ◌+◌, ◌-◌, ◌<◌, ◌≤◌, IsTrue, List, length, take, drop, sym, ap, ◌∙◌, arith, length-drop}
 use Rattle.std.specs.Prelude.{Option, None, Some, position}
 use Rattle.std.proofs.lemmas.List.{take-append-drop, take_rest, length-take-le}
 use Rattle.df_script.specs.Room.{Contents, IsAtEnd}
@@ -8,10 +8,11 @@ use Rattle.df_script.specs.Window.{is_feed, line_end}
 use Rattle.df_script.proofs.Cutting.{position_past, position_none, position_some}
 
 -- some reads after the start: nothing is lost, and the first bytes are known to have no byte 10
-pub record Searches (start now : Contents) (before after : Option (List ℕ)) (faults_before faults_after seen : ℕ) : Type 0 where
+pub record Searches {S : Type 0} (first source : S) (start now : Contents) (before after : Option (List ℕ)) (faults_before faults_after seen : ℕ) : Type 0 where
   pub size : now.size ≡ start.size
   pub same_text : unread now.bytes after ≡ unread start.bytes before
   pub at_end : (IsTrue start.ended → IsAtEnd before) → IsTrue now.ended → IsAtEnd after
+  pub unasked : IsTrue start.ended → (now ≡ start) × (source ≡ first)
   pub faults : faults_after ≡ faults_before
   pub within : seen ≤ length now.bytes
   pub none : line_end (take seen now.bytes) ≡ seen

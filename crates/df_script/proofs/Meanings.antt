@@ -1,6 +1,6 @@
 -- What a line says, from its words.
-use Rattle.std.proofs.Common.{◌≡◌, ◌≢◌, ℕ, suc, ◌+◌, ◌-◌, ◌^◌, ◌<◌, ◌≤◌, ◌⊎◌, inl, inr, List, [], ◌∷◌, ◌++◌, length, refl, sym, ap, subst, ◌∙◌, arith}
-use Rattle.std.specs.Prelude.{decimal, codes, Ok, Err}
+use Rattle.std.proofs.Common.{◌≡◌, ℕ, ◌^◌, ◌<◌, inl, inr, List, ◌∷◌, ◌++◌, refl, sym, ap, subst, ◌∙◌, arith}
+use Rattle.std.specs.Prelude.{decimal, codes, Ok}
 use Rattle.hex.specs.Hex.{decode_of}
 use Rattle.df_script.specs.Grammar.{IsBody, Said, Append, SpellsAppend, Says}
 use Rattle.df_script.specs.Words.{HasNoSpace, Cuts}
@@ -77,9 +77,9 @@ one_said line (Append c r x) (Append d s y) one other =
     let first = one_split (decimal c) (decimal r ++ (32 ∷ one.word)) (decimal d) (decimal s ++ (32 ∷ other.word)) (decimal_no_space c one.client_fits) (decimal_no_space d other.client_fits) words in
     let second = one_split (decimal r) one.word (decimal s) other.word (decimal_no_space r (omega (arith, one.request_fits))) (decimal_no_space s (omega (arith, other.request_fits))) first.1 in
     same_said c d r s x y
-      (one_number c d one.client_fits other.client_fits first.0)
-      (one_number r s (omega (arith, one.request_fits)) (omega (arith, other.request_fits)) second.0)
-      (one_body one.word x y one.body_is (subst (λ (w : List ℕ). IsBody w y) (sym second.1) other.body_is))
+    (one_number c d one.client_fits other.client_fits first.0)
+    (one_number r s (omega (arith, one.request_fits)) (omega (arith, other.request_fits)) second.0)
+    (one_body one.word x y one.body_is (subst (λ (w : List ℕ). IsBody w y) (sym second.1) other.body_is))
 
 -- a line that says something begins with the word append and a space
 pub no_name : (line : List ℕ) → HasNoSpace line → (said : Said) → Says line said → ⊥

@@ -1,13 +1,14 @@
 -- The next line of a text, from what a window holds of it.
-use Rattle.std.proofs.Common.{◌≡◌, ◌≢◌, ℕ, ◌+◌, ◌-◌, ◌<◌, ◌≤◌, ◌⊎◌, inl, inr, IsTrue, List, [], ◌∷◌, ◌++◌, length, take, drop, refl, sym, ap, subst, ◌∙◌, arith, length-append, length-drop}
+use Rattle.std.proofs.Common.{◌≡◌, ◌≢◌, ℕ, ◌+◌, ◌-◌, ◌<◌, inl, inr, IsTrue, List, [], ◌++◌, length, take, drop, refl, sym, ap, subst, ◌∙◌, arith, length-append, length-drop}
 use Rattle.std.proofs.lemmas.List.{length-take-le}
-use Rattle.std.specs.Prelude.{Option, None, Some}
-use Rattle.std.proofs.lemmas.List.{append-nil, take_all, drop_all, take-append-le, drop-append-le}
+use Rattle.std.specs.Prelude.{Option, None, Some, Ok}
+use Rattle.std.proofs.lemmas.List.{append-nil, drop_all, take-append-le, drop-append-le}
+use Rattle.df_base.specs.declared.Failed.{Failed}
 use Rattle.df_script.specs.declared.next.Next.{Next}
 use Rattle.df_script.specs.declared.next.Next.TheVariants as nexts
-use Rattle.df_script.specs.Grammar.{Said, Says, said_with}
-use Rattle.df_script.specs.Reads.{IsLine, GivesNext, Takes}
-use Rattle.df_script.specs.Room.{Contents, Room, IsAtEnd}
+use Rattle.df_script.specs.Grammar.{Says, said_with}
+use Rattle.df_script.specs.Reads.{GivesNext, Takes, text_after}
+use Rattle.df_script.specs.Room.{Contents, Room, IsAtEnd, Tells}
 use Rattle.df_script.specs.Text.{IsWithin, Reading, line_of, after_line, unread}
 use Rattle.df_script.specs.Text as text
 use Rattle.df_script.specs.Window.{is_feed, line_end, IsWhole, IsOverfull}
@@ -99,6 +100,18 @@ gives_line old window new size taken rest left all body nexts.Refused bound fits
   read = inl (ap (λ (w : Contents). line_of w.bytes) takes.0 ∙ front.read);
 }
 gives_line old window new size taken rest left all body nexts.End bound fits is front takes = absurd takes
+
+-- what is still unread after it
+pub tells_line : (bound : ℕ) (window new : Contents) (size taken budget rest : ℕ) (left : Option (List ℕ)) (all body : List ℕ) (next : Next) → unread window.bytes left ≡ Some all → (IsTrue window.ended → IsAtEnd left) → Front window size taken left all → Takes window new budget rest body size taken next → Tells (record { reading = record { held = new.bytes; bound = bound; budget = rest }; ended = new.ended; body = body }) left (text_after {E = Failed} (Ok next) all)
+tells_line bound window new size taken budget rest left all body (nexts.Line l) is at_end front takes = record {
+  is = ap (λ (b : List ℕ). unread b left) takes.2 ∙ front.rest;
+  ended = λ now. at_end (sym takes.3 ∙ now);
+}
+tells_line bound window new size taken budget rest left all body nexts.Refused is at_end front takes = record {
+  is = ap (λ (w : Contents). unread w.bytes left) takes.0 ∙ is;
+  ended = λ now. at_end (sym (ap (λ (w : Contents). w.ended) takes.0) ∙ now);
+}
+tells_line bound window new size taken budget rest left all body nexts.End is at_end front takes = absurd takes
 
 pub gives_refusal : (old : Room) (window : Contents) (left : Option (List ℕ)) (all body : List ℕ) → old.reading.bound ≡ window.size - 1 → 0 < window.size → IsOverfull window → unread window.bytes left ≡ Some all → GivesNext old (record { reading = record { held = window.bytes; bound = window.size - 1; budget = old.reading.budget }; ended = window.ended; body = body }) all left nexts.Refused
 gives_refusal old window left all body bound some over is =

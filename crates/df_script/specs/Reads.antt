@@ -1,6 +1,5 @@
 -- What a reader gives for the next line.
-use Rattle.std.specs.Prelude.{◌≡◌, ◌≢◌, ◌⊎◌, ◌<◌, ◌≤◌, ◌-◌, ℕ, List, [], length, take, drop, Option, Some, None}
-use Rattle.df_script.specs.declared.line.Line.{Line}
+use Rattle.std.specs.Prelude.{◌≡◌, ◌≢◌, ◌⊎◌, ◌<◌, ◌≤◌, ◌-◌, ℕ, List, [], length, take, drop, Option, Some, Result, Ok, Err}
 use Rattle.df_script.specs.declared.next.Next.{Next}
 use Rattle.df_script.specs.declared.next.Next.TheVariants as nexts
 use Rattle.df_script.specs.Grammar.{Said, Says, said_with, body_length}
@@ -38,9 +37,18 @@ pub record RefusesNext (old new : Reading) (text : List ℕ) (after : Option (Li
 
 -- what a reader gives of a text, where left is what the source has left then
 abbrev pub GivesNext : Room → Room → List ℕ → Option (List ℕ) → Next → Type 0
-GivesNext old new text left (nexts.Line l) = TakesLine old.reading new.reading text (unread new.reading.held left) (said_with new.body l)
-GivesNext old new text left nexts.Refused = RefusesNext old.reading new.reading text (unread new.reading.held left)
+GivesNext old new text left (nexts.Line l) =
+    TakesLine old.reading new.reading text (unread new.reading.held left) (said_with new.body l)
+GivesNext old new text left nexts.Refused =
+    RefusesNext old.reading new.reading text (unread new.reading.held left)
 GivesNext old new text left nexts.End = Ends text (unread new.reading.held left) left
+
+-- the text that is still to be executed after an answer
+abbrev pub text_after : {E : Type 0} → Result Next E → List ℕ → List ℕ
+text_after (Ok (nexts.Line l)) text = after_line text
+text_after (Ok nexts.Refused) text = text
+text_after (Ok nexts.End) text = text
+text_after (Err e) text = text
 
 -- a line costs at least one byte of the budget and has its body in the buffer; nothing else costs any
 abbrev pub Spends : Room → Room → Next → Type 0
@@ -48,8 +56,12 @@ Spends old new (nexts.Line l) = (new.reading.budget < old.reading.budget) × (bo
 Spends old new nexts.Refused = new.reading.budget ≡ old.reading.budget
 Spends old new nexts.End = new.reading.budget ≡ old.reading.budget
 
--- a line of the window's front was taken, with its byte 10, or none was since it is past the budget or says nothing
+-- The line at the window's front, of this size and with its end of this many bytes, was taken; or nothing was, since the
+-- line is past the budget or says nothing.
 abbrev pub Takes : Contents → Contents → ℕ → ℕ → List ℕ → ℕ → ℕ → Next → Type 0
-Takes old new budget rest body size taken (nexts.Line l) = (taken ≤ budget) × (rest ≡ budget - taken) × (new.bytes ≡ drop taken old.bytes) × (new.ended ≡ old.ended) × Says (take size old.bytes) (said_with body l) × (body_length l ≤ length body)
-Takes old new budget rest body size taken nexts.Refused = (new ≡ old) × (rest ≡ budget) × ((said : Said) → taken ≤ budget → Says (take size old.bytes) said → ⊥)
+Takes old new budget rest body size taken (nexts.Line l) =
+    (taken ≤ budget) × (rest ≡ budget - taken) × (new.bytes ≡ drop taken old.bytes) × (new.ended ≡ old.ended)
+    × Says (take size old.bytes) (said_with body l) × (body_length l ≤ length body)
+Takes old new budget rest body size taken nexts.Refused =
+    (new ≡ old) × (rest ≡ budget) × ((said : Said) → taken ≤ budget → Says (take size old.bytes) said → ⊥)
 Takes old new budget rest body size taken nexts.End = ⊥

@@ -1,5 +1,5 @@
 -- The bytes that were read of a source and are still to be taken.
-use Rattle.std.specs.Prelude.{◌≡◌, ◌<◌, ◌≤◌, ◌+◌, ◌==◌, ◌⊎◌, ℕ, Bool, IsTrue, List, [], length, Option, Some, None, ⊤}
+use Rattle.std.specs.Prelude.{◌≡◌, ◌<◌, ◌≤◌, ◌+◌, ◌==◌, ◌⊎◌, ℕ, Bool, IsTrue, List, [], length}
 use Rattle.std.specs.List.{position_or_len}
 use Rattle.df_script.specs.declared.window.Found.{Found}
 use Rattle.df_script.specs.declared.window.Found.TheVariants as founds
@@ -17,7 +17,8 @@ line_end bytes = position_or_len is_feed bytes
 pub record IsWhole (window : Contents) (size taken : ℕ) : Type 0 where
   pub line : size ≡ line_end window.bytes
   pub fits : size < window.size
-  pub ends : ((size < length window.bytes) × (taken ≡ size + 1)) ⊎ (IsTrue window.ended × (size ≡ length window.bytes) × (taken ≡ size) × (0 < size))
+  pub ends : ((size < length window.bytes) × (taken ≡ size + 1))
+      ⊎ (IsTrue window.ended × (size ≡ length window.bytes) × (taken ≡ size) × (0 < size))
 
 -- the buffer is full, and has no byte 10
 pub record IsOverfull (window : Contents) : Type 0 where

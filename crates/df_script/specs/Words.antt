@@ -1,5 +1,5 @@
 -- The words of a line.
-use Rattle.std.specs.Prelude.{◌≡◌, ◌==◌, ◌+◌, ℕ, Bool, List, ◌∷◌, ◌++◌, length, Option, position}
+use Rattle.std.specs.Prelude.{◌≡◌, ◌==◌, ℕ, Bool, List, ◌∷◌, ◌++◌, length, Option, position}
 use Rattle.std.specs.List.{before_first, after_first, position_or_len}
 
 -- a space, the byte 32
@@ -10,6 +10,7 @@ is_space byte = byte == 32
 abbrev pub space_in : List ℕ → Option ℕ
 space_in line = position is_space line
 
+-- no byte is a space
 abbrev pub HasNoSpace : List ℕ → Type 0
 HasNoSpace line = position_or_len is_space line ≡ length line
 

@@ -13,3 +13,6 @@ pub use line::Line;
 pub use next::Next;
 pub use parser::{one_meaning, parse};
 pub use reader::LineRoom;
+
+#[cfg(test)]
+mod tests;

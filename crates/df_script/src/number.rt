@@ -1,5 +1,6 @@
 // Decimal numbers in their one spelling: digits with no zero before them, `0` itself aside.
-ghost use Rattle.std.specs.Prelude.{◌≡◌, ◌<◌, ◌^◌, ℕ, List, [], ◌∷◌, ◌++◌, decimal, IfSome, IfNone};
+ghost use Rattle.std.specs.Prelude.{◌≡◌, ◌<◌, ◌^◌, ℕ, List, [], ◌∷◌, ◌++◌};
+ghost use Rattle.std.specs.Prelude.{decimal, IfSome, IfNone};
 
 /// The number that the bytes spell, or None where they spell none below 2^64.
 pub(crate) fn u64_of(digits: &[u8]) -> Option<u64>
@@ -25,7 +26,8 @@ pub(crate) fn u128_of(digits: &[u8]) -> Option<u128>
 fn first_digit(byte: u8) -> Option<u128>
     ensures some { IfSome result (λ n. 0 < n) }
     ensures found { IfSome result (λ n. byte ∷ [] ≡ decimal n) }
-    ensures none { IfNone result ((n : ℕ) (rest : List ℕ) → n < 2 ^ 128 → byte ∷ rest ≡ decimal n → n ≡ 0) }
+    ensures none { IfNone result ((n : ℕ) (rest : List ℕ) → n < 2 ^ 128
+        → byte ∷ rest ≡ decimal n → n ≡ 0) }
 {
     match byte {
         b'1'..=b'9' => Some(u128::from(byte - b'0')),
@@ -37,7 +39,8 @@ fn first_digit(byte: u8) -> Option<u128>
 fn number_from(front: u128, digits: &[u8]) -> Option<u128>
     requires { 0 < front }
     ensures found { IfSome result (λ n. decimal front ++ digits.now ≡ decimal n) }
-    ensures none { IfNone result ((n : ℕ) → n < 2 ^ 128 → decimal front ++ digits.now ≡ decimal n → ⊥) }
+    ensures none { IfNone result ((n : ℕ) → n < 2 ^ 128
+        → decimal front ++ digits.now ≡ decimal n → ⊥) }
 {
     let mut value = front;
     for byte in digits {
@@ -51,7 +54,8 @@ fn with_digit(front: u128, byte: u8) -> Option<u128>
     requires { 0 < front }
     ensures some { IfSome result (λ n. 0 < n) }
     ensures found { IfSome result (λ n. decimal front ++ byte ∷ [] ≡ decimal n) }
-    ensures none { IfNone result ((n : ℕ) (rest : List ℕ) → n < 2 ^ 128 → decimal front ++ byte ∷ rest ≡ decimal n → ⊥) }
+    ensures none { IfNone result ((n : ℕ) (rest : List ℕ) → n < 2 ^ 128
+        → decimal front ++ byte ∷ rest ≡ decimal n → ⊥) }
 {
     let digit = char::from(byte).to_digit(10)?;
     front.checked_mul(10)?.checked_add(u128::from(digit))

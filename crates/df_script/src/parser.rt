@@ -1,5 +1,6 @@
 // What a line says. The grammar has one meaning for a line at most.
-ghost use Rattle.std.specs.Prelude.{◌≡◌, ◌<◌, ◌≤◌, ◌*◌, ◌++◌, List, ℕ, length, take, codes, IfSome, IfNone};
+ghost use Rattle.std.specs.Prelude.{◌≡◌, ◌≤◌, ◌*◌, ◌++◌, List, ℕ, length, take, codes};
+ghost use Rattle.std.specs.Prelude.{IfSome, IfNone};
 ghost use Rattle.df_script.specs.Grammar.{IsBody, Said, Says, said_with, body_length};
 
 use crate::line::Line;
@@ -7,8 +8,8 @@ use crate::number::{u64_of, u128_of};
 use crate::words::cut;
 use hex::decode_to_slice;
 
-/// What the line says, with its decoded body at the front of `body`; None where it is no line of a script. After
-/// None `body` holds any bytes.
+/// What the line says, with its decoded body at the front of `body`; None where it is no line of a
+/// script. After None `body` holds any bytes. The line is given without its byte 10.
 pub fn parse(line: &[u8], body: &mut [u8]) -> Option<Line>
     requires { length line.now ≤ 2 * length body.old }
     ensures found { IfSome result (λ l. Says line.now (said_with body.new l)) }
@@ -25,8 +26,10 @@ pub fn parse(line: &[u8], body: &mut [u8]) -> Option<Line>
 /// What the line `append ` with these words behind it says.
 fn append(words: &[u8], body: &mut [u8]) -> Option<Line>
     requires { length words.now ≤ 2 * length body.old }
-    ensures found { IfSome result (λ l. Says (codes "append " ++ words.now) (said_with body.new l)) }
-    ensures none { IfNone result ((said : Said) → Says (codes "append " ++ words.now) said → ⊥) }
+    ensures found { IfSome result (λ l.
+        Says (codes "append " ++ words.now) (said_with body.new l)) }
+    ensures none { IfNone result ((said : Said) →
+        Says (codes "append " ++ words.now) said → ⊥) }
     ensures size { IfSome result (λ l. body_length l ≤ length body.new) }
 {
     let (client, words) = cut(words)?;
@@ -62,5 +65,4 @@ fn decode(word: &[u8], body: &mut [u8]) -> Option<u64>
 /// The law of the grammar: a line says one thing at most.
 pub fn one_meaning()
     ensures { (line : List ℕ) (a b : Said) → Says line a → Says line b → a ≡ b }
-{
-}
+{}

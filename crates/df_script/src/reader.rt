@@ -1,8 +1,9 @@
 // The reader of a script: one line after the other, through one buffer for lines and one for bodies.
-ghost use Rattle.std.specs.Prelude.{◌≡◌, ◌<◌, ◌≤◌, ◌+◌, ◌-◌, ◌*◌, ◌^◌, List, ℕ, length, take, vec_len, IsTrue, IfOk, OnErr};
+ghost use Rattle.std.specs.Prelude.{◌≡◌, ◌<◌, ◌≤◌, ◌*◌, ◌^◌, List, ℕ, length, take, vec_len};
+ghost use Rattle.std.specs.Prelude.{IsTrue, IfOk, OnErr};
 ghost use Rattle.df_base.specs.Causes.{HasCause};
-ghost use Rattle.df_script.specs.Room.{Contents, IsAtEnd, IsFresh, Room, Tells};
-ghost use Rattle.df_script.specs.Reads.{GivesNext, Spends, Takes};
+ghost use Rattle.df_script.specs.Room.{IsFresh, Tells};
+ghost use Rattle.df_script.specs.Reads.{GivesNext, Spends, Takes, text_after};
 ghost use Rattle.df_script.specs.Text.{unread};
 
 use crate::next::Next;
@@ -29,13 +30,18 @@ impl Model for LineRoom {
 
     ghost Value = { Room };
 
-    ghost view = { λ r. record { reading = record { held = r.window.bytes; bound = r.window.size - 1; budget = r.budget }; ended = r.window.ended; body = r.body.items } };
+    ghost view = { λ r. record {
+      reading = record { held = r.window.bytes; bound = r.window.size - 1; budget = r.budget };
+      ended = r.window.ended;
+      body = r.body.items;
+    } };
 
     ghost invariant = { λ r. (0 < r.window.size) × (r.window.size ≤ 2 * vec_len r.body) };
 }
 
 impl LineRoom {
-    /// Takes the memory for lines of at most `bound` bytes, their byte 10 aside, and for their bodies.
+    /// Takes the memory for lines of at most `bound` bytes, their byte 10 aside, and for their
+    /// bodies. `OutOfMemory` means that one of the two buffers was not to be had.
     pub fn reserve(alloc: Global, bound: u64) -> Result<LineRoom, OutOfMemory>
         requires some { 64 ≤ bound }
         requires sensible { bound ≤ 2 ^ 22 }
@@ -52,14 +58,15 @@ impl LineRoom {
         })
     }
 
-    /// Takes the next line of the script. `Failed` is the source's: nothing of the script is lost, and the call may be
-    /// made again. After `Next::Refused` the line is still there.
+    /// Takes the next line of the script. `Failed` is the source's: nothing of the script is lost,
+    /// and the call may be made again. After `Next::Refused` the line is still there.
     pub fn next<S: Source>(&mut self, source: &mut S) -> Result<Next, Failed>
         ensures gives { (text : List ℕ) → Tells self.old (S.left source.old) text
             → IfOk result (GivesNext self.old self.new text (S.left source.new)) }
         ensures spends { IfOk result (Spends self.old self.new) }
-        ensures at_end { (IsTrue self.old.ended → IsAtEnd (S.left source.old))
-            → IsTrue self.new.ended → IsAtEnd (S.left source.new) }
+        ensures tells { (text : List ℕ) → Tells self.old (S.left source.old) text
+            → Tells self.new (S.left source.new) (text_after result text) }
+        ensures unasked { IsTrue self.old.ended → source.new ≡ source.old }
         ensures bound { self.new.reading.bound ≡ self.old.reading.bound }
         ensures room { length self.new.body ≡ length self.old.body }
         ensures text_kept { OnErr result (unread self.new.reading.held (S.left source.new)
@@ -80,7 +87,8 @@ impl LineRoom {
         }
     }
 
-    /// The first bytes of the body buffer: the body of the line that was read last, where it has this many bytes.
+    /// The first bytes of the body buffer: the body of the line that was read last, where it has
+    /// this many bytes.
     pub fn body(&self, size: u64) -> &[u8]
         requires { size ≤ length self.now.body }
         ensures { result.now ≡ take size self.now.body }
@@ -89,7 +97,8 @@ impl LineRoom {
     }
 }
 
-/// Takes the line of this size, and this many bytes with it, if it is a script line within the budget.
+/// Takes the line of this size, and this many bytes in all with its end, if it is a script line and
+/// within the budget.
 fn take_line(
     window: &mut Window,
     body: &mut Vec<u8>,
@@ -103,7 +112,8 @@ fn take_line(
     requires room { size ≤ 2 * vec_len body.old }
     ensures size { window.new.size ≡ window.old.size }
     ensures body { vec_len body.new ≡ vec_len body.old }
-    ensures takes { Takes window.old window.new budget.old budget.new body.new.items size taken result }
+    ensures takes { Takes window.old window.new budget.old budget.new body.new.items size taken
+        result }
 {
     if taken as u64 > *budget {
         return Next::Refused;

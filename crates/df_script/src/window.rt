@@ -1,5 +1,6 @@
 // The bytes that were read of a source and are still to be taken, in one buffer.
-ghost use Rattle.std.specs.Prelude.{◌≡◌, ◌<◌, ◌≤◌, ◌+◌, ◌-◌, ◌↔◌, ◌⊎◌, List, [], ℕ, length, take, drop, false, vec_len, position, IsTrue, IfOk, IfSome, IfNone, OnOk, OnErr};
+ghost use Rattle.std.specs.Prelude.{◌≡◌, ◌<◌, ◌≤◌, ◌+◌, ◌-◌, ◌↔◌, ◌⊎◌, [], length, take, drop, false, position};
+ghost use Rattle.std.specs.Prelude.{vec_len, IsTrue, IfOk, IfSome, IfNone, OnOk, OnErr};
 ghost use Rattle.df_base.specs.Causes.{HasCause};
 ghost use Rattle.df_base.specs.Streams.{Gives};
 ghost use Rattle.df_script.specs.Room.{Contents, IsAtEnd};
@@ -36,7 +37,11 @@ impl Model for Window {
 
     ghost Value = { Contents };
 
-    ghost view = { λ w. record { bytes = take (w.end - w.start) (drop w.start w.buffer.items); size = vec_len w.buffer; ended = w.ended } };
+    ghost view = { λ w. record {
+      bytes = take (w.end - w.start) (drop w.start w.buffer.items);
+      size = vec_len w.buffer;
+      ended = w.ended;
+    } };
 
     ghost invariant = { λ w. (w.start ≤ w.end) × (w.end ≤ vec_len w.buffer) };
 }
@@ -83,15 +88,18 @@ impl Window {
         self.start += count;
     }
 
-    /// Reads once, into all of the buffer that holds nothing.
+    /// Reads once, into all that is free of the buffer, after the held bytes were moved to its front.
     pub(crate) fn fill<S: Source>(&mut self, source: &mut S) -> Result<(), Failed>
         requires { length self.old.bytes < self.old.size }
         ensures size { self.new.size ≡ self.old.size }
-        ensures same_text { unread self.new.bytes (S.left source.new) ≡ unread self.old.bytes (S.left source.old) }
+        ensures same_text { unread self.new.bytes (S.left source.new)
+            ≡ unread self.old.bytes (S.left source.old) }
         ensures front { take (length self.old.bytes) self.new.bytes ≡ self.old.bytes }
-        ensures more { OnOk result (IsTrue self.new.ended ⊎ (length self.old.bytes < length self.new.bytes)) }
+        ensures more { OnOk result (IsTrue self.new.ended
+            ⊎ (length self.old.bytes < length self.new.bytes)) }
         ensures ended { OnOk result (IsTrue self.new.ended → IsAtEnd (S.left source.new)) }
-        ensures failed { OnErr result ((self.new ≡ self.old) × (S.left source.new ≡ S.left source.old)) }
+        ensures failed { OnErr result ((self.new ≡ self.old)
+            × (S.left source.new ≡ S.left source.old)) }
         ensures cause { HasCause (S.faults source.old) (S.faults source.new) result }
     {
         let held = self.end - self.start;
@@ -103,16 +111,17 @@ impl Window {
         self.ended = count == 0;
         Ok(())
     }
-}
 
-impl Window {
     /// Reads on until the next line is whole, is too long for the buffer, or there is none.
     pub(crate) fn find<S: Source>(&mut self, source: &mut S) -> Result<Found, Failed>
         requires { 0 < self.old.size }
         ensures size { self.new.size ≡ self.old.size }
-        ensures same_text { unread self.new.bytes (S.left source.new) ≡ unread self.old.bytes (S.left source.old) }
-        ensures ended { (IsTrue self.old.ended → IsAtEnd (S.left source.old)) → IsTrue self.new.ended → IsAtEnd (S.left source.new) }
+        ensures same_text { unread self.new.bytes (S.left source.new)
+            ≡ unread self.old.bytes (S.left source.old) }
+        ensures ended { (IsTrue self.old.ended → IsAtEnd (S.left source.old))
+            → IsTrue self.new.ended → IsAtEnd (S.left source.new) }
         ensures found { IfOk result (λ found. Finds self.new found) }
+        ensures unasked { IsTrue self.old.ended → source.new ≡ source.old }
         ensures cause { HasCause (S.faults source.old) (S.faults source.new) result }
     {
         let mut seen = 0;
@@ -128,23 +137,27 @@ impl Window {
                 return Ok(Found::TooLong);
             }
             if self.has_ended() {
-                return Ok(last_line(seen));
+                return Ok(self.last_line());
             }
             self.fill(source)?;
         }
     }
-}
 
-/// What is left where a source has ended and no byte 10 is held.
-fn last_line(held: usize) -> Found
-    ensures { (window : Contents) → IsTrue window.ended → line_end window.bytes ≡ length window.bytes → held ≡ length window.bytes → held < window.size → Finds window result }
-{
-    if held == 0 {
-        Found::End
-    } else {
-        Found::Line {
-            length: held,
-            taken: held,
+    /// What is left where the source has ended and no byte 10 is held.
+    fn last_line(&self) -> Found
+        requires ended { IsTrue self.now.ended }
+        requires none { line_end self.now.bytes ≡ length self.now.bytes }
+        requires room { length self.now.bytes < self.now.size }
+        ensures { Finds self.now result }
+    {
+        let held = self.bytes().len();
+        if held == 0 {
+            Found::End
+        } else {
+            Found::Line {
+                length: held,
+                taken: held,
+            }
         }
     }
 }
@@ -171,7 +184,8 @@ fn to_front(buffer: &mut Vec<u8>, start: usize, end: usize)
     requires ordered { start ≤ end }
     requires within { end ≤ vec_len buffer.old }
     ensures len { vec_len buffer.new ≡ vec_len buffer.old }
-    ensures moved { take (end - start) buffer.new.items ≡ take (end - start) (drop start buffer.old.items) }
+    ensures moved { take (end - start) buffer.new.items
+        ≡ take (end - start) (drop start buffer.old.items) }
 {
     if start > 0 {
         buffer.copy_within(start..end, 0);
@@ -179,16 +193,13 @@ fn to_front(buffer: &mut Vec<u8>, start: usize, end: usize)
 }
 
 /// Reads once, into the buffer from `at` on.
-fn read_behind<S: Source>(
-    buffer: &mut Vec<u8>,
-    at: usize,
-    source: &mut S,
-) -> Result<usize, Failed>
+fn read_behind<S: Source>(buffer: &mut Vec<u8>, at: usize, source: &mut S) -> Result<usize, Failed>
     requires { at < vec_len buffer.old }
     ensures len { vec_len buffer.new ≡ vec_len buffer.old }
     ensures front { take at buffer.new.items ≡ take at buffer.old.items }
     ensures bound { IfOk result (λ n. at + n ≤ vec_len buffer.new) }
-    ensures gives { IfOk result (λ n. Gives (S.left source.old) (S.left source.new) n (drop at buffer.new.items)) }
+    ensures gives { IfOk result (λ n.
+        Gives (S.left source.old) (S.left source.new) n (drop at buffer.new.items)) }
     ensures failed { OnErr result (S.left source.new ≡ S.left source.old) }
     ensures cause { HasCause (S.faults source.old) (S.faults source.new) result }
 {

@@ -1,4 +1,4 @@
-use Rattle.std.proofs.Common.{◌∙◌, ◌+◌, ◌∷◌, [], inl, inr, sym, ap, arith}
+use Rattle.std.proofs.Common.{◌∙◌, ◌∷◌, [], inl, inr, sym, ap, arith}
 use Rattle.df_script.proofs.Decimals.{first_byte, digit_is}
 use Rattle.df_script.proofs.number.first_digit.Goals as goal
 

@@ -1,0 +1,196 @@
+// Worked lines, and scripts that come in pieces.
+
+ghost use Rattle.std.specs.Prelude.{None};
+
+use super::*;
+use df_base::{Failed, MemorySource, Source};
+use std::process::Abort;
+use std::test::Fail;
+
+/// Three lines. The second is as long as a reader for 64 bytes takes, and the last has no byte 10.
+const SCRIPT: &[u8] = b"append 4 1 -\n\
+    append 55 1 000102030405060708090a0b0c0d0e0f10111213141516171819\n\
+    append 6 2 ff";
+
+const LONG_BODY: &[u8] = &[
+    0, 1, 2, 3, 4, 5, 6, 7, 8, 9, 10, 11, 12, 13, 14, 15, 16, 17, 18, 19, 20, 21, 22, 23, 24, 25,
+];
+
+#[test]
+fn script_lines_are_read_with_their_bodies(rt: HostRuntime) {
+    let lines = [
+        (b"append 5 1 -".as_slice(), 5, 1, b"".as_slice()),
+        (b"append 0 0 00".as_slice(), 0, 0, b"\x00".as_slice()),
+        (
+            b"append 10 90 aBcDeF".as_slice(),
+            10,
+            90,
+            b"\xab\xcd\xef".as_slice(),
+        ),
+        (
+            b"append 340282366920938463463374607431768211455 18446744073709551615 7f".as_slice(),
+            u128::MAX,
+            u64::MAX,
+            b"\x7f".as_slice(),
+        ),
+    ];
+    for (line, client, request, bytes) in lines {
+        let mut body = [9u8; 40];
+        assert!(rt; line.len() <= 80);
+        let said = parse(line, &mut body);
+        let length = bytes.len() as u64;
+        let want = Line::Append {
+            client,
+            request,
+            length,
+        };
+        assert_eq!(rt; said, Some(want));
+        assert!(rt; bytes.len() <= body.len());
+        assert_eq!(rt; &body[..bytes.len()], bytes);
+    }
+}
+
+#[test]
+fn other_lines_are_refused(rt: HostRuntime) {
+    let lines = [
+        b"".as_slice(),
+        b"append".as_slice(),
+        b"append ".as_slice(),
+        b"append 5 1".as_slice(),
+        b"append 5 1 ".as_slice(),
+        b"append 5  -".as_slice(),
+        b"append 5 01 -".as_slice(),
+        b"append 00 1 -".as_slice(),
+        b"append 340282366920938463463374607431768211456 1 -".as_slice(),
+        b"append 5 18446744073709551616 -".as_slice(),
+        b"append 5 1 abc".as_slice(),
+        b"append 5 1 ag".as_slice(),
+        b"append 5 1 --".as_slice(),
+        b"append  5 1 -".as_slice(),
+        b"append 5 1  -".as_slice(),
+        b"append 5 1 - ".as_slice(),
+        b"append 5 1 - -".as_slice(),
+        b" append 5 1 -".as_slice(),
+        b"Append 5 1 -".as_slice(),
+        b"append +5 1 -".as_slice(),
+        b"append 5 -1 -".as_slice(),
+        b"append\t5 1 -".as_slice(),
+        b"append 5 1 -\r".as_slice(),
+    ];
+    for line in lines {
+        let mut body = [0u8; 40];
+        assert!(rt; line.len() <= 80);
+        assert_eq!(rt; parse(line, &mut body), None);
+    }
+}
+
+#[test]
+fn a_script_is_read_in_pieces_of_any_size(rt: HostRuntime) -> Result<(), Fail> {
+    for piece in [1, 2, 7, 64, 65, 1000] {
+        let mut source = Drip {
+            source: MemorySource::new(SCRIPT.to_vec(rt.alloc())?, Vec::new(rt.alloc())),
+            piece,
+            ended: 0,
+        };
+        let mut room = LineRoom::reserve(rt.alloc(), 64)?;
+        expect_line(&rt, &mut room, &mut source, 4, 1, b"")?;
+        expect_line(&rt, &mut room, &mut source, 55, 1, LONG_BODY)?;
+        expect_line(&rt, &mut room, &mut source, 6, 2, b"\xff")?;
+        assert_eq!(rt; room.next(&mut source), Ok(Next::End));
+        assert_eq!(rt; room.next(&mut source), Ok(Next::End));
+        assert_eq!(rt; source.ended, 1);
+    }
+    Ok(())
+}
+
+#[test]
+fn a_failed_read_loses_nothing(rt: HostRuntime) -> Result<(), Fail> {
+    let mut source = MemorySource::new(SCRIPT.to_vec(rt.alloc())?, [1, 3].to_vec(rt.alloc())?);
+    let mut room = LineRoom::reserve(rt.alloc(), 64)?;
+    assert_eq!(rt; room.next(&mut source), Err(Failed));
+    expect_line(&rt, &mut room, &mut source, 4, 1, b"")?;
+    assert_eq!(rt; room.next(&mut source), Err(Failed));
+    expect_line(&rt, &mut room, &mut source, 55, 1, LONG_BODY)?;
+    expect_line(&rt, &mut room, &mut source, 6, 2, b"\xff")?;
+    assert_eq!(rt; room.next(&mut source), Ok(Next::End));
+    Ok(())
+}
+
+#[test]
+fn a_line_past_the_bound_is_refused(rt: HostRuntime) -> Result<(), Fail> {
+    let line = b"append 555 1 000102030405060708090a0b0c0d0e0f10111213141516171819";
+    for ending in [
+        b"".as_slice(),
+        b"\n".as_slice(),
+        b"\nappend 6 1 -\n".as_slice(),
+    ] {
+        let mut text = b"append 4 1 -\n".to_vec(rt.alloc())?;
+        text.extend_from_slice(line)?;
+        text.extend_from_slice(ending)?;
+        let mut source = MemorySource::new(text, Vec::new(rt.alloc()));
+        let mut room = LineRoom::reserve(rt.alloc(), 64)?;
+        expect_line(&rt, &mut room, &mut source, 4, 1, b"")?;
+        assert_eq!(rt; room.next(&mut source), Ok(Next::Refused));
+        assert_eq!(rt; room.next(&mut source), Ok(Next::Refused));
+    }
+    Ok(())
+}
+
+#[test]
+fn an_empty_line_is_refused_and_an_empty_script_ends(rt: HostRuntime) -> Result<(), Fail> {
+    for (text, want) in [
+        (b"".as_slice(), Next::End),
+        (b"\n".as_slice(), Next::Refused),
+    ] {
+        let mut source = MemorySource::new(text.to_vec(rt.alloc())?, Vec::new(rt.alloc()));
+        let mut room = LineRoom::reserve(rt.alloc(), 64)?;
+        assert_eq!(rt; room.next(&mut source), Ok(want));
+    }
+    Ok(())
+}
+
+fn expect_line<S: Source>(
+    rt: &impl Abort,
+    room: &mut LineRoom,
+    source: &mut S,
+    client: u128,
+    request: u64,
+    bytes: &[u8],
+) -> Result<(), Failed> {
+    let length = bytes.len() as u64;
+    let want = Line::Append {
+        client,
+        request,
+        length,
+    };
+    let next = room.next(source)?;
+    assert_eq!(rt; next, Next::Line(want));
+    let Next::Line(Line::Append { length, .. }) = next else {
+        return Err(Failed);
+    };
+    assert_eq!(rt; room.body(length), bytes);
+    Ok(())
+}
+
+/// Hands over the bytes of another source in small pieces, and counts how often that had ended.
+#[derive(Drop)]
+struct Drip {
+    source: MemorySource,
+    piece: usize,
+    ended: u64,
+}
+
+impl Source for Drip {
+    ghost left = { λ _. None };
+
+    ghost faults = { λ s. ⟦<MemorySource as Source>⟧.faults s.source };
+
+    fn read(&mut self, into: &mut [u8]) -> Result<usize, Failed> {
+        let room = into.len().min(self.piece.max(1));
+        let count = self.source.read(&mut into[..room])?;
+        if count == 0 {
+            self.ended = self.ended.saturating_add(1);
+        }
+        Ok(count)
+    }
+}
