@@ -1,35 +1,26 @@
 // Opening the file, and the folder that a new file stands in: a file is durable only once its name
 // is, and the name is the folder's data.
 use std::fs::{OpenFile, OpenOptions};
-use std::io::{self, ErrorKind};
+use std::io;
 use std::path::Path;
 use std::rt::Files;
 
-/// A file for reading and writing, and whether it was made.
+/// A file for reading and writing, and whether its name may not be durable yet.
 pub struct Opened<F> {
     pub file: F,
     pub is_new: bool,
 }
 
-/// Opens the file, and makes an empty one where there is none.
+/// Opens the file, and makes an empty one where there is none. An empty file counts as new: who made it may have been
+/// stopped before its name was durable.
 pub fn open_or_make<R: Files>(rt: &R, path: &str) -> io::Result<Opened<R::File>> {
-    match OpenOptions::new().read(true).write(true).open(rt, path) {
-        Ok(file) => Ok(Opened {
-            file,
-            is_new: false,
-        }),
-        Err(error) => {
-            if error.kind() != ErrorKind::NotFound {
-                return Err(error);
-            }
-            let file = OpenOptions::new()
-                .read(true)
-                .write(true)
-                .create(true)
-                .open(rt, path)?;
-            Ok(Opened { file, is_new: true })
-        }
-    }
+    let file = OpenOptions::new()
+        .read(true)
+        .write(true)
+        .create(true)
+        .open(rt, path)?;
+    let is_new = file.metadata()?.len() == 0;
+    Ok(Opened { file, is_new })
 }
 
 /// Makes the names in the file's folder durable.
