@@ -2,7 +2,7 @@
 ghost use Rattle.std.specs.Prelude.{◌≡◌, ◌<◌, ◌≤◌, ◌*◌, ◌^◌, List, ℕ, length, take, vec_len};
 ghost use Rattle.std.specs.Prelude.{IsTrue, IfOk, OnErr};
 ghost use Rattle.df_base.specs.Causes.{HasCause};
-ghost use Rattle.df_script.specs.Room.{IsFresh, Tells};
+ghost use Rattle.df_script.specs.Room.{IsAtEnd, IsFresh, Tells};
 ghost use Rattle.df_script.specs.Reads.{GivesNext, Spends, Takes, text_after};
 ghost use Rattle.df_script.specs.Text.{unread};
 
@@ -66,6 +66,8 @@ impl LineRoom {
         ensures spends { IfOk result (Spends self.old self.new) }
         ensures tells { (text : List ℕ) → Tells self.old (S.left source.old) text
             → Tells self.new (S.left source.new) (text_after result text) }
+        ensures at_end { (IsTrue self.old.ended → IsAtEnd (S.left source.old))
+            → IsTrue self.new.ended → IsAtEnd (S.left source.new) }
         ensures unasked { IsTrue self.old.ended → source.new ≡ source.old }
         ensures bound { self.new.reading.bound ≡ self.old.reading.bound }
         ensures room { length self.new.body ≡ length self.old.body }
