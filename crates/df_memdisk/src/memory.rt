@@ -2,10 +2,10 @@
 ghost use Rattle.std.specs.Prelude.{◌≡◌, ◌≤◌, ◌⊎◌, [], ◌∷◌, length, true, is_err, Some, OnOk, OnErr};
 ghost use Rattle.df_base.specs.Causes.{HasCause, counted};
 ghost use Rattle.df_base.specs.Image.{blank};
-ghost use Rattle.df_base.specs.Log.{new_log, Write, Sync};
+ghost use Rattle.df_base.specs.Log.{new_log, Write, Sync, AreEvents, IsLog};
 ghost use Rattle.df_base.specs.Plan.{new_plan, is_listed, after_call, FailsExactly};
 ghost use Rattle.df_disk.specs.Told.{AreSectors, Shows, after};
-ghost use Rattle.df_memdisk.specs.State.{told_of, AddsEvent};
+ghost use Rattle.df_memdisk.specs.State.{log_of, told_of, AddsEvent};
 
 use crate::history::{Happened, show_sectors};
 use crate::written::Written;
@@ -31,6 +31,10 @@ impl Model for MemoryDisk {
     ghost Value = { DiskState };
 
     ghost view = { λ d. record { events = events_of d.past.items; plan = d.plan; refused = d.refused } };
+
+    ghost use Rattle.df_base.specs.Log.{AreEvents};
+
+    ghost invariant = { λ d. AreEvents (events_of d.past.items) };
 }
 
 impl MemoryDisk {
@@ -47,9 +51,10 @@ impl MemoryDisk {
         }
     }
 
-    /// How many events its log has.
+    /// How many events its log has, which is one that a disk can have.
     pub fn events(&self) -> u64
-        ensures { result ≡ length self.now.events }
+        ensures count { result ≡ length self.now.events }
+        ensures log { IsLog (log_of self.now) }
     {
         self.past.as_slice().len() as u64
     }
@@ -67,6 +72,7 @@ impl MemoryDisk {
 
     // Keeps an event, unless memory for it is refused, which is the caller's to count.
     pub(crate) fn keep(&mut self, happened: Happened) -> Result<(), OutOfMemory>
+        requires { AreEvents (event_of happened ∷ self.old.events) }
         ensures ok { OnOk result (self.new ≡ record self.old { events = event_of happened ∷ self.old.events }) }
         ensures err { OnErr result (self.new ≡ self.old) }
     {

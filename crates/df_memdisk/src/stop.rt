@@ -1,6 +1,6 @@
 // A stop: the power is cut, and sectors that were loose may hold any bytes afterwards.
-ghost use Rattle.std.specs.Prelude.{◌≡◌, ◌∷◌, None, Some, OnOk, IfOk, IfErr};
-ghost use Rattle.df_base.specs.Log.{Stop};
+ghost use Rattle.std.specs.Prelude.{◌≡◌, ◌∷◌, None, Some, OnOk, IfOk, IfErr, IfNone};
+ghost use Rattle.df_base.specs.Log.{Stop, AreLoose};
 ghost use Rattle.df_memdisk.specs.History.{changes_of, events_of};
 ghost use Rattle.df_memdisk.specs.Refusals.{IsFirstFirm};
 ghost use Rattle.df_memdisk.specs.State.{first_firm};
@@ -10,9 +10,11 @@ use crate::{Change, MemoryDisk, StopError};
 
 // The first named sector that isn't loose.
 fn firm_sector(past: &[Happened], choice: &[Change]) -> Option<u64>
-    ensures { result ≡ first_firm (events_of past.now) (changes_of choice.now) }
+    ensures first { result ≡ first_firm (events_of past.now) (changes_of choice.now) }
+    ensures loose { IfNone result (AreLoose (events_of past.now) (changes_of choice.now)) }
 {
     for change in choice {
+        change.is_whole();
         if !is_loose(past, change.sector) {
             return Some(change.sector);
         }

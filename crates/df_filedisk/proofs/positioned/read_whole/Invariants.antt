@@ -1,5 +1,5 @@
 -- The buffer keeps its length, and is filled up to a place within it.
-use Rattle.std.proofs.Common.{◌≡◌, ◌≤◌, ◌-◌, length}
+use Rattle.std.proofs.Common.{◌≤◌, ◌-◌, length}
 use Rattle.df_filedisk.proofs.positioned.read_whole.Given as goal
 
 abbrev pub invariant-loop-done : goal.invariant-loop-done
