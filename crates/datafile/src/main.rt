@@ -6,13 +6,20 @@ use df_filedisk::FileDisk;
 use df_top::{Status, run};
 use std::env;
 use std::fs::{OpenFile, OpenOptions};
+use std::io::ErrorKind;
 use std::process::ExitCode;
 use std::rt::Files;
 
-// The words behind the program's name.
+// The words behind the program's name. Where one of them isn't UTF-8 they have no meaning, as if there were none.
 fn words(rt: &HostRuntime) -> Result<Vec<String>, Status> {
-    let Ok(args) = env::args(rt) else {
-        return Err(Status::Memory);
+    let args = match env::args(rt) {
+        Ok(args) => args,
+        Err(error) => {
+            if error.kind() == ErrorKind::OutOfMemory {
+                return Err(Status::Memory);
+            }
+            return Ok(Vec::new(rt.alloc()));
+        }
     };
     match args.skip(1).collect(rt.alloc()) {
         Ok(words) => Ok(words),

@@ -4,50 +4,52 @@ use df_memdisk::Change;
 use df_top::Status;
 use std::test::Fail;
 
+// A script over a blank disk, what it prints and how it ends.
+const ROWS: [(&str, &str, Status); 15] = [
+    ("", "", Status::Done),
+    (
+        "append 5 1 -\nappend 6 1 0102\n",
+        "appended 1\nappended 2\n",
+        Status::Done,
+    ),
+    ("append 5 1 -", "appended 1\n", Status::Done),
+    ("reply 1 -\n", "script 1\n", Status::Script),
+    (
+        "append 4 1 -\nappend 5 1 abc\nappend 4 2 -\n",
+        "appended 1\nscript 2\n",
+        Status::Script,
+    ),
+    ("append 5 01 -\n", "script 1\n", Status::Script),
+    ("Append 5 1 -\n", "script 1\n", Status::Script),
+    ("\n", "script 1\n", Status::Script),
+    ("append 0 1 -\n", "script 1\n", Status::Script),
+    ("append 5 0 -\n", "script 1\n", Status::Script),
+    (
+        "append 5 4611686018427387904 -\n",
+        "appended 1\n",
+        Status::Done,
+    ),
+    (
+        "append 5 4611686018427387905 -\n",
+        "script 1\n",
+        Status::Script,
+    ),
+    (
+        "append 340282366920938463463374607431768211455 1 aA\n",
+        "appended 1\n",
+        Status::Done,
+    ),
+    (
+        "append 340282366920938463463374607431768211456 1 -\n",
+        "script 1\n",
+        Status::Script,
+    ),
+    ("append 5 1  -\n", "script 1\n", Status::Script),
+];
+
 #[test]
 fn scripts_print_their_answers(rt: HostRuntime) -> Result<(), Fail> {
-    let rows: [(&str, &str, Status); 15] = [
-        ("", "", Status::Done),
-        (
-            "append 5 1 -\nappend 6 1 0102\n",
-            "appended 1\nappended 2\n",
-            Status::Done,
-        ),
-        ("append 5 1 -", "appended 1\n", Status::Done),
-        ("reply 1 -\n", "script 1\n", Status::Script),
-        (
-            "append 4 1 -\nappend 5 1 abc\nappend 4 2 -\n",
-            "appended 1\nscript 2\n",
-            Status::Script,
-        ),
-        ("append 5 01 -\n", "script 1\n", Status::Script),
-        ("Append 5 1 -\n", "script 1\n", Status::Script),
-        ("\n", "script 1\n", Status::Script),
-        ("append 0 1 -\n", "script 1\n", Status::Script),
-        ("append 5 0 -\n", "script 1\n", Status::Script),
-        (
-            "append 5 4611686018427387904 -\n",
-            "appended 1\n",
-            Status::Done,
-        ),
-        (
-            "append 5 4611686018427387905 -\n",
-            "script 1\n",
-            Status::Script,
-        ),
-        (
-            "append 340282366920938463463374607431768211455 1 aA\n",
-            "appended 1\n",
-            Status::Done,
-        ),
-        (
-            "append 340282366920938463463374607431768211456 1 -\n",
-            "script 1\n",
-            Status::Script,
-        ),
-        ("append 5 1  -\n", "script 1\n", Status::Script),
-    ];
-    for (script, text, status) in &rows {
+    for (script, text, status) in &ROWS {
         let mut disk = blank(rt.alloc(), &[])?;
         let ran = run_script(rt.alloc(), &mut disk, script.as_bytes())?;
         assert_eq!(rt; ran.status, *status, "{script}");

@@ -49,30 +49,37 @@ fn op_in_flight(ring: u64, call: u64) -> Option<u64>
     (ring + 1).checked_add(behind / 2)
 }
 
-// The two sectors of an op's slot.
-fn read_slot(disk: &mut MemoryDisk, op: u64) -> Result<[u8; 2 * SECTOR], Fail> {
-    let mut bytes = [0u8; 2 * SECTOR];
-    match disk.read(6 + 2 * (op % 32), &mut bytes) {
-        Ok(()) => Ok(bytes),
-        Err(_) => Err("a read failed".into()),
-    }
+// The two sectors of a slot.
+#[derive(Drop)]
+struct Sectors {
+    first: [u8; SECTOR],
+    second: [u8; SECTOR],
 }
 
-fn fated(fate: Fate, now: &[u8; 2 * SECTOR], before: &[u8; 2 * SECTOR], half: usize) -> [u8; SECTOR]
-    requires { half < 2 }
-{
-    let at = half * SECTOR;
-    let mut sector = [0xa5u8; SECTOR];
-    match fate {
-        Fate::AsWritten => sector.copy_from_slice(&now[at..at + SECTOR]),
-        Fate::AsBefore => sector.copy_from_slice(&before[at..at + SECTOR]),
-        Fate::Filled => {}
-        Fate::Torn => {
-            sector.copy_from_slice(&before[at..at + SECTOR]);
-            sector[..TORN].copy_from_slice(&now[at..at + TORN]);
-        }
+fn read_slot(disk: &mut MemoryDisk, op: u64) -> Result<Sectors, Fail> {
+    let at = 6 + 2 * (op % 32);
+    let mut first = [0u8; SECTOR];
+    let mut second = [0u8; SECTOR];
+    let read = disk.read(at, &mut first).is_ok() && disk.read(at + 1, &mut second).is_ok();
+    if !read {
+        return Err("a read failed".into());
     }
+    Ok(Sectors { first, second })
+}
+
+fn torn(now: &[u8; SECTOR], before: &[u8; SECTOR]) -> [u8; SECTOR] {
+    let mut sector = *before;
+    sector[..TORN].copy_from_slice(&now[..TORN]);
     sector
+}
+
+fn fated(fate: Fate, now: &[u8; SECTOR], before: &[u8; SECTOR]) -> [u8; SECTOR] {
+    match fate {
+        Fate::AsWritten => *now,
+        Fate::AsBefore => *before,
+        Fate::Filled => [0xa5; SECTOR],
+        Fate::Torn => torn(now, before),
+    }
 }
 
 // The stop's changes of the slot that was written last.
@@ -80,20 +87,27 @@ fn changes(
     alloc: Global,
     op: u64,
     fates: [Fate; 2],
-    now: &[u8; 2 * SECTOR],
-    before: &[u8; 2 * SECTOR],
+    now: &Sectors,
+    before: &Sectors,
 ) -> Result<Vec<Change>, Fail> {
     let first = 6 + 2 * (op % 32);
     let mut changes = Vec::new(alloc);
     changes.push(Change {
         sector: first,
-        bytes: fated(fates[0], now, before, 0),
+        bytes: fated(fates[0], &now.first, &before.first),
     })?;
     changes.push(Change {
         sector: first + 1,
-        bytes: fated(fates[1], now, before, 1),
+        bytes: fated(fates[1], &now.second, &before.second),
     })?;
     Ok(changes)
+}
+
+// The call and the fates of one cut.
+#[derive(Clone, Copy, Debug)]
+struct Cut {
+    call: u64,
+    fates: [Fate; 2],
 }
 
 // A run that the disk cuts off at a call, and the stop behind it. Gives the disk, and how many prepares its ring has.
@@ -102,12 +116,9 @@ fn cut_off(
     mut disk: MemoryDisk,
     script: &[u8],
     ring: u64,
-    call: u64,
-    fates: [Fate; 2],
-) -> Result<(MemoryDisk, u64), Fail>
-    requires { ring < 2 ^ 32 }
-{
-    let flight = op_in_flight(ring, call);
+    cut: Cut,
+) -> Result<(MemoryDisk, u64), Fail> {
+    let flight = op_in_flight(ring.min(31), cut.call);
     let op = flight.unwrap_or(1);
     let before = read_slot(&mut disk, op)?;
     let ran = run_script(alloc, &mut disk, script)?;
@@ -117,13 +128,13 @@ fn cut_off(
         return Err("too many answers".into());
     };
     let choice = match flight {
-        Some(op) => changes(alloc, op, fates, &now, &before)?,
+        Some(op) => changes(alloc, op, cut.fates, &now, &before)?,
         None => Vec::new(alloc),
     };
     let Ok(disk) = disk.stop(choice) else {
         return Err("a sector of the stop isn't loose".into());
     };
-    let whole = flight.is_some() && fates == [Fate::AsWritten, Fate::AsWritten];
+    let whole = flight.is_some() && cut.fates == FATES[0];
     Ok((disk, if whole { kept.saturating_add(1) } else { kept }))
 }
 
@@ -145,43 +156,67 @@ fn next_answer(alloc: Global, ring: u64) -> Result<String, Fail> {
     Ok(format!(in alloc; "appended {}\n", ring.saturating_add(1))?)
 }
 
-#[test]
-fn stopped_twice_a_run_finds_what_was_answered(rt: HostRuntime) -> Result<(), Fail> {
-    let first = appends(rt.alloc(), 3, b"11")?;
-    let second = appends(rt.alloc(), 2, b"22")?;
-    for call in 1..9u64 {
-        for fates in FATES {
-            if op_in_flight(0, call).is_none() && fates != FATES[0] {
-                continue;
-            }
-            for later in 1..10u64 {
-                for others in &FATES[..4] {
-                    // Each cut reads a slot before and behind its run.
-                    let disk = blank(rt.alloc(), &[call + 1, call + 3 + later])?;
-                    let (disk, ring) = cut_off(rt.alloc(), disk, &first, 0, call, fates)?;
-                    assert!(rt; ring < 9);
-                    if later > calls_of_open(ring) + 4 {
-                        continue;
-                    }
-                    if op_in_flight(ring, later).is_none() && *others != FATES[0] {
-                        continue;
-                    }
-                    let (mut disk, ring) = cut_off(
-                        rt.alloc(),
-                        disk,
-                        &second,
-                        ring,
-                        later,
-                        *others,
-                    )?;
-                    let ran = run_script(rt.alloc(), &mut disk, b"append 9 1 -\n")?;
-                    assert_eq!(rt;
-                        ran.text.as_slice(),
-                        next_answer(rt.alloc(), ring)?.as_bytes(),
-                        "{call} {fates:?} {later} {others:?}"
-                    );
+// The cuts of a run that appends `count` times: at each device call, with each fate of what is loose then.
+fn cuts(alloc: Global, ring: u64, count: u64, fates: &[[Fate; 2]]) -> Result<Vec<Cut>, Fail>
+    requires ring { ring < 16 }
+    requires count { count < 16 }
+{
+    let mut cuts = Vec::new(alloc);
+    for call in 1..calls_of_open(ring) + 2 * count + 1 {
+        match op_in_flight(ring, call) {
+            Some(_) => {
+                for fates in fates {
+                    cuts.push(Cut {
+                        call,
+                        fates: *fates,
+                    })?;
                 }
             }
+            None => cuts.push(Cut {
+                call,
+                fates: FATES[0],
+            })?,
+        }
+    }
+    Ok(cuts)
+}
+
+// Cuts a run of three appends and then one of two, and asks a third run for the op of the next append.
+fn cut_twice(alloc: Global, first: Cut, second: Cut) -> Result<(Vec<u8>, u64), Fail> {
+    // Each cut reads a slot before its run and one behind it, by two calls each.
+    let call = first.call.saturating_add(2);
+    let later = call.saturating_add(4).saturating_add(second.call);
+    let disk = blank(alloc, &[call, later])?;
+    let (disk, ring) = cut_off(alloc, disk, &appends(alloc, 3, b"11")?, 0, first)?;
+    let (mut disk, ring) = cut_off(alloc, disk, &appends(alloc, 2, b"22")?, ring, second)?;
+    let ran = run_script(alloc, &mut disk, b"append 9 1 -\n")?;
+    Ok((ran.text, ring))
+}
+
+// The ring that the first cut leaves.
+fn ring_after(first: Cut) -> u64
+    ensures { result < 16 }
+{
+    match op_in_flight(0, first.call) {
+        Some(op) => {
+            let kept = if first.fates == FATES[0] {
+                op
+            } else {
+                op.saturating_sub(1)
+            };
+            kept.min(15)
+        }
+        None => 0,
+    }
+}
+
+#[test]
+fn stopped_twice_a_run_finds_what_was_answered(rt: HostRuntime) -> Result<(), Fail> {
+    for first in cuts(rt.alloc(), 0, 3, &FATES)? {
+        for second in cuts(rt.alloc(), ring_after(first), 2, &FATES[..4])? {
+            let (text, ring) = cut_twice(rt.alloc(), first, second)?;
+            let wanted = next_answer(rt.alloc(), ring)?;
+            assert_eq!(rt; text.as_slice(), wanted.as_bytes(), "{first:?} {second:?}");
         }
     }
     Ok(())

@@ -8,3 +8,4 @@ pub mod Step
 pub mod Run
 pub mod Serving
 pub mod Laws
+pub mod Statuses
