@@ -1,5 +1,5 @@
 // Worked scripts, with the text and the status that they end in.
-use crate::runs::{blank, run_failing, run_script, word};
+use crate::runs::{blank, printed, run_failing, run_script, word};
 use df_memdisk::Change;
 use df_top::Status;
 use std::test::Fail;
@@ -85,10 +85,7 @@ fn a_full_ring_refuses(rt: HostRuntime) -> Result<(), Fail> {
     let last = "appended 32\nrefused WalFull op 33 checkpoint_op 0\n";
     assert!(rt; ran.text.as_slice().ends_with(last.as_bytes()));
     let again = run_script(rt.alloc(), &mut disk, b"append 1 1 -\n")?;
-    assert_eq!(rt;
-        again.text.as_slice(),
-        b"refused WalFull op 33 checkpoint_op 0\n".as_slice()
-    );
+    assert!(rt; printed(&again, "refused WalFull op 33 checkpoint_op 0\n"));
     Ok(())
 }
 
@@ -97,15 +94,11 @@ fn other_words_print_the_usage_line(rt: HostRuntime) -> Result<(), Fail> {
     let mut disk = blank(rt.alloc(), &[])?;
     let words = word(rt.alloc(), "append")?;
     let ran = run_failing(rt.alloc(), &mut disk, &words, b"append 5 1 -\n", &[], &[])?;
-    assert_eq!(rt;
-        (ran.status, ran.text.as_slice()),
-        (Status::Words, b"usage: run\n".as_slice())
-    );
+    assert_eq!(rt; ran.status, Status::Words);
+    assert!(rt; printed(&ran, "usage: run\n"));
     let none = run_failing(rt.alloc(), &mut disk, &[], b"", &[], &[])?;
-    assert_eq!(rt;
-        (none.status, none.text.as_slice()),
-        (Status::Words, b"usage: run\n".as_slice())
-    );
+    assert_eq!(rt; none.status, Status::Words);
+    assert!(rt; printed(&none, "usage: run\n"));
     assert_eq!(rt; disk.events(), 0);
     Ok(())
 }
@@ -114,10 +107,8 @@ fn other_words_print_the_usage_line(rt: HostRuntime) -> Result<(), Fail> {
 fn a_torn_append_is_not_there(rt: HostRuntime) -> Result<(), Fail> {
     let mut disk = blank(rt.alloc(), &[5])?;
     let ran = run_script(rt.alloc(), &mut disk, b"append 5 1 -\nappend 6 1 -\n")?;
-    assert_eq!(rt;
-        (ran.status, ran.text.as_slice()),
-        (Status::DiskFault, b"appended 1\n".as_slice())
-    );
+    assert_eq!(rt; ran.status, Status::DiskFault);
+    assert!(rt; printed(&ran, "appended 1\n"));
     let mut torn = Vec::new(rt.alloc());
     torn.push(Change {
         sector: 10,
@@ -127,9 +118,7 @@ fn a_torn_append_is_not_there(rt: HostRuntime) -> Result<(), Fail> {
         return Err("sector 10 isn't loose".into());
     };
     let ran = run_script(rt.alloc(), &mut disk, b"append 7 1 -\n")?;
-    assert_eq!(rt;
-        (ran.status, ran.text.as_slice()),
-        (Status::Done, b"appended 2\n".as_slice())
-    );
+    assert_eq!(rt; ran.status, Status::Done);
+    assert!(rt; printed(&ran, "appended 2\n"));
     Ok(())
 }

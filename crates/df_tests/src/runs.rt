@@ -52,6 +52,11 @@ pub fn blank(alloc: Global, failing: &[u64]) -> Result<MemoryDisk, Fail> {
     Ok(MemoryDisk::new(alloc, Vec::from_slice(alloc, failing)?))
 }
 
+/// Whether a run printed this.
+pub fn printed(ran: &Ran, text: &str) -> bool {
+    ran.text.as_slice() == text.as_bytes()
+}
+
 /// How many lines a text has.
 pub fn lines(text: &[u8]) -> usize {
     text.iter().filter(|byte| **byte == b'\n').count()

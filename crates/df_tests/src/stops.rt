@@ -1,6 +1,6 @@
 // Stops of two runs in a row, before and within every write and sync, with each loose sector as written, as before,
 // filled or torn: the next run finds exactly the appends that were answered, and the one in flight where it is whole.
-ghost use Rattle.std.specs.Prelude.{◌≡◌, ◌<◌, ◌+◌, ◌^◌};
+ghost use Rattle.std.specs.Prelude.{◌≡◌, ◌<◌, ◌≤◌, ◌+◌, ◌^◌, length};
 
 use crate::runs::{blank, lines, run_script};
 use df_base::SECTOR;
@@ -67,9 +67,17 @@ fn read_slot(disk: &mut MemoryDisk, op: u64) -> Result<Sectors, Fail> {
     Ok(Sectors { first, second })
 }
 
+// The first bytes are new.
+fn tear(sector: &mut [u8], now: &[u8])
+    requires sector { 64 ≤ length sector.old }
+    requires now { 64 ≤ length now.now }
+{
+    sector[..TORN].copy_from_slice(&now[..TORN]);
+}
+
 fn torn(now: &[u8; SECTOR], before: &[u8; SECTOR]) -> [u8; SECTOR] {
     let mut sector = *before;
-    sector[..TORN].copy_from_slice(&now[..TORN]);
+    tear(&mut sector, now);
     sector
 }
 
