@@ -1,5 +1,6 @@
-// Reads and writes of whole buffers at an offset of a file, one system call where it does all.
-ghost use Rattle.std.specs.Prelude.{◌+◌, ◌<◌, ◌^◌, length};
+// Reads and writes of whole buffers at an offset of a file, one system call where it does all. No
+// offset lies behind the last of 2^40 sectors of 4096 bytes.
+ghost use Rattle.std.specs.Prelude.{◌+◌, ◌≤◌, ◌^◌, length};
 ghost use Rattle.std.specs.Io.{ReadsAtMost};
 
 use std::io::{self, ErrorKind};
@@ -24,7 +25,7 @@ fn read_some<F: FileExt>(file: &F, into: &mut [u8], offset: u64) -> io::Result<u
 
 /// Fills the buffer from an offset in bytes on, with zeros behind the end of the file.
 pub fn read_whole<F: FileExt>(file: &F, into: &mut [u8], offset: u64) -> io::Result<()>
-    requires { offset + length into.old < 2 ^ 64 }
+    requires { offset + length into.old ≤ 2 ^ 52 }
 {
     let mut done = 0;
     while done < into.len() {
@@ -39,6 +40,8 @@ pub fn read_whole<F: FileExt>(file: &F, into: &mut [u8], offset: u64) -> io::Res
 }
 
 /// Writes all bytes from an offset in bytes on.
-pub fn write_whole<F: FileExt>(file: &F, bytes: &[u8], offset: u64) -> io::Result<()> {
+pub fn write_whole<F: FileExt>(file: &F, bytes: &[u8], offset: u64) -> io::Result<()>
+    requires { offset + length bytes.now ≤ 2 ^ 52 }
+{
     file.write_all_at(bytes, offset)
 }
