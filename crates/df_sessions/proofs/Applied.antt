@@ -1,5 +1,5 @@
 -- What a request makes of a table, where the client is known and where it is new.
-use Rattle.std.proofs.Common.{◌≡◌, ◌≢◌, ℕ, ◌<◌, ◌⊎◌, inl, inr, Some, None, List, [], ◌∷◌, ◌++◌, length, get_or, set, arith, sym, subst, ◌∙◌, ap}
+use Rattle.std.proofs.Common.{IsSome, Option, ◌≡◌, ◌≢◌, ℕ, ◌<◌, ◌⊎◌, inl, inr, Some, None, List, [], ◌∷◌, ◌++◌, length, get_or, set, arith, sym, subst, ◌∙◌, ap}
 use Rattle.std.specs.List.{position, slice_get}
 use Rattle.df_sessions.specs.declared.session.Session.{Session}
 use Rattle.df_sessions.specs.Table.{Table, IsTable, IsKnown, has_client, requested, with_request, with_reply}
@@ -7,7 +7,7 @@ use Rattle.df_sessions.specs.Changes.{Change, changed, sessions_after}
 use Rattle.df_sessions.specs.Changes.Change.{Request, Reply}
 use Rattle.df_sessions.proofs.Kept.{request_keeps, reply_keeps}
 use Rattle.df_sessions.proofs.Latest.{one_more}
-use Rattle.df_sessions.proofs.Places.{IsFirst, first_place, request_known, request_new, place_known, place_new, unknown, reply_at, get_set_same, get_set_other, get_push_last, get_push_other}
+use Rattle.df_sessions.proofs.Places.{IsFirst, first_place, request_known, request_new, place_known, place_new, reply_at, get_set_same, get_set_other, get_push_last, get_push_other}
 
 -- the request of a client is at this place, and nothing else has changed
 pub record HasRequest (client request op : ℕ) (old new : List Session) (place : ℕ) : Type 0 where
@@ -83,7 +83,7 @@ has_room max client items now view is none room =
     let most : max ≡ now.max = ap (λ (t : Table). t.max) view in
     let long : length items ≡ length now.sessions = ap length same in
     elim room [
-      | inl known ↦ absurd (unknown client now.sessions (requested 0 0 0) (sym none) known)
+      | inl known ↦ (let no : IsSome {T = ℕ} None = subst (λ (o : Option ℕ). IsSome o) (sym none) known in cc)
       | inr left ↦ omega arith
     ]
 

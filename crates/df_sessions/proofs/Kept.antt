@@ -1,11 +1,13 @@
 -- A request and a stored reply keep what is always so of a table.
-use Rattle.std.proofs.Common.{◌≡◌, ◌≢◌, ℕ, zero, suc, ◌+◌, ◌<◌, ◌≤◌, ◌⊎◌, inl, inr, false, List, [], ◌∷◌, length, refl, arith, ap, sym, subst}
+use Rattle.std.proofs.Common.{Option, Some, None, IsSome, ◌∙◌, ◌≡◌, ◌≢◌, ℕ, zero, suc, ◌+◌, ◌<◌, ◌≤◌, ◌⊎◌, inl, inr, false, List, [], ◌∷◌, length, refl, arith, ap, sym, subst}
 use Rattle.std.specs.Prelude.{nat_eq}
-use Rattle.std.specs.List.{AllByRecursion, IsDistinct}
+use Rattle.std.specs.List.{AllByRecursion, IsDistinct, position}
+use Rattle.std.proofs.lemmas.List.{length-set}
 use Rattle.std.proofs.lemmas.Bool.{cases_Bool}
 use Rattle.std.proofs.lemmas.Bool.{eqb-true}
 use Rattle.df_sessions.specs.declared.session.Session.{Session}
-use Rattle.df_sessions.specs.Table.{IsTable, IsKnown, clients_of, has_client, with_request, with_reply}
+use Rattle.df_sessions.proofs.Places.{first_place, request_known}
+use Rattle.df_sessions.specs.Table.{IsTable, IsKnown, clients_of, has_client, requested, with_request, with_reply}
 
 -- what holds of each client, and of a request's, holds after the request
 all_requested : (P : ℕ → Type 0) (client request op : ℕ) (sessions : List Session) → P client → AllByRecursion P (clients_of sessions)
@@ -26,12 +28,15 @@ distinct_requested client request op (s ∷ sessions) distinct = elim (cases_Boo
 ]
 
 -- a known client takes no further place
+length_at : (client request op : ℕ) (sessions : List Session) (place : Option ℕ) → position (has_client client) sessions ≡ place → IsSome place
+    → length (with_request client request op sessions) ≡ length sessions
+length_at client request op sessions None is some = cc
+length_at client request op sessions (Some i) is some =
+    let d : Session = requested client request op in
+    ap length (request_known client request op sessions i d (first_place (has_client client) sessions i d is)) ∙ length-set sessions i d
+
 length_known : (client request op : ℕ) (sessions : List Session) → IsKnown client sessions → length (with_request client request op sessions) ≡ length sessions
-length_known client request op [] known = cc
-length_known client request op (s ∷ sessions) known = elim (cases_Bool (has_client client s)) [
-  | inl same ↦ rw same refl
-  | inr other ↦ rw other (ap suc (length_known client request op sessions (rw other at known)))
-]
+length_known client request op sessions known = length_at client request op sessions (position (has_client client) sessions) refl known
 
 length_most : (client request op : ℕ) (sessions : List Session) → length (with_request client request op sessions) ≤ length sessions + 1
 length_most client request op [] = omega arith

@@ -1,14 +1,14 @@
 -- Where a request and a reply change the list of sessions.
 use Rattle.std.proofs.Common.{◌≡◌, ◌≢◌, ℕ, zero, suc, ◌<◌, inl, inr, Bool, true, false, Some, None, List, [], ◌∷◌, ◌++◌, length, get_or, set, refl, arith, rules, ap}
 use Rattle.std.specs.Prelude.{nat_lt}
-use Rattle.std.specs.List.{position, position_or_len, slice_get, list_any}
+use Rattle.std.specs.List.{position, position_or_len, slice_get}
 use Rattle.std.proofs.lemmas.Bool.{cases_Bool, eq-eqb}
 use borrow.Author.Tests.{ltb-false}
 use Rattle.std.proofs.lemmas.List.{get_or-set_same, get_or-set_other, get_or_push, get_or_append_left, length-set, length_push}
 use Rattle.std.proofs.lemmas.List.Quantifiers.{position-Some}
 use Rattle.std.proofs.lemmas.List.Sums.{position_or_len_is, fails_before_first}
 use Rattle.df_sessions.specs.declared.session.Session.{Session}
-use Rattle.df_sessions.specs.Table.{IsKnown, has_client, requested, with_request, with_reply}
+use Rattle.df_sessions.specs.Table.{has_client, requested, with_request, with_reply}
 
 -- the first place whose element passes
 pub record IsFirst {X : Type 0} (p : X → Bool) (xs : List X) (i : ℕ) (d : X) : Type 0 where
@@ -82,16 +82,6 @@ place_new client request op sessions d none =
       passes = rw (get_or_push sessions (requested client request op) d (length sessions) refl) (eq-eqb client client refl);
       none_before = λ k h. rw (get_or_append_left sessions (requested client request op ∷ []) d k h) (none_passes (has_client client) sessions d none k h);
     }))
-
--- an unknown client isn't known
-pub unknown : (client : ℕ) (sessions : List Session) (d : Session) → position (has_client client) sessions ≡ None → IsKnown client sessions → ⊥
-unknown client sessions d none known =
-    let no : list_any (has_client client) sessions ≡ false = not_any sessions (none_passes (has_client client) sessions d none) in
-    cc
-  where
-    not_any : (all : List Session) → ((k : ℕ) → k < length all → has_client client (get_or all k d) ≡ false) → list_any (has_client client) all ≡ false
-    not_any [] each = refl
-    not_any (s ∷ all) each = let other : has_client client s ≡ false = each 0 (omega arith) in rw other (not_any all (λ k h. each (suc k) (omega arith)))
 
 -- a stored reply changes the session at its place
 pub reply_at : (place : ℕ) (reply : List ℕ) (sessions : List Session) (d : Session) → place < length sessions

@@ -1,6 +1,6 @@
 -- What a session table holds, and what a request and a stored reply make of it.
-use Rattle.std.specs.Prelude.{◌≢◌, ℕ, zero, suc, ◌≤◌, Bool, ◌==◌, nat_eq, if◌then◌else◌, List, [], ◌∷◌, length, map, Some, None, IsTrue}
-use Rattle.std.specs.List.{AllByRecursion, IsDistinct, list_any}
+use Rattle.std.specs.Prelude.{◌≢◌, ℕ, zero, suc, ◌≤◌, Bool, ◌==◌, nat_eq, if◌then◌else◌, List, [], ◌∷◌, length, map, Some, None, IsSome}
+use Rattle.std.specs.List.{AllByRecursion, IsDistinct, position}
 use Rattle.df_sessions.specs.declared.session.Session.{Session}
 
 -- the sessions in order of their places, and how many there can be
@@ -25,7 +25,7 @@ has_client client session = session.client == client
 
 -- some session is the client's
 abbrev pub IsKnown : ℕ → List Session → Type 0
-IsKnown client sessions = IsTrue (list_any (has_client client) sessions)
+IsKnown client sessions = IsSome (position (has_client client) sessions)
 
 -- the session of a request, whose reply isn't stored yet
 abbrev pub requested : ℕ → ℕ → ℕ → Session
