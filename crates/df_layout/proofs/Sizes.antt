@@ -18,3 +18,6 @@ message_slots_within layout n most h = mul-le n (message_sectors layout) most 25
 
 pub blocks_within : (layout : Layout) (n most : ℕ) → n ≤ most → n * block_sectors layout ≤ most * 128
 blocks_within layout n most h = mul-le n (block_sectors layout) most 128 h (block_sectors_within layout).1
+
+-- what bounds the products of a layout
+pub ruleset sizes = (message_slots_within, blocks_within)

@@ -16,7 +16,7 @@ record GridFollows (layout : Layout) : Type 0 where
   whole : first_sector layout Grid % block_sectors layout ≡ 0
 
 grid_follows : (layout : Layout) → GridFollows layout
-unfolding first_sector unpadded
+unfolding first_sector
 grid_follows layout =
     let some = block_sectors_within layout in
     let rounded = div_ceil_times (unpadded layout) (block_sectors layout) (omega arith) in

@@ -22,7 +22,7 @@ zone_sectors layout ClientReplies = layout.clients * message_sectors layout
 zone_sectors layout Grid = layout.blocks * block_sectors layout
 
 -- how many sectors stand before the padding
-unfoldable pub unpadded : Layout → ℕ
+abbrev pub unpadded : Layout → ℕ
 unpadded layout =
     zone_sectors layout Superblock + zone_sectors layout WalHeaders + zone_sectors layout WalPrepares + zone_sectors layout ClientReplies
 

@@ -146,19 +146,22 @@ impl Layout {
         self.first_sector(Zone::Grid) + u64::from(self.blocks) * self.block_sectors()
     }
 
+    /// Sectors of a prepare slot and of a reply slot.
     fn message_sectors(&self) -> u64
         ensures { result ≡ message_sectors self.now }
     {
         u64::from(self.message_size / SECTOR)
     }
 
+    /// Sectors of a block.
     fn block_sectors(&self) -> u64
         ensures { result ≡ block_sectors self.now }
     {
         u64::from(self.block_size / SECTOR)
     }
 
-    #[tactic(auto, unfolding(crate::specs::Zones::zone_sectors, crate::specs::Zones::first_sector, crate::specs::Zones::unpadded))]
+    /// The first sector of a zone: what stands before it, up to a whole number of blocks for the grid.
+    #[tactic(auto, unfolding(crate::specs::Zones::zone_sectors, crate::specs::Zones::first_sector))]
     fn first_sector(&self, zone: Zone) -> u64
         ensures { result ≡ first_sector self.now zone }
     {
@@ -175,7 +178,7 @@ impl Layout {
     }
 
     /// How many sectors of the zone stand before the place.
-    #[tactic(auto, using(crate::proofs::Sizes::message_slots_within, crate::proofs::Sizes::blocks_within), unfolding(crate::specs::Spans::sectors_before))]
+    #[tactic(auto, using(crate::proofs::Sizes::sizes), unfolding(crate::specs::Spans::sectors_before))]
     fn sectors_before(&self, place: Place) -> u64
         requires { HasPlace self.now place }
         ensures { result ≡ sectors_before self.now place.zone place.index }

@@ -1,36 +1,41 @@
 // The places of the two named layouts by number, and the limits, as the format's own tables give them.
 use crate::{Field, Layout, Place, Span, Zone};
 
+/// A place by zone and index, its first sector and how many it has.
+type Row = (Zone, u64, u64, u64);
+
+const SMALL: [Row; 12] = [
+    (Zone::Superblock, 0, 0, 1),
+    (Zone::Superblock, 3, 3, 1),
+    (Zone::WalHeaders, 0, 4, 1),
+    (Zone::WalHeaders, 15, 4, 1),
+    (Zone::WalHeaders, 16, 5, 1),
+    (Zone::WalHeaders, 31, 5, 1),
+    (Zone::WalPrepares, 0, 6, 2),
+    (Zone::WalPrepares, 31, 68, 2),
+    (Zone::ClientReplies, 0, 70, 2),
+    (Zone::ClientReplies, 3, 76, 2),
+    (Zone::Grid, 1, 80, 4),
+    (Zone::Grid, 64, 332, 4),
+];
+
+const LARGE: [Row; 9] = [
+    (Zone::Superblock, 3, 3, 1),
+    (Zone::WalHeaders, 0, 4, 1),
+    (Zone::WalHeaders, 1023, 67, 1),
+    (Zone::WalPrepares, 0, 68, 256),
+    (Zone::WalPrepares, 1023, 261_956, 256),
+    (Zone::ClientReplies, 0, 262_212, 256),
+    (Zone::ClientReplies, 63, 278_340, 256),
+    (Zone::Grid, 1, 278_656, 128),
+    (Zone::Grid, 16_384, 2_375_680, 128),
+];
+
 #[test]
 fn places_stand_where_the_tables_say(rt: HostRuntime) {
-    let small = [
-        (Zone::Superblock, 0, 0, 1),
-        (Zone::Superblock, 3, 3, 1),
-        (Zone::WalHeaders, 0, 4, 1),
-        (Zone::WalHeaders, 15, 4, 1),
-        (Zone::WalHeaders, 16, 5, 1),
-        (Zone::WalHeaders, 31, 5, 1),
-        (Zone::WalPrepares, 0, 6, 2),
-        (Zone::WalPrepares, 31, 68, 2),
-        (Zone::ClientReplies, 0, 70, 2),
-        (Zone::ClientReplies, 3, 76, 2),
-        (Zone::Grid, 1, 80, 4),
-        (Zone::Grid, 64, 332, 4),
-    ];
-    let large = [
-        (Zone::Superblock, 3, 3, 1),
-        (Zone::WalHeaders, 0, 4, 1),
-        (Zone::WalHeaders, 1023, 67, 1),
-        (Zone::WalPrepares, 0, 68, 256),
-        (Zone::WalPrepares, 1023, 261_956, 256),
-        (Zone::ClientReplies, 0, 262_212, 256),
-        (Zone::ClientReplies, 63, 278_340, 256),
-        (Zone::Grid, 1, 278_656, 128),
-        (Zone::Grid, 16_384, 2_375_680, 128),
-    ];
     assert_eq!(rt; Layout::small().sectors(), 336);
     assert_eq!(rt; Layout::large().sectors(), 2_375_808);
-    for (layout, rows) in [(Layout::small(), &small[..]), (Layout::large(), &large[..])] {
+    for (layout, rows) in [(Layout::small(), &SMALL[..]), (Layout::large(), &LARGE[..])] {
         for (zone, index, first, count) in rows {
             let place = Place {
                 zone: *zone,

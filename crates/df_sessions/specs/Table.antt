@@ -12,6 +12,10 @@ pub record Table : Type 0 where
 abbrev pub clients_of : List Session → List ℕ
 clients_of sessions = map (λ s. s.client) sessions
 
+-- the ops of the latest requests in order of their places
+abbrev pub ops_of : List Session → List ℕ
+ops_of sessions = map (λ s. s.op) sessions
+
 -- no more sessions than places, of clients that differ, none of which is 0
 pub record IsTable (table : Table) : Type 0 where
   pub some : 1 ≤ table.max

@@ -5,7 +5,7 @@ mod laws;
 mod session;
 mod table;
 
-pub use laws::requests_of_a_table;
+pub use laws::{ops_stay_apart, requests_of_a_table, sessions_keep_passing};
 pub use session::Session;
 pub use table::SessionTable;
 

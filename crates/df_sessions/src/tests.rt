@@ -1,9 +1,11 @@
 // A table in use, with the places, requests and replies that the description of sessions gives.
-use crate::{Session, SessionTable, requests_of_a_table};
+use crate::{Session, SessionTable, ops_stay_apart, requests_of_a_table, sessions_keep_passing};
 
 #[test]
 fn a_client_keeps_its_place_and_its_latest_request(rt: HostRuntime) {
     requests_of_a_table();
+    sessions_keep_passing();
+    ops_stay_apart();
     let mut table = SessionTable::new(2);
     assert_eq!(rt; table.len(), 0);
     assert_eq!(rt; table.get(0), None);

@@ -1,5 +1,5 @@
 -- The latest of three states has all three counters.
-use Rattle.std.proofs.Common.{◌≡◌, inl, inr, ℕ, ◌≤◌, ◌⊎◌, List, [], ◌∷◌, refl, ap, subst, arith}
+use Rattle.std.proofs.Common.{◌≡◌, inl, inr, ℕ, ◌≤◌, ◌⊎◌, List, [], ◌∷◌, ap, subst, arith}
 use Rattle.df_stamps.specs.Stamps.{Stamp, NoneFalls, IsHistoryTo, IsHistory, IsIn}
 
 same_numbers : (h k r q s t : ℕ) → h ≡ k → r ≡ q → s ≡ t → let x : Stamp = record { head = h; replies = r; sequence = s } in x ≡ record { head = k; replies = q; sequence = t }

@@ -1,3 +1,4 @@
+-- The law is one lemma.
 use Rattle.df_layout.proofs.Spans.{are_apart}
 use Rattle.df_layout.proofs.laws.places_are_apart.Goals as goal
 

@@ -1,3 +1,4 @@
+-- The law is one lemma.
 use Rattle.df_layout.proofs.Zones.{zones_follow}
 use Rattle.df_layout.proofs.laws.zones_in_order.Goals as goal
 

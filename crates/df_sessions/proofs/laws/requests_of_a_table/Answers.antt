@@ -1,3 +1,4 @@
+-- The law is one lemma, at any sessions and at none.
 use Rattle.std.proofs.Common.{[]}
 use Rattle.df_sessions.proofs.Latest.{latest_changed}
 use Rattle.df_sessions.proofs.laws.requests_of_a_table.Goals as goal

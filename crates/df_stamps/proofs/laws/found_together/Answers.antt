@@ -1,3 +1,4 @@
+-- The law is one lemma a clause.
 use Rattle.df_stamps.proofs.Found.{with_tail, without_tail}
 use Rattle.df_stamps.proofs.laws.found_together.Goals as goal
 

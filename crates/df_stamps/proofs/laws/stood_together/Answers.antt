@@ -1,3 +1,4 @@
+-- The law is one lemma a clause.
 use Rattle.df_stamps.proofs.Together.{together}
 use Rattle.df_stamps.proofs.laws.stood_together.Goals as goal
 

@@ -1,3 +1,4 @@
+-- The room has the words of its bits.
 use Rattle.std.proofs.Common.{arith, length, ap}
 use Rattle.df_freeset.proofs.Words.{length_taken}
 use Rattle.df_freeset.proofs.set.FreeSet.into_room.Goals as goal

@@ -1,3 +1,4 @@
+-- Zeros have no bit set.
 use Rattle.std.proofs.Common.{inl, inr, length}
 use Rattle.std.proofs.lemmas.Bool.{cases_lt}
 use Rattle.std.proofs.lemmas.List.{get_or_past}

@@ -1,3 +1,4 @@
+-- A table with no session is one.
 use Rattle.df_sessions.proofs.Kept.{empty_keeps}
 use Rattle.df_sessions.proofs.table.SessionTable.new.Goals as goal
 
