@@ -1,3 +1,4 @@
+pub mod Same
 pub mod Sizes
 pub mod Spans
 pub mod Zones

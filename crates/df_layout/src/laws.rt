@@ -1,4 +1,4 @@
-// What the layers above rest on: how zones and spans lie in the file, for every layout and place.
+// What the layers above rest on: how zones and spans lie in the file, and when two layouts are one.
 ghost use Rattle.std.specs.Prelude.{◌≡◌, ◌⊎◌};
 ghost use Rattle.df_layout.specs.Order.{ZonesFollow, IsInside, AreApart, ShareHeaderSector};
 ghost use Rattle.df_layout.specs.Spans.{HasPlace, span_of};
@@ -19,4 +19,10 @@ pub fn places_are_inside()
 pub fn places_are_apart()
     ensures { (layout : Layout) (a b : Place) → HasPlace layout a → HasPlace layout b
         → (a ≡ b) ⊎ ShareHeaderSector a b ⊎ AreApart (span_of layout a) (span_of layout b) }
+{}
+
+/// Two layouts of the same numbers are one.
+pub fn layouts_are_numbers()
+    ensures { (a b : Layout) → a.slots ≡ b.slots → a.message_size ≡ b.message_size → a.clients ≡ b.clients
+        → a.block_size ≡ b.block_size → a.blocks ≡ b.blocks → a ≡ b }
 {}

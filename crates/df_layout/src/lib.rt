@@ -9,7 +9,7 @@ mod places;
 
 pub use damage::{Class, Finding, Mend};
 pub use fields::Field;
-pub use laws::{places_are_apart, places_are_inside, zones_in_order};
+pub use laws::{layouts_are_numbers, places_are_apart, places_are_inside, zones_in_order};
 pub use layout::Layout;
 pub use places::{Place, Span, Zone};
 

@@ -1,5 +1,8 @@
 // The places of the two named layouts by number, and the limits, as the format's own tables give them.
-use crate::{Field, Layout, Place, Span, Zone};
+use crate::{
+    Field, Layout, Place, Span, Zone, layouts_are_numbers, places_are_apart, places_are_inside,
+    zones_in_order,
+};
 
 /// A place by zone and index, its first sector and how many it has.
 type Row = (Zone, u64, u64, u64);
@@ -33,6 +36,10 @@ const LARGE: [Row; 9] = [
 
 #[test]
 fn places_stand_where_the_tables_say(rt: HostRuntime) {
+    zones_in_order();
+    places_are_inside();
+    places_are_apart();
+    layouts_are_numbers();
     assert_eq!(rt; Layout::small().sectors(), 336);
     assert_eq!(rt; Layout::large().sectors(), 2_375_808);
     for (layout, rows) in [(Layout::small(), &SMALL[..]), (Layout::large(), &LARGE[..])] {
