@@ -1,0 +1,5 @@
+pub mod Counts
+pub mod Least
+pub mod Tally
+pub mod Views
+pub mod Words

@@ -1,0 +1,4 @@
+pub mod Same
+pub mod Sizes
+pub mod Spans
+pub mod Zones

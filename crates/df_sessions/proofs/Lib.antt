@@ -1,0 +1,5 @@
+pub mod Applied
+pub mod Each
+pub mod Kept
+pub mod Latest
+pub mod Places

@@ -1,0 +1,33 @@
+// What all units of a file show of three counters, and what that says of the state that was found.
+ghost use Rattle.std.specs.Prelude.{◌↔◌, IsTrue};
+ghost use Rattle.std.specs.Bool.{OnFalse};
+ghost use Rattle.df_stamps.specs.Evidence.{IsBehind, IsUpToDate, IsLost, IsComplete};
+
+/// The greatest numbers that were seen, zero where nothing was.
+#[derive(Clone, Copy, Debug, PartialEq, Eq, Default)]
+pub struct Counters {
+    /// The greatest op in the two rings.
+    pub ring_op: u64,
+    /// The greatest op or mark of a reply.
+    pub reply_top: u64,
+    /// The greatest checkpoint sequence that a header, prepare or reply carries.
+    pub checkpoint: u64,
+}
+
+/// Whether something was written after a later checkpoint than the one found, which has this sequence and op: a unit
+/// carries a later sequence, or a ring of so many slots holds an op that this checkpoint leaves no room for.
+pub fn behind(seen: &Counters, sequence: u64, op: u64, slots: u32) -> bool
+    ensures found { IsTrue result ↔ IsBehind seen.now sequence op slots }
+    ensures none { OnFalse result (IsUpToDate seen.now sequence op slots) }
+{
+    seen.checkpoint > sequence || seen.ring_op.saturating_sub(op) > u64::from(slots)
+}
+
+/// Whether something shows an op beyond `head`, the last that was found: a unit of the rings, a reply that was stored
+/// later, or the superblock's own head.
+pub fn lost(seen: &Counters, superblock_head: u64, head: u64) -> bool
+    ensures found { IsTrue result ↔ IsLost seen.now superblock_head head }
+    ensures none { OnFalse result (IsComplete seen.now superblock_head head) }
+{
+    seen.ring_op > head || seen.reply_top > head || superblock_head > head
+}

@@ -1,0 +1,38 @@
+// The two tests at their limits.
+use crate::{Counters, behind, found_together, lost, stood_together};
+
+#[test]
+fn each_limit_is_still_allowed(rt: HostRuntime) {
+    stood_together();
+    found_together();
+    let seen = Counters {
+        ring_op: 40,
+        reply_top: 39,
+        checkpoint: 3,
+    };
+    for (sequence, op, slots, answer) in [
+        (3, 8, 32, false),
+        (2, 8, 32, true),
+        (3, 7, 32, true),
+        (u64::MAX, u64::MAX, u32::MAX, false),
+    ] {
+        assert_eq!(rt;
+            behind(&seen, sequence, op, slots),
+            answer,
+            "{sequence} {op} {slots}"
+        );
+    }
+    for (superblock_head, head, answer) in [
+        (40, 40, false),
+        (41, 40, true),
+        (0, 39, true),
+        (0, 38, true),
+    ] {
+        assert_eq!(rt;
+            lost(&seen, superblock_head, head),
+            answer,
+            "{superblock_head} {head}"
+        );
+    }
+    assert!(rt; !lost(&Counters::default(), 0, 0));
+}
