@@ -1,0 +1,164 @@
+-- What a write of whole units leaves, as views.
+use Rattle.std.proofs.Common.{◌≡◌, ◌⊎◌, inl, inr, ℕ, Option, Some, None, refl, sym, ◌∙◌, ap, subst}
+use Rattle.df_theory.specs.Units.{Place, CopyPlace, HeaderPlace, PreparePlace, ReplyPlace, BlockPlace, AnyUnit, Units, overlay, or_else}
+use Rattle.df_theory.specs.View.{Shape, Checkpoint, View, Needs, Agrees, Chosen, Sound}
+use Rattle.df_theory.specs.Moves.{Next, Same, Grew}
+use Rattle.df_theory.specs.Log.{Log, now, settled, InImages, Known, wrote}
+use Rattle.df_theory.specs.Rest.{IsCopy, IsBlock, IsSteady, IsQuiet, Tear, Kept, Loose, Touched, Torn, TornView, PutsOne, IsCalmPut, Stepped}
+use Rattle.df_theory.proofs.Grew.{agrees_grew}
+use Rattle.df_theory.proofs.Images.{IsOpen, rests_open, chosen_same}
+use Rattle.df_theory.proofs.Steps.{step, calm_rest}
+
+pub block_agrees : (sh : Shape) (v : View) (place : Place) (x : AnyUnit) → IsBlock place → Agrees sh v place x
+block_agrees sh v (CopyPlace n) x block = absurd block
+block_agrees sh v (HeaderPlace s) x block = absurd block
+block_agrees sh v (PreparePlace s) x block = absurd block
+block_agrees sh v (ReplyPlace k) x block = absurd block
+block_agrees sh v (BlockPlace a) x block = tt
+
+pub block_known : (v : View) (place : Place) (x : AnyUnit) → IsBlock place → Known v place x
+block_known v (CopyPlace n) x block = absurd block
+block_known v (HeaderPlace s) x block = absurd block
+block_known v (PreparePlace s) x block = absurd block
+block_known v (ReplyPlace k) x block = absurd block
+block_known v (BlockPlace a) x block = tt
+
+-- the write itself is one that is torn nowhere
+overlay_at : (sh : Shape) (log : Log) (v : View) (put : Units) (place : Place) → (o : Option AnyUnit) → put place ≡ o → Tear sh log v put (overlay put (now log)) place
+overlay_at sh log v put place None is = Kept is (ap (λ (o : Option AnyUnit). or_else o (now log place)) is)
+overlay_at sh log v put place (Some y) is = Touched y is (λ x shown. inr (let one : Some x ≡ Some y = sym shown ∙ ap (λ (o : Option AnyUnit). or_else o (now log place)) is in cc))
+
+pub overlay_torn : (sh : Shape) (log : Log) (v : View) (put : Units) → Torn sh log v put (overlay put (now log))
+overlay_torn sh log v put place = overlay_at sh log v put place (put place) refl
+
+-- ---- a write that the view doesn't see: header sectors, free blocks, mending
+
+module _ (sh : Shape) (log : Log) (v : View) (put : Units) (rest : IsSteady sh log v) (calm : IsCalmPut sh (settled log) v put) where
+  calm_at : (j : Units) (place : Place) → Tear sh log v put j place → (j place ≡ now log place) ⊎ IsOpen sh v j place
+  calm_at j place (Kept none same) = inl same
+  calm_at j place (Loose wet place_calm shows) = inr (record {
+    needless = place_calm.needless;
+    agrees = λ x shown. elim (shows x shown) [
+      | inl may ↦ may.agrees
+      | inr new ↦ (calm place x new).1.agrees
+    ];
+  })
+  calm_at j place (Touched y is shows) = inr (record {
+    needless = (calm place y is).0.needless;
+    agrees = λ x shown. elim (shows x shown) [
+      | inl old ↦ old.1
+      | inr new ↦ subst (λ (z : AnyUnit). Agrees sh v place z) (sym new) (calm place y is).1.agrees
+    ];
+  })
+
+  calm_copy : (j : Units) (n : ℕ) → Tear sh log v put j (CopyPlace n) → j (CopyPlace n) ≡ now log (CopyPlace n)
+  calm_copy j n (Kept none same) = same
+  calm_copy j n (Loose wet place_calm shows) = absurd (place_calm.no_copy tt)
+  calm_copy j n (Touched y is shows) = absurd ((calm (CopyPlace n) y is).0.no_copy tt)
+
+  pub calm_torn : (j : Units) → Torn sh log v put j → TornView sh log v put j v
+  calm_torn j torn = record {
+    holds = record { bears = rests_open sh v (now log) j rest.holds.bears (λ place. calm_at j place (torn place)); chosen = chosen_same (now log) j v.checkpoint.content (λ n. calm_copy j n (torn (CopyPlace n))) rest.holds.chosen };
+    known = λ place y is shown. elim is [
+      | inl may ↦ may.1.known
+      | inr new ↦ (calm place y new).1.known
+    ];
+  }
+
+  pub calm_step : Stepped sh log put v v
+  calm_step = step sh log v put rest v Same (λ j torn. inl (calm_torn j torn)) (calm_torn (overlay put (now log)) (overlay_torn sh log v put))
+
+  -- it may stay loose
+  pub calm_stays : IsSteady sh (wrote put log) v
+  calm_stays = calm_rest sh log v put rest calm (calm_torn (overlay put (now log)) (overlay_torn sh log v put)).holds
+
+-- ---- a write of one unit that leads to the next view
+
+pub record IsOneStep (sh : Shape) (v u : View) (place : Place) (x : AnyUnit) : Type 0 where
+  pub next : Next v u
+  pub grew : Grew v u
+  pub sound : Sound sh u
+  pub checkpoint : u.checkpoint ≡ v.checkpoint
+  pub no_copy : IsCopy place → ⊥
+  pub no_block : IsBlock place → ⊥
+  pub needless : (y : AnyUnit) → Needs sh v place y → ⊥
+  pub agrees : Agrees sh u place x
+  pub known : Known u place x
+  pub needs : (other : Place) (y : AnyUnit) → Needs sh u other y → Needs sh v other y ⊎ ((other ≡ place) × (y ≡ x))
+
+module _ (sh : Shape) (log : Log) (v u : View) (put : Units) (place : Place) (x : AnyUnit) (rest : IsSteady sh log v) (quiet : IsQuiet log) (one : PutsOne put place x) (leads : IsOneStep sh v u place x) where
+  one_copy : (j : Units) (n : ℕ) → Tear sh log v put j (CopyPlace n) → j (CopyPlace n) ≡ now log (CopyPlace n)
+  one_copy j n (Kept none same) = same
+  one_copy j n (Loose wet place_calm shows) = absurd (place_calm.no_copy tt)
+  one_copy j n (Touched y is shows) = absurd (leads.no_copy (subst IsCopy (one.only (CopyPlace n) y is).0 tt))
+
+  -- it didn't take
+  before_at : (j : Units) → ((y : AnyUnit) → j place ≡ Some y → Agrees sh v place y) → (other : Place) → Tear sh log v put j other → (j other ≡ now log other) ⊎ IsOpen sh v j other
+  before_at j old other (Kept none same) = inl same
+  before_at j old other (Loose wet place_calm shows) = inr (record { needless = place_calm.needless; agrees = λ y shown. block_agrees sh v other y (quiet other wet) })
+  before_at j old other (Touched y is shows) = inr (subst (λ (p : Place). IsOpen sh v j p) (sym (one.only other y is).0) (record { needless = leads.needless; agrees = old }))
+
+  one_before : (j : Units) → Torn sh log v put j → ((y : AnyUnit) → j place ≡ Some y → InImages (settled log) place y × Agrees sh v place y) → TornView sh log v put j v
+  one_before j torn old = record {
+    holds = record { bears = rests_open sh v (now log) j rest.holds.bears (λ other. before_at j (λ y shown. (old y shown).1) other (torn other)); chosen = chosen_same (now log) j v.checkpoint.content (λ n. one_copy j n (torn (CopyPlace n))) rest.holds.chosen };
+    known = λ other y is shown. elim is [
+      | inl may ↦ may.1.known
+      | inr new ↦
+          let at = (one.only other y new).0 in
+          inl (subst (λ (p : Place). InImages (settled log) p y) (sym at) (old y (ap j (sym at) ∙ shown)).0)
+    ];
+  }
+
+  -- it took
+  after_agrees : (j : Units) (other : Place) (y : AnyUnit) → j other ≡ Some y → Tear sh log v put j other → Agrees sh u other y
+  after_agrees j other y shown (Kept none same) = agrees_grew sh v u leads.grew other y (rest.holds.bears.agrees other y (sym same ∙ shown))
+  after_agrees j other y shown (Loose wet place_calm shows) = block_agrees sh u other y (quiet other wet)
+  after_agrees j other y shown (Touched z is shows) = elim (shows y shown) [
+    | inl old ↦ agrees_grew sh v u leads.grew other y old.1
+    | inr new ↦
+        let at = one.only other z is in
+        subst (λ (p : Place). Agrees sh u p y) (sym at.0) (subst (λ (w : AnyUnit). Agrees sh u place w) (sym (new ∙ at.1)) leads.agrees)
+  ]
+
+  after_old : (j : Units) (other : Place) (y : AnyUnit) → Needs sh v other y → Tear sh log v put j other → j other ≡ Some y
+  after_old j other y need (Kept none same) = same ∙ rest.holds.bears.needs other y need
+  after_old j other y need (Loose wet place_calm shows) = absurd (place_calm.needless y need)
+  after_old j other y need (Touched z is shows) = absurd (leads.needless y (subst (λ (p : Place). Needs sh v p y) (one.only other z is).0 need))
+
+  after_needs : (j : Units) → Torn sh log v put j → j place ≡ Some x → (other : Place) (y : AnyUnit) → Needs sh u other y → j other ≡ Some y
+  after_needs j torn shown other y need = elim (leads.needs other y need) [
+    | inl old ↦ after_old j other y old (torn other)
+    | inr new ↦ ap j new.0 ∙ shown ∙ ap Some (sym new.1)
+  ]
+
+  pub one_after : (j : Units) → Torn sh log v put j → j place ≡ Some x → TornView sh log v put j u
+  one_after j torn shown = record {
+    holds = record {
+      bears = record { sound = leads.sound; agrees = λ other y is. after_agrees j other y is (torn other); needs = after_needs j torn shown };
+      chosen = subst (λ (c : Checkpoint). Chosen j c.content) (sym leads.checkpoint) (chosen_same (now log) j v.checkpoint.content (λ n. one_copy j n (torn (CopyPlace n))) rest.holds.chosen);
+    };
+    known = λ other y is there. elim is [
+      | inl may ↦ inr (block_known u other y (quiet other may.0))
+      | inr new ↦
+          let at = one.only other y new in
+          inr (subst (λ (p : Place). Known u p y) (sym at.0) (subst (λ (w : AnyUnit). Known u place w) (sym at.1) leads.known))
+    ];
+  }
+
+  one_cases : (j : Units) → Tear sh log v put j place → (o : Option AnyUnit) → j place ≡ o → ((y : AnyUnit) → j place ≡ Some y → InImages (settled log) place y × Agrees sh v place y) ⊎ (j place ≡ Some x)
+  one_cases j tear None is = inl (λ y shown. absurd (let no_unit : None ≡ Some y = sym is ∙ shown in cc))
+  one_cases j (Kept none same) (Some y) is = absurd (let no_unit : Some x ≡ None = sym one.at ∙ none in cc)
+  one_cases j (Loose wet place_calm shows) (Some y) is = absurd (leads.no_block (quiet place wet))
+  one_cases j (Touched z at shows) (Some y) is = elim (shows y is) [
+    | inl old ↦ inl (λ w shown. let same : y ≡ w = (let both : Some y ≡ Some w = sym is ∙ shown in cc) in subst (λ (k : AnyUnit). InImages (settled log) place k × Agrees sh v place k) same old)
+    | inr new ↦ inr (is ∙ ap Some (new ∙ (one.only place z at).1))
+  ]
+
+  pub one_torn : (j : Units) → Torn sh log v put j → TornView sh log v put j v ⊎ TornView sh log v put j u
+  one_torn j torn = elim (one_cases j (torn place) (j place) refl) [
+    | inl old ↦ inl (one_before j torn old)
+    | inr new ↦ inr (one_after j torn new)
+  ]
+
+  pub one_step : Stepped sh log put v u
+  one_step = step sh log v put rest u leads.next one_torn (one_after (overlay put (now log)) (overlay_torn sh log v put) (ap (λ (o : Option AnyUnit). or_else o (now log place)) one.at))

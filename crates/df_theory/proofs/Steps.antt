@@ -1,0 +1,203 @@
+-- Events, one after another, on logs that are quiet but for free blocks.
+use Rattle.std.proofs.Common.{◌≡◌, ◌⊎◌, inl, inr, arith, Bool, true, false, ◌||◌, List, [], ◌∷◌, Option, Some, None, refl, sym, ◌∙◌, ap}
+use Rattle.df_theory.specs.Units.{Place, CopyPlace, HeaderPlace, PreparePlace, ReplyPlace, BlockPlace, AnyUnit, Units, overlay, or_else, is_some}
+use Rattle.df_theory.specs.View.{Shape, View, Agrees, Sound, Holds}
+use Rattle.df_theory.specs.Moves.{Next, Same}
+use Rattle.df_theory.specs.Log.{Sync, Log, now, loose, settled, add, IsLeftBy, InImages, InPool, AreFair, IsMade, AreMade, Begins, Grows, IsGrown, IsSafe, EachLeft, wrote}
+use Rattle.df_theory.specs.Rest.{IsCalm, Knows, IsSteady, Outcome, Tear, Kept, Loose, Touched, Torn, TornView, IsCalmPut, Stepped}
+use Rattle.df_theory.proofs.Grew.{agrees_grew, next_grew}
+use Rattle.df_theory.proofs.Images.{rests_open, chosen_same}
+
+pub grows_holds : (sh : Shape) (image : Units) (images : List Units) (v : View) → Grows sh (image ∷ images) v → Holds sh image v
+grows_holds sh image images v grows = grows.0
+
+pub made_agrees : (sh : Shape) (v : View) (place : Place) (x : AnyUnit) → IsMade v.checkpoint.content place x → Agrees sh v place x
+made_agrees sh v (CopyPlace n) x made = (v.checkpoint.content, made, record { top = omega arith; others = λ differs. inl refl })
+made_agrees sh v (HeaderPlace s) x made = (
+  made.0,
+  made.1,
+  record {
+    op = omega (arith, made.2);
+    checkpoint = omega (arith, made.3);
+    slot = λ above. absurd (omega (arith, made.2));
+    known = λ above. absurd (omega (arith, made.2));
+  },
+)
+made_agrees sh v (PreparePlace s) x made = absurd made
+made_agrees sh v (ReplyPlace k) x made = absurd made
+made_agrees sh v (BlockPlace a) x made = absurd made
+
+images_made : (sh : Shape) (v : View) (images : List Units) → AreMade v.checkpoint.content images → (place : Place) (x : AnyUnit) → InImages images place x → Agrees sh v place x
+images_made sh v [] made place x at = absurd at
+images_made sh v (image ∷ []) made place x (inl here) = absurd (let no_unit : Some x ≡ None = sym here ∙ made place in cc)
+images_made sh v (image ∷ []) made place x (inr there) = absurd there
+images_made sh v (image ∷ before ∷ images) made place x (inl here) = made_agrees sh v place x (made.0 place x here)
+images_made sh v (image ∷ before ∷ images) made place x (inr there) = images_made sh v (before ∷ images) made.1 place x there
+
+begins_agrees : (sh : Shape) (v : View) (image : Units) (images : List Units) → Begins image images v → (place : Place) (x : AnyUnit) → InImages images place x → Agrees sh v place x
+begins_agrees sh v image [] begins place x at = absurd at
+begins_agrees sh v image (before ∷ images) begins place x at = images_made sh v (before ∷ images) begins.1.1 place x at
+
+pub grows_sound : (sh : Shape) (images : List Units) (u : View) → Grows sh images u → Sound sh u
+grows_sound sh [] u grows = absurd grows
+grows_sound sh (image ∷ images) u grows = grows.0.bears.sound
+
+-- every settled unit agrees with the newest view
+pub old_agrees : (sh : Shape) (images : List Units) (v : View) → Grows sh images v → (place : Place) (x : AnyUnit) → InImages images place x → Agrees sh v place x
+old_agrees sh [] v grows place x at = absurd at
+old_agrees sh (image ∷ images) v grows place x (inl here) = grows.0.bears.agrees place x here
+old_agrees sh (image ∷ images) v grows place x (inr there) = elim grows.1 [
+  | inl begins ↦ begins_agrees sh v image images begins place x there
+  | inr later ↦ agrees_grew sh later.1.0 v (next_grew sh later.1.0 v (grows_sound sh images later.1.0 later.1.2) later.1.1) place x (old_agrees sh images later.1.0 later.1.2 place x there)
+]
+
+pub grows_more : (sh : Shape) (images : List Units) (v : View) (j : Units) → Grows sh images v → (o : Outcome sh images v j) → Grows sh (j ∷ images) o.view
+grows_more sh images v j grows o = (o.holds, inr (o.known, (v, o.next, grows)))
+
+-- A log is safe where each image that a stop may leave has a next view.
+pub safe_if : (sh : Shape) (log : Log) (v : View) → AreFair log.start log.events → Grows sh (settled log) v → Knows log (now log)
+    → ((j : Units) → IsLeftBy log j → Knows log j → Outcome sh (settled log) v j) → IsSafe sh log
+safe_if sh log v fair grows here each =
+    let o = each (now log) (λ place firm. refl) here in
+    record {
+      grown = (v, record { fair = fair; grows = grows });
+      synced = (o.view, record { fair = fair; grows = grows_more sh (settled log) v (now log) grows o });
+      stopped = λ image left chance.
+          let p = each image left chance.known in
+          (p.view, record { fair = (left, chance, fair); grows = grows_more sh (settled log) v image grows p });
+    }
+
+-- a log that has just been synced is at rest
+pub synced_rest : (sh : Shape) (log : Log) (v : View) → IsGrown sh (add Sync log) v → IsSteady sh (add Sync log) v
+synced_rest sh log v g = record {
+  fair = g.fair;
+  grows = g.grows;
+  holds = grows_holds sh (now log) (settled log) v g.grows;
+  calm = λ place is. absurd (cc);
+  pending = λ place x none. absurd none;
+  knows = λ place x is. inl (inl is);
+}
+
+pub cases_bool : (b : Bool) → (b ≡ true) ⊎ (b ≡ false)
+cases_bool true = inl refl
+cases_bool false = inr refl
+
+-- nothing that is loose matters: each image left has the view
+pub rest_left : (sh : Shape) (log : Log) (v : View) → IsSteady sh log v → (j : Units) → IsLeftBy log j → Knows log j → Outcome sh (settled log) v j
+rest_left sh log v rest j left knows = record {
+  view = v;
+  next = Same;
+  holds = record {
+    bears = rests_open sh v (now log) j rest.holds.bears (λ place. elim (cases_bool (loose log place)) [
+      | inl is ↦ inr (record {
+        needless = (rest.calm place is).needless;
+        agrees = λ x shown. elim (knows place x shown) [
+          | inl old ↦ old_agrees sh (settled log) v rest.grows place x old
+          | inr new ↦ (rest.pending place x new).1.agrees
+        ];
+      })
+      | inr firm ↦ inl (left place firm)
+    ]);
+    chosen = chosen_same (now log) j v.checkpoint.content (λ n. elim (cases_bool (loose log (CopyPlace n))) [
+      | inl is ↦ absurd ((rest.calm (CopyPlace n) is).no_copy tt)
+      | inr firm ↦ left (CopyPlace n) firm
+    ]) rest.holds.chosen;
+  };
+  known = λ place x is. elim (knows place x is) [
+    | inl old ↦ inl old
+    | inr new ↦ (rest.pending place x new).1.known
+  ];
+}
+
+pub rest_safe : (sh : Shape) (log : Log) (v : View) → IsSteady sh log v → IsSafe sh log
+rest_safe sh log v rest = safe_if sh log v rest.fair rest.grows rest.knows (rest_left sh log v rest)
+
+pub rest_holds : (sh : Shape) (log : Log) (v : View) → IsSteady sh log v → EachLeft log (λ j. Holds sh j v)
+unfolding rest_left
+rest_holds sh log v rest j left chance = (rest_left sh log v rest j left chance.known).holds
+
+-- THE STEP: a write of whole units.
+module _ (sh : Shape) (log : Log) (v : View) (put : Units) (rest : IsSteady sh log v) where
+  shown_put : (place : Place) (x : AnyUnit) → or_else (put place) (now log place) ≡ Some x → (o : Option AnyUnit) → put place ≡ o → InPool (wrote put log) place x
+  shown_put place x is (Some y) at = inr (inl (at ∙ sym (ap (λ (o : Option AnyUnit). or_else o (now log place)) at) ∙ is))
+  shown_put place x is None at = elim (rest.knows place x (sym (ap (λ (o : Option AnyUnit). or_else o (now log place)) at) ∙ is)) [
+    | inl old ↦ inl old
+    | inr new ↦ inr (inr new)
+  ]
+
+  pub wrote_knows : Knows (wrote put log) (now (wrote put log))
+  wrote_knows place x is = shown_put place x is (put place) refl
+
+  kept_same : (j : Units) → IsLeftBy (wrote put log) j → (place : Place) → loose log place ≡ false → put place ≡ None → j place ≡ now log place
+  kept_same j left place firm none = left place (λ i. is_some (none i) || firm i) ∙ (λ i. or_else (none i) (now log place))
+
+  tear_at : (j : Units) → IsLeftBy (wrote put log) j → Knows (wrote put log) j → (place : Place) → (o : Option AnyUnit) → put place ≡ o → (b : Bool) → loose log place ≡ b → Tear sh log v put j place
+  tear_at j left knows place o is true wet = Loose wet (rest.calm place wet) (λ x shown. elim (knows place x shown) [
+    | inl old ↦ inl (record { agrees = old_agrees sh (settled log) v rest.grows place x old; known = inl old })
+    | inr (inl new) ↦ inr new
+    | inr (inr pending) ↦ inl (rest.pending place x pending).1
+  ])
+  tear_at j left knows place None is false firm = Kept is (kept_same j left place firm is)
+  tear_at j left knows place (Some y) is false firm = Touched y is (λ x shown. elim (knows place x shown) [
+    | inl old ↦ inl (old, old_agrees sh (settled log) v rest.grows place x old)
+    | inr (inl new) ↦ inr (let one : Some x ≡ Some y = sym new ∙ is in cc)
+    | inr (inr pending) ↦ absurd (cc ((rest.pending place x pending).0, firm))
+  ])
+
+  pub left_torn : (j : Units) → IsLeftBy (wrote put log) j → Knows (wrote put log) j → Torn sh log v put j
+  left_torn j left knows place = tear_at j left knows place (put place) refl (loose log place) refl
+
+  pub torn_outcome : (j : Units) (u : View) → Next v u → Knows (wrote put log) j → TornView sh log v put j u → Outcome sh (settled log) v j
+  torn_outcome j u next knows t = record {
+    view = u;
+    next = next;
+    holds = t.holds;
+    known = λ place x is. elim (knows place x is) [
+      | inl old ↦ inl old
+      | inr (inl new) ↦ t.known place x (inr new) is
+      | inr (inr pending) ↦ t.known place x (inl (rest.pending place x pending)) is
+    ];
+  }
+
+  -- the log after the write and a sync is at rest
+  pub write_synced : (u : View) → Next v u → TornView sh log v put (overlay put (now log)) u → IsSteady sh (add Sync (wrote put log)) u
+  unfolding torn_outcome
+  write_synced u next t = synced_rest sh (wrote put log) u (record { fair = rest.fair; grows = grows_more sh (settled log) v (now (wrote put log)) rest.grows (torn_outcome (overlay put (now log)) u next wrote_knows t) })
+
+  pub step : (u : View) → Next v u → ((j : Units) → Torn sh log v put j → TornView sh log v put j v ⊎ TornView sh log v put j u) → TornView sh log v put (overlay put (now log)) u → Stepped sh log put v u
+  step u next each done = record {
+    safe = safe_if sh (wrote put log) v rest.fair rest.grows wrote_knows (λ j left knows. elim (each j (left_torn j left knows)) [
+      | inl before ↦ torn_outcome j v Same knows before
+      | inr after ↦ torn_outcome j u next knows after
+    ]);
+    left = λ j left chance. elim (each j (left_torn j left chance.known)) [
+      | inl before ↦ inl before.holds
+      | inr after ↦ inr after.holds
+    ];
+    rest = write_synced u next done;
+  }
+
+  -- a write that the view doesn't see may stay loose
+  pub calm_rest : IsCalmPut sh (settled log) v put → Holds sh (now (wrote put log)) v → IsSteady sh (wrote put log) v
+  calm_rest calm holds = record {
+    fair = rest.fair;
+    grows = rest.grows;
+    holds = holds;
+    calm = λ place wet. calm_at place (put place) refl wet;
+    pending = λ place x at. elim at [
+      | inl new ↦ (λ i. is_some (new i) || loose log place, (calm place x new).1)
+      | inr old ↦ (wet_more place (rest.pending place x old).0, (rest.pending place x old).1)
+    ];
+    knows = wrote_knows;
+  }
+    where
+      wet_more : (place : Place) → loose log place ≡ true → is_some (put place) || loose log place ≡ true
+      wet_more place wet = go (is_some (put place))
+        where
+          go : (b : Bool) → b || loose log place ≡ true
+          go true = refl
+          go false = wet
+
+      calm_at : (place : Place) → (o : Option AnyUnit) → put place ≡ o → is_some (put place) || loose log place ≡ true → IsCalm sh v place
+      calm_at place (Some y) is wet = (calm place y is).0
+      calm_at place None is wet = rest.calm place ((λ i. is_some (sym is i) || loose log place) ∙ wet)

@@ -1,0 +1,306 @@
+-- The four copies of a new superblock, one after another.
+use Rattle.std.proofs.Common.{◌≡◌, ◌⊎◌, inl, inr, ℕ, ◌+◌, ◌-◌, ◌<◌, true, false, Option, Some, None, refl, sym, ◌∙◌, ap, subst, arith}
+use Rattle.std.proofs.lemmas.Bool.{cases_eq, cases_lt}
+use Rattle.df_theory.specs.Units.{Place, CopyPlace, HeaderPlace, PreparePlace, ReplyPlace, BlockPlace, Content, Block, AnyUnit, CopyUnit, BlockUnit, Units, overlay, or_else}
+use Rattle.df_theory.specs.View.{Shape, Checkpoint, View, InChain, Needs, Agrees, AgreesCopy, Votes, Chosen, Sound, Bears}
+use Rattle.df_theory.specs.Moves.{Same, Finish, Grew, IsFinish, checkpointed}
+use Rattle.df_theory.specs.Log.{Log, now, loose, settled, InImages, Known}
+use Rattle.df_theory.specs.Rest.{MayShow, IsSteady, IsQuiet, Tear, Kept, Loose, Touched, Torn, TornView, PutsOne, Stepped, IsSpare}
+use Rattle.df_theory.proofs.Tails.{in_dropped}
+use Rattle.df_theory.proofs.Grew.{agrees_grew, next_grew}
+use Rattle.df_theory.proofs.Images.{IsOpen, rests_open}
+use Rattle.df_theory.proofs.Puts.{block_agrees, block_known, overlay_torn}
+use Rattle.df_theory.proofs.Steps.{step}
+
+-- copies below k show the new content, those above the old one
+pub record IsStage (image : Units) (old new : Content) (k : ℕ) : Type 0 where
+  pub low : (n : ℕ) → n < k → image (CopyPlace n) ≡ Some (CopyUnit new)
+  pub high : (n : ℕ) → k < n → n < 4 → image (CopyPlace n) ≡ Some (CopyUnit old)
+
+same_content : (image : Units) (n : ℕ) (c d : Content) → image (CopyPlace n) ≡ Some (CopyUnit c) → image (CopyPlace n) ≡ Some (CopyUnit d) → c ≡ d
+same_content image n c d one two = let both : Some (CopyUnit c) ≡ Some (CopyUnit d) = sym one ∙ two in cc
+
+-- a copy other than number k shows one of the two
+one_of : (image : Units) (old new d : Content) (k n : ℕ) → IsStage image old new k → n < 4 → (n ≡ k → ⊥) → image (CopyPlace n) ≡ Some (CopyUnit d) → ((n < k) × (d ≡ new)) ⊎ ((k < n) × (d ≡ old))
+one_of image old new d k n stage below apart shown = elim (cases_lt n k) [
+  | inl less ↦ inl (less, same_content image n d new shown (stage.low n less))
+  | inr more ↦
+      let above : k < n = omega arith in
+      inr (above, same_content image n d old shown (stage.high n above below))
+]
+
+-- of two copies that agree one is not number k
+votes_of : (image : Units) (old new d : Content) (k m n : ℕ) → IsStage image old new k → Votes image d m n → (d ≡ new) ⊎ (d ≡ old)
+votes_of image old new d k m n stage v = elim (cases_eq m k) [
+  | inl here ↦ elim (one_of image old new d k n stage v.last (λ same. omega (arith, v.apart)) v.other) [ inl a ↦ inl a.1 | inr b ↦ inr b.1 ]
+  | inr apart ↦ elim (one_of image old new d k m stage (omega (arith, v.apart, v.last)) apart v.one) [ inl a ↦ inl a.1 | inr b ↦ inr b.1 ]
+]
+
+module _ (image : Units) (old new : Content) (more : new.sequence ≡ old.sequence + 1) where
+  apart : new ≡ old → ⊥
+  apart same = omega (arith, ap (λ (c : Content). c.sequence) same)
+
+  -- while copy 0 is written
+  pub chosen_first : IsStage image old new 0 → Chosen image old
+  chosen_first stage = record {
+    voted = (1, 2, record { apart = omega arith; last = omega arith; one = stage.high 1 (omega arith) (omega arith); other = stage.high 2 (omega arith) (omega arith) });
+    greatest = λ d m n v. elim (one_of image old new d 0 n stage v.last (λ same. omega (arith, v.apart)) v.other) [ inl a ↦ absurd (omega (arith, a.0)) | inr b ↦ inl b.1 ];
+  }
+
+  greatest_new : (k : ℕ) → IsStage image old new k → (d : Content) (m n : ℕ) → Votes image d m n → (d ≡ new) ⊎ (d.sequence < new.sequence) ⊎ ((d.sequence ≡ new.sequence) × (image (CopyPlace 0) ≡ Some (CopyUnit new)))
+  greatest_new k stage d m n v = elim (votes_of image old new d k m n stage v) [
+    | inl is ↦ inl is
+    | inr is ↦ inr (inl (omega (arith, ap (λ (c : Content). c.sequence) is)))
+  ]
+
+  -- while copy 1 is written, once it is there
+  pub chosen_second : IsStage image old new 1 → image (CopyPlace 1) ≡ Some (CopyUnit new) → Chosen image new
+  chosen_second stage shown = record {
+    voted = (0, 1, record { apart = omega arith; last = omega arith; one = stage.low 0 (omega arith); other = shown });
+    greatest = greatest_new 1 stage;
+  }
+
+  two_of : (d : Content) (m n : ℕ) → IsStage image old new 1 → (image (CopyPlace 1) ≡ Some (CopyUnit new) → ⊥) → Votes image d m n → d ≡ new → ⊥
+  two_of d m n stage none v is = elim (cases_eq n 1) [
+    | inl here ↦ none (ap (λ (k : ℕ). image (CopyPlace k)) (sym here) ∙ v.other ∙ ap (λ (c : Content). Some (CopyUnit c)) is)
+    | inr other ↦ elim (one_of image old new d 1 n stage v.last other v.other) [
+      | inl a ↦ absurd (omega (arith, a.0, v.apart))
+      | inr b ↦ apart (sym is ∙ b.1)
+    ]
+  ]
+
+  -- and before
+  pub chosen_not_yet : IsStage image old new 1 → (image (CopyPlace 1) ≡ Some (CopyUnit new) → ⊥) → Chosen image old
+  chosen_not_yet stage none = record {
+    voted = (2, 3, record { apart = omega arith; last = omega arith; one = stage.high 2 (omega arith) (omega arith); other = stage.high 3 (omega arith) (omega arith) });
+    greatest = λ d m n v. elim (votes_of image old new d 1 m n stage v) [
+      | inl is ↦ absurd (two_of d m n stage none v is)
+      | inr is ↦ inl is
+    ];
+  }
+
+  -- while copy 2 or 3 is written
+  pub chosen_last : (k : ℕ) → 1 < k → IsStage image old new k → Chosen image new
+  chosen_last k above stage = record {
+    voted = (0, 1, record { apart = omega arith; last = omega arith; one = stage.low 0 (omega arith); other = stage.low 1 above });
+    greatest = greatest_new k stage;
+  }
+
+-- ---- one copy, torn
+
+module _ (sh : Shape) (log : Log) (w : View) (put : Units) (k : ℕ) (old new : Content) (rests : Bears sh (now log) w) (quiet : IsQuiet log) (one : PutsOne put (CopyPlace k) (CopyUnit new)) where
+  pub other_copy : (j : Units) (n : ℕ) → (n ≡ k → ⊥) → Tear sh log w put j (CopyPlace n) → j (CopyPlace n) ≡ now log (CopyPlace n)
+  other_copy j n away (Kept none same) = same
+  other_copy j n away (Loose wet place_calm shows) = absurd (place_calm.no_copy tt)
+  other_copy j n away (Touched y is shows) = absurd (away (let at = (one.only (CopyPlace n) y is).0 in cc))
+
+  pub stage_torn : (j : Units) → Torn sh log w put j → IsStage (now log) old new k → IsStage j old new k
+  stage_torn j torn stage = record {
+    low = λ n less. other_copy j n (λ same. omega arith) (torn (CopyPlace n)) ∙ stage.low n less;
+    high = λ n more below. other_copy j n (λ same. omega arith) (torn (CopyPlace n)) ∙ stage.high n more below;
+  }
+
+  copy_open : (j : Units) → ((x : AnyUnit) → j (CopyPlace k) ≡ Some x → Agrees sh w (CopyPlace k) x) → (place : Place) → Tear sh log w put j place → (j place ≡ now log place) ⊎ IsOpen sh w j place
+  copy_open j here place (Kept none same) = inl same
+  copy_open j here place (Loose wet place_calm shows) = inr (record { needless = place_calm.needless; agrees = λ x shown. block_agrees sh w place x (quiet place wet) })
+  copy_open j here place (Touched y is shows) =
+      inr (subst (λ (p : Place). IsOpen sh w j p) (sym (one.only place y is).0) (record { needless = λ x need. need; agrees = here }))
+
+  pub copy_rests : (j : Units) → Torn sh log w put j → ((x : AnyUnit) → j (CopyPlace k) ≡ Some x → Agrees sh w (CopyPlace k) x) → Bears sh j w
+  copy_rests j torn here = rests_open sh w (now log) j rests (λ place. copy_open j here place (torn place))
+
+  -- the copy shows an old unit or the new content
+  copy_at : (j : Units) → Tear sh log w put j (CopyPlace k) → (x : AnyUnit) → j (CopyPlace k) ≡ Some x → (InImages (settled log) (CopyPlace k) x × Agrees sh w (CopyPlace k) x) ⊎ (x ≡ CopyUnit new)
+  copy_at j (Kept none same) x shown = absurd (let no_unit : Some (CopyUnit new) ≡ None = sym one.at ∙ none in cc)
+  copy_at j (Loose wet place_calm shows) x shown = absurd (place_calm.no_copy tt)
+  copy_at j (Touched y is shows) x shown = elim (shows x shown) [
+    | inl before ↦ inl before
+    | inr after ↦ inr (after ∙ (one.only (CopyPlace k) y is).1)
+  ]
+
+  pub copy_there : (j : Units) → Torn sh log w put j → (o : Option AnyUnit) → j (CopyPlace k) ≡ o → ((x : AnyUnit) → j (CopyPlace k) ≡ Some x → InImages (settled log) (CopyPlace k) x × Agrees sh w (CopyPlace k) x) ⊎ (j (CopyPlace k) ≡ Some (CopyUnit new))
+  copy_there j torn None is = inl (λ x shown. absurd (let no_unit : None ≡ Some x = sym is ∙ shown in cc))
+  copy_there j torn (Some y) is = elim (copy_at j (torn (CopyPlace k)) y is) [
+    | inl before ↦ inl (λ x shown. let same : y ≡ x = (let both : Some y ≡ Some x = sym is ∙ shown in cc) in subst (λ (z : AnyUnit). InImages (settled log) (CopyPlace k) z × Agrees sh w (CopyPlace k) z) same before)
+    | inr after ↦ inr (is ∙ ap Some after)
+  ]
+
+  -- where the new content agrees with the view, it may be shown or not
+  pub copy_here : AgreesCopy w k new → (j : Units) → Torn sh log w put j → (x : AnyUnit) → j (CopyPlace k) ≡ Some x → Agrees sh w (CopyPlace k) x
+  copy_here agrees j torn x shown = elim (copy_at j (torn (CopyPlace k)) x shown) [
+    | inl before ↦ before.1
+    | inr after ↦ (new, after, agrees)
+  ]
+
+  pub copy_known : (j : Units) (v : View) → (j (CopyPlace k) ≡ Some (CopyUnit new) → Known v (CopyPlace k) (CopyUnit new)) → (place : Place) (y : AnyUnit) → ((loose log place ≡ true) × MayShow sh (settled log) w place y) ⊎ (put place ≡ Some y) → j place ≡ Some y → InImages (settled log) place y ⊎ Known v place y
+  copy_known j v known place y (inl may) shown = inr (block_known v place y (quiet place may.0))
+  copy_known j v known place y (inr puts) shown =
+      let at = one.only place y puts in
+      let there : j (CopyPlace k) ≡ Some (CopyUnit new) = ap j (sym at.0) ∙ shown ∙ ap Some at.1 in
+      inr (subst (λ (p : Place). Known v p y) (sym at.0) (subst (λ (x : AnyUnit). Known v (CopyPlace k) x) (sym at.1) (known there)))
+
+-- what a checkpoint needs is there
+pub checkpoint_rests : (sh : Shape) (j : Units) (v : View) (c : Checkpoint) → Bears sh j v → Sound sh (checkpointed v c) → IsFinish v c → ((a : ℕ) (b : Block) → InChain a b c.chain → j (BlockPlace a) ≡ Some (BlockUnit b)) → Bears sh j (checkpointed v c)
+checkpoint_rests sh j v c rests sound is there = record {
+  sound = sound;
+  agrees = λ place x shown. agrees_grew sh v (checkpointed v c) (next_grew sh v (checkpointed v c) rests.sound (Finish c is)) place x (rests.agrees place x shown);
+  needs = needs;
+}
+  where
+    needs : (place : Place) (x : AnyUnit) → Needs sh (checkpointed v c) place x → j place ≡ Some x
+    needs (CopyPlace n) x need = absurd need
+    needs (HeaderPlace s) x need = absurd need
+    needs (PreparePlace s) x need = rests.needs (PreparePlace s) x (need.0, in_dropped (c.content.op - v.checkpoint.content.op) need.0 v.tail need.1, need.2, need.3)
+    needs (ReplyPlace k) x need = rests.needs (ReplyPlace k) x need
+    needs (BlockPlace a) x need = there a need.0 need.1 ∙ ap Some (sym need.2)
+
+-- ---- the four steps of an update
+
+torn_later : (sh : Shape) (log : Log) (v u : View) (put j : Units) → Grew v u → ((place : Place) → loose log place ≡ false) → (place : Place) → Tear sh log v put j place → Tear sh log u put j place
+torn_later sh log v u put j grew dry place (Kept none same) = Kept none same
+torn_later sh log v u put j grew dry place (Loose wet place_calm shows) = absurd (cc (wet, dry place))
+torn_later sh log v u put j grew dry place (Touched y is shows) = Touched y is (λ x shown. elim (shows x shown) [
+  | inl old ↦ inl (old.0, agrees_grew sh v u grew place x old.1)
+  | inr after ↦ inr after
+])
+
+-- copy k shows it
+module _ (sh : Shape) (log : Log) (v : View) (c : Checkpoint) (put : Units) (sound : Sound sh (checkpointed v c)) (is : IsFinish v c) where
+  abbrev u : View
+  u = checkpointed v c
+
+  shown_over : (k : ℕ) → PutsOne put (CopyPlace k) (CopyUnit c.content) → overlay put (now log) (CopyPlace k) ≡ Some (CopyUnit c.content)
+  shown_over k one = ap (λ (o : Option AnyUnit). or_else o (now log (CopyPlace k))) one.at
+
+  pub stage_next : (k : ℕ) (w : View) → IsSteady sh log w → IsQuiet log → PutsOne put (CopyPlace k) (CopyUnit c.content) → IsStage (now log) v.checkpoint.content c.content k → IsStage (overlay put (now log)) v.checkpoint.content c.content (k + 1)
+  stage_next k w rest quiet one stage =
+      let same = stage_torn sh log w put k v.checkpoint.content c.content rest.holds.bears quiet one (overlay put (now log)) (overlay_torn sh log w put) stage in
+      record {
+        low = λ n less. elim (cases_eq n k) [
+          | inl here ↦ ap (λ (m : ℕ). overlay put (now log) (CopyPlace m)) here ∙ shown_over k one
+          | inr away ↦ same.low n (omega arith)
+        ];
+        high = λ n more below. same.high n (omega arith) below;
+      }
+
+  agrees_first : AgreesCopy v 0 c.content
+  agrees_first = record { top = omega (arith, is.sequence); others = λ differs. absurd (differs refl) }
+
+  agrees_later : (k : ℕ) → AgreesCopy u k c.content
+  agrees_later k = record { top = omega arith; others = λ differs. inl refl }
+
+  -- copy 0: the view stays
+  pub update_first : IsSteady sh log v → IsQuiet log → PutsOne put (CopyPlace 0) (CopyUnit c.content) → IsStage (now log) v.checkpoint.content c.content 0 → Stepped sh log put v v
+  update_first rest quiet one stage = step sh log v put rest v Same (λ j torn. inl (view j torn)) (view (overlay put (now log)) (overlay_torn sh log v put))
+    where
+      view : (j : Units) → Torn sh log v put j → TornView sh log v put j v
+      view j torn = record {
+        holds = record {
+          bears = copy_rests sh log v put 0 v.checkpoint.content c.content rest.holds.bears quiet one j torn (copy_here sh log v put 0 v.checkpoint.content c.content rest.holds.bears quiet one agrees_first j torn);
+          chosen = chosen_first j v.checkpoint.content c.content is.sequence (stage_torn sh log v put 0 v.checkpoint.content c.content rest.holds.bears quiet one j torn stage);
+        };
+        known = copy_known sh log v put 0 v.checkpoint.content c.content rest.holds.bears quiet one j v (λ shown. (c.content, refl, inr (refl, is.sequence)));
+      }
+
+  -- copy 1: the old view or the new one
+  pub update_second : IsSteady sh log v → ((place : Place) → loose log place ≡ false) → PutsOne put (CopyPlace 1) (CopyUnit c.content) → IsStage (now log) v.checkpoint.content c.content 1
+      → ((a : ℕ) (b : Block) → InChain a b c.chain → now log (BlockPlace a) ≡ Some (BlockUnit b)) → Stepped sh log put v u
+  update_second rest dry one stage there = step sh log v put rest u (Finish c is) each (after (overlay put (now log)) (overlay_torn sh log v put) (shown_over 1 one))
+    where
+      quiet : IsQuiet log
+      quiet place wet = absurd (cc (wet, dry place))
+
+      staged : (j : Units) → Torn sh log v put j → IsStage j v.checkpoint.content c.content 1
+      staged j torn = stage_torn sh log v put 1 v.checkpoint.content c.content rest.holds.bears quiet one j torn stage
+
+      not_new : (j : Units) → ((x : AnyUnit) → j (CopyPlace 1) ≡ Some x → InImages (settled log) (CopyPlace 1) x × Agrees sh v (CopyPlace 1) x) → j (CopyPlace 1) ≡ Some (CopyUnit c.content) → ⊥
+      not_new j old shown =
+          let a = (old (CopyUnit c.content) shown).1 in
+          let one_content : a.0 ≡ c.content = (let e = a.1 in cc) in
+          let same = ap (λ (d : Content). d.sequence) one_content in
+          elim (a.2.others (λ zero_is. omega arith)) [
+            | inl base ↦ omega (arith, ap (λ (d : Content). d.sequence) base, is.sequence)
+            | inr less ↦ omega (arith, is.sequence)
+          ]
+
+      before : (j : Units) → Torn sh log v put j → ((x : AnyUnit) → j (CopyPlace 1) ≡ Some x → InImages (settled log) (CopyPlace 1) x × Agrees sh v (CopyPlace 1) x) → TornView sh log v put j v
+      before j torn old = record {
+        holds = record {
+          bears = copy_rests sh log v put 1 v.checkpoint.content c.content rest.holds.bears quiet one j torn (λ x shown. (old x shown).1);
+          chosen = chosen_not_yet j v.checkpoint.content c.content is.sequence (staged j torn) (not_new j old);
+        };
+        known = copy_known sh log v put 1 v.checkpoint.content c.content rest.holds.bears quiet one j v (λ shown. absurd (not_new j old shown));
+      }
+
+      now_rests : Bears sh (now log) u
+      now_rests = checkpoint_rests sh (now log) v c rest.holds.bears sound is there
+
+      after : (j : Units) → Torn sh log v put j → j (CopyPlace 1) ≡ Some (CopyUnit c.content) → TornView sh log v put j u
+      after j torn shown =
+          let torn_u : Torn sh log u put j = λ place. torn_later sh log v u put j (next_grew sh v u rest.holds.bears.sound (Finish c is)) dry place (torn place) in
+          record {
+            holds = record {
+              bears = copy_rests sh log u put 1 v.checkpoint.content c.content now_rests quiet one j torn_u (copy_here sh log u put 1 v.checkpoint.content c.content now_rests quiet one (agrees_later 1) j torn_u);
+              chosen = chosen_second j v.checkpoint.content c.content is.sequence (staged j torn) shown;
+            };
+            known = copy_known sh log v put 1 v.checkpoint.content c.content rest.holds.bears quiet one j u (λ shown. (c.content, refl, inl refl));
+          }
+
+      each : (j : Units) → Torn sh log v put j → TornView sh log v put j v ⊎ TornView sh log v put j u
+      each j torn = elim (copy_there sh log v put 1 v.checkpoint.content c.content rest.holds.bears quiet one j torn (j (CopyPlace 1)) refl) [
+        | inl old ↦ inl (before j torn old)
+        | inr yes_there ↦ inr (after j torn yes_there)
+      ]
+
+  -- copies 2 and 3: the new view stays
+  pub update_later : (k : ℕ) → 1 < k → IsSteady sh log u → IsQuiet log → PutsOne put (CopyPlace k) (CopyUnit c.content) → IsStage (now log) v.checkpoint.content c.content k → Stepped sh log put u u
+  update_later k above rest quiet one stage = step sh log u put rest u Same (λ j torn. inl (view j torn)) (view (overlay put (now log)) (overlay_torn sh log u put))
+    where
+      view : (j : Units) → Torn sh log u put j → TornView sh log u put j u
+      view j torn = record {
+        holds = record {
+          bears = copy_rests sh log u put k v.checkpoint.content c.content rest.holds.bears quiet one j torn (copy_here sh log u put k v.checkpoint.content c.content rest.holds.bears quiet one (agrees_later k) j torn);
+          chosen = chosen_last j v.checkpoint.content c.content is.sequence k above (stage_torn sh log u put k v.checkpoint.content c.content rest.holds.bears quiet one j torn stage);
+        };
+        known = copy_known sh log u put k v.checkpoint.content c.content rest.holds.bears quiet one j u (λ shown. (c.content, refl, inl refl));
+      }
+
+-- ---- mending a copy that isn't one of the chosen
+
+module _ (sh : Shape) (log : Log) (v : View) (put : Units) (k : ℕ) (rest : IsSteady sh log v) (quiet : IsQuiet log) (one : PutsOne put (CopyPlace k) (CopyUnit v.checkpoint.content)) (spare : IsSpare (now log) v.checkpoint.content k) where
+  mend_copy : (j : Units) (n : ℕ) → Torn sh log v put j → (n ≡ k → ⊥) → j (CopyPlace n) ≡ now log (CopyPlace n)
+  mend_copy j n torn away = other_copy sh log v put k v.checkpoint.content v.checkpoint.content rest.holds.bears quiet one j n away (torn (CopyPlace n))
+
+  agrees_base : AgreesCopy v k v.checkpoint.content
+  agrees_base = record { top = omega arith; others = λ differs. inl refl }
+
+  mend_rests : (j : Units) → Torn sh log v put j → Bears sh j v
+  mend_rests j torn = copy_rests sh log v put k v.checkpoint.content v.checkpoint.content rest.holds.bears quiet one j torn (copy_here sh log v put k v.checkpoint.content v.checkpoint.content rest.holds.bears quiet one agrees_base j torn)
+
+  copy_of : (j : Units) → Torn sh log v put j → (n : ℕ) (d : Content) → j (CopyPlace n) ≡ Some (CopyUnit d) → AgreesCopy v n d
+  copy_of j torn n d shown =
+      let a = (mend_rests j torn).agrees (CopyPlace n) (CopyUnit d) shown in
+      let same : a.0 ≡ d = (let e = a.1 in cc) in
+      subst (λ (c : Content). AgreesCopy v n c) same a.2
+
+  -- of two copies that agree one isn't number 0
+  mend_greatest : (j : Units) → Torn sh log v put j → (d : Content) (m n : ℕ) → Votes j d m n → (d ≡ v.checkpoint.content) ⊎ (d.sequence < v.checkpoint.content.sequence) ⊎ ((d.sequence ≡ v.checkpoint.content.sequence) × (j (CopyPlace 0) ≡ Some (CopyUnit v.checkpoint.content)))
+  mend_greatest j torn d m n votes = elim ((copy_of j torn n d votes.other).others (λ zero_is. omega (arith, votes.apart))) [
+    | inl is ↦ inl is
+    | inr less ↦ inr (inl less)
+  ]
+
+  mend_view : (j : Units) → Torn sh log v put j → TornView sh log v put j v
+  mend_view j torn = record {
+    holds = record {
+      bears = mend_rests j torn;
+      chosen = record {
+        voted = (spare.first, spare.second, record { apart = spare.votes.apart; last = spare.votes.last; one = mend_copy j spare.first torn spare.no_first ∙ spare.votes.one; other = mend_copy j spare.second torn spare.no_second ∙ spare.votes.other });
+        greatest = mend_greatest j torn;
+      };
+    };
+    known = copy_known sh log v put k v.checkpoint.content v.checkpoint.content rest.holds.bears quiet one j v (λ shown. (v.checkpoint.content, refl, inl refl));
+  }
+
+  pub mend_step : Stepped sh log put v v
+  mend_step = step sh log v put rest v Same (λ j torn. inl (mend_view j torn)) (mend_view (overlay put (now log)) (overlay_torn sh log v put))
