@@ -1,24 +1,29 @@
 -- What opening finds is what the image holds.
-use Rattle.std.proofs.Common.{◌≡◌, ◌⊎◌, inl, inr, ℕ, ◌==◌, Bool, true, false, if◌then◌else◌, ◌+◌, ◌-◌, ◌%◌, ◌<◌, ◌≤◌, List, [], ◌∷◌, length, Option, Some, None, refl, sym, ◌∙◌, ap, subst, arith}
+use Rattle.std.proofs.Common.{◌≡◌, ◌⊎◌, inl, inr, ℕ, ◌==◌, Bool, true, false, if◌then◌else◌, ◌+◌, ◌-◌, ◌%◌, ◌^◌, ◌<◌, ◌≤◌, List, [], ◌∷◌, length, Option, Some, None, refl, sym, ◌∙◌, ap, subst, arith}
 use Rattle.std.proofs.lemmas.Bool.{cases_eq, cases_lt}
 use Rattle.std.proofs.lemmas.Bool.Decides.{nat_tests}
-use Rattle.df_theory.specs.Units.{Place, CopyPlace, HeaderPlace, PreparePlace, ReplyPlace, BlockPlace, Header, Message, Session, AnyUnit, CopyUnit, HeaderUnit, PrepareUnit, ReplyUnit, BlockUnit, Units}
-use Rattle.df_theory.specs.View.{Shape, View, head, In, Chain, noted, sessions, last_mark, Needs, Agrees, AgreesHeader, AgreesPrepare, AgreesReply, Answers, Tracks, Sound, Holds}
-use Rattle.df_theory.specs.Cases.{Seen, Old, Now, Take, Lost, case, seen, seen_header, seen_prepare, IsTake, Takes}
-use Rattle.df_theory.specs.Found.{IsOfPlace, IsClean, IsFound}
+use Rattle.df_theory.specs.Units.{AnyUnit, BlockPlace, BlockUnit, CopyPlace, CopyUnit, Header, HeaderPlace, HeaderUnit, Message, Place, PreparePlace, PrepareUnit, ReplyPlace, ReplyUnit, Session, Units}
+use Rattle.df_theory.specs.Sessions.{Answers, Tracks, noted}
+use Rattle.df_theory.specs.Tails.{Chain, In, last_mark}
+use Rattle.df_theory.specs.Shape.{Shape, clients}
+use Rattle.df_theory.specs.View.{View, head, sessions}
+use Rattle.df_theory.specs.Shows.{Agrees, AgreesHeader, AgreesPrepare, AgreesReply, Needs}
+use Rattle.df_theory.specs.Holds.{Holds, Sound}
+use Rattle.df_theory.specs.Cases.{Current, IsTake, Lost, Old, Seen, Take, Takes, case, seen, seen_header, seen_prepare}
+use Rattle.df_theory.specs.Found.{AreOfPlaces, IsClean, IsFound, IsOfPlace}
 use Rattle.df_theory.proofs.Tails.{chain_ops, in_one}
 use Rattle.df_theory.proofs.Slots.{mod_apart}
 use Rattle.df_theory.proofs.Sessions.{tracks_chain}
 
 -- ---- the table
 
-seen_now : (o : ℕ) (h : Header) → h.op ≡ o → seen o h ≡ Now h.checksum
+seen_now : (o : ℕ) (h : Header) → h.op ≡ o → seen o h ≡ Current h.checksum
 seen_now o h is = grind (arith, nat_tests)
 
 seen_old : (o : ℕ) (h : Header) → h.op < o → seen o h ≡ Old
 seen_old o h is = grind (arith, nat_tests)
 
-same_take : (a b : ℕ) → a ≡ b → IsTake (case (Now a) (Now b))
+same_take : (a b : ℕ) → a ≡ b → IsTake (case (Current a) (Current b))
 same_take a b is = go (a == b) (eq_true a b is)
   where
     go : (t : Bool) → t ≡ true → IsTake (if t then Take false else Lost)
@@ -28,7 +33,7 @@ same_take a b is = go (a == b) (eq_true a b is)
     eq_true : (a b : ℕ) → a ≡ b → (a == b) ≡ true
     eq_true a b e = grind (arith, nat_tests)
 
-take_same : (a b : ℕ) → IsTake (case (Now a) (Now b)) → a ≡ b
+take_same : (a b : ℕ) → IsTake (case (Current a) (Current b)) → a ≡ b
 take_same a b is = elim (cases_eq a b) [
   | inl same ↦ same
   | inr differs ↦ absurd (go (a == b) (eq_false a b differs) is)
@@ -51,11 +56,17 @@ chain_at clients op parent mark ss (p ∷ ps) o chain from to = elim (cases_eq o
       (rest.0, inr rest.1, rest.2)
 ]
 
+-- the mark of the last is near its op
+chain_near : (clients op parent mark m : ℕ) (ss : List Session) (ps : List Message) → Chain clients op parent mark ss ps → 0 < length ps → op + length ps ≤ last_mark m ps + 9
+chain_near clients op parent mark m ss [] chain some = absurd (omega arith)
+chain_near clients op parent mark m ss (p ∷ []) chain some = omega (arith, chain.0.mark_near)
+chain_near clients op parent mark m ss (p ∷ q ∷ ps) chain some = omega (arith, chain_near clients (op + 1) p.header.checksum p.header.mark p.header.mark (noted p.header ss) (q ∷ ps) chain.1 (omega arith))
+
 -- ---- from what is found
 
-module _ (sh : Shape) (image : Units) (v : View) (f : IsFound sh image v) (clean : IsClean image v) where
+module _ (sh : Shape) (image : Units) (v : View) (places : AreOfPlaces sh image) (f : IsFound sh image v) (clean : IsClean image v) where
   tracks : Tracks v.replies (head v) (sessions v)
-  tracks = tracks_chain sh.clients v.checkpoint.content.op v.checkpoint.content.op_checksum 0 v.checkpoint.content.replies v.replies v.checkpoint.parts.sessions v.tail f.checkpoint.tracks f.tail.chain f.replies.checkpoint f.replies.mark
+  tracks = tracks_chain sh.layout.clients v.checkpoint.content.op v.checkpoint.content.op_checksum 0 v.checkpoint.content.replies v.replies v.checkpoint.parts.sessions v.tail f.checkpoint.tracks f.tail.chain f.replies.superblock f.replies.mark
 
   mark_below : (clients op parent mark low : ℕ) (ss : List Session) (ps : List Message) → Chain clients op parent mark ss ps → low < op → last_mark low ps < op + length ps
   mark_below clients op parent mark low ss [] chain small = omega arith
@@ -64,9 +75,29 @@ module _ (sh : Shape) (image : Units) (v : View) (f : IsFound sh image v) (clean
 
   replies_to : v.replies ≤ head v
   replies_to = elim f.replies.reached [
-    | inl base ↦ omega (arith, f.checkpoint.replies, f.not_lost.checkpoint)
-    | inr (inl mark) ↦ omega (arith, mark_below sh.clients (v.checkpoint.content.op + 1) v.checkpoint.content.op_checksum 0 0 v.checkpoint.parts.sessions v.tail f.tail.chain (omega arith))
+    | inl base ↦ omega (arith, f.checkpoint.tests.replies.0, f.not_lost.superblock)
+    | inr (inl mark) ↦ omega (arith, mark_below sh.layout.clients (v.checkpoint.content.op + 1) v.checkpoint.content.op_checksum 0 0 v.checkpoint.parts.sessions v.tail f.tail.chain (omega arith))
     | inr (inr reply) ↦ omega (arith, (f.not_lost.reply reply.0 reply.1 reply.2).0, reply.3)
+  ]
+
+  -- the prepare of the tail with this op
+  tail_at : (o : ℕ) → v.checkpoint.content.op < o → o ≤ head v → (p : Message) × In p v.tail × (p.header.op ≡ o)
+  tail_at o above to = chain_at sh.layout.clients (v.checkpoint.content.op + 1) v.checkpoint.content.op_checksum 0 v.checkpoint.parts.sessions v.tail o f.tail.chain (omega arith) (omega arith)
+
+  head_to : head v ≤ 2 ^ 62
+  head_to = elim (cases_lt 0 (length v.tail)) [
+    | inl some ↦
+        let p = tail_at (head v) (omega arith) (omega arith) in
+        let of = places (PreparePlace (p.0.header.op % sh.layout.slots)) (PrepareUnit p.0) (f.tail.takes p.0 p.1).shown in
+        let same : of.0 ≡ p.0 = (let e = of.1 in cc) in
+        omega (arith, of.4, ap (λ (w : Message). w.header.op) same, p.2)
+    | inr none ↦ omega (arith, f.checkpoint.tests.head)
+  ]
+
+  near_head : head v ≤ v.replies + 8
+  near_head = elim (cases_lt 0 (length v.tail)) [
+    | inl some ↦ omega (arith, chain_near sh.layout.clients (v.checkpoint.content.op + 1) v.checkpoint.content.op_checksum 0 0 v.checkpoint.parts.sessions v.tail f.tail.chain some, f.replies.mark)
+    | inr none ↦ omega (arith, f.checkpoint.tests.head, f.checkpoint.tests.replies, f.not_lost.superblock, f.replies.superblock)
   ]
 
   found_sound : Sound sh v
@@ -74,39 +105,37 @@ module _ (sh : Shape) (image : Units) (v : View) (f : IsFound sh image v) (clean
     chain = f.tail.chain;
     room = f.tail.room;
     checkpoint = f.checkpoint;
-    head_from = f.not_lost.checkpoint;
-    replies_to = replies_to;
-    replies_from = (f.replies.checkpoint, f.replies.mark);
+    groups = f.tail.groups;
+    head_from = f.not_lost.superblock;
+    head_to = head_to;
+    pipeline = (replies_to, near_head);
+    replies_from = (f.replies.superblock, f.replies.mark);
     answered = λ k r is.
-        let s = f.no_more k r is in
-        let there = f.stored k s.0 s.1 s.2 in
+        let s = f.stored.no_more k r is in
+        let there = f.stored.shown k s.0 s.1 s.2 in
         let same : there.0 ≡ r = (let two : Some there.0 ≡ Some r = sym there.1 ∙ is in cc) in
         (s.0, s.1, s.2, subst (λ (w : Message). Answers s.0 w) same there.3);
-    stores = λ k s at low. let there = f.stored k s at low in (there.0, there.1);
+    stores = λ k s at low. let there = f.stored.shown k s at low in (there.0, there.1);
   }
-
-  -- the prepare of the tail with this op
-  tail_at : (o : ℕ) → v.checkpoint.content.op < o → o ≤ head v → (p : Message) × In p v.tail × (p.header.op ≡ o)
-  tail_at o above to = chain_at sh.clients (v.checkpoint.content.op + 1) v.checkpoint.content.op_checksum 0 v.checkpoint.parts.sessions v.tail o f.tail.chain (omega arith) (omega arith)
 
   taken_header : (h : Header) (p : Message) → (hd pr : Option AnyUnit) → hd ≡ Some (HeaderUnit h) → pr ≡ Some (PrepareUnit p) → h.op ≡ p.header.op → IsTake (case (seen_header p.header.op hd) (seen_prepare p.header.op pr)) → h.checksum ≡ p.header.checksum
   taken_header h p hd pr hd_is pr_is same take =
       let at : IsTake (case (seen p.header.op h) (seen p.header.op p.header)) = subst (λ (x : Option AnyUnit). IsTake (case (seen_header p.header.op x) (seen p.header.op p.header))) hd_is (subst (λ (y : Option AnyUnit). IsTake (case (seen_header p.header.op hd) (seen_prepare p.header.op y))) pr_is take) in
-      let one : IsTake (case (Now h.checksum) (seen p.header.op p.header)) = subst (λ (s : Seen). IsTake (case s (seen p.header.op p.header))) (seen_now p.header.op h same) at in
-      take_same h.checksum p.header.checksum (subst (λ (s : Seen). IsTake (case (Now h.checksum) s)) (seen_now p.header.op p.header refl) one)
+      let one : IsTake (case (Current h.checksum) (seen p.header.op p.header)) = subst (λ (s : Seen). IsTake (case s (seen p.header.op p.header))) (seen_now p.header.op h same) at in
+      take_same h.checksum p.header.checksum (subst (λ (s : Seen). IsTake (case (Current h.checksum) s)) (seen_now p.header.op p.header refl) one)
 
-  header_known : (s : ℕ) (h : Header) → image (HeaderPlace s) ≡ Some (HeaderUnit h) → (0 < h.op → s ≡ h.op % sh.slots) → v.checkpoint.content.op < h.op → (p : Message) × In p v.tail × (p.header.op ≡ h.op) × (p.header.checksum ≡ h.checksum)
+  header_known : (s : ℕ) (h : Header) → image (HeaderPlace s) ≡ Some (HeaderUnit h) → (0 < h.op → s ≡ h.op % sh.layout.slots) → v.checkpoint.content.op < h.op → (p : Message) × In p v.tail × (p.header.op ≡ h.op) × (p.header.checksum ≡ h.checksum)
   header_known s h is slot above =
       let p = tail_at h.op above (f.not_lost.header s h is) in
       let takes = f.tail.takes p.0 p.1 in
-      let place : image (HeaderPlace (p.0.header.op % sh.slots)) ≡ Some (HeaderUnit h) = ap (λ (o : ℕ). image (HeaderPlace (o % sh.slots))) p.2 ∙ ap (λ (n : ℕ). image (HeaderPlace n)) (sym (slot (omega arith))) ∙ is in
+      let place : image (HeaderPlace (p.0.header.op % sh.layout.slots)) ≡ Some (HeaderUnit h) = ap (λ (o : ℕ). image (HeaderPlace (o % sh.layout.slots))) p.2 ∙ ap (λ (n : ℕ). image (HeaderPlace n)) (sym (slot (omega arith))) ∙ is in
       (p.0, p.1, p.2, sym (taken_header h p.0 _ _ place takes.shown (sym p.2) takes.take))
 
-  prepare_known : (s : ℕ) (q : Message) → image (PreparePlace s) ≡ Some (PrepareUnit q) → s ≡ q.header.op % sh.slots → v.checkpoint.content.op < q.header.op → In q v.tail
+  prepare_known : (s : ℕ) (q : Message) → image (PreparePlace s) ≡ Some (PrepareUnit q) → s ≡ q.header.op % sh.layout.slots → v.checkpoint.content.op < q.header.op → In q v.tail
   prepare_known s q is slot above =
       let p = tail_at q.header.op above (f.not_lost.prepare s q is) in
       let takes = f.tail.takes p.0 p.1 in
-      let place : image (PreparePlace (p.0.header.op % sh.slots)) ≡ Some (PrepareUnit q) = ap (λ (o : ℕ). image (PreparePlace (o % sh.slots))) p.2 ∙ ap (λ (n : ℕ). image (PreparePlace n)) (sym slot) ∙ is in
+      let place : image (PreparePlace (p.0.header.op % sh.layout.slots)) ≡ Some (PrepareUnit q) = ap (λ (o : ℕ). image (PreparePlace (o % sh.layout.slots))) p.2 ∙ ap (λ (n : ℕ). image (PreparePlace n)) (sym slot) ∙ is in
       let one : p.0 ≡ q = (let two : Some (PrepareUnit p.0) ≡ Some (PrepareUnit q) = sym takes.shown ∙ place in cc) in
       subst (λ (w : Message). In w v.tail) one p.1
 
@@ -128,15 +157,15 @@ module _ (sh : Shape) (image : Units) (v : View) (f : IsFound sh image v) (clean
   found_needs (HeaderPlace s) x need = absurd need
   found_needs (PreparePlace s) x need = ap (λ (n : ℕ). image (PreparePlace n)) need.2 ∙ (f.tail.takes need.0 need.1).shown ∙ ap Some (sym need.3)
   found_needs (ReplyPlace k) x need =
-      let s = f.no_more k need.0 need.1 in
-      let there = f.stored k s.0 s.1 s.2 in
+      let s = f.stored.no_more k need.0 need.1 in
+      let there = f.stored.shown k s.0 s.1 s.2 in
       let same : there.0 ≡ need.0 = (let two : Some there.0 ≡ Some need.0 = sym there.1 ∙ need.1 in cc) in
       there.2 ∙ ap (λ (w : Message). Some (ReplyUnit w)) same ∙ ap Some (sym need.2)
   found_needs (BlockPlace a) x need = f.chain_shown a need.0 need.1 ∙ ap Some (sym need.2)
 
   pub found_holds : Holds sh image v
   found_holds = record {
-    bears = record { sound = found_sound; agrees = λ place x is. found_agrees place x is (f.of_place place x is); needs = found_needs };
+    bears = record { sound = found_sound; agrees = λ place x is. found_agrees place x is (places place x is); needs = found_needs };
     chosen = f.chosen;
   }
 
@@ -164,49 +193,42 @@ module _ (sh : Shape) (image : Units) (v : View) (h : Holds sh image v) where
       let same : a.0 ≡ x = (let e = a.1 in cc) in
       subst (λ (y : Message). AgreesReply v y) same a.2
 
-  head_room : head v ≤ v.checkpoint.content.op + sh.slots
+  head_room : head v ≤ v.checkpoint.content.op + sh.layout.slots
   head_room = omega (arith, sound.room)
 
   -- the header beside a prepare of the tail
-  take_at : (p : Message) → In p v.tail → (o : Option AnyUnit) → image (HeaderPlace (p.header.op % sh.slots)) ≡ o → IsTake (case (seen_header p.header.op o) (Now p.header.checksum))
+  take_at : (p : Message) → In p v.tail → (o : Option AnyUnit) → image (HeaderPlace (p.header.op % sh.layout.slots)) ≡ o → IsTake (case (seen_header p.header.op o) (Current p.header.checksum))
   take_at p at None is = tt
   take_at p at (Some (CopyUnit c)) is = tt
   take_at p at (Some (PrepareUnit q)) is = tt
   take_at p at (Some (ReplyUnit r)) is = tt
   take_at p at (Some (BlockUnit c)) is = tt
   take_at p at (Some (HeaderUnit x)) is =
-      let a = agrees_header (p.header.op % sh.slots) x is in
-      let ops = chain_ops sh.clients (v.checkpoint.content.op + 1) v.checkpoint.content.op_checksum 0 v.checkpoint.parts.sessions v.tail p sound.chain at in
+      let a = agrees_header (p.header.op % sh.layout.slots) x is in
+      let ops = chain_ops sh.layout.clients (v.checkpoint.content.op + 1) v.checkpoint.content.op_checksum 0 v.checkpoint.parts.sessions v.tail p sound.chain at in
       elim (cases_eq x.op p.header.op) [
         | inl same ↦
             let q = a.known (omega (arith, ops.0)) in
-            let one : q.0 ≡ p = in_one sh.clients (v.checkpoint.content.op + 1) v.checkpoint.content.op_checksum 0 v.checkpoint.parts.sessions v.tail q.0 p sound.chain q.1 at (q.2 ∙ same) in
+            let one : q.0 ≡ p = in_one sh.layout.clients (v.checkpoint.content.op + 1) v.checkpoint.content.op_checksum 0 v.checkpoint.parts.sessions v.tail q.0 p sound.chain q.1 at (q.2 ∙ same) in
             let checksum : x.checksum ≡ p.header.checksum = sym q.3 ∙ ap (λ (w : Message). w.header.checksum) one in
-            subst (λ (s : Seen). IsTake (case s (Now p.header.checksum))) (sym (seen_now p.header.op x same)) (same_take x.checksum p.header.checksum checksum)
+            subst (λ (s : Seen). IsTake (case s (Current p.header.checksum))) (sym (seen_now p.header.op x same)) (same_take x.checksum p.header.checksum checksum)
         | inr differs ↦ elim (cases_lt x.op p.header.op) [
-          | inl less ↦ subst (λ (s : Seen). IsTake (case s (Now p.header.checksum))) (sym (seen_old p.header.op x less)) tt
-          | inr more ↦ absurd (mod_apart sh.slots p.header.op x.op sh.some (omega arith) (omega (arith, a.op, head_room, ops.0)) (a.slot (omega arith)))
+          | inl less ↦ subst (λ (s : Seen). IsTake (case s (Current p.header.checksum))) (sym (seen_old p.header.op x less)) tt
+          | inr more ↦ absurd (mod_apart sh.layout.slots p.header.op x.op sh.some (omega arith) (omega (arith, a.op, head_room, ops.0)) (a.slot (omega arith)))
         ]
       ]
 
-  takes : (p : Message) → In p v.tail → Takes sh.slots image p
+  takes : (p : Message) → In p v.tail → Takes sh.layout.slots image p
   takes p at =
-      let shown = h.bears.needs (PreparePlace (p.header.op % sh.slots)) (PrepareUnit p) (p, at, refl, refl) in
+      let shown = h.bears.needs (PreparePlace (p.header.op % sh.layout.slots)) (PrepareUnit p) (p, at, refl, refl) in
       record {
         shown = shown;
-        take = subst (λ (y : Option AnyUnit). IsTake (case (seen_header p.header.op (image (HeaderPlace (p.header.op % sh.slots)))) (seen_prepare p.header.op y))) (sym shown)
-            (subst (λ (s : Seen). IsTake (case (seen_header p.header.op (image (HeaderPlace (p.header.op % sh.slots)))) s)) (sym (seen_now p.header.op p.header refl)) (take_at p at (image (HeaderPlace (p.header.op % sh.slots))) refl));
+        take = subst (λ (y : Option AnyUnit). IsTake (case (seen_header p.header.op (image (HeaderPlace (p.header.op % sh.layout.slots)))) (seen_prepare p.header.op y))) (sym shown)
+            (subst (λ (s : Seen). IsTake (case (seen_header p.header.op (image (HeaderPlace (p.header.op % sh.layout.slots)))) s)) (sym (seen_now p.header.op p.header refl)) (take_at p at (image (HeaderPlace (p.header.op % sh.layout.slots))) refl));
       }
 
-  holds_of : (place : Place) (x : AnyUnit) → Agrees sh v place x → IsOfPlace sh place x
-  holds_of (CopyPlace n) x a = (a.0, a.1)
-  holds_of (HeaderPlace s) x a = (a.0, a.1, a.2.slot)
-  holds_of (PreparePlace s) x a = (a.0, a.1, a.2.slot, a.2.some)
-  holds_of (ReplyPlace k) x a = (a.0, a.1)
-  holds_of (BlockPlace a) x b = tt
-
   tracks_view : Tracks v.replies (head v) (sessions v)
-  tracks_view = tracks_chain sh.clients v.checkpoint.content.op v.checkpoint.content.op_checksum 0 v.checkpoint.content.replies v.replies v.checkpoint.parts.sessions v.tail sound.checkpoint.tracks sound.chain sound.replies_from.0 sound.replies_from.1
+  tracks_view = tracks_chain sh.layout.clients v.checkpoint.content.op v.checkpoint.content.op_checksum 0 v.checkpoint.content.replies v.replies v.checkpoint.parts.sessions v.tail sound.checkpoint.tracks sound.chain sound.replies_from.0 sound.replies_from.1
 
   stored_shown : (k : ℕ) (r : Message) → v.stored k ≡ Some r → image (ReplyPlace k) ≡ Some (ReplyUnit r)
   stored_shown k r is = h.bears.needs (ReplyPlace k) (ReplyUnit r) (r, is, refl)
@@ -215,8 +237,8 @@ module _ (sh : Shape) (image : Units) (v : View) (h : Holds sh image v) where
   reached = elim (cases_lt v.checkpoint.content.replies v.replies) [
     | inl above ↦ elim (cases_lt (last_mark 0 v.tail) v.replies) [
       | inl higher ↦
-          let low = tracks_chain sh.clients v.checkpoint.content.op v.checkpoint.content.op_checksum 0 v.checkpoint.content.replies (v.replies - 1) v.checkpoint.parts.sessions v.tail sound.checkpoint.tracks sound.chain (omega arith) (omega arith) in
-          let has = low.pending v.replies (omega arith) sound.replies_to in
+          let low = tracks_chain sh.layout.clients v.checkpoint.content.op v.checkpoint.content.op_checksum 0 v.checkpoint.content.replies (v.replies - 1) v.checkpoint.parts.sessions v.tail sound.checkpoint.tracks sound.chain (omega arith) (omega arith) in
+          let has = low.pending v.replies (omega arith) sound.pipeline.0 in
           let r = sound.stores has.0 has.1 has.2 (omega (arith, has.3)) in
           let s = sound.answered has.0 r.0 r.1 in
           let one : s.0 ≡ has.1 = (let two : Some s.0 ≡ Some has.1 = sym s.1 ∙ has.2 in cc) in
@@ -228,7 +250,6 @@ module _ (sh : Shape) (image : Units) (v : View) (h : Holds sh image v) where
 
   pub holds_found : IsFound sh image v
   holds_found = record {
-    of_place = λ place x is. holds_of place x (h.bears.agrees place x is);
     chosen = h.chosen;
     checkpoint = sound.checkpoint;
     chain_shown = λ a c is. h.bears.needs (BlockPlace a) (BlockUnit c) (c, is, refl);
@@ -241,24 +262,27 @@ module _ (sh : Shape) (image : Units) (v : View) (h : Holds sh image v) where
       chain = sound.chain;
       takes = takes;
       room = sound.room;
-      longest = λ p room taken fits. omega (arith, (agrees_prepare (p.header.op % sh.slots) p taken.shown).op, fits.op_is);
+      groups = sound.groups;
+      longest = λ p room taken fits. omega (arith, (agrees_prepare (p.header.op % sh.layout.slots) p taken.shown).op, fits.op_is);
     };
     not_lost = record {
       header = λ s x is. (agrees_header s x is).op;
       prepare = λ s x is. (agrees_prepare s x is).op;
-      checkpoint = sound.head_from;
-      reply = λ k x is. let a = agrees_reply k x is in (omega (arith, a.op, sound.replies_to), a.mark);
+      superblock = sound.head_from;
+      reply = λ k x is. let a = agrees_reply k x is in (omega (arith, a.op, sound.pipeline.0), a.mark);
     };
     replies = record {
-      checkpoint = sound.replies_from.0;
+      superblock = sound.replies_from.0;
       mark = sound.replies_from.1;
       reply = λ k x is. (agrees_reply k x is).op;
       reached = reached;
     };
-    stored = λ k s at low.
+    stored = record {
+    shown = λ k s at low.
         let r = sound.stores k s at low in
         let t = sound.answered k r.0 r.1 in
         let same : t.0 ≡ s = (let two : Some t.0 ≡ Some s = sym t.1 ∙ at in cc) in
         (r.0, r.1, stored_shown k r.0 r.1, subst (λ (w : Session). Answers w r.0) same t.3);
     no_more = λ k r is. let t = sound.answered k r is in (t.0, t.1, t.2);
+    };
   }

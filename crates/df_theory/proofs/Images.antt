@@ -1,7 +1,11 @@
 -- Images that hold a view.
 use Rattle.std.proofs.Common.{◌≡◌, ◌⊎◌, inl, inr, ℕ, Some, sym, ◌∙◌}
-use Rattle.df_theory.specs.Units.{Place, CopyPlace, Content, AnyUnit, Units}
-use Rattle.df_theory.specs.View.{Shape, View, Needs, Agrees, Votes, Chosen, Bears}
+use Rattle.df_theory.specs.Units.{AnyUnit, Content, CopyPlace, Place, Units}
+use Rattle.df_theory.specs.Shape.{Shape}
+use Rattle.df_theory.specs.Copies.{Agree, IsChosen}
+use Rattle.df_theory.specs.View.{View}
+use Rattle.df_theory.specs.Shows.{Agrees, Needs}
+use Rattle.df_theory.specs.Holds.{Bears}
 
 -- nothing is needed at this place, and what is shown agrees
 pub record IsOpen (sh : Shape) (v : View) (j : Units) (place : Place) : Type 0 where
@@ -21,15 +25,15 @@ rests_open sh v i j rests each = record {
   ];
 }
 
-votes_same : (i j : Units) (c : Content) (m n : ℕ) → ((k : ℕ) → j (CopyPlace k) ≡ i (CopyPlace k)) → Votes i c m n → Votes j c m n
-votes_same i j c m n same v = record { apart = v.apart; last = v.last; one = same m ∙ v.one; other = same n ∙ v.other }
+agree_same : (i j : Units) (c : Content) → ((k : ℕ) → j (CopyPlace k) ≡ i (CopyPlace k)) → Agree i c → Agree j c
+agree_same i j c same a = record { first = a.first; second = a.second; apart = a.apart; inside = a.inside; at_first = same a.first ∙ a.at_first; at_second = same a.second ∙ a.at_second }
 
-pub chosen_same : (i j : Units) (c : Content) → ((k : ℕ) → j (CopyPlace k) ≡ i (CopyPlace k)) → Chosen i c → Chosen j c
+-- equal copies choose the same
+pub chosen_same : (i j : Units) (c : Content) → ((k : ℕ) → j (CopyPlace k) ≡ i (CopyPlace k)) → IsChosen i c → IsChosen j c
 chosen_same i j c same h = record {
-  voted = (h.voted.0, h.voted.1, votes_same i j c h.voted.0 h.voted.1 same h.voted.2);
-  greatest = λ d m n votes. elim (h.greatest d m n (votes_same j i d m n (λ k. sym (same k)) votes)) [
-    | inl is ↦ inl is
-    | inr (inl less) ↦ inr (inl less)
-    | inr (inr tie) ↦ inr (inr (tie.0, same 0 ∙ tie.1))
-  ];
+  agreed = agree_same i j c same h.agreed;
+  greatest = λ d a. h.greatest d (agree_same j i d (λ k. sym (same k)) a);
+  lowest = λ d a tie n below shown.
+      let k = h.lowest d (agree_same j i d (λ m. sym (same m)) a) tie n below (sym (same n) ∙ shown) in
+      (k.0, k.1, same k.0 ∙ k.2);
 }

@@ -1,12 +1,19 @@
 -- What a write of whole units leaves, as views.
 use Rattle.std.proofs.Common.{◌≡◌, ◌⊎◌, inl, inr, ℕ, Option, Some, None, refl, sym, ◌∙◌, ap, subst}
-use Rattle.df_theory.specs.Units.{Place, CopyPlace, HeaderPlace, PreparePlace, ReplyPlace, BlockPlace, AnyUnit, Units, overlay, or_else}
-use Rattle.df_theory.specs.View.{Shape, Checkpoint, View, Needs, Agrees, Chosen, Sound}
-use Rattle.df_theory.specs.Moves.{Next, Same, Grew}
-use Rattle.df_theory.specs.Log.{Log, now, settled, InImages, Known, wrote}
-use Rattle.df_theory.specs.Rest.{IsCopy, IsBlock, IsSteady, IsQuiet, Tear, Kept, Loose, Touched, Torn, TornView, PutsOne, IsCalmPut, Stepped}
-use Rattle.df_theory.proofs.Grew.{agrees_grew}
+use Rattle.df_theory.specs.Units.{AnyUnit, BlockPlace, CopyPlace, HeaderPlace, Place, PreparePlace, ReplyPlace, Units, or_else, overlay}
+use Rattle.df_theory.specs.Shape.{Shape}
+use Rattle.df_theory.specs.Copies.{IsChosen}
+use Rattle.df_theory.specs.View.{Checkpoint, View}
+use Rattle.df_theory.specs.Shows.{Agrees, Needs}
+use Rattle.df_theory.specs.Holds.{Sound}
+use Rattle.df_theory.specs.Next.{Next, Same}
+use Rattle.df_theory.specs.UnitLog.{PutsOne, UnitLog, now, settled, wrote}
+use Rattle.df_theory.specs.Chance.{InImages}
+use Rattle.df_theory.specs.Grown.{Known}
+use Rattle.df_theory.specs.Steady.{IsBlock, IsCalmPut, IsCopy, IsQuiet, IsSteady, Stepped}
+use Rattle.df_theory.proofs.Grew.{Grew, agrees_grew}
 use Rattle.df_theory.proofs.Images.{IsOpen, rests_open, chosen_same}
+use Rattle.df_theory.proofs.Torn.{Knows, Outcome, Tear, Kept, Loose, Touched, Torn, TornView}
 use Rattle.df_theory.proofs.Steps.{step, calm_rest}
 
 pub block_agrees : (sh : Shape) (v : View) (place : Place) (x : AnyUnit) → IsBlock place → Agrees sh v place x
@@ -24,16 +31,16 @@ block_known v (ReplyPlace k) x block = absurd block
 block_known v (BlockPlace a) x block = tt
 
 -- the write itself is one that is torn nowhere
-overlay_at : (sh : Shape) (log : Log) (v : View) (put : Units) (place : Place) → (o : Option AnyUnit) → put place ≡ o → Tear sh log v put (overlay put (now log)) place
+overlay_at : (sh : Shape) (log : UnitLog) (v : View) (put : Units) (place : Place) → (o : Option AnyUnit) → put place ≡ o → Tear sh log v put (overlay put (now log)) place
 overlay_at sh log v put place None is = Kept is (ap (λ (o : Option AnyUnit). or_else o (now log place)) is)
 overlay_at sh log v put place (Some y) is = Touched y is (λ x shown. inr (let one : Some x ≡ Some y = sym shown ∙ ap (λ (o : Option AnyUnit). or_else o (now log place)) is in cc))
 
-pub overlay_torn : (sh : Shape) (log : Log) (v : View) (put : Units) → Torn sh log v put (overlay put (now log))
+pub overlay_torn : (sh : Shape) (log : UnitLog) (v : View) (put : Units) → Torn sh log v put (overlay put (now log))
 overlay_torn sh log v put place = overlay_at sh log v put place (put place) refl
 
 -- ---- a write that the view doesn't see: header sectors, free blocks, mending
 
-module _ (sh : Shape) (log : Log) (v : View) (put : Units) (rest : IsSteady sh log v) (calm : IsCalmPut sh (settled log) v put) where
+module _ (sh : Shape) (log : UnitLog) (v : View) (put : Units) (rest : IsSteady sh log v) (calm : IsCalmPut sh (settled log) v put) where
   calm_at : (j : Units) (place : Place) → Tear sh log v put j place → (j place ≡ now log place) ⊎ IsOpen sh v j place
   calm_at j place (Kept none same) = inl same
   calm_at j place (Loose wet place_calm shows) = inr (record {
@@ -86,7 +93,7 @@ pub record IsOneStep (sh : Shape) (v u : View) (place : Place) (x : AnyUnit) : T
   pub known : Known u place x
   pub needs : (other : Place) (y : AnyUnit) → Needs sh u other y → Needs sh v other y ⊎ ((other ≡ place) × (y ≡ x))
 
-module _ (sh : Shape) (log : Log) (v u : View) (put : Units) (place : Place) (x : AnyUnit) (rest : IsSteady sh log v) (quiet : IsQuiet log) (one : PutsOne put place x) (leads : IsOneStep sh v u place x) where
+module _ (sh : Shape) (log : UnitLog) (v u : View) (put : Units) (place : Place) (x : AnyUnit) (rest : IsSteady sh log v) (quiet : IsQuiet log) (one : PutsOne put place x) (leads : IsOneStep sh v u place x) where
   one_copy : (j : Units) (n : ℕ) → Tear sh log v put j (CopyPlace n) → j (CopyPlace n) ≡ now log (CopyPlace n)
   one_copy j n (Kept none same) = same
   one_copy j n (Loose wet place_calm shows) = absurd (place_calm.no_copy tt)
@@ -135,7 +142,7 @@ module _ (sh : Shape) (log : Log) (v u : View) (put : Units) (place : Place) (x 
   one_after j torn shown = record {
     holds = record {
       bears = record { sound = leads.sound; agrees = λ other y is. after_agrees j other y is (torn other); needs = after_needs j torn shown };
-      chosen = subst (λ (c : Checkpoint). Chosen j c.content) (sym leads.checkpoint) (chosen_same (now log) j v.checkpoint.content (λ n. one_copy j n (torn (CopyPlace n))) rest.holds.chosen);
+      chosen = subst (λ (c : Checkpoint). IsChosen j c.content) (sym leads.checkpoint) (chosen_same (now log) j v.checkpoint.content (λ n. one_copy j n (torn (CopyPlace n))) rest.holds.chosen);
     };
     known = λ other y is there. elim is [
       | inl may ↦ inr (block_known u other y (quiet other may.0))

@@ -2,9 +2,12 @@
 use Rattle.std.proofs.Common.{◌≡◌, ◌⊎◌, inl, inr, ℕ, ◌==◌, if◌then◌else◌, Option, Some, refl, sym, ◌∙◌, ap, arith}
 use Rattle.std.proofs.lemmas.Bool.{cases_eq}
 use Rattle.std.proofs.lemmas.Bool.Decides.{nat_tests}
-use Rattle.df_theory.specs.Units.{Place, CopyPlace, HeaderPlace, PreparePlace, ReplyPlace, BlockPlace, Message, Session, AnyUnit, ReplyUnit}
-use Rattle.df_theory.specs.View.{Shape, View, Needs, Sound}
-use Rattle.df_theory.specs.Moves.{Reply, IsReply, replied}
+use Rattle.df_theory.specs.Units.{AnyUnit, BlockPlace, CopyPlace, HeaderPlace, Message, Place, PreparePlace, ReplyPlace, ReplyUnit, Session}
+use Rattle.df_theory.specs.Shape.{Shape}
+use Rattle.df_theory.specs.View.{View}
+use Rattle.df_theory.specs.Shows.{Needs}
+use Rattle.df_theory.specs.Holds.{Sound}
+use Rattle.df_theory.specs.Next.{IsReply, Reply, replied}
 use Rattle.df_theory.proofs.Grew.{next_grew}
 use Rattle.df_theory.proofs.Puts.{IsOneStep}
 

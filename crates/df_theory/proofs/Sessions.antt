@@ -5,19 +5,28 @@ use Rattle.std.proofs.lemmas.List.{take-append-drop}
 use Rattle.std.proofs.lemmas.Bool.Decides.{nat_tests}
 use Rattle.std.proofs.lemmas.Bool.{cases_eq}
 use Rattle.df_theory.specs.Units.{Header, Message, Session}
-use Rattle.df_theory.specs.View.{Chain, Fits, noted, session_of, sessions_after, last_mark, last_checksum, MayAsk, Has, Tracks}
+use Rattle.df_theory.specs.Sessions.{Has, MayAsk, Tracks, noted, session_of, sessions_after}
+use Rattle.df_theory.specs.Tails.{Chain, In, last_checksum, last_mark}
+use Rattle.df_theory.specs.Shape.{clients}
 
-pub chain_more : (clients op parent mark : ℕ) (ss : List Session) (ps : List Message) (p : Message) → Chain clients op parent mark ss ps → Fits clients (op + length ps) (last_checksum parent ps) (last_mark mark ps) (sessions_after ss ps) p.header → Chain clients op parent mark ss (ps ++ p ∷ [])
-chain_more clients op parent mark ss [] p chain fits =
+pub chain_append : (clients op parent mark : ℕ) (ss : List Session) (ps qs : List Message) → Chain clients op parent mark ss ps → Chain clients (op + length ps) (last_checksum parent ps) (last_mark mark ps) (sessions_after ss ps) qs
+    → Chain clients op parent mark ss (ps ++ qs)
+chain_append clients op parent mark ss [] qs chain more =
     let same : op + 0 ≡ op = omega arith in
-    (subst (λ (k : ℕ). Fits clients k parent mark ss p.header) same fits, tt)
-chain_more clients op parent mark ss (x ∷ ps) p chain fits =
+    subst (λ (k : ℕ). Chain clients k parent mark ss qs) same more
+chain_append clients op parent mark ss (x ∷ ps) qs chain more =
     let same : op + suc (length ps) ≡ op + 1 + length ps = omega arith in
-    (chain.0, chain_more clients (op + 1) x.header.checksum x.header.mark (noted x.header ss) ps p chain.1 (subst (λ (k : ℕ). Fits clients k (last_checksum x.header.checksum ps) (last_mark x.header.mark ps) (sessions_after (noted x.header ss) ps) p.header) same fits))
+    (chain.0, chain_append clients (op + 1) x.header.checksum x.header.mark (noted x.header ss) ps qs chain.1 (subst (λ (k : ℕ). Chain clients k (last_checksum x.header.checksum ps) (last_mark x.header.mark ps) (sessions_after (noted x.header ss) ps) qs) same more))
 
-pub last_mark-more : (m : ℕ) (ps : List Message) (p : Message) → last_mark m (ps ++ p ∷ []) ≡ p.header.mark
-last_mark-more m [] p = refl
-last_mark-more m (x ∷ ps) p = last_mark-more x.header.mark ps p
+pub last_mark-append : (m : ℕ) (ps qs : List Message) → last_mark m (ps ++ qs) ≡ last_mark (last_mark m ps) qs
+last_mark-append m [] qs = refl
+last_mark-append m (x ∷ ps) qs = last_mark-append x.header.mark ps qs
+
+-- where each carries this mark
+pub last_mark-each : (m n : ℕ) (ps : List Message) → 0 < length ps → ((p : Message) → In p ps → p.header.mark ≡ n) → last_mark m ps ≡ n
+last_mark-each m n [] some each = absurd (omega arith)
+last_mark-each m n (p ∷ []) some each = each p (inl refl)
+last_mark-each m n (p ∷ q ∷ ps) some each = last_mark-each p.header.mark n (q ∷ ps) (omega arith) (λ x at. each x (inr at))
 
 pub sessions-append : (ss : List Session) (ps qs : List Message) → sessions_after ss (ps ++ qs) ≡ sessions_after (sessions_after ss ps) qs
 sessions-append ss [] qs = refl
@@ -25,7 +34,7 @@ sessions-append ss (p ∷ ps) qs = sessions-append (noted p.header ss) ps qs
 
 chain_low : (clients op parent mark low : ℕ) (ss : List Session) (ps : List Message) → low ≤ mark → Chain clients op parent mark ss ps → Chain clients op parent low ss ps
 chain_low clients op parent mark low ss [] le chain = tt
-chain_low clients op parent mark low ss (x ∷ ps) le chain = (record { op_is = chain.0.op_is; parent_is = chain.0.parent_is; mark_from = omega (arith, chain.0.mark_from); mark_below = chain.0.mark_below; mark_near = chain.0.mark_near; asks = chain.0.asks }, chain.1)
+chain_low clients op parent mark low ss (x ∷ ps) le chain = (record { op_is = chain.0.op_is; parent_is = chain.0.parent_is; mark_from = omega (arith, chain.0.mark_from); mark_below = chain.0.mark_below; mark_near = chain.0.mark_near; group = chain.0.group; asks = chain.0.asks }, chain.1)
 
 pub chain_drop : (n clients op parent mark : ℕ) (ss : List Session) (ps : List Message) → n ≤ length ps → Chain clients op parent mark ss ps → Chain clients (op + n) (last_checksum parent (take n ps)) 0 (sessions_after ss (take n ps)) (drop n ps)
 chain_drop zero clients op parent mark ss ps small chain =
@@ -171,3 +180,11 @@ pub last_mark-take : (n clients op parent mark : ℕ) (ss : List Session) (ps : 
 last_mark-take zero clients op parent mark ss ps chain = mark_to_last clients op parent mark ss ps chain
 last_mark-take (suc n) clients op parent mark ss [] chain = omega arith
 last_mark-take (suc n) clients op parent mark ss (x ∷ ps) chain = last_mark-take n clients (op + 1) x.header.checksum x.header.mark (noted x.header ss) ps chain.1
+
+-- a session after these prepares is one from before, or that of one of them
+pub after_get : (ss : List Session) (ps : List Message) (k : ℕ) (t : Session) → slice_get (sessions_after ss ps) k ≡ Some t → (slice_get ss k ≡ Some t) ⊎ ((p : Message) × In p ps × (t ≡ session_of p.header))
+after_get ss [] k t is = inl is
+after_get ss (p ∷ ps) k t is = elim (after_get (noted p.header ss) ps k t is) [
+  | inl old ↦ elim (noted_get p.header ss k t old) [ inl new ↦ inr (p, inl refl, new) | inr before ↦ inl before ]
+  | inr new ↦ inr (new.0, inr new.1, new.2)
+]

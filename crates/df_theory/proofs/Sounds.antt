@@ -1,86 +1,103 @@
 -- Each next view is sound.
-use Rattle.std.proofs.Common.{◌≡◌, ◌⊎◌, inl, inr, ℕ, ◌==◌, Bool, true, false, if◌then◌else◌, ◌+◌, ◌-◌, ◌<◌, ◌≤◌, List, [], ◌∷◌, ◌++◌, length, take, drop, Option, Some, None, refl, sym, ◌∙◌, ap, subst, arith, length-append, length-drop}
+use Rattle.std.proofs.Common.{◌≡◌, ◌⊎◌, inl, inr, ℕ, ◌==◌, Bool, true, false, if◌then◌else◌, ◌+◌, ◌-◌, ◌<◌, ◌≤◌, List, [], ◌∷◌, ◌++◌, length, take, drop, slice_index, nat_lt, Option, Some, None, refl, sym, ◌∙◌, ap, subst, arith, length-append, length-drop}
 use Rattle.std.proofs.lemmas.List.{length-take}
 use Rattle.std.specs.List.{slice_get}
 use Rattle.std.proofs.lemmas.Bool.{cases_eq}
 use Rattle.std.proofs.lemmas.Bool.Decides.{nat_tests}
 use Rattle.df_theory.specs.Units.{Message, Session}
-use Rattle.df_theory.specs.View.{Shape, Checkpoint, View, IsTrailer, head, Chain, noted, session_of, sessions, sessions_after, last_mark, last_checksum, Answers, Tracks, Sound}
-use Rattle.df_theory.specs.Moves.{IsReply, IsFinish, MayAppend, appended, replied, checkpointed, kept}
-use Rattle.df_theory.proofs.Sessions.{chain_more, last_mark-more, sessions-append, chain_drop, last_mark-drop, sessions-drop, noted_get, tracks_chain, chain_take, last_mark-take}
+use Rattle.df_theory.specs.Sessions.{Answers, Tracks, sessions_after}
+use Rattle.df_theory.specs.Tails.{AreWholeGroups, Chain, In, last_checksum, last_mark}
+use Rattle.df_theory.specs.Shape.{Shape}
+use Rattle.df_theory.specs.View.{Checkpoint, PassesTests, View, head, sequence, sessions}
+use Rattle.df_theory.specs.Holds.{Sound}
+use Rattle.df_theory.specs.Next.{IsFinish, IsReply, MayAppend, MayFinish, appended, checkpointed, kept, replied}
+use Rattle.df_theory.proofs.Tails.{in_either, in_dropped, turn_ops, turn_chain}
+use Rattle.df_theory.proofs.Sessions.{chain_append, last_mark-append, last_mark-each, after_get, sessions-append, chain_drop, last_mark-drop, sessions-drop, tracks_chain, chain_take, last_mark-take}
 use Rattle.df_theory.proofs.Appends.{kept_some}
 use Rattle.df_theory.proofs.Replies.{stored_at, stored_else}
 
-kept_is : (s : Session) (op : ℕ) (old : Option Message) → (s.op ≡ op → ⊥) → kept (Some s) op old ≡ old
-kept_is s op old differs = grind (arith, nat_tests)
+kept_is : (s : Session) (op : ℕ) (old : Option Message) → s.op ≤ op → kept (Some s) op old ≡ old
+kept_is s op old low = grind (arith, nat_tests)
 
-kept_op : (s : Session) (op : ℕ) (old : Option Message) (r : Message) → kept (Some s) op old ≡ Some r → s.op ≡ op → ⊥
-kept_op s op old r is same = go (s.op == op) (eq_true s.op op same) is
+kept_op : (s : Session) (op : ℕ) (old : Option Message) (r : Message) → kept (Some s) op old ≡ Some r → op < s.op → ⊥
+kept_op s op old r is above = go (nat_lt op s.op) (lt_true op s.op above) is
   where
     go : (b : Bool) → b ≡ true → (if b then None else old) ≡ Some r → ⊥
     go true yes_true none = cc
     go false no_true none = cc
 
-    eq_true : (a b : ℕ) → a ≡ b → (a == b) ≡ true
-    eq_true a b e = grind (arith, nat_tests)
+    lt_true : (a b : ℕ) → a < b → nat_lt a b ≡ true
+    lt_true a b e = grind (arith, nat_tests)
 
 -- the sessions of a sound view
 pub tracks : (sh : Shape) (v : View) → Sound sh v → Tracks v.replies (head v) (sessions v)
-tracks sh v sound = tracks_chain sh.clients v.checkpoint.content.op v.checkpoint.content.op_checksum 0 v.checkpoint.content.replies v.replies v.checkpoint.parts.sessions v.tail sound.checkpoint.tracks sound.chain sound.replies_from.0 sound.replies_from.1
+tracks sh v sound = tracks_chain sh.layout.clients v.checkpoint.content.op v.checkpoint.content.op_checksum 0 v.checkpoint.content.replies v.replies v.checkpoint.parts.sessions v.tail sound.checkpoint.tracks sound.chain sound.replies_from.0 sound.replies_from.1
 
-module _ (sh : Shape) (v : View) (p : Message) (sound : Sound sh v) (may : MayAppend sh v p) where
-  after_is : sessions (appended v p) ≡ noted p.header (sessions v)
-  after_is = sessions-append v.checkpoint.parts.sessions v.tail (p ∷ [])
+module _ (sh : Shape) (v : View) (ps : List Message) (sound : Sound sh v) (may : MayAppend sh v ps) where
+  abbrev u : View
+  u = appended v ps
 
-  session_is : (k : ℕ) (s : Session) → slice_get (sessions (appended v p)) k ≡ Some s → (s ≡ session_of p.header) ⊎ (slice_get (sessions v) k ≡ Some s)
-  session_is k s at = noted_get p.header (sessions v) k s (ap (λ (l : List Session). slice_get l k) (sym after_is) ∙ at)
+  after_is : sessions u ≡ sessions_after (sessions v) ps
+  after_is = sessions-append v.checkpoint.parts.sessions v.tail ps
 
-  op_old : (k : ℕ) (s : Session) → slice_get (sessions v) k ≡ Some s → s.op < p.header.op
-  op_old k s at = omega (arith, (tracks sh v sound).below k s at, may.is.op)
+  op_new : (p : Message) → In p ps → head v < p.header.op
+  op_new p at = omega (arith, turn_ops (head v + 1) (last_checksum v.checkpoint.content.op_checksum v.tail) ps p may.is.turn at)
 
-  head_is : head (appended v p) ≡ head v + 1
-  head_is = omega (arith, length-append v.tail (p ∷ []))
+  session_is : (k : ℕ) (s : Session) → slice_get (sessions u) k ≡ Some s → (slice_get (sessions v) k ≡ Some s) ⊎ (head v < s.op)
+  session_is k s at = elim (after_get (sessions v) ps k s (ap (λ (l : List Session). slice_get l k) (sym after_is) ∙ at)) [
+    | inl old ↦ inl old
+    | inr new ↦ inr (omega (arith, op_new new.0 new.1, ap (λ (t : Session). t.op) new.2))
+  ]
 
-  mark_is : last_mark 0 (v.tail ++ p ∷ []) ≡ v.replies
-  mark_is = last_mark-more 0 v.tail p ∙ may.is.mark
+  head_is : head u ≡ head v + length ps
+  head_is = omega (arith, length-append v.tail ps)
 
-  answered_at : (k : ℕ) (r : Message) (o : Option Session) → slice_get (sessions (appended v p)) k ≡ o → kept o p.header.op (v.stored k) ≡ Some r → (s : Session) × (slice_get (sessions (appended v p)) k ≡ Some s) × (s.op ≤ v.replies) × Answers s r
+  mark_is : last_mark 0 (v.tail ++ ps) ≡ v.replies
+  mark_is = last_mark-append 0 v.tail ps ∙ last_mark-each (last_mark 0 v.tail) v.replies ps may.is.some (λ p at. (may.is.stamped p at).mark)
+
+  answered_at : (k : ℕ) (r : Message) (o : Option Session) → slice_get (sessions u) k ≡ o → kept o (head v) (v.stored k) ≡ Some r → (s : Session) × (slice_get (sessions u) k ≡ Some s) × (s.op ≤ v.replies) × Answers s r
   answered_at k r None at is = absurd (cc)
   answered_at k r (Some s) at is =
-      let old = sound.answered k r (kept_some (Some s) p.header.op (v.stored k) r is) in
+      let old = sound.answered k r (kept_some (Some s) (head v) (v.stored k) r is) in
       elim (session_is k s at) [
-        | inl new ↦ absurd (kept_op s p.header.op (v.stored k) r is (ap (λ (t : Session). t.op) new))
-        | inr there ↦
+        | inl there ↦
             let same : old.0 ≡ s = (let two : Some old.0 ≡ Some s = sym old.1 ∙ there in cc) in
             (s, at, subst (λ (t : Session). t.op ≤ v.replies) same old.2, subst (λ (t : Session). Answers t r) same old.3)
+        | inr new ↦ absurd (kept_op s (head v) (v.stored k) r is new)
       ]
 
-  stores : (k : ℕ) (s : Session) → slice_get (sessions (appended v p)) k ≡ Some s → s.op ≤ v.replies → (r : Message) × ((appended v p).stored k ≡ Some r)
+  stores : (k : ℕ) (s : Session) → slice_get (sessions u) k ≡ Some s → s.op ≤ v.replies → (r : Message) × (u.stored k ≡ Some r)
   stores k s at low =
-      let differs : s.op ≡ p.header.op → ⊥ = λ same. omega (arith, may.is.op, sound.replies_to) in
+      let low_head : s.op ≤ head v = omega (arith, sound.pipeline.0) in
       elim (session_is k s at) [
-        | inl new ↦ absurd (differs (ap (λ (t : Session). t.op) new))
-        | inr old ↦
+        | inl old ↦
             let r = sound.stores k s old low in
-            (r.0, ap (λ (o : Option Session). kept o p.header.op (v.stored k)) at ∙ kept_is s p.header.op (v.stored k) differs ∙ r.1)
+            (r.0, ap (λ (o : Option Session). kept o (head v) (v.stored k)) at ∙ kept_is s (head v) (v.stored k) low_head ∙ r.1)
+        | inr new ↦ absurd (omega arith)
       ]
 
-  pub append_sound : Sound sh (appended v p)
+  groups : AreWholeGroups (head u) (v.tail ++ ps)
+  groups p at = elim (in_either p v.tail ps at) [
+    | inl old ↦ omega (arith, sound.groups p old, head_is)
+    | inr new ↦ omega (arith, (may.is.stamped p new).group_last, head_is)
+  ]
+
+  pub append_sound : Sound sh u
   append_sound = record {
-    chain = chain_more sh.clients (v.checkpoint.content.op + 1) v.checkpoint.content.op_checksum 0 v.checkpoint.parts.sessions v.tail p sound.chain (record {
-      op_is = omega (arith, may.is.op);
-      parent_is = may.is.parent;
-      mark_from = omega (arith, may.is.mark, sound.replies_from.1);
-      mark_below = omega (arith, may.is.mark, sound.replies_to);
-      mark_near = omega (arith, may.is.mark, may.pipeline);
-      asks = may.asks;
-    });
+    chain = chain_append sh.layout.clients (v.checkpoint.content.op + 1) v.checkpoint.content.op_checksum 0 v.checkpoint.parts.sessions v.tail ps sound.chain (
+      let same : head v + 1 ≡ v.checkpoint.content.op + 1 + length v.tail = omega arith in
+      subst (λ (k : ℕ). Chain sh.layout.clients k (last_checksum v.checkpoint.content.op_checksum v.tail) (last_mark 0 v.tail) (sessions v) ps) same
+      (turn_chain sh.layout.clients (head v + 1) (last_checksum v.checkpoint.content.op_checksum v.tail) (last_mark 0 v.tail) v.replies (head v + length ps) (sessions v) ps may.is.turn
+      (λ p at. let stamped = may.is.stamped p at in (stamped.mark, stamped.group_last)) sound.replies_from.1 (omega (arith, sound.pipeline.0)) (omega (arith, may.pipeline)) (omega arith) may.asks)
+    );
+    room = omega (arith, may.room, length-append v.tail ps);
+    groups = groups;
     checkpoint = sound.checkpoint;
-    room = omega (arith, may.room, length-append v.tail (p ∷ []));
     head_from = omega (arith, sound.head_from, head_is);
-    replies_to = omega (arith, sound.replies_to, head_is);
+    head_to = omega (arith, may.unspent, head_is);
+    pipeline = (omega (arith, sound.pipeline.0, head_is), omega (arith, may.pipeline, head_is));
     replies_from = (sound.replies_from.0, omega (arith, mark_is));
-    answered = λ k r is. answered_at k r (slice_get (sessions (appended v p)) k) refl is;
+    answered = λ k r is. answered_at k r (slice_get (sessions u) k) refl is;
     stores = stores;
   }
 
@@ -110,35 +127,40 @@ module _ (sh : Shape) (v : View) (place : ℕ) (r : Message) (sound : Sound sh v
   reply_sound = record {
     chain = sound.chain;
     room = sound.room;
+    groups = sound.groups;
     checkpoint = sound.checkpoint;
     head_from = sound.head_from;
-    replies_to = omega (arith, waits);
+    head_to = sound.head_to;
+    pipeline = (omega (arith, waits), omega (arith, sound.pipeline.1));
     replies_from = (omega (arith, sound.replies_from.0), omega (arith, sound.replies_from.1));
     answered = reply_answered;
     stores = reply_stores;
   }
 
-module _ (sh : Shape) (v : View) (c : Checkpoint) (sound : Sound sh v) (is : IsFinish v c) (trailer : IsTrailer sh c) where
+module _ (sh : Shape) (v : View) (c : Checkpoint) (sound : Sound sh v) (may : MayFinish sh v c) where
+  is : IsFinish v c
+  is = may.is
+
   abbrev n : ℕ
   n = c.content.op - v.checkpoint.content.op
 
   same_sessions : sessions (checkpointed v c) ≡ sessions v
   same_sessions = ap (λ (l : List Session). sessions_after l (drop n v.tail)) is.sessions ∙ sessions-drop n v.checkpoint.parts.sessions v.tail
 
-  chain_here : Chain sh.clients (c.content.op + 1) c.content.op_checksum 0 c.parts.sessions (drop n v.tail)
+  chain_here : Chain sh.layout.clients (c.content.op + 1) c.content.op_checksum 0 c.parts.sessions (drop n v.tail)
   chain_here =
       let op : v.checkpoint.content.op + 1 + n ≡ c.content.op + 1 = omega (arith, is.op_from) in
-      let chain = chain_drop n sh.clients (v.checkpoint.content.op + 1) v.checkpoint.content.op_checksum 0 v.checkpoint.parts.sessions v.tail (omega (arith, is.op_to, is.op_from)) sound.chain in
-      subst (λ (k : ℕ). Chain sh.clients k c.content.op_checksum 0 c.parts.sessions (drop n v.tail)) op
-      (subst (λ (k : ℕ). Chain sh.clients (v.checkpoint.content.op + 1 + n) k 0 c.parts.sessions (drop n v.tail)) (sym is.op_checksum)
-      (subst (λ (l : List Session). Chain sh.clients (v.checkpoint.content.op + 1 + n) (last_checksum v.checkpoint.content.op_checksum (take n v.tail)) 0 l (drop n v.tail)) (sym is.sessions) chain))
+      let chain = chain_drop n sh.layout.clients (v.checkpoint.content.op + 1) v.checkpoint.content.op_checksum 0 v.checkpoint.parts.sessions v.tail (omega (arith, is.op_to, is.op_from)) sound.chain in
+      subst (λ (k : ℕ). Chain sh.layout.clients k c.content.op_checksum 0 c.parts.sessions (drop n v.tail)) op
+      (subst (λ (k : ℕ). Chain sh.layout.clients (v.checkpoint.content.op + 1 + n) k 0 c.parts.sessions (drop n v.tail)) (sym is.op_checksum)
+      (subst (λ (l : List Session). Chain sh.layout.clients (v.checkpoint.content.op + 1 + n) (last_checksum v.checkpoint.content.op_checksum (take n v.tail)) 0 l (drop n v.tail)) (sym is.sessions) chain))
 
   tracks_here : Tracks c.content.replies c.content.op c.parts.sessions
   tracks_here =
       let chain = sound.chain in
-      let last = last_mark-take n sh.clients (v.checkpoint.content.op + 1) v.checkpoint.content.op_checksum 0 v.checkpoint.parts.sessions v.tail chain in
+      let last = last_mark-take n sh.layout.clients (v.checkpoint.content.op + 1) v.checkpoint.content.op_checksum 0 v.checkpoint.parts.sessions v.tail chain in
       let op : v.checkpoint.content.op + length (take n v.tail) ≡ c.content.op = omega (arith, length-take n v.tail, is.op_from, is.op_to) in
-      let here = tracks_chain sh.clients v.checkpoint.content.op v.checkpoint.content.op_checksum 0 v.checkpoint.content.replies v.replies v.checkpoint.parts.sessions (take n v.tail) sound.checkpoint.tracks (chain_take n sh.clients (v.checkpoint.content.op + 1) v.checkpoint.content.op_checksum 0 v.checkpoint.parts.sessions v.tail chain) sound.replies_from.0 (omega (arith, sound.replies_from.1)) in
+      let here = tracks_chain sh.layout.clients v.checkpoint.content.op v.checkpoint.content.op_checksum 0 v.checkpoint.content.replies v.replies v.checkpoint.parts.sessions (take n v.tail) sound.checkpoint.tracks (chain_take n sh.layout.clients (v.checkpoint.content.op + 1) v.checkpoint.content.op_checksum 0 v.checkpoint.parts.sessions v.tail chain) sound.replies_from.0 (omega (arith, sound.replies_from.1)) in
       subst (λ (l : List Session). Tracks c.content.replies c.content.op l) (sym is.sessions)
       (subst (λ (m : ℕ). Tracks m c.content.op (sessions_after v.checkpoint.parts.sessions (take n v.tail))) (sym is.replies)
       (subst (λ (m : ℕ). Tracks v.replies m (sessions_after v.checkpoint.parts.sessions (take n v.tail))) op here))
@@ -146,13 +168,34 @@ module _ (sh : Shape) (v : View) (c : Checkpoint) (sound : Sound sh v) (is : IsF
   head_same : head (checkpointed v c) ≡ head v
   head_same = omega (arith, length-drop n v.tail, is.op_from, is.op_to)
 
+  no_checksum : c.content.op ≡ 0 → c.content.op_checksum ≡ 0
+  no_checksum zero_is =
+      let none : n ≡ 0 = omega (arith, is.op_from) in
+      is.op_checksum ∙ ap (λ (k : ℕ). last_checksum v.checkpoint.content.op_checksum (take k v.tail)) none ∙ sound.checkpoint.tests.op_checksum (omega (arith, is.op_from))
+
+  tests_here : PassesTests sh c.content
+  tests_here =
+      let tests = sound.checkpoint.tests in
+      record {
+        version = is.file.0 ∙ tests.version;
+        cluster = is.file.1 ∙ tests.cluster;
+        layout = is.file.2 ∙ tests.layout;
+        sequence = (omega (arith, is.sequence), omega (arith, is.sequence, may.unspent));
+        op_checksum = no_checksum;
+        head = (omega (arith, is.head, is.op_to), omega (arith, is.head, is.op_from, sound.room), omega (arith, is.head, sound.head_to));
+        replies = (omega (arith, is.head, is.replies, sound.pipeline.0), omega (arith, is.head, is.replies, sound.pipeline.1));
+        rest = λ i. ap (λ (l : List ℕ). slice_index l i) is.file.3 ∙ tests.rest i;
+      }
+
   pub checkpoint_sound : Sound sh (checkpointed v c)
   checkpoint_sound = record {
     chain = chain_here;
     room = omega (arith, length-drop n v.tail, sound.room);
-    checkpoint = record { head = omega (arith, is.head, is.op_to); replies = omega (arith, is.head, is.replies, sound.replies_to); tracks = tracks_here; trailer = trailer };
+    groups = λ p at. omega (arith, sound.groups p (in_dropped n p v.tail at), head_same);
+    checkpoint = record { tests = tests_here; tracks = tracks_here; trailer = may.trailer };
     head_from = omega (arith, is.head, head_same);
-    replies_to = omega (arith, sound.replies_to, head_same);
+    head_to = omega (arith, sound.head_to, head_same);
+    pipeline = (omega (arith, sound.pipeline.0, head_same), omega (arith, sound.pipeline.1, head_same));
     replies_from = (omega (arith, is.replies), omega (arith, last_mark-drop n 0 v.tail, sound.replies_from.1));
     answered = λ k r at.
         let before = sound.answered k r at in

@@ -1,18 +1,25 @@
 -- Events, one after another, on logs that are quiet but for free blocks.
 use Rattle.std.proofs.Common.{◌≡◌, ◌⊎◌, inl, inr, arith, Bool, true, false, ◌||◌, List, [], ◌∷◌, Option, Some, None, refl, sym, ◌∙◌, ap}
-use Rattle.df_theory.specs.Units.{Place, CopyPlace, HeaderPlace, PreparePlace, ReplyPlace, BlockPlace, AnyUnit, Units, overlay, or_else, is_some}
-use Rattle.df_theory.specs.View.{Shape, View, Agrees, Sound, Holds}
-use Rattle.df_theory.specs.Moves.{Next, Same}
-use Rattle.df_theory.specs.Log.{Sync, Log, now, loose, settled, add, IsLeftBy, InImages, InPool, AreFair, IsMade, AreMade, Begins, Grows, IsGrown, IsSafe, EachLeft, wrote}
-use Rattle.df_theory.specs.Rest.{IsCalm, Knows, IsSteady, Outcome, Tear, Kept, Loose, Touched, Torn, TornView, IsCalmPut, Stepped}
+use Rattle.df_theory.specs.Units.{AnyUnit, BlockPlace, CopyPlace, HeaderPlace, Place, PreparePlace, ReplyPlace, Units, is_some, or_else, overlay}
+use Rattle.df_theory.specs.Shape.{Shape}
+use Rattle.df_theory.specs.View.{View}
+use Rattle.df_theory.specs.Shows.{Agrees}
+use Rattle.df_theory.specs.Holds.{Holds, Sound}
+use Rattle.df_theory.specs.Next.{Next, Same}
+use Rattle.df_theory.specs.UnitLog.{IsLeftBy, Synced, UnitLog, add, loose, now, settled, wrote}
+use Rattle.df_theory.specs.Chance.{AreFair, EachLeft, InImages, InPool}
+use Rattle.df_theory.specs.First.{AreMade, IsMade}
+use Rattle.df_theory.specs.Grown.{Begins, Grows, HasGrown, IsSafe}
+use Rattle.df_theory.specs.Steady.{IsCalm, IsCalmPut, IsSteady, Stepped}
 use Rattle.df_theory.proofs.Grew.{agrees_grew, next_grew}
 use Rattle.df_theory.proofs.Images.{rests_open, chosen_same}
+use Rattle.df_theory.proofs.Torn.{Knows, Outcome, Tear, Kept, Loose, Touched, Torn, TornView}
 
 pub grows_holds : (sh : Shape) (image : Units) (images : List Units) (v : View) → Grows sh (image ∷ images) v → Holds sh image v
 grows_holds sh image images v grows = grows.0
 
 pub made_agrees : (sh : Shape) (v : View) (place : Place) (x : AnyUnit) → IsMade v.checkpoint.content place x → Agrees sh v place x
-made_agrees sh v (CopyPlace n) x made = (v.checkpoint.content, made, record { top = omega arith; others = λ differs. inl refl })
+made_agrees sh v (CopyPlace n) x made = (v.checkpoint.content, made, λ differs. inl refl)
 made_agrees sh v (HeaderPlace s) x made = (
   made.0,
   made.1,
@@ -32,11 +39,11 @@ images_made sh v [] made place x at = absurd at
 images_made sh v (image ∷ []) made place x (inl here) = absurd (let no_unit : Some x ≡ None = sym here ∙ made place in cc)
 images_made sh v (image ∷ []) made place x (inr there) = absurd there
 images_made sh v (image ∷ before ∷ images) made place x (inl here) = made_agrees sh v place x (made.0 place x here)
-images_made sh v (image ∷ before ∷ images) made place x (inr there) = images_made sh v (before ∷ images) made.1 place x there
+images_made sh v (image ∷ before ∷ images) made place x (inr there) = images_made sh v (before ∷ images) made.2 place x there
 
-begins_agrees : (sh : Shape) (v : View) (image : Units) (images : List Units) → Begins image images v → (place : Place) (x : AnyUnit) → InImages images place x → Agrees sh v place x
+begins_agrees : (sh : Shape) (v : View) (image : Units) (images : List Units) → Begins sh image images v → (place : Place) (x : AnyUnit) → InImages images place x → Agrees sh v place x
 begins_agrees sh v image [] begins place x at = absurd at
-begins_agrees sh v image (before ∷ images) begins place x at = images_made sh v (before ∷ images) begins.1.1 place x at
+begins_agrees sh v image (before ∷ images) begins place x at = images_made sh v (before ∷ images) begins.2 place x at
 
 pub grows_sound : (sh : Shape) (images : List Units) (u : View) → Grows sh images u → Sound sh u
 grows_sound sh [] u grows = absurd grows
@@ -55,21 +62,21 @@ pub grows_more : (sh : Shape) (images : List Units) (v : View) (j : Units) → G
 grows_more sh images v j grows o = (o.holds, inr (o.known, (v, o.next, grows)))
 
 -- A log is safe where each image that a stop may leave has a next view.
-pub safe_if : (sh : Shape) (log : Log) (v : View) → AreFair log.start log.events → Grows sh (settled log) v → Knows log (now log)
+pub safe_if : (sh : Shape) (log : UnitLog) (v : View) → AreFair log.start log.events → Grows sh (settled log) v → Knows log (now log)
     → ((j : Units) → IsLeftBy log j → Knows log j → Outcome sh (settled log) v j) → IsSafe sh log
 safe_if sh log v fair grows here each =
     let o = each (now log) (λ place firm. refl) here in
     record {
-      grown = (v, record { fair = fair; grows = grows });
-      synced = (o.view, record { fair = fair; grows = grows_more sh (settled log) v (now log) grows o });
+      grown = inl (v, record { fair = fair; grows = grows });
+      synced = inl (o.view, record { fair = fair; grows = grows_more sh (settled log) v (now log) grows o });
       stopped = λ image left chance.
           let p = each image left chance.known in
-          (p.view, record { fair = (left, chance, fair); grows = grows_more sh (settled log) v image grows p });
+          inl (p.view, record { fair = (left, chance, fair); grows = grows_more sh (settled log) v image grows p });
     }
 
 -- a log that has just been synced is at rest
-pub synced_rest : (sh : Shape) (log : Log) (v : View) → IsGrown sh (add Sync log) v → IsSteady sh (add Sync log) v
-synced_rest sh log v g = record {
+pub synced_steady : (sh : Shape) (log : UnitLog) (v : View) → HasGrown sh (add Synced log) v → IsSteady sh (add Synced log) v
+synced_steady sh log v g = record {
   fair = g.fair;
   grows = g.grows;
   holds = grows_holds sh (now log) (settled log) v g.grows;
@@ -83,8 +90,8 @@ cases_bool true = inl refl
 cases_bool false = inr refl
 
 -- nothing that is loose matters: each image left has the view
-pub rest_left : (sh : Shape) (log : Log) (v : View) → IsSteady sh log v → (j : Units) → IsLeftBy log j → Knows log j → Outcome sh (settled log) v j
-rest_left sh log v rest j left knows = record {
+pub steady_left : (sh : Shape) (log : UnitLog) (v : View) → IsSteady sh log v → (j : Units) → IsLeftBy log j → Knows log j → Outcome sh (settled log) v j
+steady_left sh log v rest j left knows = record {
   view = v;
   next = Same;
   holds = record {
@@ -109,15 +116,15 @@ rest_left sh log v rest j left knows = record {
   ];
 }
 
-pub rest_safe : (sh : Shape) (log : Log) (v : View) → IsSteady sh log v → IsSafe sh log
-rest_safe sh log v rest = safe_if sh log v rest.fair rest.grows rest.knows (rest_left sh log v rest)
+pub steady_safe : (sh : Shape) (log : UnitLog) (v : View) → IsSteady sh log v → IsSafe sh log
+steady_safe sh log v rest = safe_if sh log v rest.fair rest.grows rest.knows (steady_left sh log v rest)
 
-pub rest_holds : (sh : Shape) (log : Log) (v : View) → IsSteady sh log v → EachLeft log (λ j. Holds sh j v)
-unfolding rest_left
-rest_holds sh log v rest j left chance = (rest_left sh log v rest j left chance.known).holds
+pub steady_holds : (sh : Shape) (log : UnitLog) (v : View) → IsSteady sh log v → EachLeft log (λ j. Holds sh j v)
+unfolding steady_left
+steady_holds sh log v rest j left chance = (steady_left sh log v rest j left chance.known).holds
 
 -- THE STEP: a write of whole units.
-module _ (sh : Shape) (log : Log) (v : View) (put : Units) (rest : IsSteady sh log v) where
+module _ (sh : Shape) (log : UnitLog) (v : View) (put : Units) (rest : IsSteady sh log v) where
   shown_put : (place : Place) (x : AnyUnit) → or_else (put place) (now log place) ≡ Some x → (o : Option AnyUnit) → put place ≡ o → InPool (wrote put log) place x
   shown_put place x is (Some y) at = inr (inl (at ∙ sym (ap (λ (o : Option AnyUnit). or_else o (now log place)) at) ∙ is))
   shown_put place x is None at = elim (rest.knows place x (sym (ap (λ (o : Option AnyUnit). or_else o (now log place)) at) ∙ is)) [
@@ -160,12 +167,13 @@ module _ (sh : Shape) (log : Log) (v : View) (put : Units) (rest : IsSteady sh l
   }
 
   -- the log after the write and a sync is at rest
-  pub write_synced : (u : View) → Next v u → TornView sh log v put (overlay put (now log)) u → IsSteady sh (add Sync (wrote put log)) u
+  pub write_synced : (u : View) → Next v u → TornView sh log v put (overlay put (now log)) u → IsSteady sh (add Synced (wrote put log)) u
   unfolding torn_outcome
-  write_synced u next t = synced_rest sh (wrote put log) u (record { fair = rest.fair; grows = grows_more sh (settled log) v (now (wrote put log)) rest.grows (torn_outcome (overlay put (now log)) u next wrote_knows t) })
+  write_synced u next t = synced_steady sh (wrote put log) u (record { fair = rest.fair; grows = grows_more sh (settled log) v (now (wrote put log)) rest.grows (torn_outcome (overlay put (now log)) u next wrote_knows t) })
 
   pub step : (u : View) → Next v u → ((j : Units) → Torn sh log v put j → TornView sh log v put j v ⊎ TornView sh log v put j u) → TornView sh log v put (overlay put (now log)) u → Stepped sh log put v u
   step u next each done = record {
+    good = record {
     safe = safe_if sh (wrote put log) v rest.fair rest.grows wrote_knows (λ j left knows. elim (each j (left_torn j left knows)) [
       | inl before ↦ torn_outcome j v Same knows before
       | inr after ↦ torn_outcome j u next knows after
@@ -174,7 +182,8 @@ module _ (sh : Shape) (log : Log) (v : View) (put : Units) (rest : IsSteady sh l
       | inl before ↦ inl before.holds
       | inr after ↦ inr after.holds
     ];
-    rest = write_synced u next done;
+    };
+    steady = write_synced u next done;
   }
 
   -- a write that the view doesn't see may stay loose

@@ -1,13 +1,22 @@
 -- The four copies of a new superblock, one after another.
 use Rattle.std.proofs.Common.{◌≡◌, ◌⊎◌, inl, inr, ℕ, ◌+◌, ◌-◌, ◌<◌, true, false, Option, Some, None, refl, sym, ◌∙◌, ap, subst, arith}
 use Rattle.std.proofs.lemmas.Bool.{cases_eq, cases_lt}
-use Rattle.df_theory.specs.Units.{Place, CopyPlace, HeaderPlace, PreparePlace, ReplyPlace, BlockPlace, Content, Block, AnyUnit, CopyUnit, BlockUnit, Units, overlay, or_else}
-use Rattle.df_theory.specs.View.{Shape, Checkpoint, View, InChain, Needs, Agrees, AgreesCopy, Votes, Chosen, Sound, Bears}
-use Rattle.df_theory.specs.Moves.{Same, Finish, Grew, IsFinish, checkpointed}
-use Rattle.df_theory.specs.Log.{Log, now, loose, settled, InImages, Known}
-use Rattle.df_theory.specs.Rest.{MayShow, IsSteady, IsQuiet, Tear, Kept, Loose, Touched, Torn, TornView, PutsOne, Stepped, IsSpare}
+use Rattle.df_theory.specs.Units.{AnyUnit, Block, BlockPlace, BlockUnit, Content, CopyPlace, CopyUnit, HeaderPlace, Place, PreparePlace, ReplyPlace, Units, or_else, overlay}
+use Rattle.df_theory.specs.Shape.{Shape}
+use Rattle.df_theory.specs.Copies.{Agree, IsChosen, rank_of}
+use Rattle.df_theory.specs.Trailer.{InChain}
+use Rattle.df_theory.specs.View.{Checkpoint, View}
+use Rattle.df_theory.specs.Shows.{Agrees, AgreesCopy, Needs}
+use Rattle.df_theory.specs.Holds.{Bears, Sound}
+use Rattle.df_theory.specs.Next.{Finish, IsFinish, Same, checkpointed}
+use Rattle.df_theory.specs.UnitLog.{PutsOne, UnitLog, loose, now, settled}
+use Rattle.df_theory.specs.Chance.{InImages}
+use Rattle.df_theory.specs.Grown.{Known}
+use Rattle.df_theory.specs.Steady.{AgreeBeside, IsQuiet, IsSteady, MayShow, Stepped}
 use Rattle.df_theory.proofs.Tails.{in_dropped}
-use Rattle.df_theory.proofs.Grew.{agrees_grew, next_grew}
+use Rattle.df_theory.proofs.Grew.{Grew, agrees_grew, next_grew}
+use Rattle.df_theory.proofs.Choices.{same_copy, chosen_above}
+use Rattle.df_theory.proofs.Torn.{Tear, Kept, Loose, Touched, Torn, TornView}
 use Rattle.df_theory.proofs.Images.{IsOpen, rests_open}
 use Rattle.df_theory.proofs.Puts.{block_agrees, block_known, overlay_torn}
 use Rattle.df_theory.proofs.Steps.{step}
@@ -17,78 +26,70 @@ pub record IsStage (image : Units) (old new : Content) (k : ℕ) : Type 0 where
   pub low : (n : ℕ) → n < k → image (CopyPlace n) ≡ Some (CopyUnit new)
   pub high : (n : ℕ) → k < n → n < 4 → image (CopyPlace n) ≡ Some (CopyUnit old)
 
-same_content : (image : Units) (n : ℕ) (c d : Content) → image (CopyPlace n) ≡ Some (CopyUnit c) → image (CopyPlace n) ≡ Some (CopyUnit d) → c ≡ d
-same_content image n c d one two = let both : Some (CopyUnit c) ≡ Some (CopyUnit d) = sym one ∙ two in cc
-
 -- a copy other than number k shows one of the two
 one_of : (image : Units) (old new d : Content) (k n : ℕ) → IsStage image old new k → n < 4 → (n ≡ k → ⊥) → image (CopyPlace n) ≡ Some (CopyUnit d) → ((n < k) × (d ≡ new)) ⊎ ((k < n) × (d ≡ old))
 one_of image old new d k n stage below apart shown = elim (cases_lt n k) [
-  | inl less ↦ inl (less, same_content image n d new shown (stage.low n less))
+  | inl less ↦ inl (less, same_copy image n d new shown (stage.low n less))
   | inr more ↦
       let above : k < n = omega arith in
-      inr (above, same_content image n d old shown (stage.high n above below))
+      inr (above, same_copy image n d old shown (stage.high n above below))
 ]
 
 -- of two copies that agree one is not number k
-votes_of : (image : Units) (old new d : Content) (k m n : ℕ) → IsStage image old new k → Votes image d m n → (d ≡ new) ⊎ (d ≡ old)
-votes_of image old new d k m n stage v = elim (cases_eq m k) [
-  | inl here ↦ elim (one_of image old new d k n stage v.last (λ same. omega (arith, v.apart)) v.other) [ inl a ↦ inl a.1 | inr b ↦ inr b.1 ]
-  | inr apart ↦ elim (one_of image old new d k m stage (omega (arith, v.apart, v.last)) apart v.one) [ inl a ↦ inl a.1 | inr b ↦ inr b.1 ]
+votes_of : (image : Units) (old new d : Content) (k : ℕ) → IsStage image old new k → Agree image d → (d ≡ new) ⊎ (d ≡ old)
+votes_of image old new d k stage a = elim (cases_eq a.first k) [
+  | inl here ↦ elim (one_of image old new d k a.second stage a.inside (λ same. omega (arith, a.apart)) a.at_second) [ inl x ↦ inl x.1 | inr x ↦ inr x.1 ]
+  | inr apart ↦ elim (one_of image old new d k a.first stage (omega (arith, a.apart, a.inside)) apart a.at_first) [ inl x ↦ inl x.1 | inr x ↦ inr x.1 ]
 ]
 
-module _ (image : Units) (old new : Content) (more : new.sequence ≡ old.sequence + 1) where
+pub agree_at : (image : Units) (c : Content) (m n : ℕ) → m < n → n < 4 → image (CopyPlace m) ≡ Some (CopyUnit c) → image (CopyPlace n) ≡ Some (CopyUnit c) → Agree image c
+agree_at image c m n apart inside one two = record { first = m; second = n; apart = apart; inside = inside; at_first = one; at_second = two }
+
+module _ (image : Units) (old new : Content) (more : rank_of new ≡ rank_of old + 1) where
   apart : new ≡ old → ⊥
-  apart same = omega (arith, ap (λ (c : Content). c.sequence) same)
+  apart same = omega (arith, ap rank_of same)
 
   -- while copy 0 is written
-  pub chosen_first : IsStage image old new 0 → Chosen image old
-  chosen_first stage = record {
-    voted = (1, 2, record { apart = omega arith; last = omega arith; one = stage.high 1 (omega arith) (omega arith); other = stage.high 2 (omega arith) (omega arith) });
-    greatest = λ d m n v. elim (one_of image old new d 0 n stage v.last (λ same. omega (arith, v.apart)) v.other) [ inl a ↦ absurd (omega (arith, a.0)) | inr b ↦ inl b.1 ];
-  }
+  pub chosen_first : IsStage image old new 0 → IsChosen image old
+  chosen_first stage =
+      chosen_above image old (agree_at image old 1 2 (omega arith) (omega arith) (stage.high 1 (omega arith) (omega arith)) (stage.high 2 (omega arith) (omega arith)))
+      (λ d a. elim (one_of image old new d 0 a.second stage a.inside (λ same. omega (arith, a.apart)) a.at_second) [ inl x ↦ absurd (omega (arith, x.0)) | inr x ↦ inl x.1 ])
 
-  greatest_new : (k : ℕ) → IsStage image old new k → (d : Content) (m n : ℕ) → Votes image d m n → (d ≡ new) ⊎ (d.sequence < new.sequence) ⊎ ((d.sequence ≡ new.sequence) × (image (CopyPlace 0) ≡ Some (CopyUnit new)))
-  greatest_new k stage d m n v = elim (votes_of image old new d k m n stage v) [
+  lower_new : (k : ℕ) → IsStage image old new k → (d : Content) → Agree image d → (d ≡ new) ⊎ (rank_of d < rank_of new)
+  lower_new k stage d a = elim (votes_of image old new d k stage a) [
     | inl is ↦ inl is
-    | inr is ↦ inr (inl (omega (arith, ap (λ (c : Content). c.sequence) is)))
+    | inr is ↦ inr (omega (arith, ap rank_of is))
   ]
 
   -- while copy 1 is written, once it is there
-  pub chosen_second : IsStage image old new 1 → image (CopyPlace 1) ≡ Some (CopyUnit new) → Chosen image new
-  chosen_second stage shown = record {
-    voted = (0, 1, record { apart = omega arith; last = omega arith; one = stage.low 0 (omega arith); other = shown });
-    greatest = greatest_new 1 stage;
-  }
+  pub chosen_second : IsStage image old new 1 → image (CopyPlace 1) ≡ Some (CopyUnit new) → IsChosen image new
+  chosen_second stage shown = chosen_above image new (agree_at image new 0 1 (omega arith) (omega arith) (stage.low 0 (omega arith)) shown) (lower_new 1 stage)
 
-  two_of : (d : Content) (m n : ℕ) → IsStage image old new 1 → (image (CopyPlace 1) ≡ Some (CopyUnit new) → ⊥) → Votes image d m n → d ≡ new → ⊥
-  two_of d m n stage none v is = elim (cases_eq n 1) [
-    | inl here ↦ none (ap (λ (k : ℕ). image (CopyPlace k)) (sym here) ∙ v.other ∙ ap (λ (c : Content). Some (CopyUnit c)) is)
-    | inr other ↦ elim (one_of image old new d 1 n stage v.last other v.other) [
-      | inl a ↦ absurd (omega (arith, a.0, v.apart))
-      | inr b ↦ apart (sym is ∙ b.1)
+  two_of : (d : Content) → IsStage image old new 1 → (image (CopyPlace 1) ≡ Some (CopyUnit new) → ⊥) → Agree image d → d ≡ new → ⊥
+  two_of d stage none a is = elim (cases_eq a.second 1) [
+    | inl here ↦ none (ap (λ (k : ℕ). image (CopyPlace k)) (sym here) ∙ a.at_second ∙ ap (λ (c : Content). Some (CopyUnit c)) is)
+    | inr other ↦ elim (one_of image old new d 1 a.second stage a.inside other a.at_second) [
+      | inl x ↦ absurd (omega (arith, x.0, a.apart))
+      | inr x ↦ apart (sym is ∙ x.1)
     ]
   ]
 
   -- and before
-  pub chosen_not_yet : IsStage image old new 1 → (image (CopyPlace 1) ≡ Some (CopyUnit new) → ⊥) → Chosen image old
-  chosen_not_yet stage none = record {
-    voted = (2, 3, record { apart = omega arith; last = omega arith; one = stage.high 2 (omega arith) (omega arith); other = stage.high 3 (omega arith) (omega arith) });
-    greatest = λ d m n v. elim (votes_of image old new d 1 m n stage v) [
-      | inl is ↦ absurd (two_of d m n stage none v is)
-      | inr is ↦ inl is
-    ];
-  }
+  pub chosen_not_yet : IsStage image old new 1 → (image (CopyPlace 1) ≡ Some (CopyUnit new) → ⊥) → IsChosen image old
+  chosen_not_yet stage none =
+      chosen_above image old (agree_at image old 2 3 (omega arith) (omega arith) (stage.high 2 (omega arith) (omega arith)) (stage.high 3 (omega arith) (omega arith)))
+      (λ d a. elim (votes_of image old new d 1 stage a) [
+        | inl is ↦ absurd (two_of d stage none a is)
+        | inr is ↦ inl is
+      ])
 
   -- while copy 2 or 3 is written
-  pub chosen_last : (k : ℕ) → 1 < k → IsStage image old new k → Chosen image new
-  chosen_last k above stage = record {
-    voted = (0, 1, record { apart = omega arith; last = omega arith; one = stage.low 0 (omega arith); other = stage.low 1 above });
-    greatest = greatest_new k stage;
-  }
+  pub chosen_last : (k : ℕ) → 1 < k → IsStage image old new k → IsChosen image new
+  chosen_last k above stage = chosen_above image new (agree_at image new 0 1 (omega arith) (omega arith) (stage.low 0 (omega arith)) (stage.low 1 above)) (lower_new k stage)
 
 -- ---- one copy, torn
 
-module _ (sh : Shape) (log : Log) (w : View) (put : Units) (k : ℕ) (old new : Content) (rests : Bears sh (now log) w) (quiet : IsQuiet log) (one : PutsOne put (CopyPlace k) (CopyUnit new)) where
+module _ (sh : Shape) (log : UnitLog) (w : View) (put : Units) (k : ℕ) (old new : Content) (rests : Bears sh (now log) w) (quiet : IsQuiet log) (one : PutsOne put (CopyPlace k) (CopyUnit new)) where
   pub other_copy : (j : Units) (n : ℕ) → (n ≡ k → ⊥) → Tear sh log w put j (CopyPlace n) → j (CopyPlace n) ≡ now log (CopyPlace n)
   other_copy j n away (Kept none same) = same
   other_copy j n away (Loose wet place_calm shows) = absurd (place_calm.no_copy tt)
@@ -156,7 +157,7 @@ checkpoint_rests sh j v c rests sound is there = record {
 
 -- ---- the four steps of an update
 
-torn_later : (sh : Shape) (log : Log) (v u : View) (put j : Units) → Grew v u → ((place : Place) → loose log place ≡ false) → (place : Place) → Tear sh log v put j place → Tear sh log u put j place
+torn_later : (sh : Shape) (log : UnitLog) (v u : View) (put j : Units) → Grew v u → ((place : Place) → loose log place ≡ false) → (place : Place) → Tear sh log v put j place → Tear sh log u put j place
 torn_later sh log v u put j grew dry place (Kept none same) = Kept none same
 torn_later sh log v u put j grew dry place (Loose wet place_calm shows) = absurd (cc (wet, dry place))
 torn_later sh log v u put j grew dry place (Touched y is shows) = Touched y is (λ x shown. elim (shows x shown) [
@@ -165,7 +166,7 @@ torn_later sh log v u put j grew dry place (Touched y is shows) = Touched y is (
 ])
 
 -- copy k shows it
-module _ (sh : Shape) (log : Log) (v : View) (c : Checkpoint) (put : Units) (sound : Sound sh (checkpointed v c)) (is : IsFinish v c) where
+module _ (sh : Shape) (log : UnitLog) (v : View) (c : Checkpoint) (put : Units) (sound : Sound sh (checkpointed v c)) (is : IsFinish v c) where
   abbrev u : View
   u = checkpointed v c
 
@@ -184,10 +185,10 @@ module _ (sh : Shape) (log : Log) (v : View) (c : Checkpoint) (put : Units) (sou
       }
 
   agrees_first : AgreesCopy v 0 c.content
-  agrees_first = record { top = omega (arith, is.sequence); others = λ differs. absurd (differs refl) }
+  agrees_first differs = absurd (differs refl)
 
   agrees_later : (k : ℕ) → AgreesCopy u k c.content
-  agrees_later k = record { top = omega arith; others = λ differs. inl refl }
+  agrees_later k differs = inl refl
 
   -- copy 0: the view stays
   pub update_first : IsSteady sh log v → IsQuiet log → PutsOne put (CopyPlace 0) (CopyUnit c.content) → IsStage (now log) v.checkpoint.content c.content 0 → Stepped sh log put v v
@@ -217,9 +218,9 @@ module _ (sh : Shape) (log : Log) (v : View) (c : Checkpoint) (put : Units) (sou
       not_new j old shown =
           let a = (old (CopyUnit c.content) shown).1 in
           let one_content : a.0 ≡ c.content = (let e = a.1 in cc) in
-          let same = ap (λ (d : Content). d.sequence) one_content in
-          elim (a.2.others (λ zero_is. omega arith)) [
-            | inl base ↦ omega (arith, ap (λ (d : Content). d.sequence) base, is.sequence)
+          let same = ap rank_of one_content in
+          elim (a.2 (λ zero_is. omega arith)) [
+            | inl base ↦ omega (arith, ap rank_of base, is.sequence)
             | inr less ↦ omega (arith, is.sequence)
           ]
 
@@ -267,12 +268,12 @@ module _ (sh : Shape) (log : Log) (v : View) (c : Checkpoint) (put : Units) (sou
 
 -- ---- mending a copy that isn't one of the chosen
 
-module _ (sh : Shape) (log : Log) (v : View) (put : Units) (k : ℕ) (rest : IsSteady sh log v) (quiet : IsQuiet log) (one : PutsOne put (CopyPlace k) (CopyUnit v.checkpoint.content)) (spare : IsSpare (now log) v.checkpoint.content k) where
+module _ (sh : Shape) (log : UnitLog) (v : View) (put : Units) (k : ℕ) (rest : IsSteady sh log v) (quiet : IsQuiet log) (one : PutsOne put (CopyPlace k) (CopyUnit v.checkpoint.content)) (spare : AgreeBeside (now log) v.checkpoint.content k) where
   mend_copy : (j : Units) (n : ℕ) → Torn sh log v put j → (n ≡ k → ⊥) → j (CopyPlace n) ≡ now log (CopyPlace n)
   mend_copy j n torn away = other_copy sh log v put k v.checkpoint.content v.checkpoint.content rest.holds.bears quiet one j n away (torn (CopyPlace n))
 
   agrees_base : AgreesCopy v k v.checkpoint.content
-  agrees_base = record { top = omega arith; others = λ differs. inl refl }
+  agrees_base differs = inl refl
 
   mend_rests : (j : Units) → Torn sh log v put j → Bears sh j v
   mend_rests j torn = copy_rests sh log v put k v.checkpoint.content v.checkpoint.content rest.holds.bears quiet one j torn (copy_here sh log v put k v.checkpoint.content v.checkpoint.content rest.holds.bears quiet one agrees_base j torn)
@@ -284,20 +285,16 @@ module _ (sh : Shape) (log : Log) (v : View) (put : Units) (k : ℕ) (rest : IsS
       subst (λ (c : Content). AgreesCopy v n c) same a.2
 
   -- of two copies that agree one isn't number 0
-  mend_greatest : (j : Units) → Torn sh log v put j → (d : Content) (m n : ℕ) → Votes j d m n → (d ≡ v.checkpoint.content) ⊎ (d.sequence < v.checkpoint.content.sequence) ⊎ ((d.sequence ≡ v.checkpoint.content.sequence) × (j (CopyPlace 0) ≡ Some (CopyUnit v.checkpoint.content)))
-  mend_greatest j torn d m n votes = elim ((copy_of j torn n d votes.other).others (λ zero_is. omega (arith, votes.apart))) [
-    | inl is ↦ inl is
-    | inr less ↦ inr (inl less)
-  ]
+  mend_lower : (j : Units) → Torn sh log v put j → (d : Content) → Agree j d → (d ≡ v.checkpoint.content) ⊎ (rank_of d < rank_of v.checkpoint.content)
+  mend_lower j torn d a = copy_of j torn a.second d a.at_second (λ zero_is. omega (arith, a.apart))
 
   mend_view : (j : Units) → Torn sh log v put j → TornView sh log v put j v
   mend_view j torn = record {
     holds = record {
       bears = mend_rests j torn;
-      chosen = record {
-        voted = (spare.first, spare.second, record { apart = spare.votes.apart; last = spare.votes.last; one = mend_copy j spare.first torn spare.no_first ∙ spare.votes.one; other = mend_copy j spare.second torn spare.no_second ∙ spare.votes.other });
-        greatest = mend_greatest j torn;
-      };
+      chosen = chosen_above j v.checkpoint.content
+          (agree_at j v.checkpoint.content spare.agreed.first spare.agreed.second spare.agreed.apart spare.agreed.inside (mend_copy j spare.agreed.first torn spare.no_first ∙ spare.agreed.at_first) (mend_copy j spare.agreed.second torn spare.no_second ∙ spare.agreed.at_second))
+          (mend_lower j torn);
     };
     known = copy_known sh log v put k v.checkpoint.content v.checkpoint.content rest.holds.bears quiet one j v (λ shown. (v.checkpoint.content, refl, inl refl));
   }

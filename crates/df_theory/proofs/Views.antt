@@ -1,26 +1,20 @@
 -- An image has one view.
-use Rattle.std.proofs.Common.{◌≡◌, ◌⊎◌, inl, inr, ℕ, ◌+◌, ◌%◌, ◌<◌, ◌≤◌, List, [], ◌∷◌, length, Option, Some, None, refl, sym, ◌∙◌, ap, subst, arith}
+use Rattle.std.proofs.Common.{◌≡◌, ◌⊎◌, inl, inr, ℕ, ◌+◌, ◌-◌, ◌%◌, ◌<◌, ◌≤◌, List, [], ◌∷◌, length, Option, Some, None, refl, sym, ◌∙◌, ap, subst, arith}
 use Rattle.std.specs.List.{slice_get}
 use Rattle.std.proofs.lemmas.Bool.{cases_lt}
-use Rattle.df_theory.specs.Units.{CopyPlace, PreparePlace, ReplyPlace, BlockPlace, Message, Session, Content, Block, CopyUnit, PrepareUnit, ReplyUnit, BlockUnit, Units}
-use Rattle.df_theory.specs.View.{Shape, View, In, InChain, Links, text_of, Chain, noted, sessions, sessions_after, last_mark, Chosen, Holds}
+use Rattle.df_theory.specs.Units.{Block, BlockPlace, BlockUnit, Content, Message, Parts, PreparePlace, PrepareUnit, ReplyPlace, ReplyUnit, Session, Units}
+use Rattle.df_theory.specs.Sessions.{noted, sessions_after}
+use Rattle.df_theory.specs.Tails.{Chain, In, last_mark}
+use Rattle.df_theory.specs.Shape.{Shape, clients}
+use Rattle.df_theory.specs.Trailer.{InChain, Links, Says}
+use Rattle.df_theory.specs.View.{View, sessions}
+use Rattle.df_theory.specs.Holds.{Holds}
 use Rattle.df_theory.specs.Found.{IsReplies}
+use Rattle.df_theory.proofs.Choices.{one_chosen}
 use Rattle.df_theory.proofs.Founds.{holds_found, agrees_prepare}
 
-same_of_two : (image : Units) (c d : Content) → ((c ≡ d) ⊎ (c.sequence < d.sequence) ⊎ ((c.sequence ≡ d.sequence) × (image (CopyPlace 0) ≡ Some (CopyUnit d)))) → ((d ≡ c) ⊎ (d.sequence < c.sequence) ⊎ ((d.sequence ≡ c.sequence) × (image (CopyPlace 0) ≡ Some (CopyUnit c)))) → c ≡ d
-same_of_two image c d (inl is) other = is
-same_of_two image c d (inr (inl less)) (inl is) = sym is
-same_of_two image c d (inr (inl less)) (inr (inl more)) = absurd (omega arith)
-same_of_two image c d (inr (inl less)) (inr (inr tie)) = absurd (omega (arith, tie.0))
-same_of_two image c d (inr (inr tie)) (inl is) = sym is
-same_of_two image c d (inr (inr tie)) (inr (inl more)) = absurd (omega (arith, tie.0))
-same_of_two image c d (inr (inr tie)) (inr (inr other)) = let both : Some (CopyUnit c) ≡ Some (CopyUnit d) = sym other.1 ∙ tie.1 in cc
-
-pub one_base : (image : Units) (c d : Content) → Chosen image c → Chosen image d → c ≡ d
-one_base image c d one two = same_of_two image c d (two.greatest c one.voted.0 one.voted.1 one.voted.2) (one.greatest d two.voted.0 two.voted.1 two.voted.2)
-
 -- chains from one op on that show the same at each op are one
-same_tail : (n : ℕ) (image : Units) (clients op p1 p2 m1 m2 : ℕ) (s1 s2 : List Session) (ps qs : List Message) → Chain clients op p1 m1 s1 ps → Chain clients op p2 m2 s2 qs → length ps ≡ length qs
+pub same_tail : (n : ℕ) (image : Units) (clients op p1 p2 m1 m2 : ℕ) (s1 s2 : List Session) (ps qs : List Message) → Chain clients op p1 m1 s1 ps → Chain clients op p2 m2 s2 qs → length ps ≡ length qs
     → ((p : Message) → In p ps → image (PreparePlace (p.header.op % n)) ≡ Some (PrepareUnit p)) → ((q : Message) → In q qs → image (PreparePlace (q.header.op % n)) ≡ Some (PrepareUnit q)) → ps ≡ qs
 same_tail n image clients op p1 p2 m1 m2 s1 s2 [] [] one two same shown there = refl
 same_tail n image clients op p1 p2 m1 m2 s1 s2 [] (q ∷ qs) one two same shown there = absurd (omega arith)
@@ -31,16 +25,21 @@ same_tail n image clients op p1 p2 m1 m2 s1 s2 (p ∷ ps) (q ∷ qs) one two sam
     let rest : ps ≡ qs = same_tail n image clients (op + 1) _ _ _ _ _ _ ps qs one.1 two.1 (omega arith) (λ r at. shown r (inr at)) (λ r at. there r (inr at)) in
     λ i. first i ∷ rest i
 
-same_chain : (image : Units) (cs ds : List (ℕ × Block)) (address checksum : ℕ) → Links cs address checksum → Links ds address checksum
+pub same_chain : (room : ℕ) (content : Content) (image : Units) (cs ds : List (ℕ × Block)) (address checksum : ℕ) → Links room content cs address checksum → Links room content ds address checksum
     → ((a : ℕ) (b : Block) → InChain a b cs → image (BlockPlace a) ≡ Some (BlockUnit b)) → ((a : ℕ) (b : Block) → InChain a b ds → image (BlockPlace a) ≡ Some (BlockUnit b)) → cs ≡ ds
-same_chain image [] [] address checksum one two shown there = refl
-same_chain image [] (d ∷ ds) address checksum one two shown there = absurd (omega (arith, two.0))
-same_chain image (c ∷ cs) [] address checksum one two shown there = absurd (omega (arith, one.0))
-same_chain image (c ∷ cs) (d ∷ ds) address checksum one two shown there =
+same_chain room content image [] [] address checksum one two shown there = refl
+same_chain room content image [] (d ∷ ds) address checksum one two shown there = absurd (omega (arith, two.0))
+same_chain room content image (c ∷ cs) [] address checksum one two shown there = absurd (omega (arith, one.0))
+same_chain room content image (c ∷ cs) (d ∷ ds) address checksum one two shown there =
     let place : c.0 ≡ d.0 = one.1 ∙ sym two.1 in
     let block : c.1 ≡ d.1 = (let both : Some (BlockUnit c.1) ≡ Some (BlockUnit d.1) = sym (shown c.0 c.1 (inl (refl, refl))) ∙ ap (λ (a : ℕ). image (BlockPlace a)) place ∙ there d.0 d.1 (inl (refl, refl)) in cc) in
-    let rest : cs ≡ ds = same_chain image cs ds c.1.before c.1.before_checksum one.3 (subst (λ (b : Block). Links ds b.before b.before_checksum) (sym block) two.3) (λ a b at. shown a b (inr at)) (λ a b at. there a b (inr at)) in
+    let rest : cs ≡ ds = same_chain room content image cs ds c.1.before c.1.before_checksum one.6 (subst (λ (b : Block). Links room content ds b.before b.before_checksum) (sym block) two.6) (λ a b at. shown a b (inr at)) (λ a b at. there a b (inr at)) in
     λ i. (place i, block i) ∷ rest i
+
+-- one chain says one thing
+pub same_says : (sh : Shape) (cs : List (ℕ × Block)) (p q : Parts) → Says sh cs p → Says sh cs q → p ≡ q
+same_says sh [] p q one two = one ∙ sym two
+same_says sh (c ∷ cs) p q one two = let both : Some p ≡ Some q = sym one ∙ two in cc
 
 pub last_in : (clients op parent mark : ℕ) (ss : List Session) (ps : List Message) → Chain clients op parent mark ss ps → 0 < length ps → (p : Message) × In p ps × (p.header.op + 1 ≡ op + length ps)
 last_in clients op parent mark ss [] chain some = absurd (omega arith)
@@ -51,9 +50,9 @@ last_in clients op parent mark ss (p ∷ q ∷ ps) chain some =
 
 not_longer : (sh : Shape) (image : Units) (v u : View) → Holds sh image v → Holds sh image u → v.checkpoint.content.op ≡ u.checkpoint.content.op → length v.tail < length u.tail → ⊥
 not_longer sh image v u one two same less =
-    let last = last_in sh.clients (u.checkpoint.content.op + 1) u.checkpoint.content.op_checksum 0 u.checkpoint.parts.sessions u.tail two.bears.sound.chain (omega arith) in
-    let shown = two.bears.needs (PreparePlace (last.0.header.op % sh.slots)) (PrepareUnit last.0) (last.0, last.1, refl, refl) in
-    omega (arith, (agrees_prepare sh image v one (last.0.header.op % sh.slots) last.0 shown).op, last.2)
+    let last = last_in sh.layout.clients (u.checkpoint.content.op + 1) u.checkpoint.content.op_checksum 0 u.checkpoint.parts.sessions u.tail two.bears.sound.chain (omega arith) in
+    let shown = two.bears.needs (PreparePlace (last.0.header.op % sh.layout.slots)) (PrepareUnit last.0) (last.0, last.1, refl, refl) in
+    omega (arith, (agrees_prepare sh image v one (last.0.header.op % sh.layout.slots) last.0 shown).op, last.2)
 
 not_more : (sh : Shape) (image : Units) (v u : View) → Holds sh image v → Holds sh image u → v.checkpoint.content ≡ u.checkpoint.content → v.tail ≡ u.tail → v.replies ≤ u.replies
 not_more sh image v u one two same_base same_tail_is =
@@ -62,7 +61,7 @@ not_more sh image v u one two same_base same_tail_is =
     go f g f.reached
   where
     go : IsReplies image v.checkpoint.content v.tail v.replies → IsReplies image u.checkpoint.content u.tail u.replies → (v.checkpoint.content.replies ≡ v.replies) ⊎ (last_mark 0 v.tail ≡ v.replies) ⊎ ((k : ℕ) × (r : Message) × (image (ReplyPlace k) ≡ Some (ReplyUnit r)) × (r.header.op ≡ v.replies)) → v.replies ≤ u.replies
-    go f g (inl is) = omega (arith, g.checkpoint, ap (λ (c : Content). c.replies) same_base)
+    go f g (inl is) = omega (arith, g.superblock, ap (λ (c : Content). c.replies) same_base)
     go f g (inr (inl is)) = omega (arith, g.mark, ap (λ (l : List Message). last_mark 0 l) same_tail_is)
     go f g (inr (inr is)) = omega (arith, g.reply is.0 is.1 is.2, is.3)
 
@@ -86,17 +85,15 @@ pub one_view : (sh : Shape) (image : Units) (v u : View) → Holds sh image v �
 one_view sh image v u one two = λ i. record { checkpoint = base i; tail = tail i; replies = replies i; stored = λ k. stored k i }
   where
     content : v.checkpoint.content ≡ u.checkpoint.content
-    content = one_base image v.checkpoint.content u.checkpoint.content one.chosen two.chosen
+    content = one_chosen image v.checkpoint.content u.checkpoint.content one.chosen two.chosen
 
     chain : v.checkpoint.chain ≡ u.checkpoint.chain
-    chain = same_chain image v.checkpoint.chain u.checkpoint.chain v.checkpoint.content.trailer v.checkpoint.content.trailer_checksum one.bears.sound.checkpoint.trailer.links
-        (subst (λ (c : Content). Links u.checkpoint.chain c.trailer c.trailer_checksum) (sym content) two.bears.sound.checkpoint.trailer.links)
+    chain = same_chain (sh.layout.block_size - 256) v.checkpoint.content image v.checkpoint.chain u.checkpoint.chain v.checkpoint.content.trailer v.checkpoint.content.trailer_checksum one.bears.sound.checkpoint.trailer.links
+        (subst (λ (c : Content). Links (sh.layout.block_size - 256) c u.checkpoint.chain c.trailer c.trailer_checksum) (sym content) two.bears.sound.checkpoint.trailer.links)
         (λ a b at. one.bears.needs (BlockPlace a) (BlockUnit b) (b, at, refl)) (λ a b at. two.bears.needs (BlockPlace a) (BlockUnit b) (b, at, refl))
 
     parts : v.checkpoint.parts ≡ u.checkpoint.parts
-    parts =
-        let both : Some v.checkpoint.parts ≡ Some u.checkpoint.parts = sym one.bears.sound.checkpoint.trailer.parts ∙ ap (λ (l : List (ℕ × Block)). sh.parse (text_of l)) chain ∙ two.bears.sound.checkpoint.trailer.parts in
-        cc
+    parts = same_says sh u.checkpoint.chain v.checkpoint.parts u.checkpoint.parts (subst (λ (l : List (ℕ × Block)). Says sh l v.checkpoint.parts) chain one.bears.sound.checkpoint.trailer.says) two.bears.sound.checkpoint.trailer.says
 
     base : v.checkpoint ≡ u.checkpoint
     base = λ i. record { content = content i; chain = chain i; parts = parts i }
@@ -114,10 +111,10 @@ one_view sh image v u one two = λ i. record { checkpoint = base i; tail = tail 
     ]
 
     tail : v.tail ≡ u.tail
-    tail = same_tail sh.slots image sh.clients (v.checkpoint.content.op + 1) v.checkpoint.content.op_checksum u.checkpoint.content.op_checksum 0 0 v.checkpoint.parts.sessions u.checkpoint.parts.sessions v.tail u.tail one.bears.sound.chain
-        (subst (λ (n : ℕ). Chain sh.clients (n + 1) u.checkpoint.content.op_checksum 0 u.checkpoint.parts.sessions u.tail) (sym op) two.bears.sound.chain) size
-        (λ p at. one.bears.needs (PreparePlace (p.header.op % sh.slots)) (PrepareUnit p) (p, at, refl, refl))
-        (λ p at. two.bears.needs (PreparePlace (p.header.op % sh.slots)) (PrepareUnit p) (p, at, refl, refl))
+    tail = same_tail sh.layout.slots image sh.layout.clients (v.checkpoint.content.op + 1) v.checkpoint.content.op_checksum u.checkpoint.content.op_checksum 0 0 v.checkpoint.parts.sessions u.checkpoint.parts.sessions v.tail u.tail one.bears.sound.chain
+        (subst (λ (n : ℕ). Chain sh.layout.clients (n + 1) u.checkpoint.content.op_checksum 0 u.checkpoint.parts.sessions u.tail) (sym op) two.bears.sound.chain) size
+        (λ p at. one.bears.needs (PreparePlace (p.header.op % sh.layout.slots)) (PrepareUnit p) (p, at, refl, refl))
+        (λ p at. two.bears.needs (PreparePlace (p.header.op % sh.layout.slots)) (PrepareUnit p) (p, at, refl, refl))
 
     replies : v.replies ≡ u.replies
     replies =

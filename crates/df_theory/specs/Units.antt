@@ -1,6 +1,7 @@
--- Places, and the units that an image shows at them.
+-- The places of a data file, and the units that an image shows at them.
 use Rattle.std.specs.Prelude.{ℕ, Bool, true, false, List, Option, Some, None}
 
+-- a place for one unit: a superblock copy, a slot of the header ring, of the prepare ring or of the client replies, a block of the grid
 pub data Place : Type 0 where
   CopyPlace : (number : ℕ) → Place
   HeaderPlace : (slot : ℕ) → Place
@@ -8,48 +9,67 @@ pub data Place : Type 0 where
   ReplyPlace : (place : ℕ) → Place
   BlockPlace : (address : ℕ) → Place
 
--- a reserved header has op 0
+-- the header of a prepare or of a reply; a reserved header has op 0
 pub record Header : Type 0 where
   pub checksum : ℕ
   pub parent : ℕ
   pub client : ℕ
   pub op : ℕ
   pub request : ℕ
-  pub mark : ℕ
-  pub checkpoint : ℕ
+  pub mark : ℕ  -- as it was made: of a prepare the number of replies, of a reply the head
+  pub checkpoint : ℕ  -- the superblock's sequence as it was made
+  pub group_last : ℕ  -- the last op of the group that it was appended with, its own where it was appended alone
 
+-- a prepare or a reply
 pub record Message : Type 0 where
   pub header : Header
-  pub body : ℕ
+  pub body : List ℕ
 
+-- the last request of a client, and its op
 pub record Session : Type 0 where
   pub client : ℕ
   pub request : ℕ
   pub op : ℕ
 
--- a superblock copy, its number aside. trailer: the address of the last trailer block, or 0
+-- how large a file's parts are; sizes in bytes
+pub record Layout : Type 0 where
+  pub slots : ℕ
+  pub message_size : ℕ
+  pub clients : ℕ
+  pub block_size : ℕ
+  pub blocks : ℕ
+
+-- what a superblock copy says, its number aside
 pub record Content : Type 0 where
+  pub version : ℕ
+  pub cluster : ℕ
+  pub layout : Layout
   pub sequence : ℕ
   pub op : ℕ
   pub op_checksum : ℕ
-  pub head : ℕ
+  pub head : ℕ  -- the head and the number of replies as the checkpoint ended
   pub replies : ℕ
-  pub trailer : ℕ
+  pub trailer : ℕ  -- the address of the last trailer block, 0 where there is none
   pub trailer_checksum : ℕ
+  pub trailer_size : ℕ
+  pub rest : List ℕ  -- the bytes behind these fields
 
--- a block; of a trailer block also the one before it, with address 0 for none
+-- a block; of a trailer block its place in the chain and the block before it, with address 0 for none
 pub record Block : Type 0 where
   pub checksum : ℕ
+  pub sequence : ℕ
+  pub index : ℕ
   pub before : ℕ
   pub before_checksum : ℕ
-  pub text : List ℕ
+  pub body : List ℕ
 
 -- what a trailer says
 pub record Parts : Type 0 where
   pub root : List ℕ
   pub sessions : List Session
-  pub references : ℕ → Option ℕ
+  pub references : ℕ → Option ℕ  -- the checksum of each referenced block, by address
 
+-- a unit of one of the five kinds
 pub data AnyUnit : Type 0 where
   CopyUnit : (content : Content) → AnyUnit
   HeaderUnit : (header : Header) → AnyUnit
@@ -57,7 +77,7 @@ pub data AnyUnit : Type 0 where
   ReplyUnit : (reply : Message) → AnyUnit
   BlockUnit : (block : Block) → AnyUnit
 
--- the valid unit that is shown at each place
+-- an image, read place by place: the valid unit that it shows there
 abbrev pub Units : Type 0
 Units = Place → Option AnyUnit
 
@@ -65,7 +85,7 @@ abbrev pub or_else : Option AnyUnit → Option AnyUnit → Option AnyUnit
 or_else (Some x) y = Some x
 or_else None y = y
 
--- an image after these units are put
+-- an image with these units put over it
 abbrev pub overlay : Units → Units → Units
 overlay put image place = or_else (put place) (image place)
 

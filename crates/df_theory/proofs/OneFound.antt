@@ -1,0 +1,122 @@
+-- An open finds one state.
+use Rattle.std.proofs.Common.{◌≡◌, ◌⊎◌, inl, inr, ℕ, suc, ◌+◌, ◌-◌, ◌%◌, ◌<◌, ◌≤◌, List, [], ◌∷◌, length, Option, Some, None, refl, sym, ◌∙◌, ap, subst, arith}
+use Rattle.std.specs.List.{slice_get}
+use Rattle.std.proofs.lemmas.Bool.{cases_lt}
+use Rattle.df_theory.specs.Units.{Block, Content, Message, PreparePlace, PrepareUnit, ReplyUnit, Session, Units}
+use Rattle.df_theory.specs.Sessions.{noted, sessions_after}
+use Rattle.df_theory.specs.Tails.{Chain, Fits, In, last_checksum, last_mark}
+use Rattle.df_theory.specs.Shape.{Shape, clients}
+use Rattle.df_theory.specs.Trailer.{Links, Says}
+use Rattle.df_theory.specs.View.{Checkpoint, View, sessions}
+use Rattle.df_theory.specs.Found.{IsReplies, IsStored, IsTail}
+use Rattle.df_theory.specs.ViewLaws.{FoundLaw, OneChosenLaw, OneFoundLaw, OneViewLaw}
+use Rattle.df_theory.proofs.Choices.{one_chosen}
+use Rattle.df_theory.proofs.Founds.{holds_found, found_holds}
+use Rattle.df_theory.proofs.Views.{one_view, same_tail, same_chain, same_says}
+
+-- each prepare is shown in its slot
+abbrev AreShown : ℕ → Units → List Message → Type 0
+AreShown n image ps = (p : Message) → In p ps → image (PreparePlace (p.header.op % n)) ≡ Some (PrepareUnit p)
+
+-- of two chains that show the same, the longer one has a prepare that fits the shorter one's end
+abbrev HasNext : ℕ → ℕ → ℕ → ℕ → List Session → List Message → List Message → Type 0
+HasNext clients op parent mark ss ps qs = (q : Message) × In q qs × Fits clients (op + length ps) (last_checksum parent ps) (last_mark mark ps) (sessions_after ss ps) q.header
+
+next_of : (n : ℕ) (image : Units) (clients op parent mark : ℕ) (ss : List Session) (ps qs : List Message) → Chain clients op parent mark ss ps → Chain clients op parent mark ss qs → AreShown n image ps → AreShown n image qs → length ps < length qs → HasNext clients op parent mark ss ps qs
+next_of n image clients op parent mark ss [] [] one two shown there less = absurd (omega arith)
+next_of n image clients op parent mark ss [] (q ∷ qs) one two shown there less =
+    let same : op ≡ op + 0 = omega arith in
+    (q, inl refl, subst (λ (k : ℕ). Fits clients k parent mark ss q.header) same two.0)
+next_of n image clients op parent mark ss (p ∷ ps) [] one two shown there less = absurd (omega arith)
+next_of n image clients op parent mark ss (p ∷ ps) (q ∷ qs) one two shown there less =
+    let op_is : p.header.op ≡ q.header.op = one.0.op_is ∙ sym two.0.op_is in
+    let first : q ≡ p = (let both : Some (PrepareUnit p) ≡ Some (PrepareUnit q) = sym (shown p (inl refl)) ∙ ap (λ (o : ℕ). image (PreparePlace (o % n))) op_is ∙ there q (inl refl) in cc) in
+    let chain : Chain clients (op + 1) p.header.checksum p.header.mark (noted p.header ss) qs = subst (λ (x : Message). Chain clients (op + 1) x.header.checksum x.header.mark (noted x.header ss) qs) first two.1 in
+    let rest = next_of n image clients (op + 1) p.header.checksum p.header.mark (noted p.header ss) ps qs one.1 chain (λ r at. shown r (inr at)) (λ r at. there r (inr at)) (omega arith) in
+    let same : op + 1 + length ps ≡ op + suc (length ps) = omega arith in
+    (rest.0, inr rest.1, subst (λ (k : ℕ). Fits clients k (last_checksum p.header.checksum ps) (last_mark p.header.mark ps) (sessions_after (noted p.header ss) ps) rest.0.header) same rest.2)
+
+not_longer : (sh : Shape) (image : Units) (b : Checkpoint) (ps qs : List Message) → IsTail sh image b ps → IsTail sh image b qs → length ps < length qs → ⊥
+not_longer sh image b ps qs one two less =
+    let next = next_of sh.layout.slots image sh.layout.clients (b.content.op + 1) b.content.op_checksum 0 b.parts.sessions ps qs one.chain two.chain (λ p at. (one.takes p at).shown) (λ p at. (two.takes p at).shown) less in
+    one.longest next.0 (omega (arith, two.room)) (two.takes next.0 next.1) next.2
+
+one_tail : (sh : Shape) (image : Units) (b : Checkpoint) (ps qs : List Message) → IsTail sh image b ps → IsTail sh image b qs → ps ≡ qs
+one_tail sh image b ps qs one two =
+    let size : length ps ≡ length qs = elim (cases_lt (length ps) (length qs)) [
+      | inl less ↦ absurd (not_longer sh image b ps qs one two less)
+      | inr more ↦ elim (cases_lt (length qs) (length ps)) [
+        | inl less ↦ absurd (not_longer sh image b qs ps two one less)
+        | inr same ↦ omega arith
+      ]
+    ] in
+    same_tail sh.layout.slots image sh.layout.clients (b.content.op + 1) b.content.op_checksum b.content.op_checksum 0 0 b.parts.sessions b.parts.sessions ps qs one.chain two.chain size (λ p at. (one.takes p at).shown) (λ q at. (two.takes q at).shown)
+
+not_more : (image : Units) (c : Content) (tail : List Message) (n m : ℕ) → IsReplies image c tail n → IsReplies image c tail m → n ≤ m
+not_more image c tail n m one two = elim one.reached [
+  | inl is ↦ omega (arith, two.superblock)
+  | inr (inl is) ↦ omega (arith, two.mark)
+  | inr (inr is) ↦ omega (arith, two.reply is.0 is.1 is.2, is.3)
+]
+
+one_stored : (image : Units) (v u : View) → IsStored image v → IsStored image u → sessions v ≡ sessions u → v.replies ≡ u.replies → (k : ℕ) (o p : Option Message) → v.stored k ≡ o → u.stored k ≡ p → o ≡ p
+one_stored image v u one two ss rs k None None is at = refl
+one_stored image v u one two ss rs k (Some r) (Some q) is at =
+    let s = one.no_more k r is in
+    let a = one.shown k s.0 s.1 s.2 in
+    let t = two.no_more k q at in
+    let b = two.shown k t.0 t.1 t.2 in
+    let first : a.0 ≡ r = (let both : Some a.0 ≡ Some r = sym a.1 ∙ is in cc) in
+    let second : b.0 ≡ q = (let both : Some b.0 ≡ Some q = sym b.1 ∙ at in cc) in
+    let same : a.0 ≡ b.0 = (let both : Some (ReplyUnit a.0) ≡ Some (ReplyUnit b.0) = sym a.2 ∙ b.2 in cc) in
+    ap Some (sym first ∙ same ∙ second)
+one_stored image v u one two ss rs k (Some r) None is at =
+    let s = one.no_more k r is in
+    let b = two.shown k s.0 (ap (λ (l : List Session). slice_get l k) (sym ss) ∙ s.1) (omega (arith, s.2)) in
+    absurd (let both : Some b.0 ≡ None = sym b.1 ∙ at in cc)
+one_stored image v u one two ss rs k None (Some q) is at =
+    let t = two.no_more k q at in
+    let a = one.shown k t.0 (ap (λ (l : List Session). slice_get l k) ss ∙ t.1) (omega (arith, t.2)) in
+    absurd (let both : Some a.0 ≡ None = sym a.1 ∙ is in cc)
+
+pub one_found_law : OneFoundLaw
+one_found_law sh image v u one two = λ i. record { checkpoint = base i; tail = tail i; replies = replies i; stored = λ k. stored k i }
+  where
+    content : v.checkpoint.content ≡ u.checkpoint.content
+    content = one_chosen image v.checkpoint.content u.checkpoint.content one.chosen two.chosen
+
+    chain : v.checkpoint.chain ≡ u.checkpoint.chain
+    chain = same_chain (sh.layout.block_size - 256) v.checkpoint.content image v.checkpoint.chain u.checkpoint.chain v.checkpoint.content.trailer v.checkpoint.content.trailer_checksum one.checkpoint.trailer.links
+        (subst (λ (c : Content). Links (sh.layout.block_size - 256) c u.checkpoint.chain c.trailer c.trailer_checksum) (sym content) two.checkpoint.trailer.links)
+        one.chain_shown two.chain_shown
+
+    parts : v.checkpoint.parts ≡ u.checkpoint.parts
+    parts = same_says sh u.checkpoint.chain v.checkpoint.parts u.checkpoint.parts (subst (λ (l : List (ℕ × Block)). Says sh l v.checkpoint.parts) chain one.checkpoint.trailer.says) two.checkpoint.trailer.says
+
+    base : v.checkpoint ≡ u.checkpoint
+    base = λ i. record { content = content i; chain = chain i; parts = parts i }
+
+    tail : v.tail ≡ u.tail
+    tail = one_tail sh image v.checkpoint v.tail u.tail one.tail (subst (λ (b : Checkpoint). IsTail sh image b u.tail) (sym base) two.tail)
+
+    replies : v.replies ≡ u.replies
+    replies =
+        let moved : IsReplies image v.checkpoint.content v.tail u.replies = subst (λ (l : List Message). IsReplies image v.checkpoint.content l u.replies) (sym tail) (subst (λ (c : Content). IsReplies image c u.tail u.replies) (sym content) two.replies) in
+        let up = not_more image v.checkpoint.content v.tail v.replies u.replies one.replies moved in
+        let down = not_more image v.checkpoint.content v.tail u.replies v.replies moved one.replies in
+        omega arith
+
+    ss : sessions v ≡ sessions u
+    ss = λ i. sessions_after (parts i).sessions (tail i)
+
+    stored : (k : ℕ) → v.stored k ≡ u.stored k
+    stored k = one_stored image v u one.stored two.stored ss replies k (v.stored k) (u.stored k) refl refl
+
+pub one_view_law : OneViewLaw
+one_view_law = one_view
+
+pub found_law : FoundLaw
+found_law sh image v = (holds_found sh image v, found_holds sh image v)
+
+pub one_chosen_law : OneChosenLaw
+one_chosen_law = one_chosen

@@ -1,5 +1,0 @@
-use Rattle.df_theory.proofs.Writers.{append_law}
-use Rattle.df_theory.proofs.append_keeps.Goals as goal
-
-pub returns : goal.returns
-returns c = append_law

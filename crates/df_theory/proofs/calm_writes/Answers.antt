@@ -1,5 +1,0 @@
-use Rattle.df_theory.proofs.Writers.{calm_law}
-use Rattle.df_theory.proofs.calm_writes.Goals as goal
-
-pub returns : goal.returns
-returns c = calm_law

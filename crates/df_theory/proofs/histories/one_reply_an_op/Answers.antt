@@ -1,0 +1,5 @@
+use Rattle.df_theory.proofs.Damage.{one_reply_law}
+use Rattle.df_theory.proofs.histories.one_reply_an_op.Goals as goal
+
+pub returns : goal.returns
+returns c = one_reply_law

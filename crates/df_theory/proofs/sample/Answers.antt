@@ -1,5 +1,0 @@
-use Rattle.df_theory.proofs.Samples.{sample_law}
-use Rattle.df_theory.proofs.sample.Goals as goal
-
-pub returns : goal.returns
-returns c = sample_law

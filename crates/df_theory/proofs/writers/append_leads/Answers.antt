@@ -1,0 +1,5 @@
+use Rattle.df_theory.proofs.Writers.{append_law}
+use Rattle.df_theory.proofs.writers.append_leads.Goals as goal
+
+pub returns : goal.returns
+returns c = append_law

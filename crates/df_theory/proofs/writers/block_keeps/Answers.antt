@@ -1,0 +1,5 @@
+use Rattle.df_theory.proofs.Writers.{block_law}
+use Rattle.df_theory.proofs.writers.block_keeps.Goals as goal
+
+pub returns : goal.returns
+returns c = block_law

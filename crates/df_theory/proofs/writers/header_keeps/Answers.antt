@@ -1,0 +1,5 @@
+use Rattle.df_theory.proofs.Writers.{header_law}
+use Rattle.df_theory.proofs.writers.header_keeps.Goals as goal
+
+pub returns : goal.returns
+returns c = header_law

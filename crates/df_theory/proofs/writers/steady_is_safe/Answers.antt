@@ -1,0 +1,5 @@
+use Rattle.df_theory.proofs.Writers.{steady_law}
+use Rattle.df_theory.proofs.writers.steady_is_safe.Goals as goal
+
+pub returns : goal.returns
+returns c = steady_law

@@ -1,0 +1,5 @@
+use Rattle.df_theory.proofs.Writers.{sync_law}
+use Rattle.df_theory.proofs.writers.sync_is_steady.Goals as goal
+
+pub returns : goal.returns
+returns c = sync_law

@@ -1,0 +1,92 @@
+-- How one view follows another: by an append, a reply or a finished checkpoint.
+use Rattle.std.specs.Prelude.{◌≡◌, ◌<◌, ◌≤◌, ◌+◌, ◌-◌, ◌^◌, ◌==◌, ℕ, nat_lt, if◌then◌else◌, List, [], ◌∷◌, ◌++◌, length, drop, take, Option, Some, None}
+use Rattle.std.specs.List.{slice_get}
+use Rattle.df_theory.specs.Units.{Header, Message, Session}
+use Rattle.df_theory.specs.Sessions.{noted, sessions_after, MayAsk, Answers}
+use Rattle.df_theory.specs.Tails.{In, last_checksum}
+use Rattle.df_theory.specs.Shape.{Shape, slots, clients}
+use Rattle.df_theory.specs.Trailer.{IsTrailer}
+use Rattle.df_theory.specs.View.{Checkpoint, View, head, sequence, sessions}
+
+-- what is stored for a session: nothing where its op is above this one
+abbrev pub kept : Option Session → ℕ → Option Message → Option Message
+kept None op old = None
+kept (Some s) op old = if nat_lt op s.op then None else old
+
+-- with a group of prepares more
+abbrev pub appended : View → List Message → View
+appended v ps = record v { tail = v.tail ++ ps; stored = λ k. kept (slice_get (sessions_after v.checkpoint.parts.sessions (v.tail ++ ps)) k) (head v) (v.stored k) }
+
+-- with a reply more
+abbrev pub replied : View → ℕ → Message → View
+replied v place r = record v { replies = v.replies + 1; stored = λ k. if k == place then Some r else v.stored k }
+
+-- with this checkpoint, whose prepares leave the tail
+abbrev pub checkpointed : View → Checkpoint → View
+checkpointed v c = record v { checkpoint = c; tail = drop (c.content.op - v.checkpoint.content.op) v.tail }
+
+-- ops one after the other from this one on, and each prepare names the one before it
+abbrev pub AreInTurn : ℕ → ℕ → List Message → Type 0
+AreInTurn op parent [] = Unit {0}
+AreInTurn op parent (p ∷ ps) = (p.header.op ≡ op) × (p.header.parent ≡ parent) × AreInTurn (op + 1) p.header.checksum ps
+
+-- a prepare carries the other counters of the view that it is appended to, and the last op of its group
+pub record IsStamped (v : View) (last : ℕ) (h : Header) : Type 0 where
+  pub mark : h.mark ≡ v.replies
+  pub checkpoint : h.checkpoint ≡ sequence v
+  pub group_last : h.group_last ≡ last
+
+-- a group of prepares is appended; one prepare is a group of one
+pub record IsAppend (v : View) (ps : List Message) : Type 0 where
+  pub some : 0 < length ps
+  pub turn : AreInTurn (head v + 1) (last_checksum v.checkpoint.content.op_checksum v.tail) ps
+  pub stamped : (p : Message) → In p ps → IsStamped v (head v + length ps) p.header
+
+-- the reply to the next op is stored; it carries the other counters of the view
+pub record IsReply (v : View) (place : ℕ) (r : Message) : Type 0 where
+  pub op : r.header.op ≡ v.replies + 1
+  pub mark : r.header.mark ≡ head v
+  pub checkpoint : r.header.checkpoint ≡ sequence v
+  pub session : (s : Session) × (slice_get (sessions v) place ≡ Some s) × Answers s r
+
+-- a checkpoint of the file is finished: of any op that the tail reaches, with the counters as they are
+pub record IsFinish (v : View) (c : Checkpoint) : Type 0 where
+  pub file : (c.content.version ≡ v.checkpoint.content.version) × (c.content.cluster ≡ v.checkpoint.content.cluster) × (c.content.layout ≡ v.checkpoint.content.layout) × (c.content.rest ≡ v.checkpoint.content.rest)
+  pub sequence : c.content.sequence ≡ sequence v + 1
+  pub op_from : v.checkpoint.content.op ≤ c.content.op
+  pub op_to : c.content.op ≤ head v
+  pub op_checksum : c.content.op_checksum ≡ last_checksum v.checkpoint.content.op_checksum (take (c.content.op - v.checkpoint.content.op) v.tail)
+  pub sessions : c.parts.sessions ≡ sessions_after v.checkpoint.parts.sessions (take (c.content.op - v.checkpoint.content.op) v.tail)
+  pub head : c.content.head ≡ head v
+  pub replies : c.content.replies ≡ v.replies
+
+-- the view stays, or one thing happens to it
+pub data Next (v : View) : View → Type 0 where
+  Same : Next v v
+  Append : (ps : List Message) → IsAppend v ps → Next v (appended v ps)
+  Reply : (place : ℕ) (r : Message) → IsReply v place r → Next v (replied v place r)
+  Finish : (c : Checkpoint) → IsFinish v c → Next v (checkpointed v c)
+
+-- each client of the group may make its request
+abbrev pub MayAskInTurn : ℕ → List Session → List Message → Type 0
+MayAskInTurn clients ss [] = Unit {0}
+MayAskInTurn clients ss (p ∷ ps) = MayAsk clients p.header ss × MayAskInTurn clients (noted p.header ss) ps
+
+-- an append that isn't refused: slots are left, at most 8 prepares wait, ops are left, and the clients may ask
+pub record MayAppend (sh : Shape) (v : View) (ps : List Message) : Type 0 where
+  pub is : IsAppend v ps
+  pub room : length v.tail + length ps ≤ slots sh
+  pub pipeline : head v + length ps ≤ v.replies + 8
+  pub unspent : head v + length ps ≤ 2 ^ 62
+  pub asks : MayAskInTurn (clients sh) (sessions v) ps
+
+-- a reply that isn't refused
+pub record MayReply (v : View) (place : ℕ) (r : Message) : Type 0 where
+  pub is : IsReply v place r
+  pub waits : v.replies < head v
+
+-- a checkpoint that isn't refused, with its trailer
+pub record MayFinish (sh : Shape) (v : View) (c : Checkpoint) : Type 0 where
+  pub is : IsFinish v c
+  pub trailer : IsTrailer sh c.content c.chain c.parts
+  pub unspent : sequence v < 2 ^ 62

@@ -1,0 +1,37 @@
+-- Lists of prepares, each of which fits what precedes it.
+use Rattle.std.specs.Prelude.{◌≡◌, ◌⊎◌, ◌<◌, ◌≤◌, ◌+◌, ℕ, List, [], ◌∷◌}
+use Rattle.df_theory.specs.Units.{Header, Message, Session}
+use Rattle.df_theory.specs.Sessions.{noted, MayAsk}
+
+abbrev pub In : Message → List Message → Type 0
+In p [] = ⊥
+In p (q ∷ qs) = (p ≡ q) ⊎ In p qs
+
+-- a prepare that fits, where this op, parent and least mark are wanted
+pub record Fits (clients op parent mark : ℕ) (ss : List Session) (h : Header) : Type 0 where
+  pub op_is : h.op ≡ op
+  pub parent_is : h.parent ≡ parent
+  pub mark_from : mark ≤ h.mark
+  pub mark_below : h.mark < op
+  pub mark_near : op ≤ h.mark + 8
+  pub group : op ≤ h.group_last
+  pub asks : MayAsk clients h ss
+
+-- each prepare fits what precedes it
+abbrev pub Chain : ℕ → ℕ → ℕ → ℕ → List Session → List Message → Type 0
+Chain clients op parent mark ss [] = Unit {0}
+Chain clients op parent mark ss (p ∷ ps) = Fits clients op parent mark ss p.header × Chain clients (op + 1) p.header.checksum p.header.mark (noted p.header ss) ps
+
+-- the mark of the last, or this one where there is none
+abbrev pub last_mark : ℕ → List Message → ℕ
+last_mark m [] = m
+last_mark m (p ∷ ps) = last_mark p.header.mark ps
+
+-- the checksum of the last, or this one where there is none
+abbrev pub last_checksum : ℕ → List Message → ℕ
+last_checksum c [] = c
+last_checksum c (p ∷ ps) = last_checksum p.header.checksum ps
+
+-- no group goes on past this op
+abbrev pub AreWholeGroups : ℕ → List Message → Type 0
+AreWholeGroups top ps = (p : Message) → In p ps → p.header.group_last ≤ top

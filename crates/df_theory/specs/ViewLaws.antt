@@ -1,0 +1,24 @@
+-- An image and its view.
+use Rattle.std.specs.Prelude.{◌≡◌}
+use Rattle.df_theory.specs.Units.{Content, Units}
+use Rattle.df_theory.specs.Shape.{Shape}
+use Rattle.df_theory.specs.Copies.{IsChosen}
+use Rattle.df_theory.specs.View.{View}
+use Rattle.df_theory.specs.Holds.{Holds}
+use Rattle.df_theory.specs.Found.{AreOfPlaces, IsClean, IsFound}
+
+-- an image holds one view
+abbrev pub OneViewLaw : Type 0
+OneViewLaw = (sh : Shape) (image : Units) (v u : View) → Holds sh image v → Holds sh image u → v ≡ u
+
+-- the view that an image holds is what an open finds in it; and what an open finds is held, where the copies are clean
+abbrev pub FoundLaw : Type 0
+FoundLaw = (sh : Shape) (image : Units) (v : View) → (Holds sh image v → IsFound sh image v) × (AreOfPlaces sh image → IsFound sh image v → IsClean image v → Holds sh image v)
+
+-- an open finds one state: two that it might find are one
+abbrev pub OneFoundLaw : Type 0
+OneFoundLaw = (sh : Shape) (image : Units) (v u : View) → IsFound sh image v → IsFound sh image u → v ≡ u
+
+-- one content is chosen
+abbrev pub OneChosenLaw : Type 0
+OneChosenLaw = (image : Units) (c d : Content) → IsChosen image c → IsChosen image d → c ≡ d

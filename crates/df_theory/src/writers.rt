@@ -1,0 +1,53 @@
+// What each write does at every moment, and how commands follow one another.
+
+ghost use Rattle.df_theory.specs.WriterLaws.{SteadyLaw, SyncLaw, CalmLaw, AppendLaw, ReplyLaw, BlockLaw, HeaderLaw, CopyLaw, UpdateLaw, CommandsLaw};
+
+/// A log that is steady on a view is safe, and each image that a stop leaves holds the view.
+pub fn steady_is_safe()
+    ensures { SteadyLaw }
+{}
+
+/// A sync makes a safe log steady.
+pub fn sync_is_steady()
+    ensures { SyncLaw }
+{}
+
+/// A write that the view does not see may stay loose.
+pub fn calm_write_keeps()
+    ensures { CalmLaw }
+{}
+
+/// Each moment of an append: the prepare, a sync, its header sector, a sync.
+pub fn append_leads()
+    ensures { AppendLaw }
+{}
+
+/// A stored reply.
+pub fn reply_leads()
+    ensures { ReplyLaw }
+{}
+
+/// A block of the grid; it may stay loose.
+pub fn block_keeps()
+    ensures { BlockLaw }
+{}
+
+/// A header sector that is mended.
+pub fn header_keeps()
+    ensures { HeaderLaw }
+{}
+
+/// A superblock copy that is mended.
+pub fn copy_keeps()
+    ensures { CopyLaw }
+{}
+
+/// Each moment of a superblock update: four copies, a sync after each.
+pub fn update_leads()
+    ensures { UpdateLaw }
+{}
+
+/// Each moment of a run of commands.
+pub fn commands_lead_on()
+    ensures { CommandsLaw }
+{}
