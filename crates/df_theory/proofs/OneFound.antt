@@ -12,7 +12,7 @@ use Rattle.df_theory.specs.Found.{IsReplies, IsStored, IsTail}
 use Rattle.df_theory.specs.ViewLaws.{FoundLaw, OneChosenLaw, OneFoundLaw, OneViewLaw}
 use Rattle.df_theory.proofs.Choices.{one_chosen}
 use Rattle.df_theory.proofs.Founds.{holds_found, found_holds}
-use Rattle.df_theory.proofs.Views.{one_view, same_tail, same_chain, same_says}
+use Rattle.df_theory.proofs.OneView.{one_view, same_tail, same_chain, same_says}
 
 -- each prepare is shown in its slot
 abbrev AreShown : ℕ → Units → List Message → Type 0

@@ -13,7 +13,7 @@ use Rattle.df_theory.specs.First.{AreMade}
 use Rattle.df_theory.specs.Grown.{Grows}
 use Rattle.df_theory.specs.Past.{FromEmpty, Was}
 use Rattle.df_theory.proofs.Grew.{next_grew}
-use Rattle.df_theory.proofs.Views.{same_says}
+use Rattle.df_theory.proofs.OneView.{same_says}
 use Rattle.df_theory.proofs.Tails.{in_either, in_dropped}
 use Rattle.df_theory.proofs.Steps.{grows_sound}
 use Rattle.df_theory.proofs.Appends.{kept_some}

@@ -1,4 +1,4 @@
-use Rattle.df_theory.proofs.Writers.{append_law}
+use Rattle.df_theory.proofs.Writes.{append_law}
 use Rattle.df_theory.proofs.writers.append_leads.Goals as goal
 
 pub returns : goal.returns

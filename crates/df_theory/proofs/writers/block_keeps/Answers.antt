@@ -1,4 +1,4 @@
-use Rattle.df_theory.proofs.Writers.{block_law}
+use Rattle.df_theory.proofs.Writes.{block_law}
 use Rattle.df_theory.proofs.writers.block_keeps.Goals as goal
 
 pub returns : goal.returns

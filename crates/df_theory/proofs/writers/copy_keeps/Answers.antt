@@ -1,4 +1,4 @@
-use Rattle.df_theory.proofs.Writers.{copy_law}
+use Rattle.df_theory.proofs.Writes.{copy_law}
 use Rattle.df_theory.proofs.writers.copy_keeps.Goals as goal
 
 pub returns : goal.returns

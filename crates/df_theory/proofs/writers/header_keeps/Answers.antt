@@ -1,4 +1,4 @@
-use Rattle.df_theory.proofs.Writers.{header_law}
+use Rattle.df_theory.proofs.Writes.{header_law}
 use Rattle.df_theory.proofs.writers.header_keeps.Goals as goal
 
 pub returns : goal.returns

@@ -1,4 +1,4 @@
-use Rattle.df_theory.proofs.Writers.{reply_law}
+use Rattle.df_theory.proofs.Writes.{reply_law}
 use Rattle.df_theory.proofs.writers.reply_leads.Goals as goal
 
 pub returns : goal.returns

@@ -1,4 +1,4 @@
-use Rattle.df_theory.proofs.Writers.{steady_law}
+use Rattle.df_theory.proofs.Writes.{steady_law}
 use Rattle.df_theory.proofs.writers.steady_is_safe.Goals as goal
 
 pub returns : goal.returns

@@ -1,4 +1,4 @@
-use Rattle.df_theory.proofs.Writers.{sync_law}
+use Rattle.df_theory.proofs.Writes.{sync_law}
 use Rattle.df_theory.proofs.writers.sync_is_steady.Goals as goal
 
 pub returns : goal.returns

@@ -1,4 +1,4 @@
-use Rattle.df_theory.proofs.Writers.{update_law}
+use Rattle.df_theory.proofs.Writes.{update_law}
 use Rattle.df_theory.proofs.writers.update_leads.Goals as goal
 
 pub returns : goal.returns

@@ -12,7 +12,7 @@ use Rattle.df_theory.specs.First.{AreMade}
 use Rattle.df_theory.specs.Steady.{IsCalm, IsCalmPut, IsDry, IsGoodLog, IsQuiet, IsSteady, MayShow, Stepped}
 use Rattle.df_theory.specs.WriterLaws.{AppendLaw, BlockLaw, CalmLaw, CopyLaw, HeaderLaw, ReplyLaw, SteadyLaw, SyncLaw, UpdateLaw}
 use Rattle.df_theory.proofs.Tails.{in_back}
-use Rattle.df_theory.proofs.Views.{one_view}
+use Rattle.df_theory.proofs.OneView.{one_view}
 use Rattle.df_theory.proofs.Steps.{grows_holds, synced_steady, steady_safe, steady_holds}
 use Rattle.df_theory.proofs.Puts.{calm_step, calm_stays, one_step}
 use Rattle.df_theory.proofs.Appends.{append_step}
