@@ -45,6 +45,9 @@ votes_of image old new d k stage a = elim (cases_eq a.first k) [
 pub agree_at : (image : Units) (c : Content) (m n : ℕ) → m < n → n < 4 → image (CopyPlace m) ≡ Some (CopyUnit c) → image (CopyPlace n) ≡ Some (CopyUnit c) → Agree image c
 agree_at image c m n apart inside one two = record { first = m; second = n; apart = apart; inside = inside; at_first = one; at_second = two }
 
+pub agree_beside : (image : Units) (c : Content) (m n k : ℕ) → m < n → n < 4 → (m ≡ k → ⊥) → (n ≡ k → ⊥) → image (CopyPlace m) ≡ Some (CopyUnit c) → image (CopyPlace n) ≡ Some (CopyUnit c) → AgreeBeside image c k
+agree_beside image c m n k apart inside no_first no_second one two = record { agreed = record { first = m; second = n; apart = apart; inside = inside; at_first = one; at_second = two }; no_first = no_first; no_second = no_second }
+
 module _ (image : Units) (old new : Content) (more : rank_of new ≡ rank_of old + 1) where
   apart : new ≡ old → ⊥
   apart same = omega (arith, ap rank_of same)

@@ -1,10 +1,14 @@
 //! What a data file stands for, what a stop may leave of it, and what each writer owes: laws over places and units, without a byte.
 #![tactic(auto)]
 
+mod device;
 mod histories;
+mod making;
 mod views;
 mod writers;
 
+pub use device::{good_units_are_good_sectors, new_disk_is_blank, safe_units_are_safe_sectors, steps_are_moments, write_is_put};
 pub use histories::{counters_stood_together, found_was_had, one_content_a_rank, one_prepare_an_op, one_reply_an_op};
+pub use making::{blank_is_safe, format_begins, second_copy_begins};
 pub use views::{held_is_found, one_is_chosen, one_is_found, one_view_is_held};
 pub use writers::{append_leads, block_keeps, calm_write_keeps, commands_lead_on, copy_keeps, header_keeps, reply_leads, steady_is_safe, sync_is_steady, update_leads};

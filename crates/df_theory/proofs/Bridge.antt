@@ -1,0 +1,107 @@
+-- A log of sectors is a log of units.
+use Rattle.std.proofs.Common.{◌≡◌, ◌⊎◌, inl, inr, ℕ, Bool, true, false, ◌||◌, List, [], ◌∷◌, ◌++◌, refl, sym, ◌∙◌, ap, subst, append_assoc, arith}
+use Rattle.std.proofs.lemmas.Bool.{cases_eq}
+use Rattle.std.proofs.lemmas.Bool.Decides.{nat_tests}
+use Rattle.df_theory.specs.Units.{Place, or_else, overlay}
+use Rattle.df_theory.specs.Shape.{Shape}
+use Rattle.df_theory.specs.View.{View}
+use Rattle.df_theory.specs.Next.{kept}
+use Rattle.df_theory.specs.UnitLog.{IsLeftBy, UnitLog, Wrote, loose_of, now, now_of, wrote}
+use Rattle.df_theory.specs.Steady.{IsGoodLog}
+use Rattle.df_theory.specs.Runs.{AtEach, Puts, Syncs, after_steps}
+use Rattle.df_theory.specs.Device.{Format, IsGoodDisk, adds, units_log, units_of}
+use Rattle.df_theory.specs.DeviceLaws.{DiskLaw, MomentsLaw, NewDiskLaw, PutLaw, SafeDiskLaw}
+use Rattle.df_base.specs.Image.{Image, IsSector, IsImage, blank, covers, written, changed}
+use Rattle.df_base.specs.Log
+use Rattle.df_base.specs.Log.{Event, Write, Sync, Stop, IsLeft, AreLoose, new_log}
+use Rattle.df_base.specs.Moments.{Extends, EachMoment}
+use Rattle.df_base.proofs.Goes.{extends_self, started, from_before}
+
+now_units : (f : Format) (start : Image) (es : List Event) → now_of (f.unit_at start) (units_of f start es) ≡ f.unit_at (Log.now_of start es)
+now_units f start [] = refl
+now_units f start ((Write at bytes) ∷ es) = refl
+now_units f start (Sync ∷ es) = now_units f start es
+now_units f start ((Stop changes) ∷ es) = refl
+
+both_false : (a b : Bool) → a || b ≡ false → (a ≡ false) × (b ≡ false)
+both_false true b is = absurd (let no_unit : true ≡ false = is in cc)
+both_false false b is = (refl, is)
+
+-- a place that isn't loose has no loose sector
+firm_sector : (f : Format) (start : Image) (es : List Event) (place : Place) (sector : ℕ) → loose_of (units_of f start es) place ≡ false → f.has place sector ≡ true → Log.loose_of es sector ≡ false
+firm_sector f start [] place sector firm has = refl
+firm_sector f start ((Write at bytes) ∷ es) place sector firm has =
+    let parts = both_false (f.touches at bytes place) (loose_of (units_of f start es) place) firm in
+    let one = f.apart at bytes place sector parts.0 has in
+    let two = firm_sector f start es place sector parts.1 has in
+    λ i. one i || two i
+firm_sector f start (Sync ∷ es) place sector firm has = refl
+firm_sector f start ((Stop changes) ∷ es) place sector firm has = refl
+
+-- equal at each firm sector, equal at each firm place
+firm_units : (f : Format) (log : Log.Log) (image : Image) → ((sector : ℕ) → Log.loose log sector ≡ false → image sector ≡ Log.now log sector) → IsLeftBy (units_log f log) (f.unit_at image)
+firm_units f log image kept place firm =
+    f.local image (Log.now log) place (λ sector has. kept sector (firm_sector f log.start log.events place sector firm has)) ∙ (λ i. sym (now_units f log.start log.events) i place)
+
+changed_kept : (es : List Event) (changes : List (ℕ × List ℕ)) (image : Image) (sector : ℕ) → AreLoose es changes → Log.loose_of es sector ≡ false → changed changes image sector ≡ image sector
+changed_kept es [] image sector are firm = refl
+changed_kept es (c ∷ changes) image sector are firm =
+    changed_kept es changes _ sector are.2 firm ∙ elim (cases_eq sector c.0) [
+      | inl here ↦ absurd (let wet : Log.loose_of es sector ≡ true = subst (λ (s : ℕ). Log.loose_of es s ≡ true) (sym here) are.0 in cc)
+      | inr elsewhere ↦ grind (arith, nat_tests)
+    ]
+
+pub safe_disk_law : SafeDiskLaw
+safe_disk_law f sh log safe = record {
+  grown = safe.grown;
+  synced = safe.synced;
+  stopped = λ changes are chance.
+      let image : Image = changed changes (Log.now log) in
+      safe.stopped (f.unit_at image) (firm_units f log image (λ sector firm. changed_kept log.events changes (Log.now log) sector are firm)) chance;
+}
+
+pub disk_law : DiskLaw
+disk_law f sh v u log good = record {
+  safe = safe_disk_law f sh log good.safe;
+  left = λ image left chance. good.left (f.unit_at image) (firm_units f log image left.kept) chance;
+}
+
+pub put_law : PutLaw
+put_law f log at bytes put is = λ i. record {
+  start = f.unit_at log.start;
+  events = Wrote (λ place. is.touches place i) (λ place. is.stands place i) (λ place. shows place i) ∷ units_of f log.start log.events;
+}
+  where
+    shows : (place : Place) → f.unit_at (written at bytes (Log.now log)) place ≡ overlay put (now (units_log f log)) place
+    shows place = is.shows (Log.now log) place ∙ (λ i. or_else (put place) (sym (now_units f log.start log.events) i place))
+
+pub new_disk_law : NewDiskLaw
+new_disk_law f none = λ i. record { start = λ place. none place i; events = [] }
+
+adds_extends : (es : List Event) (log : Log.Log) → Extends (adds es log) log
+adds_extends [] log = extends_self log
+adds_extends (e ∷ es) log =
+    let rest = adds_extends es (Log.add e log) in
+    (rest.0 ++ e ∷ [], rest.1 ∙ sym (append_assoc rest.0 (e ∷ []) log.events), rest.2)
+
+-- the first event, then the others
+first_moment : (f : Format) (sh : Shape) (v u : View) (e : Event) (es : List Event) (log : Log.Log) → IsGoodLog sh v u (units_log f log) → EachMoment (Log.add e log) (adds es (Log.add e log)) (IsGoodDisk f sh v u) → EachMoment log (adds es (Log.add e log)) (IsGoodDisk f sh v u)
+first_moment f sh v u e es log good later = from_before e log (adds es (Log.add e log)) (IsGoodDisk f sh v u) (disk_law f sh v u log good) (adds_extends es (Log.add e log)) later
+
+pub moments_law : MomentsLaw
+moments_law f sh v u log [] [] are = (refl, λ each. started log (IsGoodDisk f sh v u) (disk_law f sh v u log each))
+moments_law f sh v u log ((Write at bytes) ∷ es) ((Puts put) ∷ ss) are =
+    let same : units_log f (Log.add (Write at bytes) log) ≡ wrote put (units_log f log) = put_law f log at bytes put are.0 in
+    let rest = moments_law f sh v u (Log.add (Write at bytes) log) es ss are.1 in (
+      rest.0 ∙ ap (λ (l : UnitLog). after_steps ss l) same,
+      λ each. first_moment f sh v u (Write at bytes) es log each.0 (rest.1 (subst (λ (l : UnitLog). AtEach (IsGoodLog sh v u) l ss) (sym same) each.1)),
+    )
+moments_law f sh v u log (Sync ∷ es) (Syncs ∷ ss) are =
+    let rest = moments_law f sh v u (Log.add Sync log) es ss are in
+    (rest.0, λ each. first_moment f sh v u Sync es log each.0 (rest.1 each.1))
+moments_law f sh v u log [] (s ∷ ss) are = absurd are
+moments_law f sh v u log ((Write at bytes) ∷ es) [] are = absurd are
+moments_law f sh v u log ((Write at bytes) ∷ es) (Syncs ∷ ss) are = absurd are
+moments_law f sh v u log (Sync ∷ es) [] are = absurd are
+moments_law f sh v u log (Sync ∷ es) ((Puts put) ∷ ss) are = absurd are
+moments_law f sh v u log ((Stop changes) ∷ es) ss are = absurd are

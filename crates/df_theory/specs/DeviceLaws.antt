@@ -1,0 +1,36 @@
+-- What is proved of places holds of sectors.
+use Rattle.std.specs.Prelude.{◌≡◌, ℕ, List, None}
+use Rattle.df_theory.specs.Units.{Place, Units}
+use Rattle.df_theory.specs.Shape.{Shape}
+use Rattle.df_theory.specs.View.{View}
+use Rattle.df_theory.specs.UnitLog.{wrote}
+use Rattle.df_theory.specs.Grown.{IsSafe}
+use Rattle.df_theory.specs.Steady.{IsGoodLog}
+use Rattle.df_theory.specs.Runs.{AtEach, Step, after_steps}
+use Rattle.df_theory.specs.MakingLaws.{blank_log}
+use Rattle.df_theory.specs.Device.{AreSteps, Format, IsGoodDisk, IsPut, IsSafeDisk, adds, units_log}
+use Rattle.df_base.specs.Image.{blank}
+use Rattle.df_base.specs.Log.{Event, Write, Log, add, new_log}
+use Rattle.df_base.specs.Moments.{EachMoment}
+
+-- a good log of units is a good log of sectors
+abbrev pub DiskLaw : Type 0
+DiskLaw = (f : Format) (sh : Shape) (v u : View) (log : Log) → IsGoodLog sh v u (units_log f log) → IsGoodDisk f sh v u log
+
+-- a safe log of units is a safe log of sectors
+abbrev pub SafeDiskLaw : Type 0
+SafeDiskLaw = (f : Format) (sh : Shape) (log : Log) → IsSafe sh (units_log f log) → IsSafeDisk f sh log
+
+-- a write of whole units is a write of units
+abbrev pub PutLaw : Type 0
+PutLaw = (f : Format) (log : Log) (at : ℕ) (bytes : List ℕ) (put : Units) → IsPut f at bytes put → units_log f (add (Write at bytes) log) ≡ wrote put (units_log f log)
+
+-- a new disk is the blank log, where a blank image shows no unit
+abbrev pub NewDiskLaw : Type 0
+NewDiskLaw = (f : Format) → ((place : Place) → f.unit_at blank place ≡ None) → units_log f new_log ≡ blank_log
+
+-- device calls that are these steps have at each moment what the steps have
+abbrev pub MomentsLaw : Type 0
+MomentsLaw =
+    (f : Format) (sh : Shape) (v u : View) (log : Log) (es : List Event) (ss : List Step) → AreSteps f es ss
+    → (units_log f (adds es log) ≡ after_steps ss (units_log f log)) × (AtEach (IsGoodLog sh v u) (units_log f log) ss → EachMoment log (adds es log) (IsGoodDisk f sh v u))
