@@ -1,16 +1,17 @@
 -- The laws of the writers.
-use Rattle.std.proofs.Common.{◌≡◌, ◌⊎◌, inl, inr, ℕ, ◌%◌, ◌≤◌, List, [], ◌∷◌, ◌++◌, true, false, Option, Some, None, refl, sym, ◌∙◌, ap, subst, arith}
-use Rattle.df_theory.specs.Units.{AnyUnit, Block, BlockPlace, BlockUnit, Content, CopyPlace, CopyUnit, Header, HeaderPlace, HeaderUnit, Message, Place, PreparePlace, PrepareUnit, Units, or_else, overlay}
+use Rattle.std.proofs.Common.{◌≡◌, ◌⊎◌, inl, inr, ℕ, ◌%◌, ◌≤◌, ◌==◌, Bool, if◌then◌else◌, List, [], ◌∷◌, ◌++◌, true, false, Option, Some, None, refl, sym, ◌∙◌, ap, subst, arith}
+use Rattle.std.proofs.lemmas.Bool.Decides.{nat_tests}
+use Rattle.df_theory.specs.Units.{AnyUnit, Block, BlockPlace, BlockUnit, Content, CopyPlace, CopyUnit, Header, HeaderPlace, HeaderUnit, Message, Place, PreparePlace, PrepareUnit, ReplyPlace, Units, or_else, overlay}
 use Rattle.df_theory.specs.Tails.{In}
 use Rattle.df_theory.specs.Shape.{Shape}
 use Rattle.df_theory.specs.Trailer.{InChain}
 use Rattle.df_theory.specs.View.{View, head}
 use Rattle.df_theory.specs.Holds.{Holds}
 use Rattle.df_theory.specs.Next.{MayAppend, appended, checkpointed, replied}
-use Rattle.df_theory.specs.UnitLog.{PutsOne, Synced, UnitLog, add, now, settled, wrote}
+use Rattle.df_theory.specs.UnitLog.{PutsOne, Synced, UnitLog, add, now, same_place, settled, wrote}
 use Rattle.df_theory.specs.First.{AreMade}
 use Rattle.df_theory.specs.Steady.{IsCalm, IsCalmPut, IsDry, IsGoodLog, IsQuiet, IsSteady, MayShow, Stepped}
-use Rattle.df_theory.specs.WriterLaws.{AppendLaw, BlockLaw, CalmLaw, CopyLaw, HeaderLaw, ReplyLaw, SteadyLaw, SyncLaw, UpdateLaw}
+use Rattle.df_theory.specs.WriterLaws.{AppendLaw, BlockLaw, CalmLaw, CopyLaw, HeaderLaw, PutOneLaw, ReplyLaw, SteadyLaw, SyncLaw, UpdateLaw, WriteLaw}
 use Rattle.df_theory.proofs.Tails.{in_back}
 use Rattle.df_theory.proofs.OneView.{one_view}
 use Rattle.df_theory.proofs.Steps.{grows_holds, synced_steady, steady_safe, steady_holds}
@@ -88,7 +89,7 @@ pub quiet_synced : (log : UnitLog) → IsQuiet (add Synced log)
 quiet_synced log place wet = absurd (let no_unit : false ≡ true = wet in cc)
 
 pub header_law : HeaderLaw
-header_law sh log v put steady quiet mend = calm_law sh log v put steady (λ place y is.
+header_law sh log v put steady mend = calm_law sh log v put steady (λ place y is.
     let e = mend.each place y is in
     subst (λ (p : Place). IsCalm sh v p × MayShow sh (settled log) v p y) (sym e.2)
     (subst (λ (x : AnyUnit). IsCalm sh v (HeaderPlace e.0) × MayShow sh (settled log) v (HeaderPlace e.0) x) (sym e.3)
@@ -99,7 +100,7 @@ header_law sh log v put steady quiet mend = calm_law sh log v put steady (λ pla
       agrees = steady.holds.bears.agrees (HeaderPlace s) (HeaderUnit h) shown;
       known = elim (steady.knows (HeaderPlace s) (HeaderUnit h) shown) [
         | inl old ↦ inl old
-        | inr pending ↦ absurd (quiet (HeaderPlace s) (steady.pending (HeaderPlace s) (HeaderUnit h) pending).0)
+        | inr pending ↦ (steady.pending (HeaderPlace s) (HeaderUnit h) pending).1.known
       ];
     }
     may s h (inr (inl of)) = record {
@@ -161,7 +162,7 @@ append_law sh log v p prepare headers steady quiet may one sector =
     first = prepare_steps sh log v prepare p steady quiet may one
 
     second : IsSteady sh (wrote headers (add Synced (wrote prepare log))) (appended v (p ∷ [])) × Stepped sh (add Synced (wrote prepare log)) headers (appended v (p ∷ [])) (appended v (p ∷ []))
-    second = header_law sh (add Synced (wrote prepare log)) (appended v (p ∷ [])) headers first.steady (quiet_synced (wrote prepare log)) (record { each = mends })
+    second = header_law sh (add Synced (wrote prepare log)) (appended v (p ∷ [])) headers first.steady (record { each = mends })
       where
         mends : (place : Place) (y : AnyUnit) → headers place ≡ Some y → (s : ℕ) × (h : Header) × (place ≡ HeaderPlace s) × (y ≡ HeaderUnit h)
             × ((overlay prepare (now log) (HeaderPlace s) ≡ Some (HeaderUnit h)) ⊎ ((q : Message) × In q (v.tail ++ p ∷ []) × (q.header ≡ h) × (s ≡ h.op % sh.layout.slots)) ⊎ ((h.op ≡ 0) × (h.checkpoint ≡ 0)))
@@ -225,3 +226,40 @@ update_law sh log v c put0 put1 put2 put3 steady dry may copies held one0 one1 o
         steady = fourth.steady;
       };
     }
+
+pub write_law : WriteLaw
+write_law sh log put v u steady stepped = record {
+  moments = (good_steady sh log v u v steady (inl refl), (stepped.good, good_steady sh (add Synced (wrote put log)) v u u stepped.steady (inr refl)));
+  steady = stepped.steady;
+}
+
+eq_true : (a b : ℕ) → (a == b) ≡ true → a ≡ b
+eq_true a b e = grind (arith, nat_tests)
+
+eq_same : (a : ℕ) → (a == a) ≡ true
+eq_same a = grind (arith, nat_tests)
+
+same_here : (place : Place) → same_place place place ≡ true
+same_here (CopyPlace n) = eq_same n
+same_here (HeaderPlace n) = eq_same n
+same_here (PreparePlace n) = eq_same n
+same_here (ReplyPlace n) = eq_same n
+same_here (BlockPlace n) = eq_same n
+
+same_is : (place other : Place) → same_place place other ≡ true → other ≡ place
+same_is (CopyPlace n) (CopyPlace m) is = ap CopyPlace (sym (eq_true n m is))
+same_is (HeaderPlace n) (HeaderPlace m) is = ap HeaderPlace (sym (eq_true n m is))
+same_is (PreparePlace n) (PreparePlace m) is = ap PreparePlace (sym (eq_true n m is))
+same_is (ReplyPlace n) (ReplyPlace m) is = ap ReplyPlace (sym (eq_true n m is))
+same_is (BlockPlace n) (BlockPlace m) is = ap BlockPlace (sym (eq_true n m is))
+same_is place other is = absurd (let no_unit : false ≡ true = is in cc)
+
+pub put_one_law : PutOneLaw
+put_one_law place x = record {
+  at = ap (λ (b : Bool). if b then Some x else None) (same_here place);
+  only = λ other y is. go other y (same_place place other) refl is;
+}
+  where
+    go : (other : Place) (y : AnyUnit) (b : Bool) → same_place place other ≡ b → (if b then Some x else None) ≡ Some y → (other ≡ place) × (y ≡ x)
+    go other y true test is = (same_is place other test, let both : Some x ≡ Some y = is in cc)
+    go other y false test is = absurd (let both : None ≡ Some y = is in cc)

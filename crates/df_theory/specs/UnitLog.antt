@@ -1,6 +1,6 @@
 -- Logs of writes, syncs and stops, read place by place, and what a stop may leave.
-use Rattle.std.specs.Prelude.{◌≡◌, ◌⊎◌, ℕ, Bool, false, ◌||◌, List, [], ◌∷◌, Some}
-use Rattle.df_theory.specs.Units.{Place, AnyUnit, Units, overlay, is_some}
+use Rattle.std.specs.Prelude.{◌≡◌, ◌⊎◌, ℕ, Bool, false, ◌||◌, ◌==◌, if◌then◌else◌, List, [], ◌∷◌, Some, None}
+use Rattle.df_theory.specs.Units.{AnyUnit, BlockPlace, CopyPlace, HeaderPlace, Place, PreparePlace, ReplyPlace, Units, is_some, overlay}
 
 -- a write: the places that it touches, the units that stand whole in it, and the image after it; a sync; a stop, and the image after it
 pub data UnitEvent : Type 0 where
@@ -59,3 +59,15 @@ wrote put log = add (Wrote (λ place. is_some (put place)) put (overlay put (now
 pub record PutsOne (put : Units) (place : Place) (x : AnyUnit) : Type 0 where
   pub at : put place ≡ Some x
   pub only : (other : Place) (y : AnyUnit) → put other ≡ Some y → (other ≡ place) × (y ≡ x)
+
+abbrev pub same_place : Place → Place → Bool
+same_place (CopyPlace n) (CopyPlace m) = n == m
+same_place (HeaderPlace n) (HeaderPlace m) = n == m
+same_place (PreparePlace n) (PreparePlace m) = n == m
+same_place (ReplyPlace n) (ReplyPlace m) = n == m
+same_place (BlockPlace n) (BlockPlace m) = n == m
+same_place place other = false
+
+-- the write of this one unit
+abbrev pub put_one : Place → AnyUnit → Units
+put_one place x other = if same_place place other then Some x else None

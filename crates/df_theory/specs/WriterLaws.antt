@@ -7,7 +7,7 @@ use Rattle.df_theory.specs.Trailer.{InChain}
 use Rattle.df_theory.specs.View.{Checkpoint, View}
 use Rattle.df_theory.specs.Holds.{Holds}
 use Rattle.df_theory.specs.Next.{MayAppend, MayFinish, MayReply, appended, checkpointed, replied}
-use Rattle.df_theory.specs.UnitLog.{PutsOne, Synced, UnitLog, add, now, settled, wrote}
+use Rattle.df_theory.specs.UnitLog.{PutsOne, Synced, UnitLog, add, now, put_one, settled, wrote}
 use Rattle.df_theory.specs.Chance.{EachLeft}
 use Rattle.df_theory.specs.Grown.{IsSafe}
 use Rattle.df_theory.specs.Steady.{AgreeBeside, IsCalmPut, IsDry, IsGoodLog, IsQuiet, IsSteady, Stepped}
@@ -24,6 +24,14 @@ SyncLaw = (sh : Shape) (log : UnitLog) (v : View) → IsSafe sh log → Holds sh
 -- a write that the view doesn't see may stay loose, whatever else is written meanwhile
 abbrev pub CalmLaw : Type 0
 CalmLaw = (sh : Shape) (log : UnitLog) (v : View) (put : Units) → IsSteady sh log v → IsCalmPut sh (settled log) v put → IsSteady sh (wrote put log) v × Stepped sh log put v v
+
+-- the write of one unit puts one unit
+abbrev pub PutOneLaw : Type 0
+PutOneLaw = (place : Place) (x : AnyUnit) → PutsOne (put_one place x) place x
+
+-- a write that leads on, with its sync, is a command
+abbrev pub WriteLaw : Type 0
+WriteLaw = (sh : Shape) (log : UnitLog) (put : Units) (v u : View) → IsSteady sh log v → Stepped sh log put v u → Leads sh log v (record { steps = Puts put ∷ Syncs ∷ []; view = u })
 
 -- the header sectors of an append: what the ring shows, and the new header
 pub record IsHeaderSector (sh : Shape) (image : Units) (p : Message) (put : Units) : Type 0 where
@@ -65,7 +73,7 @@ pub record IsHeaderMend (sh : Shape) (image : Units) (v : View) (put : Units) : 
 
 abbrev pub HeaderLaw : Type 0
 HeaderLaw =
-    (sh : Shape) (log : UnitLog) (v : View) (put : Units) → IsSteady sh log v → IsQuiet log → IsHeaderMend sh (now log) v put
+    (sh : Shape) (log : UnitLog) (v : View) (put : Units) → IsSteady sh log v → IsHeaderMend sh (now log) v put
     → IsSteady sh (wrote put log) v × Stepped sh log put v v
 
 -- a copy of the chosen content, where two other copies show it

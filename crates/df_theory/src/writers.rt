@@ -1,6 +1,11 @@
 // What each write does at every moment, and how commands follow one another.
 
-ghost use Rattle.df_theory.specs.WriterLaws.{SteadyLaw, SyncLaw, CalmLaw, AppendLaw, ReplyLaw, BlockLaw, HeaderLaw, CopyLaw, UpdateLaw, CommandsLaw};
+ghost use Rattle.df_theory.specs.WriterLaws.{PutOneLaw, SteadyLaw, SyncLaw, CalmLaw, WriteLaw, AppendLaw, ReplyLaw, BlockLaw, HeaderLaw, CopyLaw, UpdateLaw, CommandsLaw};
+
+/// The write of one unit puts one unit.
+pub fn one_unit_is_put()
+    ensures { PutOneLaw }
+{}
 
 /// A log that is steady on a view is safe, and each image that a stop leaves holds the view.
 pub fn steady_is_safe()
@@ -15,6 +20,11 @@ pub fn sync_is_steady()
 /// A write that the view does not see may stay loose.
 pub fn calm_write_keeps()
     ensures { CalmLaw }
+{}
+
+/// A write that leads on, with its sync, is a command.
+pub fn write_leads()
+    ensures { WriteLaw }
 {}
 
 /// Each moment of an append: the prepare, a sync, its header sector, a sync.

@@ -1,0 +1,190 @@
+-- An open's mending, step by step.
+use Rattle.std.proofs.Common.{◌≡◌, ◌⊎◌, inl, inr, ℕ, ◌%◌, ◌<◌, List, [], ◌∷◌, ◌++◌, Option, Some, None, refl, sym, ◌∙◌, ap, subst}
+use Rattle.std.proofs.lemmas.Bool.{cases_eq}
+use Rattle.df_theory.specs.Units.{AnyUnit, Content, CopyPlace, CopyUnit, Header, HeaderPlace, HeaderUnit, Message, Place, Units, or_else, overlay}
+use Rattle.df_theory.specs.Tails.{In}
+use Rattle.df_theory.specs.Shape.{Shape}
+use Rattle.df_theory.specs.View.{View}
+use Rattle.df_theory.specs.UnitLog.{PutsOne, Synced, UnitLog, add, now, wrote}
+use Rattle.df_theory.specs.Steady.{IsGoodLog, IsQuiet, IsSteady}
+use Rattle.df_theory.specs.Runs.{AtEach, Puts, Step, Syncs, after_steps}
+use Rattle.df_theory.specs.WriterLaws.{IsHeaderMend}
+use Rattle.df_theory.specs.MakingLaws.{all_puts}
+use Rattle.df_theory.specs.MendLaws.{AllPutCopy, AllPutTable, IsNumber, IsTable, MendLaw, MendsWholeLaw, PutsTable, Reaches, copy_steps, header_steps, mend_steps}
+use Rattle.df_theory.proofs.Steps.{steady_safe}
+use Rattle.df_theory.proofs.Writes.{good_steady, sync_law, header_law, copy_law, quiet_synced, put_else}
+use Rattle.df_theory.proofs.Runs.{each_append, after_append}
+
+-- what the table says of the slots still holds after some of its sectors were written
+pub record IsUnderWay (sh : Shape) (image : Units) (v : View) (table : ℕ → Header) : Type 0 where
+  pub each : (s : ℕ) → (image (HeaderPlace s) ≡ Some (HeaderUnit (table s))) ⊎ ((p : Message) × In p v.tail × (p.header ≡ table s) × (s ≡ (table s).op % sh.layout.slots)) ⊎ (((table s).op ≡ 0) × ((table s).checkpoint ≡ 0))
+
+-- a slot that shows the table's header still does so
+shown_still : (table : ℕ → Header) (put image : Units) → PutsTable table put → (s : ℕ) → image (HeaderPlace s) ≡ Some (HeaderUnit (table s)) → overlay put image (HeaderPlace s) ≡ Some (HeaderUnit (table s))
+shown_still table put image puts s shown = go (put (HeaderPlace s)) refl
+  where
+    go : (o : Option AnyUnit) → put (HeaderPlace s) ≡ o → overlay put image (HeaderPlace s) ≡ Some (HeaderUnit (table s))
+    go None none = ap (λ (o : Option AnyUnit). or_else o (image (HeaderPlace s))) none ∙ shown
+    go (Some y) some =
+        let e = puts (HeaderPlace s) y some in
+        let slot : e.0 ≡ s = (let at = e.1 in cc) in
+        ap (λ (o : Option AnyUnit). or_else o (image (HeaderPlace s))) some ∙ ap Some (e.2 ∙ ap (λ (k : ℕ). HeaderUnit (table k)) slot)
+
+shown_put : (table : ℕ → Header) (put image : Units) → PutsTable table put → (s : ℕ) (y : AnyUnit) → put (HeaderPlace s) ≡ Some y → overlay put image (HeaderPlace s) ≡ Some (HeaderUnit (table s))
+shown_put table put image puts s y some =
+    let e = puts (HeaderPlace s) y some in
+    let slot : e.0 ≡ s = (let at = e.1 in cc) in
+    ap (λ (o : Option AnyUnit). or_else o (image (HeaderPlace s))) some ∙ ap Some (e.2 ∙ ap (λ (k : ℕ). HeaderUnit (table k)) slot)
+
+under_way_still : (sh : Shape) (v : View) (table : ℕ → Header) (put image : Units) → PutsTable table put → IsUnderWay sh image v table → IsUnderWay sh (overlay put image) v table
+under_way_still sh v table put image puts way = record { each = λ s. elim (way.each s) [
+  | inl shown ↦ inl (shown_still table put image puts s shown)
+  | inr known ↦ inr known
+] }
+
+is_mend : (sh : Shape) (v : View) (table : ℕ → Header) (put image : Units) → PutsTable table put → IsUnderWay sh image v table → IsHeaderMend sh image v put
+is_mend sh v table put image puts way = record { each = λ place y is.
+    let e = puts place y is in
+    (e.0, table e.0, e.1, e.2, way.each e.0) }
+
+-- the header sectors
+headers_steady : (sh : Shape) (v : View) (table : ℕ → Header) (puts : List Units) (log : UnitLog) → IsSteady sh log v → IsUnderWay sh (now log) v table → AllPutTable table puts → AtEach (IsGoodLog sh v v) log (all_puts puts) × IsSteady sh (after_steps (all_puts puts) log) v
+headers_steady sh v table [] log steady way all = (good_steady sh log v v v steady (inl refl), steady)
+headers_steady sh v table (put ∷ puts) log steady way all =
+    let wrote_one = header_law sh log v put steady (is_mend sh v table put (now log) all.0 way) in
+    let rest = headers_steady sh v table puts (wrote put log) wrote_one.0 (under_way_still sh v table put (now log) all.0 way) all.1 in
+    ((good_steady sh log v v v steady (inl refl), rest.0), rest.1)
+
+synced_after : (sh : Shape) (v : View) (log : UnitLog) → IsSteady sh log v → IsSteady sh (add Synced log) v
+synced_after sh v log steady = sync_law sh log v (steady_safe sh log v steady) steady.holds
+
+-- ---- what stays as it was
+
+-- none of these writes reaches the place
+abbrev AllMiss : Place → List Step → Type 0
+AllMiss place [] = Unit {0}
+AllMiss place ((Puts put) ∷ ss) = (put place ≡ None) × AllMiss place ss
+AllMiss place (Syncs ∷ ss) = AllMiss place ss
+
+missed : (place : Place) (ss : List Step) (log : UnitLog) → AllMiss place ss → now (after_steps ss log) place ≡ now log place
+missed place [] log miss = refl
+missed place ((Puts put) ∷ ss) log miss = missed place ss (wrote put log) miss.1 ∙ ap (λ (o : Option AnyUnit). or_else o (now log place)) miss.0
+missed place (Syncs ∷ ss) log miss = missed place ss (add Synced log) miss
+
+miss_append : (place : Place) (ss ts : List Step) → AllMiss place ss → AllMiss place ts → AllMiss place (ss ++ ts)
+miss_append place [] ts one two = two
+miss_append place ((Puts put) ∷ ss) ts one two = (one.0, miss_append place ss ts one.1 two)
+miss_append place (Syncs ∷ ss) ts one two = miss_append place ss ts one two
+
+no_copy : (table : ℕ → Header) (put : Units) → PutsTable table put → (n : ℕ) → put (CopyPlace n) ≡ None
+no_copy table put puts n = go (put (CopyPlace n)) refl
+  where
+    go : (o : Option AnyUnit) → put (CopyPlace n) ≡ o → put (CopyPlace n) ≡ None
+    go None none = none
+    go (Some y) some = absurd (let at = (puts (CopyPlace n) y some).1 in cc)
+
+headers_miss : (table : ℕ → Header) (puts : List Units) → AllPutTable table puts → (n : ℕ) → AllMiss (CopyPlace n) (all_puts puts)
+headers_miss table [] all n = tt
+headers_miss table (put ∷ puts) all n = (no_copy table put all.0 n, headers_miss table puts all.1 n)
+
+header_steps_miss : (table : ℕ → Header) (puts : List Units) → AllPutTable table puts → (n : ℕ) → AllMiss (CopyPlace n) (header_steps puts)
+header_steps_miss table [] all n = tt
+header_steps_miss table (put ∷ puts) all n = (no_copy table put all.0 n, miss_append (CopyPlace n) (all_puts puts) (Syncs ∷ []) (headers_miss table puts all.1 n) tt)
+
+no_header : (c : Content) (k : ℕ) (put : Units) → PutsOne put (CopyPlace k) (CopyUnit c) → (s : ℕ) → put (HeaderPlace s) ≡ None
+no_header c k put one s = go (put (HeaderPlace s)) refl
+  where
+    go : (o : Option AnyUnit) → put (HeaderPlace s) ≡ o → put (HeaderPlace s) ≡ None
+    go None none = none
+    go (Some y) some = absurd (let at = (one.only (HeaderPlace s) y some).0 in cc)
+
+copies_miss : (c : Content) (m n : ℕ) (ks : List (ℕ × Units)) → AllPutCopy c m n ks → (s : ℕ) → AllMiss (HeaderPlace s) (copy_steps ks)
+copies_miss c m n [] all s = tt
+copies_miss c m n (k ∷ ks) all s = (no_header c k.0 k.1 all.0 s, copies_miss c m n ks all.3 s)
+
+-- ---- the copies
+
+copies_steady : (sh : Shape) (v : View) (m n : ℕ) (ks : List (ℕ × Units)) (log : UnitLog) → m < n → n < 4 → now log (CopyPlace m) ≡ Some (CopyUnit v.checkpoint.content) → now log (CopyPlace n) ≡ Some (CopyUnit v.checkpoint.content)
+    → IsSteady sh log v → IsQuiet log → AllPutCopy v.checkpoint.content m n ks → AtEach (IsGoodLog sh v v) log (copy_steps ks) × IsSteady sh (after_steps (copy_steps ks) log) v
+copies_steady sh v m n [] log apart inside one two steady quiet all = (good_steady sh log v v v steady (inl refl), steady)
+copies_steady sh v m n (k ∷ ks) log apart inside one two steady quiet all =
+    let stepped = copy_law sh log v k.1 k.0 steady quiet all.0 (record { agreed = record { first = m; second = n; apart = apart; inside = inside; at_first = one; at_second = two }; no_first = all.1; no_second = all.2 }) in
+    let next : UnitLog = add Synced (wrote k.1 log) in
+    let first : now next (CopyPlace m) ≡ Some (CopyUnit v.checkpoint.content) = put_else k.1 (now log) (CopyPlace k.0) (CopyPlace m) (CopyUnit v.checkpoint.content) all.0 (λ same. all.1 (let at : CopyPlace m ≡ CopyPlace k.0 = same in cc)) ∙ one in
+    let second : now next (CopyPlace n) ≡ Some (CopyUnit v.checkpoint.content) = put_else k.1 (now log) (CopyPlace k.0) (CopyPlace n) (CopyUnit v.checkpoint.content) all.0 (λ same. all.2 (let at : CopyPlace n ≡ CopyPlace k.0 = same in cc)) ∙ two in
+    let rest = copies_steady sh v m n ks next apart inside first second stepped.steady (quiet_synced (wrote k.1 log)) all.3 in
+    ((good_steady sh log v v v steady (inl refl), (stepped.good, rest.0)), rest.1)
+
+-- ---- all of it
+
+-- where the header sectors lead
+record IsHalfWay (sh : Shape) (log : UnitLog) (v : View) (headers : List Units) : Type 0 where
+  pub moments : AtEach (IsGoodLog sh v v) log (header_steps headers)
+  pub steady : IsSteady sh (after_steps (header_steps headers) log) v
+  pub quiet : IsQuiet (after_steps (header_steps headers) log)
+
+half_way : (sh : Shape) (log : UnitLog) (v : View) (table : ℕ → Header) (headers : List Units) → IsSteady sh log v → IsQuiet log → IsTable sh (now log) v table → AllPutTable table headers → IsHalfWay sh log v headers
+half_way sh log v table [] steady quiet is all = record { moments = good_steady sh log v v v steady (inl refl); steady = steady; quiet = quiet }
+half_way sh log v table (put ∷ puts) steady quiet is all =
+    let written = headers_steady sh v table (put ∷ puts) log steady (record { each = is.each }) all in
+    let after : UnitLog = after_steps (all_puts (put ∷ puts)) log in
+    let synced : IsSteady sh (add Synced after) v = synced_after sh v after written.1 in
+    let same : after_steps (header_steps (put ∷ puts)) log ≡ add Synced after = after_append (all_puts (put ∷ puts)) (Syncs ∷ []) log in
+    record {
+      moments = each_append (IsGoodLog sh v v) (all_puts (put ∷ puts)) (Syncs ∷ []) log written.0 (good_steady sh after v v v written.1 (inl refl), good_steady sh (add Synced after) v v v synced (inl refl));
+      steady = subst (λ (l : UnitLog). IsSteady sh l v) (sym same) synced;
+      quiet = subst IsQuiet (sym same) (quiet_synced after);
+    }
+
+pub mend_law : MendLaw
+mend_law sh log v table headers copies agreed steady quiet is all_headers all_copies =
+    let half = half_way sh log v table headers steady quiet is all_headers in
+    let mid : UnitLog = after_steps (header_steps headers) log in
+    let stays : (n : ℕ) → now mid (CopyPlace n) ≡ now log (CopyPlace n) = λ n. missed (CopyPlace n) (header_steps headers) log (header_steps_miss table headers all_headers n) in
+    let rest = copies_steady sh v agreed.first agreed.second copies mid agreed.apart agreed.inside (stays agreed.first ∙ agreed.at_first) (stays agreed.second ∙ agreed.at_second) half.steady half.quiet all_copies in (
+      each_append (IsGoodLog sh v v) (header_steps headers) (copy_steps copies) log half.moments rest.0,
+      subst (λ (l : UnitLog). IsSteady sh l v) (sym (after_append (header_steps headers) (copy_steps copies) log)) rest.1,
+    )
+
+-- ---- nothing is left
+
+headers_shown : (table : ℕ → Header) (puts : List Units) (log : UnitLog) → AllPutTable table puts → (s : ℕ) → (now log (HeaderPlace s) ≡ Some (HeaderUnit (table s))) ⊎ Reaches puts (HeaderPlace s) → now (after_steps (all_puts puts) log) (HeaderPlace s) ≡ Some (HeaderUnit (table s))
+headers_shown table [] log all s (inl shown) = shown
+headers_shown table [] log all s (inr none) = absurd none
+headers_shown table (put ∷ puts) log all s (inl shown) = headers_shown table puts (wrote put log) all.1 s (inl (shown_still table put (now log) all.0 s shown))
+headers_shown table (put ∷ puts) log all s (inr (inl here)) = headers_shown table puts (wrote put log) all.1 s (inl (shown_put table put (now log) all.0 s here.0 here.1))
+headers_shown table (put ∷ puts) log all s (inr (inr there)) = headers_shown table puts (wrote put log) all.1 s (inr there)
+
+steps_shown : (table : ℕ → Header) (puts : List Units) (log : UnitLog) → AllPutTable table puts → (s : ℕ) → (now log (HeaderPlace s) ≡ Some (HeaderUnit (table s))) ⊎ Reaches puts (HeaderPlace s) → now (after_steps (header_steps puts) log) (HeaderPlace s) ≡ Some (HeaderUnit (table s))
+steps_shown table [] log all s (inl shown) = shown
+steps_shown table [] log all s (inr none) = absurd none
+steps_shown table (put ∷ puts) log all s either =
+    ap (λ (l : UnitLog). now l (HeaderPlace s)) (after_append (all_puts (put ∷ puts)) (Syncs ∷ []) log) ∙ headers_shown table (put ∷ puts) log all s either
+
+copies_shown : (c : Content) (m n : ℕ) (ks : List (ℕ × Units)) (log : UnitLog) → AllPutCopy c m n ks → (k : ℕ) → (now log (CopyPlace k) ≡ Some (CopyUnit c)) ⊎ IsNumber k ks → now (after_steps (copy_steps ks) log) (CopyPlace k) ≡ Some (CopyUnit c)
+copies_shown c m n [] log all k (inl shown) = shown
+copies_shown c m n [] log all k (inr none) = absurd none
+copies_shown c m n (j ∷ ks) log all k either = copies_shown c m n ks (add Synced (wrote j.1 log)) all.3 k (elim (cases_eq k j.0) [
+  | inl here ↦ inl (ap (λ (i : ℕ). overlay j.1 (now log) (CopyPlace i)) here ∙ ap (λ (o : Option AnyUnit). or_else o (now log (CopyPlace j.0))) all.0.at)
+  | inr away ↦ elim either [
+    | inl shown ↦ inl (put_else j.1 (now log) (CopyPlace j.0) (CopyPlace k) (CopyUnit c) all.0 (λ same. away (let at : CopyPlace k ≡ CopyPlace j.0 = same in cc)) ∙ shown)
+    | inr number ↦ elim number [ inl here ↦ absurd (away here) | inr there ↦ inr there ]
+  ]
+])
+
+pub mends_whole_law : MendsWholeLaw
+mends_whole_law sh log v table headers copies m n is all_headers all_copies slots_are copies_are =
+    let mid : UnitLog = after_steps (header_steps headers) log in
+    let done : after_steps (mend_steps headers copies) log ≡ after_steps (copy_steps copies) mid = after_append (header_steps headers) (copy_steps copies) log in
+    record {
+      copies = λ k below.
+          ap (λ (l : UnitLog). now l (CopyPlace k)) done ∙ copies_shown v.checkpoint.content m n copies mid all_copies k (elim (copies_are k below) [
+            | inl shown ↦ inl (missed (CopyPlace k) (header_steps headers) log (header_steps_miss table headers all_headers k) ∙ shown)
+            | inr number ↦ inr number
+          ]);
+      headers = λ s below. (
+        table s,
+        ap (λ (l : UnitLog). now l (HeaderPlace s)) done ∙ missed (HeaderPlace s) (copy_steps copies) mid (copies_miss v.checkpoint.content m n copies all_copies s) ∙ steps_shown table headers log all_headers s (slots_are s below),
+        is.tail s,
+      );
+    }

@@ -1,0 +1,66 @@
+-- How an open mends a file: header sectors, a sync, then the copies that aren't of the choice, a sync after each.
+use Rattle.std.specs.Prelude.{◌≡◌, ◌⊎◌, ◌<◌, ◌%◌, ℕ, List, [], ◌∷◌, ◌++◌, Some, None}
+use Rattle.df_theory.specs.Units.{AnyUnit, Content, CopyPlace, CopyUnit, Header, HeaderPlace, HeaderUnit, Message, Place, Units}
+use Rattle.df_theory.specs.Tails.{In}
+use Rattle.df_theory.specs.Shape.{Shape, slots}
+use Rattle.df_theory.specs.Copies.{Agree}
+use Rattle.df_theory.specs.View.{View}
+use Rattle.df_theory.specs.Holds.{IsWhole}
+use Rattle.df_theory.specs.UnitLog.{PutsOne, UnitLog, now}
+use Rattle.df_theory.specs.Steady.{IsGoodLog, IsQuiet, IsSteady}
+use Rattle.df_theory.specs.Runs.{AtEach, Puts, Step, Syncs, after_steps}
+use Rattle.df_theory.specs.MakingLaws.{all_puts}
+
+-- what each slot's header is to be: the one that is shown there, that of a prepare of the tail, or a reserved one
+pub record IsTable (sh : Shape) (image : Units) (v : View) (table : ℕ → Header) : Type 0 where
+  pub each : (s : ℕ) → (image (HeaderPlace s) ≡ Some (HeaderUnit (table s))) ⊎ ((p : Message) × In p v.tail × (p.header ≡ table s) × (s ≡ (table s).op % slots sh)) ⊎ (((table s).op ≡ 0) × ((table s).checkpoint ≡ 0))
+  pub tail : (s : ℕ) (p : Message) → In p v.tail → s ≡ p.header.op % slots sh → p.header ≡ table s
+
+-- header sectors as the table has them
+abbrev pub PutsTable : (ℕ → Header) → Units → Type 0
+PutsTable table put = (place : Place) (y : AnyUnit) → put place ≡ Some y → (s : ℕ) × (place ≡ HeaderPlace s) × (y ≡ HeaderUnit (table s))
+
+abbrev pub AllPutTable : (ℕ → Header) → List Units → Type 0
+AllPutTable table [] = Unit {0}
+AllPutTable table (put ∷ puts) = PutsTable table put × AllPutTable table puts
+
+-- one of these writes reaches the place
+abbrev pub Reaches : List Units → Place → Type 0
+Reaches [] place = ⊥
+Reaches (put ∷ puts) place = ((y : AnyUnit) × (put place ≡ Some y)) ⊎ Reaches puts place
+
+abbrev pub header_steps : List Units → List Step
+header_steps [] = []
+header_steps (put ∷ puts) = all_puts (put ∷ puts) ++ (Syncs ∷ [])
+
+-- copies of this content, by number, neither of these two
+abbrev pub AllPutCopy : Content → ℕ → ℕ → List (ℕ × Units) → Type 0
+AllPutCopy c m n [] = Unit {0}
+AllPutCopy c m n (k ∷ ks) = PutsOne k.1 (CopyPlace k.0) (CopyUnit c) × (m ≡ k.0 → ⊥) × (n ≡ k.0 → ⊥) × AllPutCopy c m n ks
+
+abbrev pub IsNumber : ℕ → List (ℕ × Units) → Type 0
+IsNumber n [] = ⊥
+IsNumber n (k ∷ ks) = (n ≡ k.0) ⊎ IsNumber n ks
+
+abbrev pub copy_steps : List (ℕ × Units) → List Step
+copy_steps [] = []
+copy_steps (k ∷ ks) = Puts k.1 ∷ Syncs ∷ copy_steps ks
+
+abbrev pub mend_steps : List Units → List (ℕ × Units) → List Step
+mend_steps headers copies = header_steps headers ++ copy_steps copies
+
+-- at each moment of the mending each image left has the view, and at the end the log is steady on it
+abbrev pub MendLaw : Type 0
+MendLaw =
+    (sh : Shape) (log : UnitLog) (v : View) (table : ℕ → Header) (headers : List Units) (copies : List (ℕ × Units)) (agreed : Agree (now log) v.checkpoint.content)
+    → IsSteady sh log v → IsQuiet log → IsTable sh (now log) v table → AllPutTable table headers → AllPutCopy v.checkpoint.content agreed.first agreed.second copies
+    → AtEach (IsGoodLog sh v v) log (mend_steps headers copies) × IsSteady sh (after_steps (mend_steps headers copies) log) v
+
+-- where each slot and each copy that is not as it should be is written, nothing is left to mend
+abbrev pub MendsWholeLaw : Type 0
+MendsWholeLaw =
+    (sh : Shape) (log : UnitLog) (v : View) (table : ℕ → Header) (headers : List Units) (copies : List (ℕ × Units)) (m n : ℕ)
+    → IsTable sh (now log) v table → AllPutTable table headers → AllPutCopy v.checkpoint.content m n copies
+    → ((s : ℕ) → s < slots sh → (now log (HeaderPlace s) ≡ Some (HeaderUnit (table s))) ⊎ Reaches headers (HeaderPlace s))
+    → ((k : ℕ) → k < 4 → (now log (CopyPlace k) ≡ Some (CopyUnit v.checkpoint.content)) ⊎ IsNumber k copies)
+    → IsWhole sh (now (after_steps (mend_steps headers copies) log)) v
