@@ -1,5 +1,5 @@
 -- A log of sectors is a log of units.
-use Rattle.std.proofs.Common.{◌≡◌, ◌⊎◌, inl, inr, ℕ, Bool, true, false, ◌||◌, List, [], ◌∷◌, ◌++◌, refl, sym, ◌∙◌, ap, subst, append_assoc, arith}
+use Rattle.std.proofs.Common.{◌≡◌, inl, inr, ℕ, Bool, true, false, ◌||◌, List, [], ◌∷◌, ◌++◌, refl, sym, ◌∙◌, ap, subst, append_assoc, arith}
 use Rattle.std.proofs.lemmas.Bool.{cases_eq}
 use Rattle.std.proofs.lemmas.Bool.Decides.{nat_tests}
 use Rattle.df_theory.specs.Units.{Place, or_else, overlay}
@@ -11,7 +11,7 @@ use Rattle.df_theory.specs.Steady.{IsGoodLog}
 use Rattle.df_theory.specs.Runs.{AtEach, Puts, Syncs, after_steps}
 use Rattle.df_theory.specs.Device.{Format, IsGoodDisk, adds, units_log, units_of}
 use Rattle.df_theory.specs.DeviceLaws.{DiskLaw, MomentsLaw, NewDiskLaw, PutLaw, SafeDiskLaw}
-use Rattle.df_base.specs.Image.{Image, IsSector, IsImage, blank, covers, written, changed}
+use Rattle.df_base.specs.Image.{Image, written, changed}
 use Rattle.df_base.specs.Log
 use Rattle.df_base.specs.Log.{Event, Write, Sync, Stop, IsLeft, AreLoose, new_log}
 use Rattle.df_base.specs.Moments.{Extends, EachMoment}

@@ -1,7 +1,7 @@
 -- What is found in any image of settled units was the view of a settled image.
-use Rattle.std.proofs.Common.{◌≡◌, ◌⊎◌, inl, inr, ℕ, ◌+◌, ◌-◌, ◌%◌, ◌<◌, ◌≤◌, List, [], ◌∷◌, ◌++◌, length, Option, Some, None, refl, sym, ◌∙◌, ap, subst, arith, length-append, length-drop}
+use Rattle.std.proofs.Common.{◌≡◌, ◌⊎◌, inl, inr, ℕ, ◌+◌, ◌-◌, ◌%◌, ◌<◌, ◌≤◌, List, length, Option, Some, None, refl, sym, ◌∙◌, ap, subst, arith}
 use Rattle.std.specs.List.{slice_get}
-use Rattle.std.proofs.lemmas.Bool.{cases_eq, cases_lt}
+use Rattle.std.proofs.lemmas.Bool.{cases_lt}
 use Rattle.df_theory.specs.Units.{AnyUnit, Block, BlockPlace, BlockUnit, Content, CopyPlace, CopyUnit, Message, Place, PreparePlace, PrepareUnit, ReplyPlace, ReplyUnit, Session, Units}
 use Rattle.df_theory.specs.Sessions.{sessions_after}
 use Rattle.df_theory.specs.Tails.{Chain, last_mark}
@@ -15,16 +15,10 @@ use Rattle.df_theory.specs.Grown.{Grows}
 use Rattle.df_theory.specs.Found.{IsFound}
 use Rattle.df_theory.specs.Past.{FromEmpty, Was}
 use Rattle.df_theory.specs.HistoryLaws.{FoundWasLaw, OneContentLaw, OneReplyLaw}
-use Rattle.df_theory.proofs.Grew.{next_grew}
 use Rattle.df_theory.proofs.OneView.{same_says}
-use Rattle.df_theory.proofs.Tails.{in_either, in_dropped}
-use Rattle.df_theory.proofs.Steps.{grows_sound}
-use Rattle.df_theory.proofs.Appends.{kept_some}
-use Rattle.df_theory.proofs.Replies.{stored_at, stored_else}
-use Rattle.df_theory.proofs.Sounds.{tracks}
-use Rattle.df_theory.proofs.Past.{was_low, was_self, settled_was, was_one, stamp_law}
-use Rattle.df_theory.proofs.Settled.{settled_content, settled_reply, after_append, after_reply, after_base, reply_here}
-use Rattle.df_theory.proofs.Once.{was_base, stored_op, was_sound, one_stored, was_reply, was_chain, same_links, same_chains, last_of, no_mark}
+use Rattle.df_theory.proofs.Past.{settled_was, was_one, stamp_law}
+use Rattle.df_theory.proofs.Settled.{settled_content, settled_reply, after_append, after_reply, after_base}
+use Rattle.df_theory.proofs.Once.{was_base, was_sound, was_reply, was_chain, same_links, same_chains, last_of, no_mark}
 
 module _ (sh : Shape) (images : List Units) (v : View) (grows : Grows sh images v) (empty : FromEmpty sh images v grows)
     (distinct : (place other : Place) (x y : AnyUnit) → InImages images place x → InImages images other y → Distinct x y)

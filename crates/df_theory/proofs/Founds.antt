@@ -278,11 +278,11 @@ module _ (sh : Shape) (image : Units) (v : View) (h : Holds sh image v) where
       reached = reached;
     };
     stored = record {
-    shown = λ k s at low.
-        let r = sound.stores k s at low in
-        let t = sound.answered k r.0 r.1 in
-        let same : t.0 ≡ s = (let two : Some t.0 ≡ Some s = sym t.1 ∙ at in cc) in
-        (r.0, r.1, stored_shown k r.0 r.1, subst (λ (w : Session). Answers w r.0) same t.3);
-    no_more = λ k r is. let t = sound.answered k r is in (t.0, t.1, t.2);
+      shown = λ k s at low.
+          let r = sound.stores k s at low in
+          let t = sound.answered k r.0 r.1 in
+          let same : t.0 ≡ s = (let two : Some t.0 ≡ Some s = sym t.1 ∙ at in cc) in
+          (r.0, r.1, stored_shown k r.0 r.1, subst (λ (w : Session). Answers w r.0) same t.3);
+      no_more = λ k r is. let t = sound.answered k r is in (t.0, t.1, t.2);
     };
   }

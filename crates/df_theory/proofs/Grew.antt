@@ -1,5 +1,5 @@
 -- What agrees with a view agrees with each later one.
-use Rattle.std.proofs.Common.{◌≡◌, ◌⊎◌, inl, inr, ℕ, ◌+◌, ◌-◌, ◌<◌, ◌≤◌, [], ◌∷◌, refl, sym, ap, subst, arith, length-append, length-drop}
+use Rattle.std.proofs.Common.{◌≡◌, ◌⊎◌, inl, inr, ℕ, ◌+◌, ◌-◌, ◌<◌, ◌≤◌, refl, ap, subst, arith, length-append, length-drop}
 use Rattle.df_theory.specs.Units.{AnyUnit, BlockPlace, Content, CopyPlace, HeaderPlace, Message, Place, PreparePlace, ReplyPlace}
 use Rattle.df_theory.specs.Tails.{In}
 use Rattle.df_theory.specs.Shape.{Shape}

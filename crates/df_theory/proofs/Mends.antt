@@ -37,15 +37,19 @@ shown_put table put image puts s y some =
     ap (λ (o : Option AnyUnit). or_else o (image (HeaderPlace s))) some ∙ ap Some (e.2 ∙ ap (λ (k : ℕ). HeaderUnit (table k)) slot)
 
 under_way_still : (sh : Shape) (v : View) (table : ℕ → Header) (put image : Units) → PutsTable table put → IsUnderWay sh image v table → IsUnderWay sh (overlay put image) v table
-under_way_still sh v table put image puts way = record { each = λ s. elim (way.each s) [
-  | inl shown ↦ inl (shown_still table put image puts s shown)
-  | inr known ↦ inr known
-] }
+under_way_still sh v table put image puts way = record {
+  each = λ s. elim (way.each s) [
+    | inl shown ↦ inl (shown_still table put image puts s shown)
+    | inr known ↦ inr known
+  ];
+}
 
 is_mend : (sh : Shape) (v : View) (table : ℕ → Header) (put image : Units) → PutsTable table put → IsUnderWay sh image v table → IsHeaderMend sh image v put
-is_mend sh v table put image puts way = record { each = λ place y is.
-    let e = puts place y is in
-    (e.0, table e.0, e.1, e.2, way.each e.0) }
+is_mend sh v table put image puts way = record {
+  each = λ place y is.
+      let e = puts place y is in
+      (e.0, table e.0, e.1, e.2, way.each e.0);
+}
 
 -- the header sectors
 headers_steady : (sh : Shape) (v : View) (table : ℕ → Header) (puts : List Units) (log : UnitLog) → IsSteady sh log v → IsUnderWay sh (now log) v table → AllPutTable table puts → AtEach (IsGoodLog sh v v) log (all_puts puts) × IsSteady sh (after_steps (all_puts puts) log) v

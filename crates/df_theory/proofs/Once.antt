@@ -1,7 +1,5 @@
 -- One checkpoint a rank, one reply an op, and lists that show the same.
-use Rattle.std.proofs.Common.{◌≡◌, ◌⊎◌, inl, inr, ℕ, ◌+◌, ◌-◌, ◌%◌, ◌<◌, ◌≤◌, List, [], ◌∷◌, ◌++◌, length, Option, Some, None, refl, sym, ◌∙◌, ap, subst, arith, length-append, length-drop}
-use Rattle.std.specs.List.{slice_get}
-use Rattle.std.proofs.lemmas.Bool.{cases_eq, cases_lt}
+use Rattle.std.proofs.Common.{◌≡◌, inl, inr, ℕ, ◌+◌, ◌<◌, ◌≤◌, List, [], ◌∷◌, length, Some, refl, sym, ◌∙◌, ap, subst, arith}
 use Rattle.df_theory.specs.Units.{Block, BlockPlace, BlockUnit, Content, Message, Session, Units}
 use Rattle.df_theory.specs.Sessions.{noted}
 use Rattle.df_theory.specs.Tails.{Chain, In, last_mark}
@@ -14,14 +12,10 @@ use Rattle.df_theory.specs.Chance.{InImages}
 use Rattle.df_theory.specs.Grown.{Grows}
 use Rattle.df_theory.specs.Past.{Was}
 use Rattle.df_theory.proofs.Grew.{next_grew}
-use Rattle.df_theory.proofs.OneView.{same_says}
-use Rattle.df_theory.proofs.Tails.{in_either, in_dropped}
 use Rattle.df_theory.proofs.Steps.{grows_sound}
-use Rattle.df_theory.proofs.Appends.{kept_some}
-use Rattle.df_theory.proofs.Replies.{stored_at, stored_else}
 use Rattle.df_theory.proofs.Sounds.{tracks}
-use Rattle.df_theory.proofs.Past.{was_low, was_self, settled_was, was_one, stamp_law}
-use Rattle.df_theory.proofs.Settled.{settled_content, settled_reply, after_append, after_reply, after_base, reply_here}
+use Rattle.df_theory.proofs.Past.{was_low, was_self}
+use Rattle.df_theory.proofs.Settled.{reply_here}
 
 -- ---- one base a sequence, one reply an op
 
@@ -109,4 +103,3 @@ last_of clients op parent mark m ss (p ∷ q ∷ ps) chain some =
 pub no_mark : (ps : List Message) → length ps ≡ 0 → last_mark 0 ps ≡ 0
 no_mark [] is = refl
 no_mark (p ∷ ps) is = absurd (omega arith)
-

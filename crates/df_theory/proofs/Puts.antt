@@ -13,7 +13,7 @@ use Rattle.df_theory.specs.Grown.{Known}
 use Rattle.df_theory.specs.Steady.{IsBlock, IsCalmPut, IsCopy, IsQuiet, IsSteady, Stepped}
 use Rattle.df_theory.proofs.Grew.{Grew, agrees_grew}
 use Rattle.df_theory.proofs.Images.{IsOpen, rests_open, chosen_same}
-use Rattle.df_theory.proofs.Torn.{Knows, Outcome, Tear, Kept, Loose, Touched, Torn, TornView}
+use Rattle.df_theory.proofs.Torn.{Tear, Kept, Loose, Touched, Torn, TornView}
 use Rattle.df_theory.proofs.Steps.{step, calm_rest}
 
 pub block_agrees : (sh : Shape) (v : View) (place : Place) (x : AnyUnit) → IsBlock place → Agrees sh v place x

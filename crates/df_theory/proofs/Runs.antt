@@ -32,10 +32,10 @@ commands_law sh log v [] steady lead = (record { safe = steady_safe sh log v ste
 commands_law sh log v (c ∷ cs) steady lead =
     let rest = commands_law sh (after_steps c.steps log) c.view cs lead.0.steady lead.1 in (
       each_append (IsPartWay sh v (c ∷ cs)) c.steps (steps_of cs) log
-      (each_weaker (IsGoodLog sh v c.view) (IsPartWay sh v (c ∷ cs)) (λ l good. record {
-        safe = good.safe;
-        left = λ image left chance. elim (good.left image left chance) [ inl is ↦ inl is | inr is ↦ inr (part_none sh image c.view cs is) ];
-      }) c.steps log lead.0.moments)
-      (each_weaker (IsPartWay sh c.view cs) (IsPartWay sh v (c ∷ cs)) (λ l part. record { safe = part.safe; left = λ image left chance. inr (part.left image left chance) }) (steps_of cs) (after_steps c.steps log) rest.0),
+          (each_weaker (IsGoodLog sh v c.view) (IsPartWay sh v (c ∷ cs)) (λ l good. record {
+            safe = good.safe;
+            left = λ image left chance. elim (good.left image left chance) [ inl is ↦ inl is | inr is ↦ inr (part_none sh image c.view cs is) ];
+          }) c.steps log lead.0.moments)
+          (each_weaker (IsPartWay sh c.view cs) (IsPartWay sh v (c ∷ cs)) (λ l part. record { safe = part.safe; left = λ image left chance. inr (part.left image left chance) }) (steps_of cs) (after_steps c.steps log) rest.0),
       subst (λ (l : UnitLog). IsSteady sh l (view_after c.view cs)) (sym (after_append c.steps (steps_of cs) log)) rest.1,
     )

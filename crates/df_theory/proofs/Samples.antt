@@ -1,12 +1,11 @@
 -- A file is made, and each kind of command done to it.
-use Rattle.std.proofs.Common.{◌≡◌, ◌⊎◌, inl, inr, ℕ, ◌+◌, ◌%◌, ◌<◌, ◌==◌, Bool, true, false, if◌then◌else◌, List, [], ◌∷◌, ◌++◌, Option, Some, None, refl, sym, ◌∙◌, ap, subst, arith}
-use Rattle.std.proofs.lemmas.Bool.{cases_eq}
+use Rattle.std.proofs.Common.{◌≡◌, inl, inr, ℕ, ◌%◌, ◌<◌, ◌==◌, Bool, true, false, if◌then◌else◌, List, [], ◌∷◌, ◌++◌, Some, None, refl, sym, ap, subst, arith}
 use Rattle.std.proofs.lemmas.Bool.Decides.{nat_tests}
 use Rattle.df_theory.specs.Units.{Block, BlockPlace, BlockUnit, Content, CopyPlace, CopyUnit, Header, HeaderPlace, HeaderUnit, Layout, Message, Parts, PreparePlace, PrepareUnit, ReplyPlace, ReplyUnit, Session, Units}
 use Rattle.df_theory.specs.Tails.{In}
-use Rattle.df_theory.specs.Shape.{Shape, clients, slots}
+use Rattle.df_theory.specs.Shape.{Shape}
 use Rattle.df_theory.specs.Trailer.{InChain, no_parts}
-use Rattle.df_theory.specs.View.{Checkpoint, View, head, sequence, sessions}
+use Rattle.df_theory.specs.View.{Checkpoint, View}
 use Rattle.df_theory.specs.Holds.{IsWhole}
 use Rattle.df_theory.specs.Next.{IsStamped, MayAppend, MayFinish, MayReply, appended, checkpointed, replied}
 use Rattle.df_theory.specs.UnitLog.{UnitLog, now, put_one}
@@ -18,11 +17,10 @@ use Rattle.df_theory.specs.WriterLaws.{IsHeaderSector}
 use Rattle.df_theory.specs.MakingLaws.{PutsReserved, blank_log, format_steps}
 use Rattle.df_theory.specs.WholeLaws.{IsStanding}
 use Rattle.df_theory.specs.Sample.{SampleLaw}
-use Rattle.df_theory.proofs.Steps.{steady_safe}
-use Rattle.df_theory.proofs.Writes.{append_law, reply_law, block_law, update_law, write_law, put_one_law, quiet_synced}
+use Rattle.df_theory.proofs.Writes.{append_law, reply_law, block_law, update_law, write_law, put_one_law}
 use Rattle.df_theory.proofs.Births.{format_law}
 use Rattle.df_theory.proofs.Keeps.{four, whole_append_law, whole_reply_law, whole_block_law, whole_update_law}
-use Rattle.df_theory.proofs.Runs.{each_append, each_weaker, after_append, commands_law}
+use Rattle.df_theory.proofs.Runs.{each_append, each_weaker, commands_law}
 
 abbrev layout : Layout
 layout = record { slots = 16; message_size = 4096; clients = 4; block_size = 4096; blocks = 1024 }
@@ -90,9 +88,11 @@ made_is = format_law shape first (all_reserved ∷ []) (copy_put 0 content1) (co
 
 -- the header sector of an append: the new header alone
 sector : (sh : Shape) (image : Units) (p : Message) → IsHeaderSector sh image p (put_one (HeaderPlace (p.header.op % sh.layout.slots)) (HeaderUnit p.header))
-sector sh image p = record { each = λ place y is.
-    let at = (put_one_law (HeaderPlace (p.header.op % sh.layout.slots)) (HeaderUnit p.header)).only place y is in
-    (p.header.op % sh.layout.slots, p.header, at.0, at.1, inr (refl, refl)) }
+sector sh image p = record {
+  each = λ place y is.
+      let at = (put_one_law (HeaderPlace (p.header.op % sh.layout.slots)) (HeaderUnit p.header)).only place y is in
+      (p.header.op % sh.layout.slots, p.header, at.0, at.1, inr (refl, refl));
+}
 
 -- ---- an append
 

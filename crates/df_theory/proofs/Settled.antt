@@ -1,7 +1,7 @@
 -- What was settled was of a view, and the views just after an append, a reply and a checkpoint.
-use Rattle.std.proofs.Common.{◌≡◌, ◌⊎◌, inl, inr, ℕ, ◌+◌, ◌-◌, ◌%◌, ◌<◌, ◌≤◌, List, [], ◌∷◌, ◌++◌, length, Option, Some, None, refl, sym, ◌∙◌, ap, subst, arith, length-append, length-drop}
+use Rattle.std.proofs.Common.{◌≡◌, ◌⊎◌, inl, inr, ℕ, ◌-◌, ◌<◌, List, [], ◌∷◌, ◌++◌, length, Some, None, refl, sym, ◌∙◌, ap, subst, arith, length-append, length-drop}
 use Rattle.std.specs.List.{slice_get}
-use Rattle.std.proofs.lemmas.Bool.{cases_eq, cases_lt}
+use Rattle.std.proofs.lemmas.Bool.{cases_eq}
 use Rattle.df_theory.specs.Units.{AnyUnit, Content, CopyPlace, CopyUnit, Message, ReplyPlace, ReplyUnit, Units}
 use Rattle.df_theory.specs.Sessions.{sessions_after}
 use Rattle.df_theory.specs.Tails.{In}
@@ -12,14 +12,10 @@ use Rattle.df_theory.specs.Chance.{InImages}
 use Rattle.df_theory.specs.First.{AreMade}
 use Rattle.df_theory.specs.Grown.{Grows}
 use Rattle.df_theory.specs.Past.{FromEmpty, Was}
-use Rattle.df_theory.proofs.Grew.{next_grew}
-use Rattle.df_theory.proofs.OneView.{same_says}
 use Rattle.df_theory.proofs.Tails.{in_either, in_dropped}
-use Rattle.df_theory.proofs.Steps.{grows_sound}
 use Rattle.df_theory.proofs.Appends.{kept_some}
 use Rattle.df_theory.proofs.Replies.{stored_at, stored_else}
-use Rattle.df_theory.proofs.Sounds.{tracks}
-use Rattle.df_theory.proofs.Past.{was_low, was_self, settled_was, was_one, stamp_law}
+use Rattle.df_theory.proofs.Past.{was_self}
 
 -- ---- what was settled in a copy or a reply slot was of a view
 
@@ -142,4 +138,3 @@ after_base sh (image ∷ images) v (holds, inr (known, (u, next, grows))) empty 
 after_base sh (image ∷ images) v (holds, inr (known, (u, next, grows))) empty w (inr was) =
     let a = after_base sh images u grows empty w was in
     (a.0, inr a.1, a.2, a.3, a.4)
-

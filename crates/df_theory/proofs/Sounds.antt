@@ -1,5 +1,5 @@
 -- Each next view is sound.
-use Rattle.std.proofs.Common.{◌≡◌, ◌⊎◌, inl, inr, ℕ, ◌==◌, Bool, true, false, if◌then◌else◌, ◌+◌, ◌-◌, ◌<◌, ◌≤◌, List, [], ◌∷◌, ◌++◌, length, take, drop, slice_index, nat_lt, Option, Some, None, refl, sym, ◌∙◌, ap, subst, arith, length-append, length-drop}
+use Rattle.std.proofs.Common.{◌≡◌, ◌⊎◌, inl, inr, ℕ, Bool, true, false, if◌then◌else◌, ◌+◌, ◌-◌, ◌<◌, ◌≤◌, List, ◌++◌, length, take, drop, slice_index, nat_lt, Option, Some, None, refl, sym, ◌∙◌, ap, subst, arith, length-append, length-drop}
 use Rattle.std.proofs.lemmas.List.{length-take}
 use Rattle.std.specs.List.{slice_get}
 use Rattle.std.proofs.lemmas.Bool.{cases_eq}
@@ -8,7 +8,7 @@ use Rattle.df_theory.specs.Units.{Message, Session}
 use Rattle.df_theory.specs.Sessions.{Answers, Tracks, sessions_after}
 use Rattle.df_theory.specs.Tails.{AreWholeGroups, Chain, In, last_checksum, last_mark}
 use Rattle.df_theory.specs.Shape.{Shape}
-use Rattle.df_theory.specs.View.{Checkpoint, PassesTests, View, head, sequence, sessions}
+use Rattle.df_theory.specs.View.{Checkpoint, PassesTests, View, head, sessions}
 use Rattle.df_theory.specs.Holds.{Sound}
 use Rattle.df_theory.specs.Next.{IsFinish, IsReply, MayAppend, MayFinish, appended, checkpointed, kept, replied}
 use Rattle.df_theory.proofs.Tails.{in_either, in_dropped, turn_ops, turn_chain}
@@ -85,11 +85,11 @@ module _ (sh : Shape) (v : View) (ps : List Message) (sound : Sound sh v) (may :
   pub append_sound : Sound sh u
   append_sound = record {
     chain = chain_append sh.layout.clients (v.checkpoint.content.op + 1) v.checkpoint.content.op_checksum 0 v.checkpoint.parts.sessions v.tail ps sound.chain (
-      let same : head v + 1 ≡ v.checkpoint.content.op + 1 + length v.tail = omega arith in
-      subst (λ (k : ℕ). Chain sh.layout.clients k (last_checksum v.checkpoint.content.op_checksum v.tail) (last_mark 0 v.tail) (sessions v) ps) same
-      (turn_chain sh.layout.clients (head v + 1) (last_checksum v.checkpoint.content.op_checksum v.tail) (last_mark 0 v.tail) v.replies (head v + length ps) (sessions v) ps may.is.turn
-      (λ p at. let stamped = may.is.stamped p at in (stamped.mark, stamped.group_last)) sound.replies_from.1 (omega (arith, sound.pipeline.0)) (omega (arith, may.pipeline)) (omega arith) may.asks)
-    );
+        let same : head v + 1 ≡ v.checkpoint.content.op + 1 + length v.tail = omega arith in
+        subst (λ (k : ℕ). Chain sh.layout.clients k (last_checksum v.checkpoint.content.op_checksum v.tail) (last_mark 0 v.tail) (sessions v) ps) same
+        (turn_chain sh.layout.clients (head v + 1) (last_checksum v.checkpoint.content.op_checksum v.tail) (last_mark 0 v.tail) v.replies (head v + length ps) (sessions v) ps may.is.turn
+        (λ p at. let stamped = may.is.stamped p at in (stamped.mark, stamped.group_last)) sound.replies_from.1 (omega (arith, sound.pipeline.0)) (omega (arith, may.pipeline)) (omega arith) may.asks)
+        );
     room = omega (arith, may.room, length-append v.tail ps);
     groups = groups;
     checkpoint = sound.checkpoint;

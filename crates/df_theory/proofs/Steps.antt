@@ -174,14 +174,14 @@ module _ (sh : Shape) (log : UnitLog) (v : View) (put : Units) (rest : IsSteady 
   pub step : (u : View) → Next v u → ((j : Units) → Torn sh log v put j → TornView sh log v put j v ⊎ TornView sh log v put j u) → TornView sh log v put (overlay put (now log)) u → Stepped sh log put v u
   step u next each done = record {
     good = record {
-    safe = safe_if sh (wrote put log) v rest.fair rest.grows wrote_knows (λ j left knows. elim (each j (left_torn j left knows)) [
-      | inl before ↦ torn_outcome j v Same knows before
-      | inr after ↦ torn_outcome j u next knows after
-    ]);
-    left = λ j left chance. elim (each j (left_torn j left chance.known)) [
-      | inl before ↦ inl before.holds
-      | inr after ↦ inr after.holds
-    ];
+      safe = safe_if sh (wrote put log) v rest.fair rest.grows wrote_knows (λ j left knows. elim (each j (left_torn j left knows)) [
+        | inl before ↦ torn_outcome j v Same knows before
+        | inr after ↦ torn_outcome j u next knows after
+      ]);
+      left = λ j left chance. elim (each j (left_torn j left chance.known)) [
+        | inl before ↦ inl before.holds
+        | inr after ↦ inr after.holds
+      ];
     };
     steady = write_synced u next done;
   }

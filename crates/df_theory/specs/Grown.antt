@@ -1,5 +1,5 @@
 -- Histories that grew as they should, and logs that are safe wherever a stop falls.
-use Rattle.std.specs.Prelude.{◌≡◌, ◌⊎◌, ℕ, List, [], ◌∷◌, Some}
+use Rattle.std.specs.Prelude.{◌≡◌, ◌⊎◌, List, [], ◌∷◌, Some}
 use Rattle.df_theory.specs.Units.{Place, CopyPlace, HeaderPlace, PreparePlace, ReplyPlace, BlockPlace, Header, Message, Content, AnyUnit, CopyUnit, HeaderUnit, PrepareUnit, ReplyUnit, Units}
 use Rattle.df_theory.specs.Shape.{Shape}
 use Rattle.df_theory.specs.Tails.{In}

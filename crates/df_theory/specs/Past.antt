@@ -1,5 +1,5 @@
 -- The views that a history went through.
-use Rattle.std.specs.Prelude.{◌≡◌, ◌⊎◌, ℕ, List, [], ◌∷◌}
+use Rattle.std.specs.Prelude.{◌≡◌, ◌⊎◌, List, [], ◌∷◌}
 use Rattle.std.proofs.Common.{inl, inr}
 use Rattle.df_theory.specs.Units.{Units}
 use Rattle.df_theory.specs.Shape.{Shape}

@@ -1,6 +1,6 @@
 -- Logs of which nothing that is loose matters to the view, and what a write makes of them.
 use Rattle.std.specs.Prelude.{◌≡◌, ◌⊎◌, ℕ, true, false, List, Some}
-use Rattle.df_theory.specs.Units.{Place, CopyPlace, BlockPlace, Content, AnyUnit, CopyUnit, Units}
+use Rattle.df_theory.specs.Units.{Place, CopyPlace, BlockPlace, Content, AnyUnit, Units}
 use Rattle.df_theory.specs.Shape.{Shape}
 use Rattle.df_theory.specs.View.{View}
 use Rattle.df_theory.specs.Shows.{Needs, Agrees}

@@ -1,5 +1,5 @@
 -- The trailer of a checkpoint: a chain of blocks, read from the last to the first.
-use Rattle.std.specs.Prelude.{◌≡◌, ◌⊎◌, ◌<◌, ◌≤◌, ◌+◌, ◌-◌, ◌*◌, ◌/◌, ℕ, List, [], ◌∷◌, ◌++◌, length, min, Option, Some, None}
+use Rattle.std.specs.Prelude.{◌≡◌, ◌⊎◌, ◌<◌, ◌≤◌, ◌+◌, ◌-◌, ◌*◌, ◌/◌, ℕ, List, [], ◌∷◌, ◌++◌, length, min, Some, None}
 use Rattle.df_theory.specs.Units.{Layout, Content, Block, Parts}
 use Rattle.df_theory.specs.Shape.{Shape}
 

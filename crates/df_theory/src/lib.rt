@@ -10,11 +10,22 @@ mod views;
 mod wholes;
 mod writers;
 
-pub use device::{good_units_are_good_sectors, new_disk_is_blank, safe_units_are_safe_sectors, steps_are_moments, write_is_put};
-pub use histories::{counters_stood_together, found_was_had, one_content_a_rank, one_prepare_an_op, one_reply_an_op};
+pub use device::{
+    good_units_are_good_sectors, new_disk_is_blank, safe_units_are_safe_sectors, steps_are_moments,
+    write_is_put,
+};
+pub use histories::{
+    counters_stood_together, found_was_had, one_content_a_rank, one_prepare_an_op, one_reply_an_op,
+};
 pub use making::{blank_is_safe, format_begins, second_copy_begins};
 pub use mending::{mending_ends_whole, mending_keeps};
 pub use sample_file::a_file_is_kept;
 pub use views::{held_is_found, one_is_chosen, one_is_found, one_view_is_held};
-pub use wholes::{append_stays_whole, block_stays_whole, referenced_blocks_stand, reply_stays_whole, update_stays_whole};
-pub use writers::{append_leads, block_keeps, calm_write_keeps, commands_lead_on, copy_keeps, header_keeps, one_unit_is_put, reply_leads, steady_is_safe, sync_is_steady, update_leads, write_leads};
+pub use wholes::{
+    append_stays_whole, block_stays_whole, referenced_blocks_stand, reply_stays_whole,
+    update_stays_whole,
+};
+pub use writers::{
+    append_leads, block_keeps, calm_write_keeps, commands_lead_on, copy_keeps, header_keeps,
+    one_unit_is_put, reply_leads, steady_is_safe, sync_is_steady, update_leads, write_leads,
+};
