@@ -165,7 +165,7 @@ steps_shown table [] log all s (inr none) = absurd none
 steps_shown table (put ∷ puts) log all s either =
     ap (λ (l : UnitLog). now l (HeaderPlace s)) (after_append (all_puts (put ∷ puts)) (Syncs ∷ []) log) ∙ headers_shown table (put ∷ puts) log all s either
 
-copies_shown : (c : Content) (m n : ℕ) (ks : List (ℕ × Units)) (log : UnitLog) → AllPutCopy c m n ks → (k : ℕ) → (now log (CopyPlace k) ≡ Some (CopyUnit c)) ⊎ IsNumber k ks → now (after_steps (copy_steps ks) log) (CopyPlace k) ≡ Some (CopyUnit c)
+pub copies_shown : (c : Content) (m n : ℕ) (ks : List (ℕ × Units)) (log : UnitLog) → AllPutCopy c m n ks → (k : ℕ) → (now log (CopyPlace k) ≡ Some (CopyUnit c)) ⊎ IsNumber k ks → now (after_steps (copy_steps ks) log) (CopyPlace k) ≡ Some (CopyUnit c)
 copies_shown c m n [] log all k (inl shown) = shown
 copies_shown c m n [] log all k (inr none) = absurd none
 copies_shown c m n (j ∷ ks) log all k either = copies_shown c m n ks (add Synced (wrote j.1 log)) all.3 k (elim (cases_eq k j.0) [

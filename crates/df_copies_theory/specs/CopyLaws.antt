@@ -1,0 +1,78 @@
+-- What the two ways of writing copies keep, at every moment and wherever a stop falls.
+use Rattle.std.specs.Prelude.{◌≡◌, ◌⊎◌, ◌<◌, ℕ, List, [], ◌∷◌, take, Some}
+use Rattle.df_theory.specs.Units.{CopyPlace, Content, CopyUnit, Units}
+use Rattle.df_theory.specs.Shape.{Shape}
+use Rattle.df_theory.specs.Copies.{rank_of, Agree, IsChosen}
+use Rattle.df_theory.specs.View.{View}
+use Rattle.df_theory.specs.UnitLog.{UnitLog, Synced, Stopped, add, now, wrote, PutsOne}
+use Rattle.df_theory.specs.Steady.{IsSteady}
+use Rattle.df_theory.specs.Runs.{after_steps, AtEach}
+use Rattle.df_theory.specs.MendLaws.{AllPutCopy, IsNumber, copy_steps}
+use Rattle.df_copies_theory.specs.Copies.{LeavesCopies, KnowsCopies, AreIdle, AreSteady, IsKept, IsEither, AreEqual, AllPut, AreOutside, IsMisled}
+
+-- a log that is steady on a view has steady copies
+abbrev pub ViewLaw : Type 0
+ViewLaw = (sh : Shape) (log : UnitLog) (v : View) → IsSteady sh log v → AreSteady log v.checkpoint.content
+
+-- each moment of an update of four equal copies to a content above theirs: until copy 1 is written the old one is kept, and from its sync on the new one
+pub record Updates (log : UnitLog) (old new : Content) (put0 put1 put2 put3 : Units) : Type 0 where
+  pub before : IsKept log old
+  pub first_loose : IsKept (wrote put0 log) old
+  pub first : IsKept (add Synced (wrote put0 log)) old
+  pub second_loose : IsEither (wrote put1 (add Synced (wrote put0 log))) old new
+  pub second : IsKept (add Synced (wrote put1 (add Synced (wrote put0 log)))) new
+  pub third_loose : IsKept (wrote put2 (add Synced (wrote put1 (add Synced (wrote put0 log))))) new
+  pub third : IsKept (add Synced (wrote put2 (add Synced (wrote put1 (add Synced (wrote put0 log)))))) new
+  pub fourth_loose : IsKept (wrote put3 (add Synced (wrote put2 (add Synced (wrote put1 (add Synced (wrote put0 log))))))) new
+  pub steady : AreSteady (add Synced (wrote put3 (add Synced (wrote put2 (add Synced (wrote put1 (add Synced (wrote put0 log)))))))) new
+  pub equal : AreEqual (now (add Synced (wrote put3 (add Synced (wrote put2 (add Synced (wrote put1 (add Synced (wrote put0 log))))))))) new
+
+abbrev pub UpdateCopiesLaw : Type 0
+UpdateCopiesLaw =
+    (log : UnitLog) (old new : Content) (put0 put1 put2 put3 : Units) → AreSteady log old → AreEqual (now log) old → rank_of old < rank_of new
+    → PutsOne put0 (CopyPlace 0) (CopyUnit new) → PutsOne put1 (CopyPlace 1) (CopyUnit new) → PutsOne put2 (CopyPlace 2) (CopyUnit new) → PutsOne put3 (CopyPlace 3) (CopyUnit new)
+    → Updates log old new put0 put1 put2 put3
+
+-- each moment of a repair of copies beside two that agree on the choice, whatever was left of earlier updates; where all others are written, the four are equal at its end
+abbrev pub RepairLaw : Type 0
+RepairLaw =
+    (log : UnitLog) (c : Content) (ks : List (ℕ × Units)) (agreed : Agree (now log) c) → AreSteady log c → AllPutCopy c agreed.first agreed.second ks
+    → AtEach (λ l. IsKept l c) log (copy_steps ks) × AreSteady (after_steps (copy_steps ks) log) c
+    × (((n : ℕ) → n < 4 → (now log (CopyPlace n) ≡ Some (CopyUnit c)) ⊎ IsNumber n ks) → AreEqual (now (after_steps (copy_steps ks) log)) c)
+
+-- with no word on the history: at each moment of a repair the choice stays, unless the image is misled
+abbrev pub RepairUnlessMisledLaw : Type 0
+RepairUnlessMisledLaw =
+    (log : UnitLog) (c : Content) (ks : List (ℕ × Units)) → AreIdle log → IsChosen (now log) c → AreOutside (now log) c ks → AllPut c ks
+    → AtEach (λ l. (image : Units) → LeavesCopies l image → (IsMisled (now log) l c image → ⊥) → IsChosen image c) log (copy_steps ks)
+
+-- two copies are enough, whatever known copies the others show
+abbrev pub TwoSufficeLaw : Type 0
+TwoSufficeLaw = (log : UnitLog) (c : Content) (shown : Units) → AreSteady log c → KnowsCopies log shown → Agree shown c → IsChosen shown c
+
+-- a log that begins with four equal copies is steady on them
+abbrev pub BeginsLaw : Type 0
+BeginsLaw = (start : Units) (c : Content) → AreEqual start c → AreSteady (record { start = start; events = [] }) c
+
+-- a repair that a stop ended after some of its steps
+pub record Attempt : Type 0 where
+  pub puts : List (ℕ × Units)
+  pub steps : ℕ
+  pub left : Units
+
+abbrev pub attempted : UnitLog → Attempt → UnitLog
+attempted log a = add (Stopped a.left) (after_steps (take a.steps (copy_steps a.puts)) log)
+
+-- one repair after the other, each of copies beside two that agree on the choice, and each stopped
+abbrev pub AreAttempts : Content → UnitLog → List Attempt → Type 0
+AreAttempts c log [] = Unit {0}
+AreAttempts c log (a ∷ attempts) =
+    ((agreed : Agree (now log) c) × AllPutCopy c agreed.first agreed.second a.puts) × (LeavesCopies (after_steps (take a.steps (copy_steps a.puts)) log) a.left × KnowsCopies (after_steps (take a.steps (copy_steps a.puts)) log) a.left) × AreAttempts c (attempted log a) attempts
+
+abbrev pub all_attempted : UnitLog → List Attempt → UnitLog
+all_attempted log [] = log
+all_attempted log (a ∷ attempts) = all_attempted (attempted log a) attempts
+
+-- any number of repairs may be stopped, one after the other: the choice stays
+abbrev pub AttemptsLaw : Type 0
+AttemptsLaw = (log : UnitLog) (c : Content) (attempts : List Attempt) → AreSteady log c → AreAttempts c log attempts → AreSteady (all_attempted log attempts) c
