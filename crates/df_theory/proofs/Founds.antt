@@ -64,7 +64,7 @@ chain_near clients op parent mark m ss (p ∷ q ∷ ps) chain some = omega (arit
 
 -- ---- from what is found
 
-module _ (sh : Shape) (image : Units) (v : View) (places : AreOfPlaces sh image) (f : IsFound sh image v) (clean : IsClean image v) where
+module _ (sh : Shape) (image : Units) (v : View) (places : AreOfPlaces sh image) (f : IsFound sh image v) where
   tracks : Tracks v.replies (head v) (sessions v)
   tracks = tracks_chain sh.layout.clients v.checkpoint.content.op v.checkpoint.content.op_checksum 0 v.checkpoint.content.replies v.replies v.checkpoint.parts.sessions v.tail f.checkpoint.tracks f.tail.chain f.replies.superblock f.replies.mark
 
@@ -124,7 +124,7 @@ module _ (sh : Shape) (image : Units) (v : View) (places : AreOfPlaces sh image)
       let one : IsTake (case (Current h.checksum) (seen p.header.op p.header)) = subst (λ (s : Seen). IsTake (case s (seen p.header.op p.header))) (seen_now p.header.op h same) at in
       take_same h.checksum p.header.checksum (subst (λ (s : Seen). IsTake (case (Current h.checksum) s)) (seen_now p.header.op p.header refl) one)
 
-  header_known : (s : ℕ) (h : Header) → image (HeaderPlace s) ≡ Some (HeaderUnit h) → (0 < h.op → s ≡ h.op % sh.layout.slots) → v.checkpoint.content.op < h.op → (p : Message) × In p v.tail × (p.header.op ≡ h.op) × (p.header.checksum ≡ h.checksum)
+  pub header_known : (s : ℕ) (h : Header) → image (HeaderPlace s) ≡ Some (HeaderUnit h) → (0 < h.op → s ≡ h.op % sh.layout.slots) → v.checkpoint.content.op < h.op → (p : Message) × In p v.tail × (p.header.op ≡ h.op) × (p.header.checksum ≡ h.checksum)
   header_known s h is slot above =
       let p = tail_at h.op above (f.not_lost.header s h is) in
       let takes = f.tail.takes p.0 p.1 in
@@ -139,18 +139,18 @@ module _ (sh : Shape) (image : Units) (v : View) (places : AreOfPlaces sh image)
       let one : p.0 ≡ q = (let two : Some (PrepareUnit p.0) ≡ Some (PrepareUnit q) = sym takes.shown ∙ place in cc) in
       subst (λ (w : Message). In w v.tail) one p.1
 
-  found_agrees : (place : Place) (x : AnyUnit) → image place ≡ Some x → IsOfPlace sh place x → Agrees sh v place x
-  found_agrees (CopyPlace n) x is of = (of.0, of.1, clean n of.0 (is ∙ ap Some of.1))
-  found_agrees (HeaderPlace s) x is of =
+  found_agrees : IsClean image v → (place : Place) (x : AnyUnit) → image place ≡ Some x → IsOfPlace sh place x → Agrees sh v place x
+  found_agrees clean (CopyPlace n) x is of = (of.0, of.1, clean n of.0 (is ∙ ap Some of.1))
+  found_agrees clean (HeaderPlace s) x is of =
       let at : image (HeaderPlace s) ≡ Some (HeaderUnit of.0) = is ∙ ap Some of.1 in
       (of.0, of.1, record { op = f.not_lost.header s of.0 at; checkpoint = (f.not_behind.header s of.0 at).0; slot = of.2; known = λ above. header_known s of.0 at of.2 above })
-  found_agrees (PreparePlace s) x is of =
+  found_agrees clean (PreparePlace s) x is of =
       let at : image (PreparePlace s) ≡ Some (PrepareUnit of.0) = is ∙ ap Some of.1 in
       (of.0, of.1, record { some = of.3; op = f.not_lost.prepare s of.0 at; checkpoint = (f.not_behind.prepare s of.0 at).0; slot = of.2; known = λ above. prepare_known s of.0 at of.2 above })
-  found_agrees (ReplyPlace k) x is of =
+  found_agrees clean (ReplyPlace k) x is of =
       let at : image (ReplyPlace k) ≡ Some (ReplyUnit of.0) = is ∙ ap Some of.1 in
       (of.0, of.1, record { op = f.replies.reply k of.0 at; mark = (f.not_lost.reply k of.0 at).1; checkpoint = f.not_behind.reply k of.0 at })
-  found_agrees (BlockPlace a) x is of = tt
+  found_agrees clean (BlockPlace a) x is of = tt
 
   found_needs : (place : Place) (x : AnyUnit) → Needs sh v place x → image place ≡ Some x
   found_needs (CopyPlace n) x need = absurd need
@@ -163,37 +163,34 @@ module _ (sh : Shape) (image : Units) (v : View) (places : AreOfPlaces sh image)
       there.2 ∙ ap (λ (w : Message). Some (ReplyUnit w)) same ∙ ap Some (sym need.2)
   found_needs (BlockPlace a) x need = f.chain_shown a need.0 need.1 ∙ ap Some (sym need.2)
 
-  pub found_holds : Holds sh image v
-  found_holds = record {
-    bears = record { sound = found_sound; agrees = λ place x is. found_agrees place x is (places place x is); needs = found_needs };
+  pub found_holds : IsClean image v → Holds sh image v
+  found_holds clean = record {
+    bears = record { sound = found_sound; agrees = λ place x is. found_agrees clean place x is (places place x is); needs = found_needs };
     chosen = f.chosen;
   }
 
--- ---- to what is found
+-- ---- an image whose units agree with a view
 
-module _ (sh : Shape) (image : Units) (v : View) (h : Holds sh image v) where
-  abbrev sound : Sound sh v
-  sound = h.bears.sound
-
-  agrees_header : (s : ℕ) (x : Header) → image (HeaderPlace s) ≡ Some (HeaderUnit x) → AgreesHeader sh v s x
-  agrees_header s x is =
-      let a = h.bears.agrees (HeaderPlace s) (HeaderUnit x) is in
+module _ (sh : Shape) (image : Units) (v : View) (sound : Sound sh v) (all : (place : Place) (x : AnyUnit) → image place ≡ Some x → Agrees sh v place x) where
+  pub header_agrees : (s : ℕ) (x : Header) → image (HeaderPlace s) ≡ Some (HeaderUnit x) → AgreesHeader sh v s x
+  header_agrees s x is =
+      let a = all (HeaderPlace s) (HeaderUnit x) is in
       let same : a.0 ≡ x = (let e = a.1 in cc) in
       subst (λ (y : Header). AgreesHeader sh v s y) same a.2
 
-  pub agrees_prepare : (s : ℕ) (x : Message) → image (PreparePlace s) ≡ Some (PrepareUnit x) → AgreesPrepare sh v s x
-  agrees_prepare s x is =
-      let a = h.bears.agrees (PreparePlace s) (PrepareUnit x) is in
+  pub prepare_agrees : (s : ℕ) (x : Message) → image (PreparePlace s) ≡ Some (PrepareUnit x) → AgreesPrepare sh v s x
+  prepare_agrees s x is =
+      let a = all (PreparePlace s) (PrepareUnit x) is in
       let same : a.0 ≡ x = (let e = a.1 in cc) in
       subst (λ (y : Message). AgreesPrepare sh v s y) same a.2
 
-  agrees_reply : (k : ℕ) (x : Message) → image (ReplyPlace k) ≡ Some (ReplyUnit x) → AgreesReply v x
-  agrees_reply k x is =
-      let a = h.bears.agrees (ReplyPlace k) (ReplyUnit x) is in
+  pub reply_agrees : (k : ℕ) (x : Message) → image (ReplyPlace k) ≡ Some (ReplyUnit x) → AgreesReply v x
+  reply_agrees k x is =
+      let a = all (ReplyPlace k) (ReplyUnit x) is in
       let same : a.0 ≡ x = (let e = a.1 in cc) in
       subst (λ (y : Message). AgreesReply v y) same a.2
 
-  head_room : head v ≤ v.checkpoint.content.op + sh.layout.slots
+  pub head_room : head v ≤ v.checkpoint.content.op + sh.layout.slots
   head_room = omega (arith, sound.room)
 
   -- the header beside a prepare of the tail
@@ -204,7 +201,7 @@ module _ (sh : Shape) (image : Units) (v : View) (h : Holds sh image v) where
   take_at p at (Some (ReplyUnit r)) is = tt
   take_at p at (Some (BlockUnit c)) is = tt
   take_at p at (Some (HeaderUnit x)) is =
-      let a = agrees_header (p.header.op % sh.layout.slots) x is in
+      let a = header_agrees (p.header.op % sh.layout.slots) x is in
       let ops = chain_ops sh.layout.clients (v.checkpoint.content.op + 1) v.checkpoint.content.op_checksum 0 v.checkpoint.parts.sessions v.tail p sound.chain at in
       elim (cases_eq x.op p.header.op) [
         | inl same ↦
@@ -218,14 +215,33 @@ module _ (sh : Shape) (image : Units) (v : View) (h : Holds sh image v) where
         ]
       ]
 
+  pub takes_if : (p : Message) → In p v.tail → image (PreparePlace (p.header.op % sh.layout.slots)) ≡ Some (PrepareUnit p) → Takes sh.layout.slots image p
+  takes_if p at shown = record {
+    shown = shown;
+    take = subst (λ (y : Option AnyUnit). IsTake (case (seen_header p.header.op (image (HeaderPlace (p.header.op % sh.layout.slots)))) (seen_prepare p.header.op y))) (sym shown)
+        (subst (λ (s : Seen). IsTake (case (seen_header p.header.op (image (HeaderPlace (p.header.op % sh.layout.slots)))) s)) (sym (seen_now p.header.op p.header refl)) (take_at p at (image (HeaderPlace (p.header.op % sh.layout.slots))) refl));
+  }
+
+-- ---- to what is found
+
+module _ (sh : Shape) (image : Units) (v : View) (h : Holds sh image v) where
+  abbrev sound : Sound sh v
+  sound = h.bears.sound
+
+  agrees_header : (s : ℕ) (x : Header) → image (HeaderPlace s) ≡ Some (HeaderUnit x) → AgreesHeader sh v s x
+  agrees_header = header_agrees sh image v h.bears.sound h.bears.agrees
+
+  pub agrees_prepare : (s : ℕ) (x : Message) → image (PreparePlace s) ≡ Some (PrepareUnit x) → AgreesPrepare sh v s x
+  agrees_prepare = prepare_agrees sh image v h.bears.sound h.bears.agrees
+
+  agrees_reply : (k : ℕ) (x : Message) → image (ReplyPlace k) ≡ Some (ReplyUnit x) → AgreesReply v x
+  agrees_reply = reply_agrees sh image v h.bears.sound h.bears.agrees
+
+  room_is : head v ≤ v.checkpoint.content.op + sh.layout.slots
+  room_is = head_room sh image v h.bears.sound h.bears.agrees
+
   takes : (p : Message) → In p v.tail → Takes sh.layout.slots image p
-  takes p at =
-      let shown = h.bears.needs (PreparePlace (p.header.op % sh.layout.slots)) (PrepareUnit p) (p, at, refl, refl) in
-      record {
-        shown = shown;
-        take = subst (λ (y : Option AnyUnit). IsTake (case (seen_header p.header.op (image (HeaderPlace (p.header.op % sh.layout.slots)))) (seen_prepare p.header.op y))) (sym shown)
-            (subst (λ (s : Seen). IsTake (case (seen_header p.header.op (image (HeaderPlace (p.header.op % sh.layout.slots)))) s)) (sym (seen_now p.header.op p.header refl)) (take_at p at (image (HeaderPlace (p.header.op % sh.layout.slots))) refl));
-      }
+  takes p at = takes_if sh image v h.bears.sound h.bears.agrees p at (h.bears.needs (PreparePlace (p.header.op % sh.layout.slots)) (PrepareUnit p) (p, at, refl, refl))
 
   tracks_view : Tracks v.replies (head v) (sessions v)
   tracks_view = tracks_chain sh.layout.clients v.checkpoint.content.op v.checkpoint.content.op_checksum 0 v.checkpoint.content.replies v.replies v.checkpoint.parts.sessions v.tail sound.checkpoint.tracks sound.chain sound.replies_from.0 sound.replies_from.1
@@ -254,8 +270,8 @@ module _ (sh : Shape) (image : Units) (v : View) (h : Holds sh image v) where
     checkpoint = sound.checkpoint;
     chain_shown = λ a c is. h.bears.needs (BlockPlace a) (BlockUnit c) (c, is, refl);
     not_behind = record {
-      header = λ s x is. let a = agrees_header s x is in (a.checkpoint, omega (arith, a.op, head_room));
-      prepare = λ s x is. let a = agrees_prepare s x is in (a.checkpoint, omega (arith, a.op, head_room));
+      header = λ s x is. let a = agrees_header s x is in (a.checkpoint, omega (arith, a.op, room_is));
+      prepare = λ s x is. let a = agrees_prepare s x is in (a.checkpoint, omega (arith, a.op, room_is));
       reply = λ k x is. (agrees_reply k x is).checkpoint;
     };
     tail = record {

@@ -8,37 +8,37 @@ use Rattle.df_theory.specs.Tails.{Chain, Fits, In, last_checksum, last_mark}
 use Rattle.df_theory.specs.Shape.{Shape, clients}
 use Rattle.df_theory.specs.Trailer.{Links, Says}
 use Rattle.df_theory.specs.View.{Checkpoint, View, sessions}
+use Rattle.df_theory.specs.Cases.{Takes}
 use Rattle.df_theory.specs.Found.{IsReplies, IsStored, IsTail}
 use Rattle.df_theory.specs.ViewLaws.{FoundLaw, OneChosenLaw, OneFoundLaw, OneViewLaw}
 use Rattle.df_theory.proofs.Choices.{one_chosen}
 use Rattle.df_theory.proofs.Founds.{holds_found, found_holds}
 use Rattle.df_theory.proofs.OneView.{one_view, same_tail, same_chain, same_says}
 
--- each prepare is shown in its slot
-abbrev AreShown : ℕ → Units → List Message → Type 0
-AreShown n image ps = (p : Message) → In p ps → image (PreparePlace (p.header.op % n)) ≡ Some (PrepareUnit p)
-
 -- of two chains that show the same, the longer one has a prepare that fits the shorter one's end
-abbrev HasNext : ℕ → ℕ → ℕ → ℕ → List Session → List Message → List Message → Type 0
+abbrev pub HasNext : ℕ → ℕ → ℕ → ℕ → List Session → List Message → List Message → Type 0
 HasNext clients op parent mark ss ps qs = (q : Message) × In q qs × Fits clients (op + length ps) (last_checksum parent ps) (last_mark mark ps) (sessions_after ss ps) q.header
 
-next_of : (n : ℕ) (image : Units) (clients op parent mark : ℕ) (ss : List Session) (ps qs : List Message) → Chain clients op parent mark ss ps → Chain clients op parent mark ss qs → AreShown n image ps → AreShown n image qs → length ps < length qs → HasNext clients op parent mark ss ps qs
-next_of n image clients op parent mark ss [] [] one two shown there less = absurd (omega arith)
-next_of n image clients op parent mark ss [] (q ∷ qs) one two shown there less =
-    let same : op ≡ op + 0 = omega arith in
-    (q, inl refl, subst (λ (k : ℕ). Fits clients k parent mark ss q.header) same two.0)
-next_of n image clients op parent mark ss (p ∷ ps) [] one two shown there less = absurd (omega arith)
-next_of n image clients op parent mark ss (p ∷ ps) (q ∷ qs) one two shown there less =
-    let op_is : p.header.op ≡ q.header.op = one.0.op_is ∙ sym two.0.op_is in
-    let first : q ≡ p = (let both : Some (PrepareUnit p) ≡ Some (PrepareUnit q) = sym (shown p (inl refl)) ∙ ap (λ (o : ℕ). image (PreparePlace (o % n))) op_is ∙ there q (inl refl) in cc) in
-    let chain : Chain clients (op + 1) p.header.checksum p.header.mark (noted p.header ss) qs = subst (λ (x : Message). Chain clients (op + 1) x.header.checksum x.header.mark (noted x.header ss) qs) first two.1 in
-    let rest = next_of n image clients (op + 1) p.header.checksum p.header.mark (noted p.header ss) ps qs one.1 chain (λ r at. shown r (inr at)) (λ r at. there r (inr at)) (omega arith) in
-    let same : op + 1 + length ps ≡ op + suc (length ps) = omega arith in
-    (rest.0, inr rest.1, subst (λ (k : ℕ). Fits clients k (last_checksum p.header.checksum ps) (last_mark p.header.mark ps) (sessions_after (noted p.header ss) ps) rest.0.header) same rest.2)
+pub next_of : (clients op parent mark : ℕ) (ss : List Session) (ps qs : List Message) → Chain clients op parent mark ss ps → Chain clients op parent mark ss qs → ((p q : Message) → In p ps → In q qs → p.header.op ≡ q.header.op → p ≡ q) → length ps < length qs → HasNext clients op parent mark ss ps qs
+next_of clients op parent mark ss [] [] one two same less = absurd (omega arith)
+next_of clients op parent mark ss [] (q ∷ qs) one two same less =
+    let zero_more : op ≡ op + 0 = omega arith in
+    (q, inl refl, subst (λ (k : ℕ). Fits clients k parent mark ss q.header) zero_more two.0)
+next_of clients op parent mark ss (p ∷ ps) [] one two same less = absurd (omega arith)
+next_of clients op parent mark ss (p ∷ ps) (q ∷ qs) one two same less =
+    let first : p ≡ q = same p q (inl refl) (inl refl) (one.0.op_is ∙ sym two.0.op_is) in
+    let chain : Chain clients (op + 1) p.header.checksum p.header.mark (noted p.header ss) qs = subst (λ (x : Message). Chain clients (op + 1) x.header.checksum x.header.mark (noted x.header ss) qs) (sym first) two.1 in
+    let rest = next_of clients (op + 1) p.header.checksum p.header.mark (noted p.header ss) ps qs one.1 chain (λ x y at there. same x y (inr at) (inr there)) (omega arith) in
+    let more : op + 1 + length ps ≡ op + suc (length ps) = omega arith in
+    (rest.0, inr rest.1, subst (λ (k : ℕ). Fits clients k (last_checksum p.header.checksum ps) (last_mark p.header.mark ps) (sessions_after (noted p.header ss) ps) rest.0.header) more rest.2)
+
+-- prepares of one op that are taken are one
+same_taken : (n : ℕ) (image : Units) (p q : Message) → Takes n image p → Takes n image q → p.header.op ≡ q.header.op → p ≡ q
+same_taken n image p q one two op = let both : Some (PrepareUnit p) ≡ Some (PrepareUnit q) = sym one.shown ∙ ap (λ (o : ℕ). image (PreparePlace (o % n))) op ∙ two.shown in cc
 
 not_longer : (sh : Shape) (image : Units) (b : Checkpoint) (ps qs : List Message) → IsTail sh image b ps → IsTail sh image b qs → length ps < length qs → ⊥
 not_longer sh image b ps qs one two less =
-    let next = next_of sh.layout.slots image sh.layout.clients (b.content.op + 1) b.content.op_checksum 0 b.parts.sessions ps qs one.chain two.chain (λ p at. (one.takes p at).shown) (λ p at. (two.takes p at).shown) less in
+    let next = next_of sh.layout.clients (b.content.op + 1) b.content.op_checksum 0 b.parts.sessions ps qs one.chain two.chain (λ p q at there op. same_taken sh.layout.slots image p q (one.takes p at) (two.takes q there) op) less in
     one.longest next.0 (omega (arith, two.room)) (two.takes next.0 next.1) next.2
 
 one_tail : (sh : Shape) (image : Units) (b : Checkpoint) (ps qs : List Message) → IsTail sh image b ps → IsTail sh image b qs → ps ≡ qs
@@ -116,7 +116,7 @@ pub one_view_law : OneViewLaw
 one_view_law = one_view
 
 pub found_law : FoundLaw
-found_law sh image v = (holds_found sh image v, found_holds sh image v)
+found_law sh image v = (holds_found sh image v, λ places f clean. found_holds sh image v places f clean)
 
 pub one_chosen_law : OneChosenLaw
 one_chosen_law = one_chosen

@@ -1,0 +1,86 @@
+-- What damage can do to a file at rest: sectors hurt, lost or swapped, so long as no unit comes about by chance.
+use Rattle.std.specs.Prelude.{◌≡◌, ◌⊎◌, ◌<◌, ◌≤◌, ◌+◌, ◌-◌, ◌%◌, ℕ, length, List, [], ◌∷◌, ◌++◌, Some}
+use Rattle.std.specs.List.{slice_get}
+use Rattle.df_theory.specs.Units.{AnyUnit, Block, BlockPlace, BlockUnit, Content, Header, HeaderPlace, HeaderUnit, Message, Place, PreparePlace, ReplyPlace, ReplyUnit, Session, Units}
+use Rattle.df_theory.specs.Sessions.{Answers, sessions_after}
+use Rattle.df_theory.specs.Tails.{In}
+use Rattle.df_theory.specs.Shape.{Shape, slots}
+use Rattle.df_theory.specs.Copies.{Agree, IsChosen}
+use Rattle.df_theory.specs.Trailer.{Links}
+use Rattle.df_theory.specs.View.{IsSoundCheckpoint, View}
+use Rattle.df_theory.specs.Shows.{Needs}
+use Rattle.df_theory.specs.Holds.{Holds}
+use Rattle.df_theory.specs.UnitLog.{UnitLog, now}
+use Rattle.df_theory.specs.Chance.{InPool, NoChance}
+use Rattle.df_theory.specs.Grown.{Grows}
+use Rattle.df_theory.specs.Steady.{IsSteady}
+use Rattle.df_theory.specs.Found.{AreOfPlaces, IsFound, IsReplies, IsTail, NotBehind, NotLost}
+use Rattle.df_theory.specs.Past.{FromEmpty, Was}
+use Rattle.df_theory.specs.HistoryLaws.{AreDistinct, ShowsSettled}
+
+-- each unit shown is of the pool
+abbrev pub ShowsPool : UnitLog → Units → Type 0
+ShowsPool log shown = (place : Place) (x : AnyUnit) → shown place ≡ Some x → InPool log place x
+
+-- damage at places that the view doesn't need (header sectors, two copies, free blocks, empty slots) changes nothing
+abbrev pub HurtLaw : Type 0
+HurtLaw =
+    (sh : Shape) (log : UnitLog) (v : View) (shown : Units) → IsSteady sh log v → ShowsPool log shown → Agree shown v.checkpoint.content
+    → ((place : Place) (x : AnyUnit) → Needs sh v place x → shown place ≡ Some x) → Holds sh shown v
+
+-- while two copies show it, what an open finds has the file's checkpoint, whatever else is hurt
+abbrev pub CheckpointStaysLaw : Type 0
+CheckpointStaysLaw =
+    (sh : Shape) (log : UnitLog) (v w : View) (shown : Units) → IsSteady sh log v → NoChance log shown → Agree shown v.checkpoint.content
+    → IsFound sh shown w → w.checkpoint ≡ v.checkpoint
+
+-- while two copies show it, no unit is of a later checkpoint: an open never blames the superblock
+abbrev pub NeverBehindLaw : Type 0
+NeverBehindLaw =
+    (sh : Shape) (log : UnitLog) (v : View) (shown : Units) → IsSteady sh log v → ShowsPool log shown → Agree shown v.checkpoint.content
+    → IsChosen shown v.checkpoint.content × NotBehind sh shown v.checkpoint.content
+
+-- what an open finds has each op above the checkpoint whose header is shown, with that header's checksum
+abbrev pub HeadersTellLaw : Type 0
+HeadersTellLaw =
+    (sh : Shape) (shown : Units) (w : View) (s : ℕ) (h : Header) → AreOfPlaces sh shown → IsFound sh shown w → shown (HeaderPlace s) ≡ Some (HeaderUnit h) → w.checkpoint.content.op < h.op
+    → (p : Message) × In p w.tail × (p.header.op ≡ h.op) × (p.header.checksum ≡ h.checksum)
+
+-- the tail that is found is a front of the file's
+abbrev pub TailIsFrontLaw : Type 0
+TailIsFrontLaw =
+    (sh : Shape) (log : UnitLog) (v : View) (shown : Units) (tail : List Message) → IsSteady sh log v → ShowsPool log shown → IsTail sh shown v.checkpoint tail
+    → (p : Message) → In p tail → In p v.tail
+
+-- where the slot behind the tail that is found shows what it should, nothing was lost: a lost prepare is blamed on a slot that is hurt
+abbrev pub LostIsHurtLaw : Type 0
+LostIsHurtLaw =
+    (sh : Shape) (log : UnitLog) (v : View) (shown : Units) (tail : List Message) → IsSteady sh log v → ShowsPool log shown → Agree shown v.checkpoint.content → IsTail sh shown v.checkpoint tail
+    → shown (PreparePlace ((v.checkpoint.content.op + length tail + 1) % slots sh)) ≡ now log (PreparePlace ((v.checkpoint.content.op + length tail + 1) % slots sh))
+    → NotLost shown v.checkpoint.content (v.checkpoint.content.op + length tail)
+
+-- a prepare that the found tail lacks, and of which no trace is left, stood in a slot that is hurt
+abbrev pub MissingIsHurtLaw : Type 0
+MissingIsHurtLaw =
+    (sh : Shape) (log : UnitLog) (v : View) (shown : Units) (top : ℕ) → IsSteady sh log v → NotLost shown v.checkpoint.content top
+    → (p : Message) → In p v.tail → top < p.header.op → shown (PreparePlace (p.header.op % slots sh)) ≡ now log (PreparePlace (p.header.op % slots sh)) → ⊥
+
+-- a stored reply that is not shown as it should be: its slot is hurt, or that of a later prepare of the same client is
+abbrev pub ReplyIsHurtLaw : Type 0
+ReplyIsHurtLaw =
+    (sh : Shape) (log : UnitLog) (v : View) (shown : Units) (tail : List Message) (n k : ℕ) (s : Session) → IsSteady sh log v → ShowsPool log shown → IsTail sh shown v.checkpoint tail
+    → IsReplies shown v.checkpoint.content tail n → slice_get (sessions_after v.checkpoint.parts.sessions tail) k ≡ Some s → s.op ≤ n → shown (ReplyPlace k) ≡ now log (ReplyPlace k)
+    → ((r : Message) × (shown (ReplyPlace k) ≡ Some (ReplyUnit r)) × Answers s r) ⊎ ((p : Message) × In p v.tail × (p.header.client ≡ s.client) × (v.checkpoint.content.op + length tail < p.header.op))
+
+-- reading a chain of blocks from this address on: these were shown as they were named, and now this address with this checksum is wanted
+abbrev pub Arrives : Units → List (ℕ × Block) → ℕ → ℕ → ℕ → ℕ → Type 0
+Arrives image [] address checksum a k = (a ≡ address) × (k ≡ checksum)
+Arrives image (b ∷ bs) address checksum a k = (0 < address) × (b.0 ≡ address) × (b.1.checksum ≡ checksum) × (image (BlockPlace address) ≡ Some (BlockUnit b.1)) × Arrives image bs b.1.before b.1.before_checksum a k
+
+-- damage never makes a superblock or a trailer that fails its tests: what two copies of settled units agree on was the checkpoint of a view, and the blocks that it names are that view's, as far as they are shown
+abbrev pub FieldsHoldLaw : Type 0
+FieldsHoldLaw =
+    (sh : Shape) (images : List Units) (v : View) (grows : Grows sh images v) → FromEmpty sh images v grows → AreDistinct images
+    → (shown : Units) → ShowsSettled images shown → (c : Content) → Agree shown c
+    → (w : View) × Was sh images v grows w × (w.checkpoint.content ≡ c) × IsSoundCheckpoint sh w.checkpoint
+    × ((bs : List (ℕ × Block)) (a k : ℕ) → Arrives shown bs c.trailer c.trailer_checksum a k → (rest : List (ℕ × Block)) × (w.checkpoint.chain ≡ bs ++ rest) × Links (sh.layout.block_size - 256) c rest a k)
