@@ -3,14 +3,13 @@ use Rattle.std.proofs.Common.{◌≡◌, inl, inr, ℕ, Bool, true, false, ◌||
 use Rattle.std.proofs.lemmas.Bool.{cases_eq}
 use Rattle.std.proofs.lemmas.Bool.Decides.{nat_tests}
 use Rattle.df_theory.specs.Units.{Place, or_else, overlay}
-use Rattle.df_theory.specs.Shape.{Shape}
-use Rattle.df_theory.specs.View.{View}
 use Rattle.df_theory.specs.Next.{kept}
 use Rattle.df_theory.specs.UnitLog.{IsLeftBy, UnitLog, Wrote, loose_of, now, now_of, wrote}
+use Rattle.df_theory.specs.Grown.{IsSafe}
 use Rattle.df_theory.specs.Steady.{IsGoodLog}
-use Rattle.df_theory.specs.Runs.{AtEach, Puts, Syncs, after_steps}
-use Rattle.df_theory.specs.Device.{Format, IsGoodDisk, adds, units_log, units_of}
-use Rattle.df_theory.specs.DeviceLaws.{DiskLaw, MomentsLaw, NewDiskLaw, PutLaw, SafeDiskLaw}
+use Rattle.df_theory.specs.Runs.{AtEach, IsPartWay, Puts, Step, Syncs, after_steps}
+use Rattle.df_theory.specs.Device.{AreSteps, Format, IsGoodDisk, IsPartWayDisk, IsSafeDisk, adds, units_log, units_of}
+use Rattle.df_theory.specs.DeviceLaws.{DiskLaw, MomentsLaw, NewDiskLaw, PutLaw, RunMomentsLaw, SafeDiskLaw, SafeMomentsLaw}
 use Rattle.df_base.specs.Image.{Image, written, changed}
 use Rattle.df_base.specs.Log
 use Rattle.df_base.specs.Log.{Event, Write, Sync, Stop, IsLeft, AreLoose, new_log}
@@ -84,24 +83,42 @@ adds_extends (e ∷ es) log =
     let rest = adds_extends es (Log.add e log) in
     (rest.0 ++ e ∷ [], rest.1 ∙ sym (append_assoc rest.0 (e ∷ []) log.events), rest.2)
 
--- the first event, then the others
-first_moment : (f : Format) (sh : Shape) (v u : View) (e : Event) (es : List Event) (log : Log.Log) → IsGoodLog sh v u (units_log f log) → EachMoment (Log.add e log) (adds es (Log.add e log)) (IsGoodDisk f sh v u) → EachMoment log (adds es (Log.add e log)) (IsGoodDisk f sh v u)
-first_moment f sh v u e es log good later = from_before e log (adds es (Log.add e log)) (IsGoodDisk f sh v u) (disk_law f sh v u log good) (adds_extends es (Log.add e log)) later
+-- what the steps have at each moment, the device calls have at each of theirs
+module _ (f : Format) (P : UnitLog → Type 0) (Q : Log.Log → Type 0) (implies : (log : Log.Log) → P (units_log f log) → Q log) where
+  pub moments : (es : List Event) (ss : List Step) (log : Log.Log) → AreSteps f es ss → AtEach P (units_log f log) ss → EachMoment log (adds es log) Q
+  moments [] [] log are each = started log Q (implies log each)
+  moments ((Write at bytes) ∷ es) ((Puts put) ∷ ss) log are each =
+      let same : units_log f (Log.add (Write at bytes) log) ≡ wrote put (units_log f log) = put_law f log at bytes put are.0 in
+      from_before (Write at bytes) log (adds es (Log.add (Write at bytes) log)) Q (implies log each.0) (adds_extends es (Log.add (Write at bytes) log))
+      (moments es ss (Log.add (Write at bytes) log) are.1 (subst (λ (l : UnitLog). AtEach P l ss) (sym same) each.1))
+  moments (Sync ∷ es) (Syncs ∷ ss) log are each = from_before Sync log (adds es (Log.add Sync log)) Q (implies log each.0) (adds_extends es (Log.add Sync log)) (moments es ss (Log.add Sync log) are each.1)
+  moments [] (s ∷ ss) log are each = absurd are
+  moments ((Write at bytes) ∷ es) [] log are each = absurd are
+  moments ((Write at bytes) ∷ es) (Syncs ∷ ss) log are each = absurd are
+  moments (Sync ∷ es) [] log are each = absurd are
+  moments (Sync ∷ es) ((Puts put) ∷ ss) log are each = absurd are
+  moments ((Stop changes) ∷ es) ss log are each = absurd are
+
+same_log : (f : Format) (es : List Event) (ss : List Step) (log : Log.Log) → AreSteps f es ss → units_log f (adds es log) ≡ after_steps ss (units_log f log)
+same_log f [] [] log are = refl
+same_log f ((Write at bytes) ∷ es) ((Puts put) ∷ ss) log are = same_log f es ss (Log.add (Write at bytes) log) are.1 ∙ ap (λ (l : UnitLog). after_steps ss l) (put_law f log at bytes put are.0)
+same_log f (Sync ∷ es) (Syncs ∷ ss) log are = same_log f es ss (Log.add Sync log) are
+same_log f [] (s ∷ ss) log are = absurd are
+same_log f ((Write at bytes) ∷ es) [] log are = absurd are
+same_log f ((Write at bytes) ∷ es) (Syncs ∷ ss) log are = absurd are
+same_log f (Sync ∷ es) [] log are = absurd are
+same_log f (Sync ∷ es) ((Puts put) ∷ ss) log are = absurd are
+same_log f ((Stop changes) ∷ es) ss log are = absurd are
 
 pub moments_law : MomentsLaw
-moments_law f sh v u log [] [] are = (refl, λ each. started log (IsGoodDisk f sh v u) (disk_law f sh v u log each))
-moments_law f sh v u log ((Write at bytes) ∷ es) ((Puts put) ∷ ss) are =
-    let same : units_log f (Log.add (Write at bytes) log) ≡ wrote put (units_log f log) = put_law f log at bytes put are.0 in
-    let rest = moments_law f sh v u (Log.add (Write at bytes) log) es ss are.1 in (
-      rest.0 ∙ ap (λ (l : UnitLog). after_steps ss l) same,
-      λ each. first_moment f sh v u (Write at bytes) es log each.0 (rest.1 (subst (λ (l : UnitLog). AtEach (IsGoodLog sh v u) l ss) (sym same) each.1)),
-    )
-moments_law f sh v u log (Sync ∷ es) (Syncs ∷ ss) are =
-    let rest = moments_law f sh v u (Log.add Sync log) es ss are in
-    (rest.0, λ each. first_moment f sh v u Sync es log each.0 (rest.1 each.1))
-moments_law f sh v u log [] (s ∷ ss) are = absurd are
-moments_law f sh v u log ((Write at bytes) ∷ es) [] are = absurd are
-moments_law f sh v u log ((Write at bytes) ∷ es) (Syncs ∷ ss) are = absurd are
-moments_law f sh v u log (Sync ∷ es) [] are = absurd are
-moments_law f sh v u log (Sync ∷ es) ((Puts put) ∷ ss) are = absurd are
-moments_law f sh v u log ((Stop changes) ∷ es) ss are = absurd are
+moments_law f sh v u log es ss are = (same_log f es ss log are, moments f (IsGoodLog sh v u) (IsGoodDisk f sh v u) (disk_law f sh v u) es ss log are)
+
+pub run_moments_law : RunMomentsLaw
+run_moments_law f sh v cs log es ss are =
+    moments f (IsPartWay sh v cs) (IsPartWayDisk f sh v cs) (λ l part. record {
+      safe = safe_disk_law f sh l part.safe;
+      left = λ image left chance. part.left (f.unit_at image) (firm_units f l image left.kept) chance;
+    }) es ss log are
+
+pub safe_moments_law : SafeMomentsLaw
+safe_moments_law f sh log es ss are = moments f (IsSafe sh) (IsSafeDisk f sh) (safe_disk_law f sh) es ss log are

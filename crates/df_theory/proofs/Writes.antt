@@ -8,10 +8,10 @@ use Rattle.df_theory.specs.Trailer.{InChain}
 use Rattle.df_theory.specs.View.{View, head}
 use Rattle.df_theory.specs.Holds.{Holds}
 use Rattle.df_theory.specs.Next.{MayAppend, appended, checkpointed, replied}
-use Rattle.df_theory.specs.UnitLog.{PutsOne, Synced, UnitLog, add, now, same_place, settled, wrote}
+use Rattle.df_theory.specs.UnitLog.{PutsOne, Stopped, Synced, UnitLog, add, now, same_place, settled, wrote}
 use Rattle.df_theory.specs.First.{AreMade}
 use Rattle.df_theory.specs.Steady.{IsCalm, IsCalmPut, IsDry, IsGoodLog, IsQuiet, IsSteady, MayShow, Stepped}
-use Rattle.df_theory.specs.WriterLaws.{AppendLaw, BlockLaw, CalmLaw, CopyLaw, HeaderLaw, PutOneLaw, ReplyLaw, SteadyLaw, SyncLaw, UpdateLaw, WriteLaw}
+use Rattle.df_theory.specs.WriterLaws.{AnewLaw, AppendLaw, BlockLaw, CalmLaw, CopyLaw, HeaderLaw, PutOneLaw, ReplyLaw, SteadyLaw, StopLaw, SyncLaw, UpdateLaw, WriteLaw}
 use Rattle.df_theory.proofs.Tails.{in_back}
 use Rattle.df_theory.proofs.OneView.{one_view}
 use Rattle.df_theory.proofs.Steps.{grows_holds, synced_steady, steady_safe, steady_holds}
@@ -39,6 +39,31 @@ sync_law sh log v safe holds = elim safe.synced [
       subst (λ (x : View). IsSteady sh (add Synced log) x) same (synced_steady sh log grown.0 grown.1)
   | inr made ↦ absurd (no_view sh made.0 (now log) (settled log) v made.1.made holds)
 ]
+
+pub stop_law : StopLaw
+stop_law sh log v image safe left chance holds = elim (safe.stopped image left chance) [
+  | inl grown ↦
+      let same : grown.0 ≡ v = one_view sh image grown.0 v (grows_holds sh image (settled log) grown.0 grown.1.grows) holds in
+      subst (λ (x : View). IsSteady sh (add (Stopped image) log) x) same (record {
+        fair = grown.1.fair;
+        grows = grown.1.grows;
+        holds = grows_holds sh image (settled log) grown.0 grown.1.grows;
+        calm = λ place is. absurd (let no_unit : false ≡ true = is in cc);
+        pending = λ place x none. absurd none;
+        knows = λ place x is. inl (inl is);
+      })
+  | inr made ↦ absurd (no_view sh made.0 image (settled log) v made.1.made holds)
+]
+
+pub anew_law : AnewLaw
+anew_law sh image v holds = record {
+  fair = tt;
+  grows = (holds, inl tt);
+  holds = holds;
+  calm = λ place is. absurd (let no_unit : false ≡ true = is in cc);
+  pending = λ place x none. absurd none;
+  knows = λ place x is. inl (inl is);
+}
 
 pub calm_law : CalmLaw
 calm_law sh log v put steady calm = (calm_stays sh log v put steady calm, calm_step sh log v put steady calm)

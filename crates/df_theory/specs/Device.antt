@@ -7,7 +7,7 @@ use Rattle.df_theory.specs.Holds.{Holds}
 use Rattle.df_theory.specs.UnitLog.{Stopped, Synced, UnitEvent, UnitLog, Wrote}
 use Rattle.df_theory.specs.Chance.{NoChance}
 use Rattle.df_theory.specs.Grown.{Grown}
-use Rattle.df_theory.specs.Runs.{Puts, Step, Syncs}
+use Rattle.df_theory.specs.Runs.{Command, HoldsPart, Puts, Step, Syncs}
 use Rattle.df_base.specs.Image.{Image, covers, written, changed}
 use Rattle.df_base.specs.Log.{Event, Write, Sync, Stop, Log, add, now, now_of, IsLeft, AreLoose}
 
@@ -44,6 +44,11 @@ pub record IsSafeDisk (f : Format) (sh : Shape) (log : Log) : Type 0 where
 pub record IsGoodDisk (f : Format) (sh : Shape) (v u : View) (log : Log) : Type 0 where
   pub safe : IsSafeDisk f sh log
   pub left : (image : Image) → IsLeft log image → NoChanceOf f log image → Holds sh (f.unit_at image) v ⊎ Holds sh (f.unit_at image) u
+
+-- the log is safe, and each image that a stop may leave holds the view after a part of the commands
+pub record IsPartWayDisk (f : Format) (sh : Shape) (v : View) (cs : List Command) (log : Log) : Type 0 where
+  pub safe : IsSafeDisk f sh log
+  pub left : (image : Image) → IsLeft log image → NoChanceOf f log image → HoldsPart sh (f.unit_at image) v cs
 
 -- what a writer of bytes shows: the write puts these units, whole, and touches no other place
 pub record IsPut (f : Format) (at : ℕ) (bytes : List ℕ) (put : Units) : Type 0 where

@@ -6,9 +6,9 @@ use Rattle.df_theory.specs.View.{View}
 use Rattle.df_theory.specs.UnitLog.{wrote}
 use Rattle.df_theory.specs.Grown.{IsSafe}
 use Rattle.df_theory.specs.Steady.{IsGoodLog}
-use Rattle.df_theory.specs.Runs.{AtEach, Step, after_steps}
+use Rattle.df_theory.specs.Runs.{AtEach, Command, IsPartWay, Step, after_steps}
 use Rattle.df_theory.specs.MakingLaws.{blank_log}
-use Rattle.df_theory.specs.Device.{AreSteps, Format, IsGoodDisk, IsPut, IsSafeDisk, adds, units_log}
+use Rattle.df_theory.specs.Device.{AreSteps, Format, IsGoodDisk, IsPartWayDisk, IsPut, IsSafeDisk, adds, units_log}
 use Rattle.df_base.specs.Image.{blank}
 use Rattle.df_base.specs.Log.{Event, Write, Log, add, new_log}
 use Rattle.df_base.specs.Moments.{EachMoment}
@@ -29,8 +29,20 @@ PutLaw = (f : Format) (log : Log) (at : ℕ) (bytes : List ℕ) (put : Units) �
 abbrev pub NewDiskLaw : Type 0
 NewDiskLaw = (f : Format) → ((place : Place) → f.unit_at blank place ≡ None) → units_log f new_log ≡ blank_log
 
--- device calls that are these steps have at each moment what the steps have
+-- device calls that are these steps have at each moment what the steps have: one command
 abbrev pub MomentsLaw : Type 0
 MomentsLaw =
     (f : Format) (sh : Shape) (v u : View) (log : Log) (es : List Event) (ss : List Step) → AreSteps f es ss
     → (units_log f (adds es log) ≡ after_steps ss (units_log f log)) × (AtEach (IsGoodLog sh v u) (units_log f log) ss → EachMoment log (adds es log) (IsGoodDisk f sh v u))
+
+-- a run of commands
+abbrev pub RunMomentsLaw : Type 0
+RunMomentsLaw =
+    (f : Format) (sh : Shape) (v : View) (cs : List Command) (log : Log) (es : List Event) (ss : List Step) → AreSteps f es ss
+    → AtEach (IsPartWay sh v cs) (units_log f log) ss → EachMoment log (adds es log) (IsPartWayDisk f sh v cs)
+
+-- a format
+abbrev pub SafeMomentsLaw : Type 0
+SafeMomentsLaw =
+    (f : Format) (sh : Shape) (log : Log) (es : List Event) (ss : List Step) → AreSteps f es ss
+    → AtEach (IsSafe sh) (units_log f log) ss → EachMoment log (adds es log) (IsSafeDisk f sh)

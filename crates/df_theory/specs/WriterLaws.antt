@@ -7,8 +7,8 @@ use Rattle.df_theory.specs.Trailer.{InChain}
 use Rattle.df_theory.specs.View.{Checkpoint, View}
 use Rattle.df_theory.specs.Holds.{Holds}
 use Rattle.df_theory.specs.Next.{MayAppend, MayFinish, MayReply, appended, checkpointed, replied}
-use Rattle.df_theory.specs.UnitLog.{PutsOne, Synced, UnitLog, add, now, put_one, settled, wrote}
-use Rattle.df_theory.specs.Chance.{EachLeft}
+use Rattle.df_theory.specs.UnitLog.{IsLeftBy, PutsOne, Stopped, Synced, UnitLog, add, now, put_one, settled, wrote}
+use Rattle.df_theory.specs.Chance.{EachLeft, NoChance}
 use Rattle.df_theory.specs.Grown.{IsSafe}
 use Rattle.df_theory.specs.Steady.{AgreeBeside, IsCalmPut, IsDry, IsGoodLog, IsQuiet, IsSteady, Stepped}
 use Rattle.df_theory.specs.Runs.{AtEach, Command, IsPartWay, LeadOn, Leads, Puts, Syncs, after_steps, steps_of, view_after}
@@ -20,6 +20,14 @@ SteadyLaw = (sh : Shape) (log : UnitLog) (v : View) → IsSteady sh log v → Is
 -- a sync makes a safe log steady, where its image holds a view
 abbrev pub SyncLaw : Type 0
 SyncLaw = (sh : Shape) (log : UnitLog) (v : View) → IsSafe sh log → Holds sh (now log) v → IsSteady sh (add Synced log) v
+
+-- so does a stop, whatever it leaves: the next session goes on from there
+abbrev pub StopLaw : Type 0
+StopLaw = (sh : Shape) (log : UnitLog) (v : View) (image : Units) → IsSafe sh log → IsLeftBy log image → NoChance log image → Holds sh image v → IsSteady sh (add (Stopped image) log) v
+
+-- a log that is begun anew at an image which holds a view is steady on it. Holding asks that beside copy 0 no copy shows a content above the choice: without that a later repair can be misled to it
+abbrev pub AnewLaw : Type 0
+AnewLaw = (sh : Shape) (image : Units) (v : View) → Holds sh image v → IsSteady sh (record { start = image; events = [] }) v
 
 -- a write that the view doesn't see may stay loose, whatever else is written meanwhile
 abbrev pub CalmLaw : Type 0

@@ -1,6 +1,6 @@
 // What is proved of places holds of sectors.
 
-ghost use Rattle.df_theory.specs.DeviceLaws.{PutLaw, NewDiskLaw, SafeDiskLaw, DiskLaw, MomentsLaw};
+ghost use Rattle.df_theory.specs.DeviceLaws.{PutLaw, NewDiskLaw, SafeDiskLaw, DiskLaw, MomentsLaw, RunMomentsLaw, SafeMomentsLaw};
 
 /// A write of whole units is a write of units.
 pub fn write_is_put()
@@ -22,7 +22,17 @@ pub fn good_units_are_good_sectors()
     ensures { DiskLaw }
 {}
 
-/// Device calls that are these steps have at each moment what the steps have.
+/// Device calls that are the steps of a command have at each moment what the steps have.
 pub fn steps_are_moments()
     ensures { MomentsLaw }
+{}
+
+/// Device calls that are the steps of a run of commands.
+pub fn commands_are_moments()
+    ensures { RunMomentsLaw }
+{}
+
+/// Device calls that are the steps of a format.
+pub fn format_is_moments()
+    ensures { SafeMomentsLaw }
 {}

@@ -1,6 +1,6 @@
 // What each write does at every moment, and how commands follow one another.
 
-ghost use Rattle.df_theory.specs.WriterLaws.{PutOneLaw, SteadyLaw, SyncLaw, CalmLaw, WriteLaw, AppendLaw, ReplyLaw, BlockLaw, HeaderLaw, CopyLaw, UpdateLaw, CommandsLaw};
+ghost use Rattle.df_theory.specs.WriterLaws.{PutOneLaw, SteadyLaw, SyncLaw, StopLaw, AnewLaw, CalmLaw, WriteLaw, AppendLaw, ReplyLaw, BlockLaw, HeaderLaw, CopyLaw, UpdateLaw, CommandsLaw};
 
 /// The write of one unit puts one unit.
 pub fn one_unit_is_put()
@@ -15,6 +15,16 @@ pub fn steady_is_safe()
 /// A sync makes a safe log steady.
 pub fn sync_is_steady()
     ensures { SyncLaw }
+{}
+
+/// A stop at a safe moment leaves a log that is steady on the view of what is left.
+pub fn stop_is_steady()
+    ensures { StopLaw }
+{}
+
+/// A log may be begun anew at an image that holds a view.
+pub fn log_begins_anew()
+    ensures { AnewLaw }
 {}
 
 /// A write that the view does not see may stay loose.
