@@ -49,8 +49,11 @@ module _ (sh : Shape) (v : View) (first : IsFirst sh v) where
           size = λ above. absurd (omega (arith, t));
         };
         links = t.0;
+        count = record { holds = omega (arith, t); needed = λ some. absurd (omega arith) };
+        inside = λ a b none. absurd none;
         size = sym t.2;
         says = refl;
+        spare = λ a b none. refl;
       } in
       subst (λ (p : Parts). IsTrailer sh v.checkpoint.content v.checkpoint.chain p) (sym first.parts) (subst (λ (l : List (ℕ × Block)). IsTrailer sh v.checkpoint.content l no_parts) (sym first.chain) nothing)
 

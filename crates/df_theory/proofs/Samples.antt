@@ -1,11 +1,11 @@
 -- A file is made, and each kind of command done to it.
-use Rattle.std.proofs.Common.{◌≡◌, inl, inr, ℕ, ◌%◌, ◌<◌, ◌==◌, Bool, true, false, if◌then◌else◌, List, [], ◌∷◌, ◌++◌, Some, None, refl, sym, ap, subst, arith}
+use Rattle.std.proofs.Common.{◌≡◌, inl, inr, ℕ, ◌%◌, ◌<◌, ◌≤◌, ◌==◌, Bool, true, false, if◌then◌else◌, List, [], ◌∷◌, ◌++◌, Some, None, refl, sym, ap, subst, arith}
 use Rattle.std.proofs.lemmas.Bool.Decides.{nat_tests}
 use Rattle.df_theory.specs.Units.{Block, BlockPlace, BlockUnit, Content, CopyPlace, CopyUnit, Header, HeaderPlace, HeaderUnit, Layout, Message, Parts, PreparePlace, PrepareUnit, ReplyPlace, ReplyUnit, Session, Units}
 use Rattle.df_theory.specs.Tails.{In}
-use Rattle.df_theory.specs.Shape.{Shape}
+use Rattle.df_theory.specs.Shape.{Shape, clients, slots}
 use Rattle.df_theory.specs.Trailer.{InChain, no_parts}
-use Rattle.df_theory.specs.View.{Checkpoint, View}
+use Rattle.df_theory.specs.View.{Checkpoint, View, head, sequence, sessions}
 use Rattle.df_theory.specs.Holds.{IsWhole}
 use Rattle.df_theory.specs.Next.{IsStamped, MayAppend, MayFinish, MayReply, appended, checkpointed, replied}
 use Rattle.df_theory.specs.UnitLog.{UnitLog, now, put_one}
@@ -208,11 +208,22 @@ may5 = record {
   trailer = record {
     reference = record { address = omega arith; some = λ above. omega arith; none = λ none. absurd (omega arith); size = λ above. (omega arith, omega arith) };
     links = (omega arith, refl, refl, refl, refl, refl, refl);
+    count = record { holds = omega arith; needed = λ some. omega arith };
+    inside = λ a b at. inside a b at;
     size = refl;
     says = refl;
+    spare = λ a b at. spare a b at;
   };
   unspent = omega arith;
 }
+  where
+    inside : (a : ℕ) (b : Block) → InChain a b checkpoint2.chain → a ≤ 1024
+    inside a b (inl is) = omega (arith, is.0)
+    inside a b (inr none) = absurd none
+
+    spare : (a : ℕ) (b : Block) → InChain a b checkpoint2.chain → parts.references a ≡ None
+    spare a b (inl is) = ap parts.references is.0
+    spare a b (inr none) = absurd none
 
 copies4 : (n : ℕ) → n < 4 → now log4 (CopyPlace n) ≡ Some (CopyUnit content1)
 copies4 n below = elim (four n below) [

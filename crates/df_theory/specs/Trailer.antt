@@ -1,6 +1,6 @@
 -- The trailer of a checkpoint: a chain of blocks, read from the last to the first.
 use Rattle.std.specs.Prelude.{◌≡◌, ◌⊎◌, ◌<◌, ◌≤◌, ◌+◌, ◌-◌, ◌*◌, ◌/◌, ℕ, List, [], ◌∷◌, ◌++◌, length, min, Some, None}
-use Rattle.df_theory.specs.Units.{Layout, Content, Block, Parts}
+use Rattle.df_theory.specs.Units.{Block, Content, Layout, Parts}
 use Rattle.df_theory.specs.Shape.{Shape}
 
 abbrev pub InChain : ℕ → Block → List (ℕ × Block) → Type 0
@@ -41,9 +41,17 @@ pub record IsReference (l : Layout) (c : Content) : Type 0 where
   pub none : c.trailer ≡ 0 → (c.trailer_checksum ≡ 0) × (c.trailer_size ≡ 0)
   pub size : 0 < c.trailer → (0 < c.trailer_size) × (c.trailer_size ≤ greatest_trailer l)
 
--- the chain that the superblock names, and what its text says
+-- a text of this size is cut into this many pieces: they hold it, and the last one isn't empty
+pub record IsCount (room size n : ℕ) : Type 0 where
+  pub holds : size ≤ room * n
+  pub needed : 0 < n → room * (n - 1) < size
+
+-- the chain that the superblock names, and what its text says; no block of the chain is referenced
 pub record IsTrailer (sh : Shape) (c : Content) (chain : List (ℕ × Block)) (parts : Parts) : Type 0 where
   pub reference : IsReference sh.layout c
   pub links : Links (sh.layout.block_size - 256) c chain c.trailer c.trailer_checksum
+  pub count : IsCount (sh.layout.block_size - 256) c.trailer_size (length chain)
+  pub inside : (a : ℕ) (b : Block) → InChain a b chain → a ≤ sh.layout.blocks
   pub size : length (text_of chain) ≡ c.trailer_size
   pub says : Says sh chain parts
+  pub spare : (a : ℕ) (b : Block) → InChain a b chain → parts.references a ≡ None
