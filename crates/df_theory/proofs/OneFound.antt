@@ -41,7 +41,7 @@ not_longer sh image b ps qs one two less =
     let next = next_of sh.layout.clients (b.content.op + 1) b.content.op_checksum 0 b.parts.sessions ps qs one.chain two.chain (λ p q at there op. same_taken sh.layout.slots image p q (one.takes p at) (two.takes q there) op) less in
     one.longest next.0 (omega (arith, two.room)) (two.takes next.0 next.1) next.2
 
-one_tail : (sh : Shape) (image : Units) (b : Checkpoint) (ps qs : List Message) → IsTail sh image b ps → IsTail sh image b qs → ps ≡ qs
+pub one_tail : (sh : Shape) (image : Units) (b : Checkpoint) (ps qs : List Message) → IsTail sh image b ps → IsTail sh image b qs → ps ≡ qs
 one_tail sh image b ps qs one two =
     let size : length ps ≡ length qs = elim (cases_lt (length ps) (length qs)) [
       | inl less ↦ absurd (not_longer sh image b ps qs one two less)
@@ -52,14 +52,14 @@ one_tail sh image b ps qs one two =
     ] in
     same_tail sh.layout.slots image sh.layout.clients (b.content.op + 1) b.content.op_checksum b.content.op_checksum 0 0 b.parts.sessions b.parts.sessions ps qs one.chain two.chain size (λ p at. (one.takes p at).shown) (λ q at. (two.takes q at).shown)
 
-not_more : (image : Units) (c : Content) (tail : List Message) (n m : ℕ) → IsReplies image c tail n → IsReplies image c tail m → n ≤ m
+pub not_more : (image : Units) (c : Content) (tail : List Message) (n m : ℕ) → IsReplies image c tail n → IsReplies image c tail m → n ≤ m
 not_more image c tail n m one two = elim one.reached [
   | inl is ↦ omega (arith, two.superblock)
   | inr (inl is) ↦ omega (arith, two.mark)
   | inr (inr is) ↦ omega (arith, two.reply is.0 is.1 is.2, is.3)
 ]
 
-one_stored : (image : Units) (v u : View) → IsStored image v → IsStored image u → sessions v ≡ sessions u → v.replies ≡ u.replies → (k : ℕ) (o p : Option Message) → v.stored k ≡ o → u.stored k ≡ p → o ≡ p
+pub one_stored : (image : Units) (v u : View) → IsStored image v → IsStored image u → sessions v ≡ sessions u → v.replies ≡ u.replies → (k : ℕ) (o p : Option Message) → v.stored k ≡ o → u.stored k ≡ p → o ≡ p
 one_stored image v u one two ss rs k None None is at = refl
 one_stored image v u one two ss rs k (Some r) (Some q) is at =
     let s = one.no_more k r is in

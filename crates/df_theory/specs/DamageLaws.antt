@@ -1,7 +1,7 @@
 -- What damage can do to a file at rest: sectors hurt, lost or swapped, so long as no unit comes about by chance.
 use Rattle.std.specs.Prelude.{◌≡◌, ◌⊎◌, ◌<◌, ◌≤◌, ◌+◌, ◌-◌, ◌%◌, ℕ, length, List, [], ◌∷◌, ◌++◌, Some}
 use Rattle.std.specs.List.{slice_get}
-use Rattle.df_theory.specs.Units.{AnyUnit, Block, BlockPlace, BlockUnit, Content, Header, HeaderPlace, HeaderUnit, Message, Place, PreparePlace, ReplyPlace, ReplyUnit, Session, Units}
+use Rattle.df_theory.specs.Units.{AnyUnit, Block, Content, Header, HeaderPlace, HeaderUnit, Message, Place, PreparePlace, ReplyPlace, ReplyUnit, Session, Units}
 use Rattle.df_theory.specs.Sessions.{Answers, sessions_after}
 use Rattle.df_theory.specs.Tails.{In}
 use Rattle.df_theory.specs.Shape.{Shape, slots}
@@ -15,6 +15,7 @@ use Rattle.df_theory.specs.Chance.{InPool, NoChance}
 use Rattle.df_theory.specs.Grown.{Grows}
 use Rattle.df_theory.specs.Steady.{IsSteady}
 use Rattle.df_theory.specs.Found.{AreOfPlaces, IsFound, IsReplies, IsTail, NotBehind, NotLost}
+use Rattle.df_theory.specs.Opens.{Arrives, BadField, Opens, Refused}
 use Rattle.df_theory.specs.Past.{FromEmpty, Was}
 use Rattle.df_theory.specs.HistoryLaws.{AreDistinct, ShowsSettled}
 
@@ -72,11 +73,6 @@ ReplyIsHurtLaw =
     → IsReplies shown v.checkpoint.content tail n → slice_get (sessions_after v.checkpoint.parts.sessions tail) k ≡ Some s → s.op ≤ n → shown (ReplyPlace k) ≡ now log (ReplyPlace k)
     → ((r : Message) × (shown (ReplyPlace k) ≡ Some (ReplyUnit r)) × Answers s r) ⊎ ((p : Message) × In p v.tail × (p.header.client ≡ s.client) × (v.checkpoint.content.op + length tail < p.header.op))
 
--- reading a chain of blocks from this address on: these were shown as they were named, and now this address with this checksum is wanted
-abbrev pub Arrives : Units → List (ℕ × Block) → ℕ → ℕ → ℕ → ℕ → Type 0
-Arrives image [] address checksum a k = (a ≡ address) × (k ≡ checksum)
-Arrives image (b ∷ bs) address checksum a k = (0 < address) × (b.0 ≡ address) × (b.1.checksum ≡ checksum) × (image (BlockPlace address) ≡ Some (BlockUnit b.1)) × Arrives image bs b.1.before b.1.before_checksum a k
-
 -- damage never makes a superblock or a trailer that fails its tests: what two copies of settled units agree on was the checkpoint of a view, and the blocks that it names are that view's, as far as they are shown
 abbrev pub FieldsHoldLaw : Type 0
 FieldsHoldLaw =
@@ -84,3 +80,9 @@ FieldsHoldLaw =
     → (shown : Units) → ShowsSettled images shown → (c : Content) → Agree shown c
     → (w : View) × Was sh images v grows w × (w.checkpoint.content ≡ c) × IsSoundCheckpoint sh w.checkpoint
     × ((bs : List (ℕ × Block)) (a k : ℕ) → Arrives shown bs c.trailer c.trailer_checksum a k → (rest : List (ℕ × Block)) × (w.checkpoint.chain ≡ bs ++ rest) × Links (sh.layout.block_size - 256) c rest a k)
+
+-- so an open of settled units finds no copies that agree, or blames a place, or finds a state: no field is ever bad
+abbrev pub NoBadFieldLaw : Type 0
+NoBadFieldLaw =
+    (sh : Shape) (images : List Units) (v : View) (grows : Grows sh images v) → FromEmpty sh images v grows → AreDistinct images
+    → (shown : Units) → ShowsSettled images shown → Opens sh shown (Refused BadField) → ⊥

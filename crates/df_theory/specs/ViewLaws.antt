@@ -1,11 +1,12 @@
 -- An image and its view.
-use Rattle.std.specs.Prelude.{◌≡◌}
+use Rattle.std.specs.Prelude.{◌≡◌, ◌↔◌}
 use Rattle.df_theory.specs.Units.{Content, Units}
 use Rattle.df_theory.specs.Shape.{Shape}
 use Rattle.df_theory.specs.Copies.{IsChosen}
 use Rattle.df_theory.specs.View.{View}
 use Rattle.df_theory.specs.Holds.{Holds}
 use Rattle.df_theory.specs.Found.{AreOfPlaces, IsClean, IsFound}
+use Rattle.df_theory.specs.Opens.{Answer, Found, Opens}
 
 -- an image holds one view
 abbrev pub OneViewLaw : Type 0
@@ -22,3 +23,11 @@ OneFoundLaw = (sh : Shape) (image : Units) (v u : View) → IsFound sh image v �
 -- one content is chosen
 abbrev pub OneChosenLaw : Type 0
 OneChosenLaw = (image : Units) (c d : Content) → IsChosen image c → IsChosen image d → c ≡ d
+
+-- an open gives one answer
+abbrev pub OneAnswerLaw : Type 0
+OneAnswerLaw = (sh : Shape) (image : Units) (x y : Answer) → Opens sh image x → Opens sh image y → x ≡ y
+
+-- the answer is a state exactly where no step refuses
+abbrev pub FoundAnswerLaw : Type 0
+FoundAnswerLaw = (sh : Shape) (image : Units) (v : View) → Opens sh image (Found v) ↔ IsFound sh image v

@@ -1,6 +1,6 @@
 // What damage can do to a file at rest, and what it cannot.
 
-ghost use Rattle.df_theory.specs.DamageLaws.{HurtLaw, CheckpointStaysLaw, NeverBehindLaw, HeadersTellLaw, TailIsFrontLaw, LostIsHurtLaw, MissingIsHurtLaw, ReplyIsHurtLaw, FieldsHoldLaw};
+ghost use Rattle.df_theory.specs.DamageLaws.{HurtLaw, CheckpointStaysLaw, NeverBehindLaw, HeadersTellLaw, TailIsFrontLaw, LostIsHurtLaw, MissingIsHurtLaw, ReplyIsHurtLaw, FieldsHoldLaw, NoBadFieldLaw};
 
 /// Damage at places that the view does not need changes nothing.
 pub fn needless_damage_is_harmless()
@@ -45,4 +45,9 @@ pub fn missing_reply_is_hurt()
 /// Damage never makes a superblock or a trailer that fails its tests.
 pub fn fields_hold()
     ensures { FieldsHoldLaw }
+{}
+
+/// An open of settled units never answers that a field is bad.
+pub fn no_field_is_bad()
+    ensures { NoBadFieldLaw }
 {}

@@ -1,6 +1,6 @@
 // What an image holds and what an open finds in it are one.
 
-ghost use Rattle.df_theory.specs.ViewLaws.{OneChosenLaw, OneViewLaw, FoundLaw, OneFoundLaw};
+ghost use Rattle.df_theory.specs.ViewLaws.{OneChosenLaw, OneViewLaw, FoundLaw, OneFoundLaw, OneAnswerLaw, FoundAnswerLaw};
 
 /// Four copies choose one content.
 pub fn one_is_chosen()
@@ -20,4 +20,14 @@ pub fn held_is_found()
 /// An open finds one state.
 pub fn one_is_found()
     ensures { OneFoundLaw }
+{}
+
+/// An open gives one answer: the first refusal, or the state.
+pub fn one_answer_is_given()
+    ensures { OneAnswerLaw }
+{}
+
+/// The answer is a state exactly where no step refuses.
+pub fn found_is_answered()
+    ensures { FoundAnswerLaw }
 {}

@@ -1,0 +1,274 @@
+-- An open gives one answer, and a state exactly where no step refuses.
+use Rattle.std.proofs.Common.{◌≡◌, ◌⊎◌, inl, inr, ◌↔◌, ℕ, suc, ◌+◌, ◌-◌, ◌*◌, ◌%◌, ◌<◌, ◌≤◌, List, [], ◌∷◌, ◌++◌, length, Option, Some, None, refl, sym, ◌∙◌, ap, subst, arith, length-append, append_assoc}
+use Rattle.std.specs.List.{slice_get}
+use Rattle.std.proofs.lemmas.Bool.{cases_lt}
+use Rattle.std.proofs.Math.Nat.{mul-le-mul_left}
+use Rattle.df_theory.specs.Units.{Block, BlockPlace, BlockUnit, Content, CopyPlace, Message, PreparePlace, ReplyPlace, Session, Units}
+use Rattle.df_theory.specs.Sessions.{sessions_after}
+use Rattle.df_theory.specs.Shape.{Shape}
+use Rattle.df_theory.specs.Copies.{IsChosen}
+use Rattle.df_theory.specs.Trailer.{InChain, IsCount, IsReference, Links, Says}
+use Rattle.df_theory.specs.View.{Checkpoint, IsSoundCheckpoint, PassesTests, View, sequence, sessions}
+use Rattle.df_theory.specs.Found.{IsFound, IsReplies, IsStored, IsTail, NotBehind, NotLost}
+use Rattle.df_theory.specs.Opens.{Answer, AreLinks, Arrives, BadField, Damaged, Found, IsLink, IsLowest, IsReadable, IsShown, LacksReply, NoQuorum, Opens, OpensFields, OpensReplies, OpensTail, OpensTraces, OpensTrailer, ReadsTo, Refused}
+use Rattle.df_theory.specs.ViewLaws.{FoundAnswerLaw, OneAnswerLaw}
+use Rattle.df_theory.specs.DamageLaws.{NoBadFieldLaw}
+use Rattle.df_theory.proofs.Choices.{one_chosen}
+use Rattle.df_theory.proofs.OneView.{same_chain, same_says}
+use Rattle.df_theory.proofs.OneFound.{one_tail, not_more, one_stored}
+use Rattle.df_theory.proofs.Fields.{front_of, fields_hold_law}
+use Rattle.df_theory.proofs.Settled.{settled_content}
+use Rattle.df_theory.proofs.Once.{was_chain}
+
+-- ---- one number of pieces, one checkpoint
+
+not_fewer : (room size n m : ℕ) → IsCount room size n → IsCount room size m → n < m → ⊥
+not_fewer room size n m one two less =
+    let le : room * n ≤ room * (m - 1) = mul-le-mul_left room (omega arith) in
+    omega (arith, one.holds, two.needed (omega arith))
+
+pub count_one : (room size n m : ℕ) → IsCount room size n → IsCount room size m → n ≡ m
+count_one room size n m one two = elim (cases_lt n m) [
+  | inl less ↦ absurd (not_fewer room size n m one two less)
+  | inr more ↦ elim (cases_lt m n) [
+    | inl less ↦ absurd (not_fewer room size m n two one less)
+    | inr same ↦ omega arith
+  ]
+]
+
+pub readable_one : (sh : Shape) (image : Units) (b d : Checkpoint) → IsReadable sh image b → IsReadable sh image d → b ≡ d
+readable_one sh image b d one two = λ i. record { content = content i; chain = chain i; parts = parts i }
+  where
+    content : b.content ≡ d.content
+    content = one_chosen image b.content d.content one.chosen two.chosen
+
+    chain : b.chain ≡ d.chain
+    chain = same_chain (sh.layout.block_size - 256) b.content image b.chain d.chain b.content.trailer b.content.trailer_checksum one.sound.trailer.links
+        (subst (λ (c : Content). Links (sh.layout.block_size - 256) c d.chain c.trailer c.trailer_checksum) (sym content) two.sound.trailer.links) one.shown two.shown
+
+    parts : b.parts ≡ d.parts
+    parts = same_says sh d.chain b.parts d.parts (subst (λ (l : List (ℕ × Block)). Says sh l b.parts) chain one.sound.trailer.says) two.sound.trailer.says
+
+-- ---- the trailer
+
+pub in_behind : (a : ℕ) (x : Block) (bs ds : List (ℕ × Block)) → InChain a x ds → InChain a x (bs ++ ds)
+in_behind a x [] ds at = at
+in_behind a x (b ∷ bs) ds at = inr (in_behind a x bs ds at)
+
+-- what is wanted next
+next_shown : (image : Units) (room : ℕ) (c : Content) (chain read rest : List (ℕ × Block)) (a k : ℕ) → ((e : ℕ) (x : Block) → InChain e x chain → image (BlockPlace e) ≡ Some (BlockUnit x)) → chain ≡ read ++ rest → Links room c rest a k → length read < length chain → IsShown image a k
+next_shown image room c chain read [] a k shown split links more = absurd (omega (arith, ap length split, length-append read []))
+next_shown image room c chain read (d ∷ ds) a k shown split links more = (
+  d.1,
+  ap (λ (e : ℕ). image (BlockPlace e)) (sym links.1) ∙ shown d.0 d.1 (subst (λ (l : List (ℕ × Block)). InChain d.0 d.1 l) (sym split) (in_behind d.0 d.1 read (d ∷ ds) (inl (refl, refl)))),
+  links.2,
+)
+
+-- a checkpoint that can be read has every block that is wanted
+readable_reads : (sh : Shape) (image : Units) (b : Checkpoint) (a k : ℕ) → IsReadable sh image b → ReadsTo sh image b.content a k → IsShown image a k
+readable_reads sh image b a k readable reads =
+    let front = front_of (sh.layout.block_size - 256) b.content image b.chain reads.read b.content.trailer b.content.trailer_checksum a k readable.sound.trailer.links reads.arrives
+    (λ e x y at is checksum. let both : Some (BlockUnit x) ≡ Some (BlockUnit y) = sym (readable.shown e x at) ∙ is in cc) in
+    let count = count_one (sh.layout.block_size - 256) b.content.trailer_size reads.count (length b.chain) reads.counts readable.sound.trailer.count in
+    next_shown image (sh.layout.block_size - 256) b.content b.chain reads.read front.0 a k readable.shown front.1 front.2 (omega (arith, reads.more, count))
+
+-- two blocks that are wanted and not shown are one
+same_wanted : (image : Units) (bs ds : List (ℕ × Block)) (address checksum a k e m : ℕ) → Arrives image bs address checksum a k → Arrives image ds address checksum e m → (IsShown image a k → ⊥) → (IsShown image e m → ⊥) → a ≡ e
+same_wanted image [] [] address checksum a k e m one two none no_more = one.0 ∙ sym two.0
+same_wanted image [] (d ∷ ds) address checksum a k e m one two none no_more = absurd (none (d.1, ap (λ (x : ℕ). image (BlockPlace x)) one.0 ∙ two.3, two.2 ∙ sym one.1))
+same_wanted image (b ∷ bs) [] address checksum a k e m one two none no_more = absurd (no_more (b.1, ap (λ (x : ℕ). image (BlockPlace x)) two.0 ∙ one.3, one.2 ∙ sym two.1))
+same_wanted image (b ∷ bs) (d ∷ ds) address checksum a k e m one two none no_more =
+    let block : d.1 ≡ b.1 = (let both : Some (BlockUnit d.1) ≡ Some (BlockUnit b.1) = sym two.3 ∙ one.3 in cc) in
+    same_wanted image bs ds b.1.before b.1.before_checksum a k e m one.4 (subst (λ (x : Block). Arrives image ds x.before x.before_checksum e m) block two.4) none no_more
+
+-- ---- step by step
+
+not_first : (image : Units) (ss : List Session) (n j k : ℕ) → LacksReply image ss n j → LacksReply image ss n k → j < k → ⊥
+not_first image ss n j k one two less = one.lacks (two.first j one.session less one.at one.stored)
+
+same_first : (image : Units) (ss : List Session) (n j k : ℕ) → LacksReply image ss n j → LacksReply image ss n k → j ≡ k
+same_first image ss n j k one two = elim (cases_lt j k) [
+  | inl less ↦ absurd (not_first image ss n j k one two less)
+  | inr more ↦ elim (cases_lt k j) [ inl less ↦ absurd (not_first image ss n k j two one less) | inr same ↦ omega arith ]
+]
+
+-- a state with this checkpoint, tail and number of replies lacks none
+none_lacks : (image : Units) (b : Checkpoint) (tail : List Message) (n k : ℕ) (v : View) → LacksReply image (sessions_after b.parts.sessions tail) n k → v.checkpoint ≡ b → v.tail ≡ tail → v.replies ≡ n → IsStored image v → ⊥
+none_lacks image b tail n k v lack base same count stored =
+    let sessions_are : sessions v ≡ sessions_after b.parts.sessions tail = λ i. sessions_after (base i).parts.sessions (same i) in
+    let there = stored.shown k lack.session (ap (λ (l : List Session). slice_get l k) sessions_are ∙ lack.at) (omega (arith, lack.stored)) in
+    lack.lacks (there.0, there.2, there.3)
+
+same_state : (image : Units) (b : Checkpoint) (tail : List Message) (n : ℕ) (v w : View) → v.checkpoint ≡ b → w.checkpoint ≡ b → v.tail ≡ tail → w.tail ≡ tail → v.replies ≡ n → w.replies ≡ n → IsStored image v → IsStored image w → v ≡ w
+same_state image b tail n v w base_v base_w tail_v tail_w count_v count_w stored_v stored_w = λ i. record { checkpoint = base i; tail = same i; replies = count i; stored = λ k. stored k i }
+  where
+    base : v.checkpoint ≡ w.checkpoint
+    base = base_v ∙ sym base_w
+
+    same : v.tail ≡ w.tail
+    same = tail_v ∙ sym tail_w
+
+    count : v.replies ≡ w.replies
+    count = count_v ∙ sym count_w
+
+    sessions_are : sessions v ≡ sessions w
+    sessions_are = λ i. sessions_after (base i).parts.sessions (same i)
+
+    stored : (k : ℕ) → v.stored k ≡ w.stored k
+    stored k = one_stored image v w stored_v stored_w sessions_are count k (v.stored k) (w.stored k) refl refl
+
+replies_one : (image : Units) (b : Checkpoint) (tail : List Message) (x y : Answer) → OpensReplies image b tail x → OpensReplies image b tail y → x ≡ y
+replies_one image b tail x y one two = go one.2 two.2
+  where
+    same : two.0 ≡ one.0
+    same =
+        let up = not_more image b.content tail one.0 two.0 one.1 two.1 in
+        let down = not_more image b.content tail two.0 one.0 two.1 one.1 in
+        omega arith
+
+    go : (((k : ℕ) × LacksReply image (sessions_after b.parts.sessions tail) one.0 k × (x ≡ Refused (Damaged (ReplyPlace k)))) ⊎ ((v : View) × (v.checkpoint ≡ b) × (v.tail ≡ tail) × (v.replies ≡ one.0) × IsStored image v × (x ≡ Found v)))
+        → (((k : ℕ) × LacksReply image (sessions_after b.parts.sessions tail) two.0 k × (y ≡ Refused (Damaged (ReplyPlace k)))) ⊎ ((v : View) × (v.checkpoint ≡ b) × (v.tail ≡ tail) × (v.replies ≡ two.0) × IsStored image v × (y ≡ Found v))) → x ≡ y
+    go (inl p) (inl q) =
+        let k = same_first image (sessions_after b.parts.sessions tail) one.0 p.0 q.0 p.1 (subst (λ (n : ℕ). LacksReply image (sessions_after b.parts.sessions tail) n q.0) same q.1) in
+        p.2 ∙ ap (λ (n : ℕ). Refused (Damaged (ReplyPlace n))) k ∙ sym q.2
+    go (inl p) (inr q) = absurd (none_lacks image b tail one.0 p.0 q.0 p.1 q.1 q.2 (q.3 ∙ same) q.4)
+    go (inr p) (inl q) = absurd (none_lacks image b tail two.0 q.0 p.0 q.1 p.1 p.2 (p.3 ∙ sym same) p.4)
+    go (inr p) (inr q) = p.5 ∙ ap Found (same_state image b tail one.0 p.0 q.0 p.1 q.1 p.2 q.2 p.3 (q.3 ∙ same) p.4 q.4) ∙ sym q.5
+
+tail_one : (sh : Shape) (image : Units) (b : Checkpoint) (x y : Answer) → OpensTail sh image b x → OpensTail sh image b y → x ≡ y
+tail_one sh image b x y one two = go one.2 (subst (λ (l : List Message). ((NotLost image b.content (b.content.op + length l) → ⊥) × (y ≡ Refused (Damaged (PreparePlace ((b.content.op + length l + 1) % sh.layout.slots))))) ⊎ (NotLost image b.content (b.content.op + length l) × OpensReplies image b l y)) same two.2)
+  where
+    same : two.0 ≡ one.0
+    same = one_tail sh image b two.0 one.0 two.1 one.1
+
+    go : ((NotLost image b.content (b.content.op + length one.0) → ⊥) × (x ≡ Refused (Damaged (PreparePlace ((b.content.op + length one.0 + 1) % sh.layout.slots))))) ⊎ (NotLost image b.content (b.content.op + length one.0) × OpensReplies image b one.0 x)
+        → ((NotLost image b.content (b.content.op + length one.0) → ⊥) × (y ≡ Refused (Damaged (PreparePlace ((b.content.op + length one.0 + 1) % sh.layout.slots))))) ⊎ (NotLost image b.content (b.content.op + length one.0) × OpensReplies image b one.0 y) → x ≡ y
+    go (inl p) (inl q) = p.1 ∙ sym q.1
+    go (inl p) (inr q) = absurd (p.0 q.0)
+    go (inr p) (inl q) = absurd (q.0 p.0)
+    go (inr p) (inr q) = replies_one image b one.0 x y p.1 q.1
+
+same_lowest : (image : Units) (c : Content) (n m : ℕ) → IsLowest image c n → IsLowest image c m → n ≡ m
+same_lowest image c n m one two = elim (cases_lt n m) [
+  | inl less ↦ absurd (two.lowest n less one.shows)
+  | inr more ↦ elim (cases_lt m n) [ inl less ↦ absurd (one.lowest m less two.shows) | inr same ↦ omega arith ]
+]
+
+traces_one : (sh : Shape) (image : Units) (b : Checkpoint) (x y : Answer) → OpensTraces sh image b x → OpensTraces sh image b y → x ≡ y
+traces_one sh image b x y (inl p) (inl q) = p.3 ∙ ap (λ (n : ℕ). Refused (Damaged (CopyPlace n))) (same_lowest image b.content p.0 q.0 p.2 q.2) ∙ sym q.3
+traces_one sh image b x y (inl p) (inr q) = absurd (p.1 q.0)
+traces_one sh image b x y (inr p) (inl q) = absurd (q.1 p.0)
+traces_one sh image b x y (inr p) (inr q) = tail_one sh image b x y p.1 q.1
+
+trailer_one : (sh : Shape) (image : Units) (c : Content) (x y : Answer) → OpensTrailer sh image c x → OpensTrailer sh image c y → x ≡ y
+trailer_one sh image c x y (inl p) (inl q) = p.4 ∙ ap (λ (n : ℕ). Refused (Damaged (BlockPlace n))) (same_wanted image p.2.read q.2.read c.trailer c.trailer_checksum p.0 p.1 q.0 q.1 p.2.arrives q.2.arrives p.3 q.3) ∙ sym q.4
+trailer_one sh image c x y (inl p) (inr (inl q)) = absurd (p.3 (q.0 p.0 p.1 p.2))
+trailer_one sh image c x y (inl p) (inr (inr q)) = absurd (p.3 (readable_reads sh image q.0 p.0 p.1 q.2 (subst (λ (d : Content). ReadsTo sh image d p.0 p.1) (sym q.1) p.2)))
+trailer_one sh image c x y (inr (inl p)) (inl q) = absurd (q.3 (p.0 q.0 q.1 q.2))
+trailer_one sh image c x y (inr (inl p)) (inr (inl q)) = p.2 ∙ sym q.2
+trailer_one sh image c x y (inr (inl p)) (inr (inr q)) = absurd (p.1 q.0 q.1 q.2)
+trailer_one sh image c x y (inr (inr p)) (inl q) = absurd (q.3 (readable_reads sh image p.0 q.0 q.1 p.2 (subst (λ (d : Content). ReadsTo sh image d q.0 q.1) (sym p.1) q.2)))
+trailer_one sh image c x y (inr (inr p)) (inr (inl q)) = absurd (q.1 p.0 p.1 p.2)
+trailer_one sh image c x y (inr (inr p)) (inr (inr q)) = traces_one sh image p.0 x y p.3 (subst (λ (b : Checkpoint). OpensTraces sh image b y) (readable_one sh image q.0 p.0 q.2 p.2) q.3)
+
+fields_one : (sh : Shape) (image : Units) (c : Content) (x y : Answer) → OpensFields sh image c x → OpensFields sh image c y → x ≡ y
+fields_one sh image c x y (inl p) (inl q) = p.1 ∙ sym q.1
+fields_one sh image c x y (inl p) (inr q) = absurd (p.0 q.0 q.1)
+fields_one sh image c x y (inr p) (inl q) = absurd (q.0 p.0 p.1)
+fields_one sh image c x y (inr p) (inr q) = trailer_one sh image c x y p.2 q.2
+
+pub one_answer_law : OneAnswerLaw
+one_answer_law sh image x y (inl p) (inl q) = p.1 ∙ sym q.1
+one_answer_law sh image x y (inl p) (inr q) = absurd (p.0 q.0 q.1.agreed)
+one_answer_law sh image x y (inr p) (inl q) = absurd (q.0 p.0 p.1.agreed)
+one_answer_law sh image x y (inr p) (inr q) = fields_one sh image p.0 x y p.2 (subst (λ (c : Content). OpensFields sh image c y) (one_chosen image q.0 p.0 q.1 p.1) q.2)
+
+-- ---- a state
+
+to_found : (sh : Shape) (image : Units) (v : View) → Opens sh image (Found v) → IsFound sh image v
+to_found sh image v (inl p) = absurd (let both : Found v ≡ Refused NoQuorum = p.1 in cc)
+to_found sh image v (inr (c, chosen, inl p)) = absurd (let both : Found v ≡ Refused BadField = p.1 in cc)
+to_found sh image v (inr (c, chosen, inr (tests, reference, inl p))) = absurd (let both : Found v ≡ Refused (Damaged (BlockPlace p.0)) = p.4 in cc)
+to_found sh image v (inr (c, chosen, inr (tests, reference, inr (inl p)))) = absurd (let both : Found v ≡ Refused BadField = p.2 in cc)
+to_found sh image v (inr (c, chosen, inr (tests, reference, inr (inr (b, content, readable, inl p))))) = absurd (let both : Found v ≡ Refused (Damaged (CopyPlace p.0)) = p.3 in cc)
+to_found sh image v (inr (c, chosen, inr (tests, reference, inr (inr (b, content, readable, inr (not_behind, (tail, is_tail, inl p))))))) = absurd (let both : Found v ≡ Refused (Damaged (PreparePlace ((b.content.op + length tail + 1) % sh.layout.slots))) = p.1 in cc)
+to_found sh image v (inr (c, chosen, inr (tests, reference, inr (inr (b, content, readable, inr (not_behind, (tail, is_tail, inr (not_lost, (n, counted, inl p))))))))) = absurd (let both : Found v ≡ Refused (Damaged (ReplyPlace p.0)) = p.2 in cc)
+to_found sh image v (inr (c, chosen, inr (tests, reference, inr (inr (b, content, readable, inr (not_behind, (tail, is_tail, inr (not_lost, (n, counted, inr (w, base, same, count, stored, is))))))))))
+    = subst (λ (z : View). IsFound sh image z) (let both : Found v ≡ Found w = is in let one : w ≡ v = cc in one) (record {
+      chosen = subst (λ (d : Checkpoint). IsChosen image d.content) (sym base) readable.chosen;
+      checkpoint = subst (λ (d : Checkpoint). IsSoundCheckpoint sh d) (sym base) readable.sound;
+      chain_shown = subst (λ (d : Checkpoint). (a : ℕ) (x : Block) → InChain a x d.chain → image (BlockPlace a) ≡ Some (BlockUnit x)) (sym base) readable.shown;
+      not_behind = subst (λ (d : Checkpoint). NotBehind sh image d.content) (sym base) not_behind;
+      tail = subst (λ (d : Checkpoint). IsTail sh image d w.tail) (sym base) (subst (λ (l : List Message). IsTail sh image b l) (sym same) is_tail);
+      not_lost = subst (λ (d : Checkpoint). NotLost image d.content (d.content.op + length w.tail)) (sym base) (subst (λ (l : List Message). NotLost image b.content (b.content.op + length l)) (sym same) not_lost);
+      replies = subst (λ (d : Checkpoint). IsReplies image d.content w.tail w.replies) (sym base) (subst (λ (l : List Message). IsReplies image b.content l w.replies) (sym same) (subst (λ (m : ℕ). IsReplies image b.content tail m) (sym count) counted));
+      stored = stored;
+    })
+
+from_found : (sh : Shape) (image : Units) (v : View) → IsFound sh image v → Opens sh image (Found v)
+from_found sh image v f =
+    let readable : IsReadable sh image v.checkpoint = record { chosen = f.chosen; sound = f.checkpoint; shown = f.chain_shown } in
+    inr (v.checkpoint.content, f.chosen, inr (f.checkpoint.tests, f.checkpoint.trailer.reference, inr (inr (v.checkpoint, refl, readable, inr (f.not_behind, (v.tail, f.tail, inr (f.not_lost, (v.replies, f.replies, inr (v, refl, refl, refl, f.stored, refl)))))))))
+
+pub found_answer_law : FoundAnswerLaw
+found_answer_law sh image v = (to_found sh image v, from_found sh image v)
+
+-- ---- no field is ever bad
+
+arrives_more : (image : Units) (bs : List (ℕ × Block)) (d : ℕ × Block) (address checksum a k : ℕ) → Arrives image bs address checksum a k → 0 < a → d.0 ≡ a → d.1.checksum ≡ k → image (BlockPlace a) ≡ Some (BlockUnit d.1) → Arrives image (bs ++ d ∷ []) address checksum d.1.before d.1.before_checksum
+arrives_more image [] d address checksum a k arrives above place sum shown =
+    (omega (arith, arrives.0), place ∙ arrives.0, sum ∙ arrives.1, ap (λ (e : ℕ). image (BlockPlace e)) (sym arrives.0) ∙ shown, (refl, refl))
+arrives_more image (b ∷ bs) d address checksum a k arrives above place sum shown = (arrives.0, arrives.1, arrives.2, arrives.3, arrives_more image bs d b.1.before b.1.before_checksum a k arrives.4 above place sum shown)
+
+links_more : (sh : Shape) (c : Content) (n i : ℕ) (bs : List (ℕ × Block)) (d : ℕ × Block) → AreLinks sh c n bs → n ≡ length bs + (i + 1) → IsLink sh c i d.1 → AreLinks sh c n (bs ++ d ∷ [])
+links_more sh c n i [] d are count link = (i, omega arith, link, tt)
+links_more sh c n i (b ∷ bs) d are count link = (are.0, are.1, are.2, links_more sh c are.0 i bs d are.3 (omega (arith, are.1)) link)
+
+-- a block of a chain that passes its tests is a link
+link_of : (sh : Shape) (c : Content) (d : ℕ × Block) (ds : List (ℕ × Block)) (a k : ℕ) → Links (sh.layout.block_size - 256) c (d ∷ ds) a k → ((e : ℕ) (x : Block) → InChain e x ds → e ≤ sh.layout.blocks) → IsLink sh c (length ds) d.1
+link_of sh c d [] a k links inside = record { sequence = links.3; place = links.4; size = links.5; before = λ above. absurd (omega arith) }
+link_of sh c d (e ∷ ds) a k links inside = record { sequence = links.3; place = links.4; size = links.5; before = λ above. (links.6.0, omega (arith, inside e.0 e.1 (inl (refl, refl)), links.6.1)) }
+
+module _ (sh : Shape) (shown : Units) (w : Checkpoint) (sound : IsSoundCheckpoint sh w)
+    (wanted : (a k : ℕ) → ReadsTo sh shown w.content a k → IsShown shown a k) (same : (e : ℕ) (x y : Block) → InChain e x w.chain → shown (BlockPlace e) ≡ Some (BlockUnit y) → x.checksum ≡ y.checksum → x ≡ y) where
+  -- from what was read on all is shown
+  rest_shown : (bs ds : List (ℕ × Block)) (a k : ℕ) → w.chain ≡ bs ++ ds → Arrives shown bs w.content.trailer w.content.trailer_checksum a k → AreLinks sh w.content (length w.chain) bs → Links (sh.layout.block_size - 256) w.content ds a k
+      → (e : ℕ) (x : Block) → InChain e x ds → shown (BlockPlace e) ≡ Some (BlockUnit x)
+  rest_shown bs [] a k split arrives are links e x at = absurd at
+  rest_shown bs (d ∷ ds) a k split arrives are links e x at =
+      let size : length w.chain ≡ length bs + suc (length ds) = ap length split ∙ length-append bs (d ∷ ds) in
+      let there = wanted a k (record { count = length w.chain; read = bs; counts = sound.trailer.count; arrives = arrives; links = are; more = omega arith }) in
+      let in_chain : InChain d.0 d.1 w.chain = subst (λ (l : List (ℕ × Block)). InChain d.0 d.1 l) (sym split) (in_behind d.0 d.1 bs (d ∷ ds) (inl (refl, refl))) in
+      let one : d.1 ≡ there.0 = same d.0 d.1 there.0 in_chain (ap (λ (n : ℕ). shown (BlockPlace n)) links.1 ∙ there.1) (links.2 ∙ sym there.2) in
+      let here : shown (BlockPlace a) ≡ Some (BlockUnit d.1) = there.1 ∙ ap (λ (z : Block). Some (BlockUnit z)) (sym one) in
+      let link : IsLink sh w.content (length ds) d.1 = link_of sh w.content d ds a k links (λ f z in_rest. sound.trailer.inside f z (subst (λ (l : List (ℕ × Block)). InChain f z l) (sym split) (in_behind f z bs (d ∷ ds) (inr in_rest)))) in
+      elim at [
+        | inl first ↦ ap (λ (n : ℕ). shown (BlockPlace n)) (first.0 ∙ links.1) ∙ here ∙ ap (λ (z : Block). Some (BlockUnit z)) (sym first.1)
+        | inr later ↦ rest_shown (bs ++ d ∷ []) ds d.1.before d.1.before_checksum (split ∙ sym (append_assoc bs (d ∷ []) ds)) (arrives_more shown bs d w.content.trailer w.content.trailer_checksum a k arrives links.0 links.1 links.2 here)
+            (links_more sh w.content (length w.chain) (length ds) bs d are (omega arith) link) links.6 e x later
+      ]
+
+  pub all_shown : (e : ℕ) (x : Block) → InChain e x w.chain → shown (BlockPlace e) ≡ Some (BlockUnit x)
+  all_shown = rest_shown [] w.chain w.content.trailer w.content.trailer_checksum refl (refl, refl) tt sound.trailer.links
+
+pub no_bad_field_law : NoBadFieldLaw
+no_bad_field_law sh images v grows empty distinct shown of (inl p) = let both : Refused BadField ≡ Refused NoQuorum = p.1 in cc
+no_bad_field_law sh images v grows empty distinct shown of (inr (c, chosen, inl p)) =
+    let w = fields_hold_law sh images v grows empty distinct shown of c chosen.agreed in
+    p.0 (subst (λ (d : Content). PassesTests sh d) w.2 w.3.tests) (subst (λ (d : Content). IsReference sh.layout d) w.2 w.3.trailer.reference)
+no_bad_field_law sh images v grows empty distinct shown of (inr (c, chosen, inr (tests, reference, inl p))) = let both : Refused BadField ≡ Refused (Damaged (BlockPlace p.0)) = p.4 in cc
+no_bad_field_law sh images v grows empty distinct shown of (inr (c, chosen, inr (tests, reference, inr (inl p)))) =
+    let w = fields_hold_law sh images v grows empty distinct shown of c chosen.agreed in
+    p.1 w.0.checkpoint w.2 (record {
+      chosen = subst (λ (d : Content). IsChosen shown d) (sym w.2) chosen;
+      sound = w.3;
+      shown = all_shown sh shown w.0.checkpoint w.3 (λ a k reads. p.0 a k (subst (λ (d : Content). ReadsTo sh shown d a k) w.2 reads))
+          (λ e x y at is checksum. distinct (BlockPlace e) (BlockPlace e) (BlockUnit x) (BlockUnit y) (was_chain sh images v grows w.0 w.1 e x at) (of (BlockPlace e) (BlockUnit y) is) checksum);
+    })
+no_bad_field_law sh images v grows empty distinct shown of (inr (c, chosen, inr (tests, reference, inr (inr (b, content, readable, inl p))))) = let both : Refused BadField ≡ Refused (Damaged (CopyPlace p.0)) = p.3 in cc
+no_bad_field_law sh images v grows empty distinct shown of (inr (c, chosen, inr (tests, reference, inr (inr (b, content, readable, inr (not_behind, (tail, is_tail, inl p))))))) =
+    let both : Refused BadField ≡ Refused (Damaged (PreparePlace ((b.content.op + length tail + 1) % sh.layout.slots))) = p.1 in cc
+no_bad_field_law sh images v grows empty distinct shown of (inr (c, chosen, inr (tests, reference, inr (inr (b, content, readable, inr (not_behind, (tail, is_tail, inr (not_lost, (n, counted, inl p))))))))) =
+    let both : Refused BadField ≡ Refused (Damaged (ReplyPlace p.0)) = p.2 in cc
+no_bad_field_law sh images v grows empty distinct shown of (inr (c, chosen, inr (tests, reference, inr (inr (b, content, readable, inr (not_behind, (tail, is_tail, inr (not_lost, (n, counted, inr p))))))))) =
+    let both : Refused BadField ≡ Found p.0 = p.5 in cc
