@@ -1,5 +1,5 @@
 -- Damage never makes a superblock or a trailer that fails its tests.
-use Rattle.std.proofs.Common.{◌≡◌, inl, inr, ℕ, ◌-◌, ◌<◌, List, [], ◌∷◌, ◌++◌, Some, refl, sym, ◌∙◌, ap, subst, arith}
+use Rattle.std.proofs.Common.{◌≡◌, inl, inr, ℕ, ◌-◌, List, [], ◌∷◌, ◌++◌, Some, refl, sym, ◌∙◌, ap, subst, arith}
 use Rattle.df_theory.specs.Units.{Block, BlockPlace, BlockUnit, Content, CopyPlace, CopyUnit, Units}
 use Rattle.df_theory.specs.Trailer.{InChain, Links}
 use Rattle.df_theory.specs.Holds.{Sound}
@@ -23,8 +23,13 @@ front_of room c shown (d ∷ cs) (b ∷ bs) address checksum a k links arrives s
 pub fields_hold_law : FieldsHoldLaw
 fields_hold_law sh images v grows empty distinct shown of c agreed =
     let w = settled_content sh images v grows empty agreed.second c (λ zero_is. omega (arith, agreed.apart)) (of (CopyPlace agreed.second) (CopyUnit c) agreed.at_second) in
-    let sound : Sound sh w.0 = was_sound sh images v grows w.0 w.1 in
-    (w.0, w.1, sym w.2, sound.checkpoint, λ bs a k arrives.
-    front_of (sh.layout.block_size - 256) c shown w.0.checkpoint.chain bs c.trailer c.trailer_checksum a k
-    (subst (λ (d : Content). Links (sh.layout.block_size - 256) d w.0.checkpoint.chain d.trailer d.trailer_checksum) (sym w.2) sound.checkpoint.trailer.links) arrives
-    (λ e b d at is checksum. distinct (BlockPlace e) (BlockPlace e) (BlockUnit b) (BlockUnit d) (was_chain sh images v grows w.0 w.1 e b at) (of (BlockPlace e) (BlockUnit d) is) checksum))
+    let sound : Sound sh w.0 = was_sound sh images v grows w.0 w.1 in (
+      w.0,
+      w.1,
+      sym w.2,
+      sound.checkpoint,
+      λ bs a k arrives.
+          front_of (sh.layout.block_size - 256) c shown w.0.checkpoint.chain bs c.trailer c.trailer_checksum a k
+          (subst (λ (d : Content). Links (sh.layout.block_size - 256) d w.0.checkpoint.chain d.trailer d.trailer_checksum) (sym w.2) sound.checkpoint.trailer.links) arrives
+          (λ e b d at is checksum. distinct (BlockPlace e) (BlockPlace e) (BlockUnit b) (BlockUnit d) (was_chain sh images v grows w.0 w.1 e b at) (of (BlockPlace e) (BlockUnit d) is) checksum),
+    )

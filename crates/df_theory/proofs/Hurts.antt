@@ -123,7 +123,7 @@ pub lost_is_hurt_law : LostIsHurtLaw
 lost_is_hurt_law sh log v shown tail steady of agreed found unhurt = not_lost sh log v shown steady of tail found unhurt
 
 -- the pool of a log is among its pools
-pool_pools : (start : Units) (es : List UnitEvent) (place : Place) (x : AnyUnit) → InPool (record { start = start; events = es }) place x → InPools start es place x
+pub pool_pools : (start : Units) (es : List UnitEvent) (place : Place) (x : AnyUnit) → InPool (record { start = start; events = es }) place x → InPools start es place x
 pool_pools start [] place x is = is
 pool_pools start (e ∷ es) place x is = inl is
 
@@ -174,11 +174,14 @@ noted_at h (t ∷ ss) zero s at = go (t.client == h.client) refl
     go false test = inl at
 noted_at h (t ∷ ss) (suc k) s at = noted_past h s t ss (noted h ss) k (t.client == h.client) at (noted_at h ss k s at)
 
-after_at : (ss : List Session) (ps : List Message) (k : ℕ) (s : Session) → slice_get ss k ≡ Some s → (slice_get (sessions_after ss ps) k ≡ Some s) ⊎ ((p : Message) × In p ps × (p.header.client ≡ s.client))
+after_at : (ss : List Session) (ps : List Message) (k : ℕ) (s : Session) → slice_get ss k ≡ Some s → (slice_get (sessions_after ss ps) k ≡ Some s) ⊎ ((t : Session) × (p : Message) × (slice_get (sessions_after ss ps) k ≡ Some t) × In p ps × (p.header.client ≡ t.client))
 after_at ss [] k s at = inl at
 after_at ss (p ∷ ps) k s at = elim (noted_at p.header ss k s at) [
-  | inl stays ↦ elim (after_at (noted p.header ss) ps k s stays) [ inl is ↦ inl is | inr new ↦ inr (new.0, inr new.1, new.2) ]
-  | inr new ↦ inr (p, inl refl, new.0)
+  | inl stays ↦ elim (after_at (noted p.header ss) ps k s stays) [ inl is ↦ inl is | inr new ↦ inr (new.0, new.1, new.2, inr new.3, new.4) ]
+  | inr new ↦ elim (after_at (noted p.header ss) ps k (session_of p.header) new.1) [
+    | inl is ↦ inr (session_of p.header, p, is, inl refl, refl)
+    | inr later ↦ inr (later.0, later.1, later.2, inr later.3, later.4)
+  ]
 ]
 
 -- the front of a chain
@@ -209,7 +212,7 @@ reply_is_hurt_law sh log v shown tail n k s steady of found counted at low unhur
       let t = sound.answered k r.0 r.1 in
       let one : t.0 ≡ s = (let both : Some t.0 ≡ Some s = sym t.1 ∙ there in cc) in
       inl (r.0, unhurt ∙ steady.holds.bears.needs (ReplyPlace k) (ReplyUnit r.0) (r.0, r.1, refl), subst (λ (x : Session). Answers x r.0) one t.3)
-  | inr new ↦ inr (new.0, in_dropped (length tail) new.0 v.tail new.1, new.2, late new.0 new.1)
+  | inr new ↦ inr (new.0, new.1, ap (λ (l : List Session). slice_get l k) (sym same_sessions) ∙ new.2, in_dropped (length tail) new.1 v.tail new.3, new.4, late new.1 new.3)
 ]
   where
     sound : Sound sh v

@@ -1,5 +1,5 @@
 -- An open gives one answer, and a state exactly where no step refuses.
-use Rattle.std.proofs.Common.{◌≡◌, ◌⊎◌, inl, inr, ◌↔◌, ℕ, suc, ◌+◌, ◌-◌, ◌*◌, ◌%◌, ◌<◌, ◌≤◌, List, [], ◌∷◌, ◌++◌, length, Option, Some, None, refl, sym, ◌∙◌, ap, subst, arith, length-append, append_assoc}
+use Rattle.std.proofs.Common.{◌≡◌, ◌⊎◌, inl, inr, ℕ, suc, ◌+◌, ◌-◌, ◌*◌, ◌%◌, ◌<◌, ◌≤◌, List, [], ◌∷◌, ◌++◌, length, Some, refl, sym, ◌∙◌, ap, subst, arith, length-append, append_assoc}
 use Rattle.std.specs.List.{slice_get}
 use Rattle.std.proofs.lemmas.Bool.{cases_lt}
 use Rattle.std.proofs.Math.Nat.{mul-le-mul_left}
@@ -8,7 +8,7 @@ use Rattle.df_theory.specs.Sessions.{sessions_after}
 use Rattle.df_theory.specs.Shape.{Shape}
 use Rattle.df_theory.specs.Copies.{IsChosen}
 use Rattle.df_theory.specs.Trailer.{InChain, IsCount, IsReference, Links, Says}
-use Rattle.df_theory.specs.View.{Checkpoint, IsSoundCheckpoint, PassesTests, View, sequence, sessions}
+use Rattle.df_theory.specs.View.{Checkpoint, IsSoundCheckpoint, PassesTests, View, sessions}
 use Rattle.df_theory.specs.Found.{IsFound, IsReplies, IsStored, IsTail, NotBehind, NotLost}
 use Rattle.df_theory.specs.Opens.{Answer, AreLinks, Arrives, BadField, Damaged, Found, IsLink, IsLowest, IsReadable, IsShown, LacksReply, NoQuorum, Opens, OpensFields, OpensReplies, OpensTail, OpensTraces, OpensTrailer, ReadsTo, Refused}
 use Rattle.df_theory.specs.ViewLaws.{FoundAnswerLaw, OneAnswerLaw}
@@ -17,7 +17,6 @@ use Rattle.df_theory.proofs.Choices.{one_chosen}
 use Rattle.df_theory.proofs.OneView.{same_chain, same_says}
 use Rattle.df_theory.proofs.OneFound.{one_tail, not_more, one_stored}
 use Rattle.df_theory.proofs.Fields.{front_of, fields_hold_law}
-use Rattle.df_theory.proofs.Settled.{settled_content}
 use Rattle.df_theory.proofs.Once.{was_chain}
 
 -- ---- one number of pieces, one checkpoint

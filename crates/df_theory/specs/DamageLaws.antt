@@ -1,13 +1,13 @@
 -- What damage can do to a file at rest: sectors hurt, lost or swapped, so long as no unit comes about by chance.
-use Rattle.std.specs.Prelude.{◌≡◌, ◌⊎◌, ◌<◌, ◌≤◌, ◌+◌, ◌-◌, ◌%◌, ℕ, length, List, [], ◌∷◌, ◌++◌, Some}
+use Rattle.std.specs.Prelude.{◌≡◌, ◌⊎◌, ◌<◌, ◌≤◌, ◌+◌, ◌-◌, ◌%◌, ℕ, length, List, ◌++◌, Some}
 use Rattle.std.specs.List.{slice_get}
-use Rattle.df_theory.specs.Units.{AnyUnit, Block, Content, Header, HeaderPlace, HeaderUnit, Message, Place, PreparePlace, ReplyPlace, ReplyUnit, Session, Units}
+use Rattle.df_theory.specs.Units.{AnyUnit, Block, BlockPlace, BlockUnit, Content, CopyPlace, Header, HeaderPlace, HeaderUnit, Message, Place, PreparePlace, PrepareUnit, ReplyPlace, ReplyUnit, Session, Units}
 use Rattle.df_theory.specs.Sessions.{Answers, sessions_after}
 use Rattle.df_theory.specs.Tails.{In}
 use Rattle.df_theory.specs.Shape.{Shape, slots}
 use Rattle.df_theory.specs.Copies.{Agree, IsChosen}
 use Rattle.df_theory.specs.Trailer.{Links}
-use Rattle.df_theory.specs.View.{IsSoundCheckpoint, View}
+use Rattle.df_theory.specs.View.{IsSoundCheckpoint, View, sessions}
 use Rattle.df_theory.specs.Shows.{Needs}
 use Rattle.df_theory.specs.Holds.{Holds}
 use Rattle.df_theory.specs.UnitLog.{UnitLog, now}
@@ -15,7 +15,7 @@ use Rattle.df_theory.specs.Chance.{InPool, NoChance}
 use Rattle.df_theory.specs.Grown.{Grows}
 use Rattle.df_theory.specs.Steady.{IsSteady}
 use Rattle.df_theory.specs.Found.{AreOfPlaces, IsFound, IsReplies, IsTail, NotBehind, NotLost}
-use Rattle.df_theory.specs.Opens.{Arrives, BadField, Opens, Refused}
+use Rattle.df_theory.specs.Opens.{Arrives, BadField, Damaged, NoQuorum, Opens, Refusal, Refused}
 use Rattle.df_theory.specs.Past.{FromEmpty, Was}
 use Rattle.df_theory.specs.HistoryLaws.{AreDistinct, ShowsSettled}
 
@@ -71,7 +71,7 @@ abbrev pub ReplyIsHurtLaw : Type 0
 ReplyIsHurtLaw =
     (sh : Shape) (log : UnitLog) (v : View) (shown : Units) (tail : List Message) (n k : ℕ) (s : Session) → IsSteady sh log v → ShowsPool log shown → IsTail sh shown v.checkpoint tail
     → IsReplies shown v.checkpoint.content tail n → slice_get (sessions_after v.checkpoint.parts.sessions tail) k ≡ Some s → s.op ≤ n → shown (ReplyPlace k) ≡ now log (ReplyPlace k)
-    → ((r : Message) × (shown (ReplyPlace k) ≡ Some (ReplyUnit r)) × Answers s r) ⊎ ((p : Message) × In p v.tail × (p.header.client ≡ s.client) × (v.checkpoint.content.op + length tail < p.header.op))
+    → ((r : Message) × (shown (ReplyPlace k) ≡ Some (ReplyUnit r)) × Answers s r) ⊎ ((t : Session) × (p : Message) × (slice_get (sessions v) k ≡ Some t) × In p v.tail × (p.header.client ≡ t.client) × (v.checkpoint.content.op + length tail < p.header.op))
 
 -- damage never makes a superblock or a trailer that fails its tests: what two copies of settled units agree on was the checkpoint of a view, and the blocks that it names are that view's, as far as they are shown
 abbrev pub FieldsHoldLaw : Type 0
@@ -86,3 +86,33 @@ abbrev pub NoBadFieldLaw : Type 0
 NoBadFieldLaw =
     (sh : Shape) (images : List Units) (v : View) (grows : Grows sh images v) → FromEmpty sh images v grows → AreDistinct images
     → (shown : Units) → ShowsSettled images shown → Opens sh shown (Refused BadField) → ⊥
+
+-- the place doesn't show what it should
+abbrev pub IsHurt : UnitLog → Units → Place → Type 0
+IsHurt log shown place = shown place ≡ now log place → ⊥
+
+-- a refusal that blames what is hurt: a block of the grid or a slot of the prepare ring that is hurt; for a reply its slot, or the slot of a later prepare of the same client
+abbrev pub BlamesHurt : Shape → UnitLog → View → Units → Refusal → Type 0
+BlamesHurt sh log v shown NoQuorum = ⊥
+BlamesHurt sh log v shown BadField = ⊥
+BlamesHurt sh log v shown (Damaged (CopyPlace n)) = ⊥
+BlamesHurt sh log v shown (Damaged (HeaderPlace s)) = ⊥
+BlamesHurt sh log v shown (Damaged (PreparePlace s)) = IsHurt log shown (PreparePlace s)
+BlamesHurt sh log v shown (Damaged (BlockPlace a)) = IsHurt log shown (BlockPlace a)
+BlamesHurt sh log v shown (Damaged (ReplyPlace k)) =
+    shown (ReplyPlace k) ≡ now log (ReplyPlace k)
+    → (s : Session) × (p : Message) × (slice_get (sessions v) k ≡ Some s) × In p v.tail × (p.header.client ≡ s.client) × IsHurt log shown (PreparePlace (p.header.op % slots sh))
+
+-- at rest, while two copies show the choice, each refusal of an open blames what is hurt
+abbrev pub BlameLaw : Type 0
+BlameLaw =
+    (sh : Shape) (log : UnitLog) (v : View) (shown : Units) (refusal : Refusal) → IsSteady sh log v → NoChance log shown → Agree shown v.checkpoint.content
+    → Opens sh shown (Refused refusal) → BlamesHurt sh log v shown refusal
+
+-- a read by the known checksum gives the unit that was written there, and no other
+abbrev pub ReadLaw : Type 0
+ReadLaw =
+    (sh : Shape) (log : UnitLog) (v : View) (shown : Units) → IsSteady sh log v → NoChance log shown
+    → ((s : ℕ) (p q : Message) → now log (PreparePlace s) ≡ Some (PrepareUnit p) → shown (PreparePlace s) ≡ Some (PrepareUnit q) → q.header.checksum ≡ p.header.checksum → q ≡ p)
+    × ((k : ℕ) (r q : Message) → now log (ReplyPlace k) ≡ Some (ReplyUnit r) → shown (ReplyPlace k) ≡ Some (ReplyUnit q) → q.header.checksum ≡ r.header.checksum → q ≡ r)
+    × ((a : ℕ) (b d : Block) → now log (BlockPlace a) ≡ Some (BlockUnit b) → shown (BlockPlace a) ≡ Some (BlockUnit d) → d.checksum ≡ b.checksum → d ≡ b)

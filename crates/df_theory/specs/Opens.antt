@@ -6,7 +6,7 @@ use Rattle.df_theory.specs.Sessions.{Answers, sessions_after}
 use Rattle.df_theory.specs.Shape.{Shape, slots}
 use Rattle.df_theory.specs.Copies.{IsChosen, IsSplit}
 use Rattle.df_theory.specs.Trailer.{InChain, IsCount, IsReference, piece_size}
-use Rattle.df_theory.specs.View.{Checkpoint, IsSoundCheckpoint, PassesTests, View, sequence}
+use Rattle.df_theory.specs.View.{Checkpoint, IsSoundCheckpoint, PassesTests, View}
 use Rattle.df_theory.specs.Found.{IsReplies, IsStored, IsTail, NotBehind, NotLost}
 
 -- no two copies agree, as in a blank file; a test of the superblock, of its layout or of its trailer fails; a place is damaged or shows what cannot be

@@ -1,6 +1,6 @@
 // What damage can do to a file at rest, and what it cannot.
 
-ghost use Rattle.df_theory.specs.DamageLaws.{HurtLaw, CheckpointStaysLaw, NeverBehindLaw, HeadersTellLaw, TailIsFrontLaw, LostIsHurtLaw, MissingIsHurtLaw, ReplyIsHurtLaw, FieldsHoldLaw, NoBadFieldLaw};
+ghost use Rattle.df_theory.specs.DamageLaws.{HurtLaw, CheckpointStaysLaw, NeverBehindLaw, HeadersTellLaw, TailIsFrontLaw, LostIsHurtLaw, MissingIsHurtLaw, ReplyIsHurtLaw, FieldsHoldLaw, BlameLaw, ReadLaw, NoBadFieldLaw};
 
 /// Damage at places that the view does not need changes nothing.
 pub fn needless_damage_is_harmless()
@@ -45,6 +45,16 @@ pub fn missing_reply_is_hurt()
 /// Damage never makes a superblock or a trailer that fails its tests.
 pub fn fields_hold()
     ensures { FieldsHoldLaw }
+{}
+
+/// At rest, while two copies show the choice, a refusal blames what is hurt.
+pub fn refusal_blames_what_is_hurt()
+    ensures { BlameLaw }
+{}
+
+/// A read by the known checksum gives the unit that was written there.
+pub fn read_gives_what_was_written()
+    ensures { ReadLaw }
 {}
 
 /// An open of settled units never answers that a field is bad.
