@@ -2,3 +2,4 @@ pub mod Equal
 pub mod Kept
 pub mod Misled
 pub mod Attempts
+pub mod Starts

@@ -1,10 +1,11 @@
 -- What the two ways of writing copies keep, at every moment and wherever a stop falls.
-use Rattle.std.specs.Prelude.{◌≡◌, ◌⊎◌, ◌<◌, ℕ, List, [], ◌∷◌, take, Some}
+use Rattle.std.specs.Prelude.{◌≡◌, ◌⊎◌, ◌<◌, ℕ, List, [], ◌∷◌, ◌++◌, take, Some}
 use Rattle.df_theory.specs.Units.{CopyPlace, Content, CopyUnit, Units}
 use Rattle.df_theory.specs.Shape.{Shape}
-use Rattle.df_theory.specs.Copies.{rank_of, Agree, IsChosen}
+use Rattle.df_theory.specs.Copies.{rank_of, IsNextContent, Agree, IsChosen}
 use Rattle.df_theory.specs.View.{View}
-use Rattle.df_theory.specs.UnitLog.{UnitLog, Synced, Stopped, add, now, wrote, PutsOne}
+use Rattle.df_theory.specs.UnitLog.{UnitLog, Synced, Stopped, add, now, settled, wrote, PutsOne}
+use Rattle.df_theory.specs.Chance.{InImages}
 use Rattle.df_theory.specs.Steady.{IsSteady}
 use Rattle.df_theory.specs.Runs.{after_steps, AtEach}
 use Rattle.df_theory.specs.MendLaws.{AllPutCopy, IsNumber, copy_steps}
@@ -76,3 +77,34 @@ all_attempted log (a ∷ attempts) = all_attempted (attempted log a) attempts
 -- any number of repairs may be stopped, one after the other: the choice stays
 abbrev pub AttemptsLaw : Type 0
 AttemptsLaw = (log : UnitLog) (c : Content) (attempts : List Attempt) → AreSteady log c → AreAttempts c log attempts → AreSteady (all_attempted log attempts) c
+
+-- the settled copies grew from these, newest first: each later image chooses the content before it or the next one, and shows beside what was there before only that, or at copy 0 a next one
+abbrev pub GrowFrom : List Units → Content → List Units → Content → Type 0
+GrowFrom base first [] c = c ≡ first
+GrowFrom base first (image ∷ later) c =
+    IsChosen image c × ((v : Content) × (GrowFrom base first later v × (((c ≡ v) ⊎ IsNextContent v c) × ((n : ℕ) (d : Content) → n < 4 → image (CopyPlace n) ≡ Some (CopyUnit d) → InImages (later ++ base) (CopyPlace n) (CopyUnit d) ⊎ ((d ≡ c) ⊎ ((n ≡ 0) × IsNextContent c d))))))
+
+-- copies that grew from a chosen content, and whose repair a stop misleads
+pub record Misleads : Type 0 where
+  pub log : UnitLog
+  pub first : Content
+  pub c : Content
+  pub d : Content
+  pub later : List Units
+  pub put : Units
+  pub image : Units
+  pub history : settled log ≡ later ++ log.start ∷ []
+  pub began : IsChosen log.start first
+  pub grew : GrowFrom (log.start ∷ []) first later c
+  pub idle : AreIdle log
+  pub chosen : IsChosen (now log) c
+  pub outside : now log (CopyPlace 0) ≡ Some (CopyUnit c) → ⊥
+  pub one : PutsOne put (CopyPlace 0) (CopyUnit c)
+  pub left : LeavesCopies (wrote put log) image
+  pub known : KnowsCopies (wrote put log) image
+  pub other : IsChosen image d
+  pub differs : d ≡ c → ⊥
+
+-- so the first image matters: where a copy beside copy 0 shows a content above the choice, a repair may be misled to it much later
+abbrev pub MisleadsLaw : Type 0
+MisleadsLaw = Misleads

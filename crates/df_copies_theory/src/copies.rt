@@ -1,6 +1,6 @@
 // The two ways in which the copies of the superblock are written, and what each keeps.
 
-ghost use Rattle.df_copies_theory.specs.CopyLaws.{ViewLaw, BeginsLaw, UpdateCopiesLaw, RepairLaw, AttemptsLaw, RepairUnlessMisledLaw, TwoSufficeLaw};
+ghost use Rattle.df_copies_theory.specs.CopyLaws.{ViewLaw, BeginsLaw, UpdateCopiesLaw, RepairLaw, AttemptsLaw, RepairUnlessMisledLaw, TwoSufficeLaw, MisleadsLaw};
 
 /// A log that is steady on a view has steady copies.
 pub fn view_has_steady_copies()
@@ -35,4 +35,9 @@ pub fn repair_keeps_unless_misled()
 /// Two copies are enough, whatever older copies the others show.
 pub fn two_copies_suffice()
     ensures { TwoSufficeLaw }
+{}
+
+/// Where the first image shows a newer copy beside copy 0, a repair may be misled to it.
+pub fn a_start_can_mislead()
+    ensures { MisleadsLaw }
 {}

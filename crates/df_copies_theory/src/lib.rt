@@ -4,6 +4,6 @@
 mod copies;
 
 pub use copies::{
-    attempts_keep, equal_copies_begin, repair_keeps, repair_keeps_unless_misled,
-    two_copies_suffice, update_keeps, view_has_steady_copies,
+    a_start_can_mislead, attempts_keep, equal_copies_begin, repair_keeps,
+    repair_keeps_unless_misled, two_copies_suffice, update_keeps, view_has_steady_copies,
 };
