@@ -9,8 +9,9 @@ use Rattle.df_theory.specs.Shape.{Shape, clients}
 use Rattle.df_theory.specs.View.{View, head, sessions}
 use Rattle.df_theory.specs.Shows.{Agrees, AgreesHeader, AgreesPrepare, AgreesReply, Needs}
 use Rattle.df_theory.specs.Holds.{Holds, Sound}
-use Rattle.df_theory.specs.Cases.{Current, IsTake, Lost, Old, Seen, Take, Takes, case, seen, seen_header, seen_prepare}
+use Rattle.df_theory.specs.Cases.{Current, IsEmpty, IsTake, Lost, Nothing, Old, Seen, Take, Takes, case, decision, seen, seen_header, seen_prepare}
 use Rattle.df_theory.specs.Found.{AreOfPlaces, IsClean, IsFound, IsOfPlace}
+use Rattle.df_theory.specs.ViewLaws.{SlotLaw}
 use Rattle.df_theory.proofs.Tails.{chain_ops, in_one}
 use Rattle.df_theory.proofs.Slots.{mod_apart}
 use Rattle.df_theory.proofs.Sessions.{tracks_chain}
@@ -302,3 +303,38 @@ module _ (sh : Shape) (image : Units) (v : View) (h : Holds sh image v) where
       no_more = λ k r is. let t = sound.answered k r is in (t.0, t.1, t.2);
     };
   }
+
+-- ---- the slots
+
+-- what a ring shows at the slot of an op above the head is old, or nothing
+old_header : (o : ℕ) (x : Option AnyUnit) → ((h : Header) → x ≡ Some (HeaderUnit h) → h.op < o) → (seen_header o x ≡ Old) ⊎ (seen_header o x ≡ Nothing)
+old_header o None low = inr refl
+old_header o (Some (HeaderUnit h)) low = inl (seen_old o h (low h refl))
+old_header o (Some (CopyUnit c)) low = inr refl
+old_header o (Some (PrepareUnit p)) low = inr refl
+old_header o (Some (ReplyUnit r)) low = inr refl
+old_header o (Some (BlockUnit b)) low = inr refl
+
+old_prepare : (o : ℕ) (x : Option AnyUnit) → ((p : Message) → x ≡ Some (PrepareUnit p) → p.header.op < o) → (seen_prepare o x ≡ Old) ⊎ (seen_prepare o x ≡ Nothing)
+old_prepare o None low = inr refl
+old_prepare o (Some (PrepareUnit p)) low = inl (seen_old o p.header (low p refl))
+old_prepare o (Some (CopyUnit c)) low = inr refl
+old_prepare o (Some (HeaderUnit h)) low = inr refl
+old_prepare o (Some (ReplyUnit r)) low = inr refl
+old_prepare o (Some (BlockUnit b)) low = inr refl
+
+empty_case : (a b : Seen) → (a ≡ Old) ⊎ (a ≡ Nothing) → (b ≡ Old) ⊎ (b ≡ Nothing) → IsEmpty (case a b)
+empty_case a b (inl is) (inl at) = subst (λ (s : Seen). IsEmpty (case s b)) (sym is) (subst (λ (s : Seen). IsEmpty (case Old s)) (sym at) tt)
+empty_case a b (inl is) (inr at) = subst (λ (s : Seen). IsEmpty (case s b)) (sym is) (subst (λ (s : Seen). IsEmpty (case Old s)) (sym at) tt)
+empty_case a b (inr is) (inl at) = subst (λ (s : Seen). IsEmpty (case s b)) (sym is) (subst (λ (s : Seen). IsEmpty (case Nothing s)) (sym at) tt)
+empty_case a b (inr is) (inr at) = subst (λ (s : Seen). IsEmpty (case s b)) (sym is) (subst (λ (s : Seen). IsEmpty (case Nothing s)) (sym at) tt)
+
+pub slot_law : SlotLaw
+slot_law sh image v o h above within = (
+  λ low.
+      let p = chain_at sh.layout.clients (v.checkpoint.content.op + 1) v.checkpoint.content.op_checksum 0 v.checkpoint.parts.sessions v.tail o h.bears.sound.chain (omega arith) (omega arith) in
+      subst (λ (n : ℕ). IsTake (decision sh.layout.slots image n)) p.2 (takes sh image v h p.0 p.1).take,
+  λ high. empty_case (seen_header o (image (HeaderPlace (o % sh.layout.slots)))) (seen_prepare o (image (PreparePlace (o % sh.layout.slots))))
+      (old_header o (image (HeaderPlace (o % sh.layout.slots))) (λ x is. omega (arith, (agrees_header sh image v h (o % sh.layout.slots) x is).op)))
+      (old_prepare o (image (PreparePlace (o % sh.layout.slots))) (λ x is. omega (arith, (agrees_prepare sh image v h (o % sh.layout.slots) x is).op))),
+)

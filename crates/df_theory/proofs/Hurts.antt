@@ -17,6 +17,7 @@ use Rattle.df_theory.specs.UnitLog.{UnitEvent, UnitLog, now, settled}
 use Rattle.df_theory.specs.Chance.{InPool, InPools}
 use Rattle.df_theory.specs.Steady.{IsSteady}
 use Rattle.df_theory.specs.Found.{IsTail, NotBehind, NotLost}
+use Rattle.df_theory.specs.HistoryLaws.{FoundWasOfLogLaw}
 use Rattle.df_theory.specs.DamageLaws.{CheckpointStaysLaw, HeadersTellLaw, HurtLaw, LostIsHurtLaw, MissingIsHurtLaw, NeverBehindLaw, ReplyIsHurtLaw, ShowsPool, TailIsFrontLaw}
 use Rattle.df_theory.proofs.Tails.{chain_ops, in_one, in_dropped}
 use Rattle.df_theory.proofs.Sessions.{sessions-append, last_mark-take, chain_drop}
@@ -26,6 +27,7 @@ use Rattle.df_theory.proofs.Founds.{prepare_agrees, header_agrees, reply_agrees,
 use Rattle.df_theory.proofs.OneView.{same_says}
 use Rattle.df_theory.proofs.OneFound.{next_of}
 use Rattle.df_theory.proofs.Once.{same_links}
+use Rattle.df_theory.proofs.Had.{found_was_law}
 
 module _ (sh : Shape) (log : UnitLog) (v : View) (shown : Units) (steady : IsSteady sh log v) (of : ShowsPool log shown) where
   -- whatever is shown agrees with the view
@@ -245,3 +247,12 @@ reply_is_hurt_law sh log v shown tail n k s steady of found counted at low unhur
         let chain = chain_drop (length tail) sh.layout.clients (v.checkpoint.content.op + 1) v.checkpoint.content.op_checksum 0 v.checkpoint.parts.sessions v.tail (not_past sh log v shown tail steady of found) steady.holds.bears.sound.chain in
         let ops = chain_ops sh.layout.clients (v.checkpoint.content.op + 1 + length tail) _ 0 _ (drop (length tail) v.tail) p chain at in
         omega (arith, ops.0)
+
+-- ---- of a log
+
+pub found_was_of_log_law : FoundWasOfLogLaw
+found_was_of_log_law sh log v grown empty none shown chance w f =
+    found_was_law sh (settled log) v grown.grows empty
+    (λ place other x y one two. chance.distinct place other x y (pool_pools log.start log.events place x (inl one)) (pool_pools log.start log.events other y (inl two)))
+    shown
+    (λ place x is. elim (chance.known place x is) [ inl old ↦ old | inr pending ↦ absurd (none place x pending) ]) w f

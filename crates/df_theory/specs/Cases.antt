@@ -55,3 +55,7 @@ IsTake d = ⊥
 pub record Takes (n : ℕ) (image : Units) (p : Message) : Type 0 where
   pub shown : image (PreparePlace (p.header.op % n)) ≡ Some (PrepareUnit p)
   pub take : IsTake (decision n image p.header.op)
+
+abbrev pub IsEmpty : Decision → Type 0
+IsEmpty (Empty mend) = Unit {0}
+IsEmpty d = ⊥

@@ -4,8 +4,9 @@ use Rattle.df_theory.specs.Units.{AnyUnit, Content, CopyPlace, CopyUnit, Message
 use Rattle.df_theory.specs.Shape.{Shape}
 use Rattle.df_theory.specs.Copies.{rank_of}
 use Rattle.df_theory.specs.View.{View, head, sequence}
-use Rattle.df_theory.specs.Chance.{Distinct, InImages}
-use Rattle.df_theory.specs.Grown.{Grows}
+use Rattle.df_theory.specs.UnitLog.{UnitLog, settled}
+use Rattle.df_theory.specs.Chance.{Distinct, InImages, InWrites, NoChance}
+use Rattle.df_theory.specs.Grown.{Grows, HasGrown}
 use Rattle.df_theory.specs.Found.{IsFound}
 use Rattle.df_theory.specs.Past.{FromEmpty, Was}
 
@@ -50,3 +51,9 @@ abbrev pub FoundWasLaw : Type 0
 FoundWasLaw =
     (sh : Shape) (images : List Units) (v : View) (grows : Grows sh images v) → FromEmpty sh images v grows → AreDistinct images
     → (shown : Units) → ShowsSettled images shown → (w : View) → IsFound sh shown w → Was sh images v grows w
+
+-- the same of a log of which nothing is being written, as after the barrier of an open: any image that shows its pool alone
+abbrev pub FoundWasOfLogLaw : Type 0
+FoundWasOfLogLaw =
+    (sh : Shape) (log : UnitLog) (v : View) (grown : HasGrown sh log v) → FromEmpty sh (settled log) v grown.grows → ((place : Place) (x : AnyUnit) → InWrites log.events place x → ⊥)
+    → (shown : Units) → NoChance log shown → (w : View) → IsFound sh shown w → Was sh (settled log) v grown.grows w

@@ -1,10 +1,11 @@
 -- An image and its view.
-use Rattle.std.specs.Prelude.{◌≡◌, ◌↔◌}
+use Rattle.std.specs.Prelude.{◌≡◌, ◌↔◌, ◌<◌, ◌≤◌, ◌+◌, ℕ}
 use Rattle.df_theory.specs.Units.{Content, Units}
-use Rattle.df_theory.specs.Shape.{Shape}
+use Rattle.df_theory.specs.Shape.{Shape, slots}
 use Rattle.df_theory.specs.Copies.{IsChosen}
-use Rattle.df_theory.specs.View.{View}
+use Rattle.df_theory.specs.View.{View, head}
 use Rattle.df_theory.specs.Holds.{Holds}
+use Rattle.df_theory.specs.Cases.{IsEmpty, IsTake, decision}
 use Rattle.df_theory.specs.Found.{AreOfPlaces, IsClean, IsFound}
 use Rattle.df_theory.specs.Opens.{Answer, Found, Opens}
 
@@ -19,6 +20,12 @@ FoundLaw = (sh : Shape) (image : Units) (v : View) → (Holds sh image v → IsF
 -- an open finds one state: two that it might find are one
 abbrev pub OneFoundLaw : Type 0
 OneFoundLaw = (sh : Shape) (image : Units) (v u : View) → IsFound sh image v → IsFound sh image u → v ≡ u
+
+-- in an image that holds a view the slot of each op of the tail is taken, and each other slot is empty: so no write of another place turns a slot's decision
+abbrev pub SlotLaw : Type 0
+SlotLaw =
+    (sh : Shape) (image : Units) (v : View) (o : ℕ) → Holds sh image v → v.checkpoint.content.op < o → o ≤ v.checkpoint.content.op + slots sh
+    → (o ≤ head v → IsTake (decision (slots sh) image o)) × (head v < o → IsEmpty (decision (slots sh) image o))
 
 -- one content is chosen
 abbrev pub OneChosenLaw : Type 0

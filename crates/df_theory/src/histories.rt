@@ -1,6 +1,6 @@
 // What holds of all that was ever settled.
 
-ghost use Rattle.df_theory.specs.HistoryLaws.{OnePrepareLaw, OneReplyLaw, OneContentLaw, StampLaw, FoundWasLaw};
+ghost use Rattle.df_theory.specs.HistoryLaws.{OnePrepareLaw, OneReplyLaw, OneContentLaw, StampLaw, FoundWasLaw, FoundWasOfLogLaw};
 
 /// All settled prepares of one op are equal.
 pub fn one_prepare_an_op()
@@ -25,4 +25,9 @@ pub fn counters_stood_together()
 /// An open that finds a state finds one that the file really had.
 pub fn found_was_had()
     ensures { FoundWasLaw }
+{}
+
+/// The same of a log of which nothing is being written.
+pub fn found_was_had_by_the_log()
+    ensures { FoundWasOfLogLaw }
 {}

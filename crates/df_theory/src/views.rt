@@ -1,6 +1,6 @@
 // What an image holds and what an open finds in it are one.
 
-ghost use Rattle.df_theory.specs.ViewLaws.{OneChosenLaw, OneViewLaw, FoundLaw, OneFoundLaw, OneAnswerLaw, FoundAnswerLaw};
+ghost use Rattle.df_theory.specs.ViewLaws.{OneChosenLaw, OneViewLaw, FoundLaw, SlotLaw, OneFoundLaw, OneAnswerLaw, FoundAnswerLaw};
 
 /// Four copies choose one content.
 pub fn one_is_chosen()
@@ -15,6 +15,11 @@ pub fn one_view_is_held()
 /// What is held is what an open finds.
 pub fn held_is_found()
     ensures { FoundLaw }
+{}
+
+/// The slot of each op of the tail is taken, and each other slot is empty.
+pub fn slots_are_taken_or_empty()
+    ensures { SlotLaw }
 {}
 
 /// An open finds one state.
