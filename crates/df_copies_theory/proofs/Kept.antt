@@ -9,10 +9,8 @@ use Rattle.df_theory.specs.MendLaws.{AllPutCopy, copy_steps}
 use Rattle.df_theory.proofs.Choices.{same_copy, chosen_above}
 use Rattle.df_theory.proofs.Steps.{old_agrees, cases_bool}
 use Rattle.df_theory.proofs.Mends.{copies_shown}
-use Rattle.df_theory.proofs.Keeps.{four}
-use Rattle.df_copies_theory.specs.Copies.{LeavesCopies, KnowsCopies, AreIdle, IsBounded, AreSteady, IsKept, IsEither, AreEqual}
-use Rattle.df_copies_theory.specs.CopyLaws.{ViewLaw, UpdateCopiesLaw, RepairLaw, TwoSufficeLaw, BeginsLaw}
-use Rattle.df_copies_theory.proofs.Equal.{shows_content}
+use Rattle.df_copies_theory.specs.Copies.{LeavesCopies, KnowsCopies, AreIdle, IsBounded, AreSteady, IsKept}
+use Rattle.df_copies_theory.specs.CopyLaws.{ViewLaw, RepairLaw, TwoSufficeLaw, BeginsLaw}
 
 -- ---- puts of one copy
 
@@ -32,7 +30,7 @@ over_else put image k n c one away = ap (λ (o : Option AnyUnit). or_else o (ima
 pub over_here : (put image : Units) (k : ℕ) (c : Content) → PutsOne put (CopyPlace k) (CopyUnit c) → overlay put image (CopyPlace k) ≡ Some (CopyUnit c)
 over_here put image k c one = ap (λ (o : Option AnyUnit). or_else o (image (CopyPlace k))) one.at
 
-put_is : (put : Units) (k n : ℕ) (c d : Content) → PutsOne put (CopyPlace k) (CopyUnit c) → put (CopyPlace n) ≡ Some (CopyUnit d) → (n ≡ k) × (d ≡ c)
+pub put_is : (put : Units) (k n : ℕ) (c d : Content) → PutsOne put (CopyPlace k) (CopyUnit c) → put (CopyPlace n) ≡ Some (CopyUnit d) → (n ≡ k) × (d ≡ c)
 put_is put k n c d one is =
     let at = one.only (CopyPlace n) (CopyUnit d) is in
     (same_number n k at.0, let e = at.1 in let same : d ≡ c = cc in same)
@@ -129,7 +127,7 @@ left_chosen log c p q image low firm left knows =
     })
     (λ d a. low_image log c image low knows a.second d (omega (arith, a.apart)) a.inside a.at_second)
 
-idle_after : (log : UnitLog) (image : Units) → AreIdle (add (Stopped image) log)
+pub idle_after : (log : UnitLog) (image : Units) → AreIdle (add (Stopped image) log)
 idle_after log image = record { dry = λ n below. refl; idle = λ n d below none. none }
 
 idle_synced : (log : UnitLog) → AreIdle (add Synced log)
@@ -147,7 +145,7 @@ steady_low log c steady = record { bounded = steady.bounded; pending = λ n d ab
 pub steady_knows : (log : UnitLog) (c : Content) → AreSteady log c → KnowsCopies log (now log)
 steady_knows log c steady n d below is = inl (steady.known n d below is)
 
-steady_here : (log : UnitLog) (c : Content) (p q : ℕ) → IsLow log c → AreFirm log c p q → AreIdle log → ((n : ℕ) (d : Content) → n < 4 → now log (CopyPlace n) ≡ Some (CopyUnit d) → InImages (settled log) (CopyPlace n) (CopyUnit d)) → AreSteady log c
+pub steady_here : (log : UnitLog) (c : Content) (p q : ℕ) → IsLow log c → AreFirm log c p q → AreIdle log → ((n : ℕ) (d : Content) → n < 4 → now log (CopyPlace n) ≡ Some (CopyUnit d) → InImages (settled log) (CopyPlace n) (CopyUnit d)) → AreSteady log c
 steady_here log c p q low firm idle known = record { idle = idle; chosen = left_chosen log c p q (now log) low firm (λ n below dry. refl) (λ n d below is. inl (known n d below is)); bounded = low.bounded; known = known }
 
 -- ---- copies of the content, beside two that show it
@@ -158,17 +156,17 @@ pub record IsReady (log : UnitLog) (c : Content) (p q : ℕ) : Type 0 where
   pub knows : KnowsCopies log (now log)
   pub firm : AreFirm log c p q
 
-ready_wrote : (log : UnitLog) (c : Content) (p q : ℕ) (put : Units) (k : ℕ) → PutsOne put (CopyPlace k) (CopyUnit c) → (p ≡ k → ⊥) → (q ≡ k → ⊥) → IsReady log c p q → IsReady (wrote put log) c p q
+pub ready_wrote : (log : UnitLog) (c : Content) (p q : ℕ) (put : Units) (k : ℕ) → PutsOne put (CopyPlace k) (CopyUnit c) → (p ≡ k → ⊥) → (q ≡ k → ⊥) → IsReady log c p q → IsReady (wrote put log) c p q
 ready_wrote log c p q put k one no_first no_second ready = record {
   low = low_wrote log c c put k one ready.low (λ above. inl refl);
   knows = knows_wrote log put ready.knows;
   firm = firm_wrote log c c put k p q one no_first no_second ready.firm;
 }
 
-ready_synced : (log : UnitLog) (c : Content) (p q : ℕ) → IsReady log c p q → IsReady (add Synced log) c p q
+pub ready_synced : (log : UnitLog) (c : Content) (p q : ℕ) → IsReady log c p q → IsReady (add Synced log) c p q
 ready_synced log c p q ready = record { low = low_synced log c ready.low ready.knows; knows = knows_synced log; firm = firm_synced log c p q ready.firm }
 
-ready_kept : (log : UnitLog) (c : Content) (p q : ℕ) → IsReady log c p q → IsKept log c
+pub ready_kept : (log : UnitLog) (c : Content) (p q : ℕ) → IsReady log c p q → IsKept log c
 ready_kept log c p q ready = kept log c p q ready.low ready.knows ready.firm
 
 steady_ready : (log : UnitLog) (c : Content) (agreed : Agree (now log) c) → AreSteady log c → IsReady log c agreed.first agreed.second
@@ -185,7 +183,7 @@ steady_ready log c agreed steady = record {
   };
 }
 
-ready_steady : (log : UnitLog) (c : Content) (p q : ℕ) → IsReady (add Synced log) c p q → AreSteady (add Synced log) c
+pub ready_steady : (log : UnitLog) (c : Content) (p q : ℕ) → IsReady (add Synced log) c p q → AreSteady (add Synced log) c
 ready_steady log c p q ready = steady_here (add Synced log) c p q ready.low ready.firm (idle_synced log) (λ n d below is. inl is)
 
 copies_keep : (c : Content) (p q : ℕ) (ks : List (ℕ × Units)) (log : UnitLog) → IsReady log c p q → AllPutCopy c p q ks → AtEach (λ l. IsKept l c) log (copy_steps ks)
@@ -239,122 +237,3 @@ view_law sh log v steady = record {
     | inr pending ↦ absurd ((steady.calm (CopyPlace n) (steady.pending (CopyPlace n) (CopyUnit d) pending).0).no_copy tt)
   ];
 }
-
--- ---- an update
-
-module _ (log : UnitLog) (old new : Content) (put0 put1 : Units) (steady : AreSteady log old) (equal : AreEqual (now log) old) (less : rank_of old < rank_of new)
-    (one0 : PutsOne put0 (CopyPlace 0) (CopyUnit new)) (one1 : PutsOne put1 (CopyPlace 1) (CopyUnit new)) where
-  abbrev log1 : UnitLog
-  log1 = add Synced (wrote put0 log)
-
-  abbrev second_log : UnitLog
-  second_log = wrote put1 log1
-
-  firm_last : AreFirm log old 2 3
-  firm_last = record { apart = omega arith; inside = omega arith; at_first = equal 2 (omega arith); at_second = equal 3 (omega arith); firm_first = steady.idle.dry 2 (omega arith); firm_second = steady.idle.dry 3 (omega arith) }
-
-  pub ready0 : IsReady log old 2 3
-  ready0 = record { low = steady_low log old steady; knows = steady_knows log old steady; firm = firm_last }
-
-  pub ready_first : IsReady (wrote put0 log) old 2 3
-  ready_first = record {
-    low = low_wrote log old new put0 0 one0 (steady_low log old steady) (λ above. absurd (omega arith));
-    knows = knows_wrote log put0 (steady_knows log old steady);
-    firm = firm_wrote log old new put0 0 2 3 one0 (λ e. omega arith) (λ e. omega arith) firm_last;
-  }
-
-  pub ready1 : IsReady log1 old 2 3
-  ready1 = ready_synced (wrote put0 log) old 2 3 ready_first
-
-  low_second : IsLow second_log new
-  low_second = low_wrote log1 new new put1 1 one1 (low_higher log1 old new less ready1.low) (λ above. inl refl)
-
-  knows_second : KnowsCopies second_log (now second_log)
-  knows_second = knows_wrote log1 put1 ready1.knows
-
-  zeroth : now second_log (CopyPlace 0) ≡ Some (CopyUnit new)
-  zeroth = over_else put1 (now log1) 1 0 new one1 (λ e. omega arith) ∙ over_here put0 (now log) 0 new one0
-
-  pub ready2 : IsReady (add Synced second_log) new 0 1
-  ready2 = record {
-    low = low_synced second_log new low_second knows_second;
-    knows = knows_synced second_log;
-    firm = record { apart = omega arith; inside = omega arith; at_first = zeroth; at_second = over_here put1 (now log1) 1 new one1; firm_first = refl; firm_second = refl };
-  }
-
-  pub steady2 : AreSteady (add Synced second_log) new
-  steady2 = ready_steady second_log new 0 1 ready2
-
-  firm_zeroth : loose second_log (CopyPlace 0) ≡ false
-  firm_zeroth = λ i. is_some (miss_one put1 1 0 new one1 (λ e. omega arith) i) || false
-
-  third_new : (image : Units) → LeavesCopies second_log image → KnowsCopies second_log image → image (CopyPlace 1) ≡ Some (CopyUnit new) → AreSteady (add (Stopped image) second_log) new
-  third_new image left knows shown = record {
-    idle = idle_after second_log image;
-    chosen = chosen_above image new (record { first = 0; second = 1; apart = omega arith; inside = omega arith; at_first = left 0 (omega arith) firm_zeroth ∙ zeroth; at_second = shown })
-        (λ d a. low_image second_log new image low_second knows a.second d (omega (arith, a.apart)) a.inside a.at_second);
-    bounded = bounded_stop second_log new image low_second knows;
-    known = λ n d below is. inl is;
-  }
-
-  -- what copies 1 to 3 show where copy 1 doesn't have the new content
-  shown_old : (image : Units) → KnowsCopies second_log image → (image (CopyPlace 1) ≡ Some (CopyUnit new) → ⊥) → (n : ℕ) (d : Content) → 0 < n → n < 4 → image (CopyPlace n) ≡ Some (CopyUnit d) → (d ≡ old) ⊎ (rank_of d < rank_of old)
-  shown_old image knows differs n d above below is = elim (knows n d below is) [
-    | inl stood ↦ ready1.low.bounded n d above below stood
-    | inr (inl written) ↦
-        let at = put_is put1 1 n new d one1 written in
-        absurd (differs (ap (λ (k : ℕ). image (CopyPlace k)) (sym at.0) ∙ is ∙ ap (λ (c : Content). Some (CopyUnit c)) at.1))
-    | inr (inr none) ↦ absurd none
-  ]
-
-  third_old : (image : Units) → LeavesCopies second_log image → KnowsCopies second_log image → (image (CopyPlace 1) ≡ Some (CopyUnit new) → ⊥) → AreSteady (add (Stopped image) second_log) old
-  third_old image left knows differs =
-      let firm = firm_wrote log1 old new put1 1 2 3 one1 (λ e. omega arith) (λ e. omega arith) ready1.firm in
-      record {
-        idle = idle_after second_log image;
-        chosen = chosen_above image old
-            (record { first = 2; second = 3; apart = omega arith; inside = omega arith; at_first = left 2 (omega arith) firm.firm_first ∙ firm.at_first; at_second = left 3 (omega arith) firm.firm_second ∙ firm.at_second })
-            (λ d a. shown_old image knows differs a.second d (omega (arith, a.apart)) a.inside a.at_second);
-        bounded = λ n d above below is. elim is [
-          | inl here ↦ shown_old image knows differs n d above below here
-          | inr stood ↦ ready1.low.bounded n d above below stood
-        ];
-        known = λ n d below is. inl is;
-      }
-
-  pub second_either : IsEither second_log old new
-  second_either = record {
-    stopped = λ image left knows. elim (shows_content (image (CopyPlace 1)) new) [
-      | inl shown ↦ inl (shown, third_new image left knows shown)
-      | inr differs ↦ inr (differs, third_old image left knows differs)
-    ];
-    synced = steady2;
-  }
-
-pub update_copies_law : UpdateCopiesLaw
-update_copies_law log old new put0 put1 put2 put3 steady equal less one0 one1 one2 one3 =
-    let l1 : UnitLog = add Synced (wrote put0 log) in
-    let l2 : UnitLog = add Synced (wrote put1 l1) in
-    let l3 : UnitLog = add Synced (wrote put2 l2) in
-    let r2 : IsReady l2 new 0 1 = ready2 log old new put0 put1 steady equal less one0 one1 in
-    let w2 : IsReady (wrote put2 l2) new 0 1 = ready_wrote l2 new 0 1 put2 2 one2 (λ e. omega arith) (λ e. omega arith) r2 in
-    let r3 : IsReady l3 new 0 1 = ready_synced (wrote put2 l2) new 0 1 w2 in
-    let w3 : IsReady (wrote put3 l3) new 0 1 = ready_wrote l3 new 0 1 put3 3 one3 (λ e. omega arith) (λ e. omega arith) r3 in
-    let r4 : IsReady (add Synced (wrote put3 l3)) new 0 1 = ready_synced (wrote put3 l3) new 0 1 w3 in
-    record {
-      before = ready_kept log old 2 3 (ready0 log old new put0 put1 steady equal less one0 one1);
-      first_loose = ready_kept (wrote put0 log) old 2 3 (ready_first log old new put0 put1 steady equal less one0 one1);
-      first = ready_kept l1 old 2 3 (ready1 log old new put0 put1 steady equal less one0 one1);
-      second_loose = second_either log old new put0 put1 steady equal less one0 one1;
-      second = ready_kept l2 new 0 1 r2;
-      third_loose = ready_kept (wrote put2 l2) new 0 1 w2;
-      third = ready_kept l3 new 0 1 r3;
-      fourth_loose = ready_kept (wrote put3 l3) new 0 1 w3;
-      steady = ready_steady (wrote put3 l3) new 0 1 r4;
-      equal = λ n below. elim (four n below) [
-        | inl is ↦ subst (λ (k : ℕ). now (add Synced (wrote put3 l3)) (CopyPlace k) ≡ Some (CopyUnit new)) (sym is) r4.firm.at_first
-        | inr (inl is) ↦ subst (λ (k : ℕ). now (add Synced (wrote put3 l3)) (CopyPlace k) ≡ Some (CopyUnit new)) (sym is) r4.firm.at_second
-        | inr (inr (inl is)) ↦ subst (λ (k : ℕ). now (add Synced (wrote put3 l3)) (CopyPlace k) ≡ Some (CopyUnit new)) (sym is) (over_else put3 (now l3) 3 2 new one3 (λ e. omega arith) ∙ over_here put2 (now l2) 2 new one2)
-        | inr (inr (inr is)) ↦ subst (λ (k : ℕ). now (add Synced (wrote put3 l3)) (CopyPlace k) ≡ Some (CopyUnit new)) (sym is) (over_here put3 (now l3) 3 new one3)
-      ];
-    }

@@ -23,7 +23,8 @@ use Rattle.df_theory.proofs.Tails.{chain_ops, in_one, in_dropped}
 use Rattle.df_theory.proofs.Sessions.{sessions-append, last_mark-take, chain_drop}
 use Rattle.df_theory.proofs.Choices.{chosen_above, one_chosen}
 use Rattle.df_theory.proofs.Steps.{old_agrees}
-use Rattle.df_theory.proofs.Founds.{prepare_agrees, header_agrees, reply_agrees, head_room, takes_if, header_known}
+use Rattle.df_theory.proofs.Agreeing.{prepare_agrees, header_agrees, reply_agrees, head_room, takes_if}
+use Rattle.df_theory.proofs.Founds.{header_known}
 use Rattle.df_theory.proofs.OneView.{same_says}
 use Rattle.df_theory.proofs.OneFound.{next_of}
 use Rattle.df_theory.proofs.Once.{same_links}

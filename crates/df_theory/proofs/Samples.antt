@@ -22,23 +22,23 @@ use Rattle.df_theory.proofs.Births.{format_law}
 use Rattle.df_theory.proofs.Keeps.{four, whole_append_law, whole_reply_law, whole_block_law, whole_update_law}
 use Rattle.df_theory.proofs.Runs.{each_append, each_weaker, commands_law}
 
-abbrev layout : Layout
+abbrev pub layout : Layout
 layout = record { slots = 16; message_size = 4096; clients = 4; block_size = 4096; blocks = 1024 }
 
-abbrev session : Session
+abbrev pub session : Session
 session = record { client = 7; request = 1; op = 1 }
 
 -- block 2 is referenced
-abbrev parts : Parts
+abbrev pub parts : Parts
 parts = record { root = []; sessions = session ∷ []; references = λ a. if a == 2 then Some 9 else None }
 
-abbrev shape : Shape
+abbrev pub shape : Shape
 shape = record { version = 1; cluster = 3; layout = layout; named = omega arith; some = omega arith; parse = λ text. Some parts }
 
-abbrev content1 : Content
+abbrev pub content1 : Content
 content1 = record { version = 1; cluster = 3; layout = layout; sequence = 1; op = 0; op_checksum = 0; head = 0; replies = 0; trailer = 0; trailer_checksum = 0; trailer_size = 0; rest = [] }
 
-abbrev first : View
+abbrev pub first : View
 first = record { checkpoint = record { content = content1; chain = []; parts = no_parts }; tail = []; replies = 0; stored = λ k. None }
 
 is_first : IsFirst shape first
@@ -56,30 +56,30 @@ is_first = record {
   stored = λ k. refl;
 }
 
-abbrev reserved : Header
+abbrev pub reserved : Header
 reserved = record { checksum = 1; parent = 0; client = 0; op = 0; request = 0; mark = 0; checkpoint = 0; group_last = 0 }
 
-abbrev all_reserved : Units
+abbrev pub all_reserved : Units
 all_reserved (HeaderPlace s) = Some (HeaderUnit reserved)
 all_reserved (CopyPlace n) = None
 all_reserved (PreparePlace s) = None
 all_reserved (ReplyPlace k) = None
 all_reserved (BlockPlace a) = None
 
-puts_reserved : PutsReserved all_reserved
+pub puts_reserved : PutsReserved all_reserved
 puts_reserved (HeaderPlace s) y is = (s, reserved, refl, let both : Some (HeaderUnit reserved) ≡ Some y = is in cc, refl, refl)
 puts_reserved (CopyPlace n) y is = absurd (let both : None ≡ Some y = is in cc)
 puts_reserved (PreparePlace s) y is = absurd (let both : None ≡ Some y = is in cc)
 puts_reserved (ReplyPlace k) y is = absurd (let both : None ≡ Some y = is in cc)
 puts_reserved (BlockPlace a) y is = absurd (let both : None ≡ Some y = is in cc)
 
-abbrev copy_put : ℕ → Content → Units
+abbrev pub copy_put : ℕ → Content → Units
 copy_put n c = put_one (CopyPlace n) (CopyUnit c)
 
-abbrev made_steps : List Step
+abbrev pub made_steps : List Step
 made_steps = format_steps (all_reserved ∷ []) (copy_put 0 content1) (copy_put 1 content1) (copy_put 2 content1) (copy_put 3 content1)
 
-abbrev made : UnitLog
+abbrev pub made : UnitLog
 made = after_steps made_steps blank_log
 
 made_is : AtEach (IsSafe shape) blank_log made_steps × IsSteady shape made first
@@ -96,22 +96,22 @@ sector sh image p = record {
 
 -- ---- an append
 
-abbrev prepare1 : Message
+abbrev pub prepare1 : Message
 prepare1 = record { header = record { checksum = 5; parent = 0; client = 7; op = 1; request = 1; mark = 0; checkpoint = 1; group_last = 1 }; body = [] }
 
-abbrev view1 : View
+abbrev pub view1 : View
 view1 = appended first (prepare1 ∷ [])
 
-abbrev put1 : Units
+abbrev pub put1 : Units
 put1 = put_one (PreparePlace 1) (PrepareUnit prepare1)
 
-abbrev header1 : Units
+abbrev pub header1 : Units
 header1 = put_one (HeaderPlace 1) (HeaderUnit prepare1.header)
 
-abbrev command1 : Command
+abbrev pub command1 : Command
 command1 = record { steps = Puts put1 ∷ Syncs ∷ Puts header1 ∷ Syncs ∷ []; view = view1 }
 
-abbrev log1 : UnitLog
+abbrev pub log1 : UnitLog
 log1 = after_steps command1.steps made
 
 stamped1 : (p : Message) → In p (prepare1 ∷ []) → IsStamped first 1 p.header
@@ -127,7 +127,7 @@ may1 = record {
   asks = ((refl, omega arith), tt);
 }
 
-leads1 : Leads shape made first command1
+pub leads1 : Leads shape made first command1
 leads1 = (append_law shape made first prepare1 put1 header1 made_is.1 (λ place wet. absurd (let no_unit : false ≡ true = wet in cc)) may1 (put_one_law (PreparePlace 1) (PrepareUnit prepare1)) (sector shape (now made) prepare1)).leads
 
 -- ---- its reply
