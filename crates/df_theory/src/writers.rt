@@ -1,6 +1,7 @@
 // What each write does at every moment, and how commands follow one another.
 
 ghost use Rattle.df_theory.specs.WriterLaws.{PutOneLaw, SteadyLaw, SyncLaw, StopLaw, AnewLaw, CalmLaw, WriteLaw, AppendLaw, ReplyLaw, BlockLaw, HeaderLaw, CopyLaw, UpdateLaw, CommandsLaw};
+ghost use Rattle.df_theory.specs.HeadlineLaw.{HeadlineLaw};
 
 /// The write of one unit puts one unit.
 pub fn one_unit_is_put()
@@ -70,4 +71,9 @@ pub fn update_leads()
 /// Each moment of a run of commands.
 pub fn commands_lead_on()
     ensures { CommandsLaw }
+{}
+
+/// Stop anywhere, and the next open finds the state after the commands that were answered, or after one more.
+pub fn every_stop_is_survived()
+    ensures { HeadlineLaw }
 {}

@@ -1,0 +1,23 @@
+-- The promise of the honest half, over places: stop anywhere, and the next open finds the state after the commands that were answered, or after one more.
+use Rattle.std.specs.Prelude.{◌⊎◌, List, [], ◌∷◌}
+use Rattle.df_theory.specs.Units.{Units}
+use Rattle.df_theory.specs.Shape.{Shape}
+use Rattle.df_theory.specs.View.{View}
+use Rattle.df_theory.specs.UnitLog.{Stopped, UnitLog, add}
+use Rattle.df_theory.specs.Chance.{EachLeft}
+use Rattle.df_theory.specs.Steady.{IsSteady}
+use Rattle.df_theory.specs.Found.{IsFound}
+use Rattle.df_theory.specs.Runs.{AtEach, Command, LeadOn, after_steps}
+
+-- an open of this image finds this state, and the log with the stop that left it is steady on it: the next session goes on from there
+pub record Survives (sh : Shape) (log : UnitLog) (image : Units) (w : View) : Type 0 where
+  pub found : IsFound sh image w
+  pub steady : IsSteady sh (add (Stopped image) log) w
+
+-- at each moment of each command whatever a stop leaves survives, with the view after all earlier commands or with the one after this command too
+abbrev pub SurvivesEach : Shape → UnitLog → View → List Command → Type 0
+SurvivesEach sh log v [] = EachLeft log (λ image. Survives sh log image v)
+SurvivesEach sh log v (c ∷ cs) = AtEach (λ l. EachLeft l (λ image. Survives sh l image v ⊎ Survives sh l image c.view)) log c.steps × SurvivesEach sh (after_steps c.steps log) c.view cs
+
+abbrev pub HeadlineLaw : Type 0
+HeadlineLaw = (sh : Shape) (log : UnitLog) (v : View) (cs : List Command) → IsSteady sh log v → LeadOn sh log v cs → SurvivesEach sh log v cs
