@@ -1,18 +1,19 @@
 -- Stop anywhere, and the next open goes on.
-use Rattle.std.proofs.Common.{◌⊎◌, inl, inr, List, [], ◌∷◌}
+use Rattle.std.proofs.Common.{◌≡◌, ◌⊎◌, inl, inr, [], ◌∷◌, subst}
 use Rattle.df_theory.specs.Units.{Units}
 use Rattle.df_theory.specs.Shape.{Shape}
 use Rattle.df_theory.specs.View.{View}
 use Rattle.df_theory.specs.Holds.{Holds}
-use Rattle.df_theory.specs.UnitLog.{IsLeftBy, UnitLog}
+use Rattle.df_theory.specs.UnitLog.{IsLeftBy, Synced, UnitLog, add, now, settled}
 use Rattle.df_theory.specs.Chance.{EachLeft, NoChance}
 use Rattle.df_theory.specs.Grown.{IsSafe}
-use Rattle.df_theory.specs.Steady.{IsGoodLog}
+use Rattle.df_theory.specs.Steady.{IsGoodLog, IsSteady}
 use Rattle.df_theory.specs.Runs.{after_steps}
-use Rattle.df_theory.specs.HeadlineLaw.{HeadlineLaw, Survives}
-use Rattle.df_theory.proofs.Steps.{steady_safe, steady_holds}
-use Rattle.df_theory.proofs.Founds.{holds_found}
-use Rattle.df_theory.proofs.Writes.{stop_law}
+use Rattle.df_theory.specs.HeadlineLaws.{BarrierLaw, CleanStartLaw, HeadlineLaw, Survives}
+use Rattle.df_theory.proofs.Steps.{grows_holds, synced_steady, steady_safe, steady_holds}
+use Rattle.df_theory.proofs.Founds.{holds_found, found_holds}
+use Rattle.df_theory.proofs.OneFound.{one_found_law}
+use Rattle.df_theory.proofs.Writes.{stop_law, anew_law, no_choice}
 use Rattle.df_theory.proofs.Runs.{each_weaker}
 
 survives : (sh : Shape) (log : UnitLog) (image : Units) (w : View) → IsSafe sh log → IsLeftBy log image → NoChance log image → Holds sh image w → Survives sh log image w
@@ -27,3 +28,15 @@ headline_law sh log v (c ∷ cs) steady lead = (
   ]) c.steps log lead.0.moments,
   headline_law sh (after_steps c.steps log) c.view cs lead.0.steady lead.1,
 )
+
+pub barrier_law : BarrierLaw
+barrier_law sh log v safe found = elim safe.synced [
+  | inl grown ↦
+      let holds = grows_holds sh (now log) (settled log) grown.0 grown.1.grows in
+      let same : grown.0 ≡ v = one_found_law sh (now log) grown.0 v (holds_found sh (now log) grown.0 holds) found in
+      subst (λ (x : View). IsSteady sh (add Synced log) x) same (synced_steady sh log grown.0 grown.1)
+  | inr made ↦ absurd (no_choice made.0 (now log) (settled log) made.1.made v.checkpoint.content found.chosen.agreed)
+]
+
+pub clean_start_law : CleanStartLaw
+clean_start_law sh image v places found clean = anew_law sh image v (found_holds sh image v places found clean)

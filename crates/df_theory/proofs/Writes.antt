@@ -4,6 +4,7 @@ use Rattle.std.proofs.lemmas.Bool.Decides.{nat_tests}
 use Rattle.df_theory.specs.Units.{AnyUnit, Block, BlockPlace, BlockUnit, Content, CopyPlace, CopyUnit, Header, HeaderPlace, HeaderUnit, Message, Place, PreparePlace, PrepareUnit, ReplyPlace, Units, or_else, overlay}
 use Rattle.df_theory.specs.Tails.{In}
 use Rattle.df_theory.specs.Shape.{Shape}
+use Rattle.df_theory.specs.Copies.{Agree}
 use Rattle.df_theory.specs.Trailer.{InChain}
 use Rattle.df_theory.specs.View.{View, head}
 use Rattle.df_theory.specs.Holds.{Holds}
@@ -24,13 +25,13 @@ use Rattle.df_theory.proofs.Updates.{IsStage, update_first, update_second, updat
 pub steady_law : SteadyLaw
 steady_law sh log v steady = (steady_safe sh log v steady, steady_holds sh log v steady)
 
--- an image of a file that is still being made holds no view
+-- in an image of a file that is still being made no two copies agree
+pub no_choice : (c : Content) (image : Units) (images : List Units) → AreMade c (image ∷ images) → (d : Content) → Agree image d → ⊥
+no_choice c image [] made d agreed = let both : Some (CopyUnit d) ≡ None = sym agreed.at_first ∙ made (CopyPlace agreed.first) in cc
+no_choice c image (before ∷ images) made d agreed = made.1 d agreed
+
 no_view : (sh : Shape) (c : Content) (image : Units) (images : List Units) (v : View) → AreMade c (image ∷ images) → Holds sh image v → ⊥
-no_view sh c image [] v made holds =
-    let agreed = holds.chosen.agreed in
-    let both : Some (CopyUnit v.checkpoint.content) ≡ None = sym agreed.at_first ∙ made (CopyPlace agreed.first) in
-    cc
-no_view sh c image (before ∷ images) v made holds = made.1 v.checkpoint.content holds.chosen.agreed
+no_view sh c image images v made holds = no_choice c image images made v.checkpoint.content holds.chosen.agreed
 
 pub sync_law : SyncLaw
 sync_law sh log v safe holds = elim safe.synced [

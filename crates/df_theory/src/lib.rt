@@ -11,12 +11,33 @@ mod views;
 mod wholes;
 mod writers;
 
-pub use damage::{checkpoint_stays, fields_hold, found_tail_is_front, headers_tell, lost_slot_is_hurt, missing_prepare_is_hurt, missing_reply_is_hurt, needless_damage_is_harmless, no_field_is_bad, read_gives_what_was_written, refusal_blames_what_is_hurt, superblock_is_never_behind};
-pub use device::{commands_are_moments, format_is_moments, good_units_are_good_sectors, new_disk_is_blank, safe_units_are_safe_sectors, steps_are_moments, write_is_put};
-pub use histories::{counters_stood_together, found_was_had, found_was_had_by_the_log, one_content_a_rank, one_prepare_an_op, one_reply_an_op};
+pub use damage::{
+    checkpoint_stays, fields_hold, found_tail_is_front, headers_tell, lost_slot_is_hurt,
+    missing_prepare_is_hurt, missing_reply_is_hurt, needless_damage_is_harmless, no_field_is_bad,
+    read_gives_what_was_written, refusal_blames_what_is_hurt, superblock_is_never_behind,
+};
+pub use device::{
+    commands_are_moments, format_is_moments, good_units_are_good_sectors, new_disk_is_blank,
+    safe_units_are_safe_sectors, steps_are_moments, write_is_put,
+};
+pub use histories::{
+    counters_stood_together, found_was_had, found_was_had_by_the_log, one_content_a_rank,
+    one_prepare_an_op, one_reply_an_op,
+};
 pub use making::{blank_is_safe, format_begins, second_copy_begins};
 pub use mending::{mending_ends_whole, mending_keeps};
 pub use sample_file::{a_file_is_kept, a_stop_is_survived};
-pub use views::{found_is_answered, held_is_found, one_answer_is_given, one_is_chosen, one_is_found, one_view_is_held, slots_are_taken_or_empty};
-pub use wholes::{append_stays_whole, block_stays_whole, referenced_blocks_stand, reply_stays_whole, update_stays_whole};
-pub use writers::{append_leads, block_keeps, calm_write_keeps, commands_lead_on, copy_keeps, every_stop_is_survived, header_keeps, log_begins_anew, one_unit_is_put, reply_leads, steady_is_safe, stop_is_steady, sync_is_steady, update_leads, write_leads};
+pub use views::{
+    found_is_answered, held_is_found, one_answer_is_given, one_is_chosen, one_is_found,
+    one_view_is_held, slots_are_taken_or_empty,
+};
+pub use wholes::{
+    append_stays_whole, block_stays_whole, referenced_blocks_stand, reply_stays_whole,
+    update_stays_whole,
+};
+pub use writers::{
+    append_leads, barrier_begins, block_keeps, calm_write_keeps, clean_image_begins,
+    commands_lead_on, copy_keeps, every_stop_is_survived, header_keeps, log_begins_anew,
+    one_unit_is_put, reply_leads, steady_is_safe, stop_is_steady, sync_is_steady, update_leads,
+    write_leads,
+};

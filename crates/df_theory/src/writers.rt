@@ -1,7 +1,7 @@
 // What each write does at every moment, and how commands follow one another.
 
 ghost use Rattle.df_theory.specs.WriterLaws.{PutOneLaw, SteadyLaw, SyncLaw, StopLaw, AnewLaw, CalmLaw, WriteLaw, AppendLaw, ReplyLaw, BlockLaw, HeaderLaw, CopyLaw, UpdateLaw, CommandsLaw};
-ghost use Rattle.df_theory.specs.HeadlineLaw.{HeadlineLaw};
+ghost use Rattle.df_theory.specs.HeadlineLaws.{HeadlineLaw, BarrierLaw, CleanStartLaw};
 
 /// The write of one unit puts one unit.
 pub fn one_unit_is_put()
@@ -76,4 +76,14 @@ pub fn commands_lead_on()
 /// Stop anywhere, and the next open finds the state after the commands that were answered, or after one more.
 pub fn every_stop_is_survived()
     ensures { HeadlineLaw }
+{}
+
+/// The barrier of an open makes a safe log steady on the state that is found.
+pub fn barrier_begins()
+    ensures { BarrierLaw }
+{}
+
+/// An image that is found to have a state begins a log anew, where its copies are clean.
+pub fn clean_image_begins()
+    ensures { CleanStartLaw }
 {}

@@ -1,12 +1,13 @@
--- The promise of the honest half, over places: stop anywhere, and the next open finds the state after the commands that were answered, or after one more.
+-- The promise of the honest half, over places: stop anywhere, and the next open finds the state after the commands that were answered, or after one more. And where a session begins.
 use Rattle.std.specs.Prelude.{◌⊎◌, List, [], ◌∷◌}
 use Rattle.df_theory.specs.Units.{Units}
 use Rattle.df_theory.specs.Shape.{Shape}
 use Rattle.df_theory.specs.View.{View}
-use Rattle.df_theory.specs.UnitLog.{Stopped, UnitLog, add}
+use Rattle.df_theory.specs.UnitLog.{Stopped, Synced, UnitLog, add, now}
 use Rattle.df_theory.specs.Chance.{EachLeft}
+use Rattle.df_theory.specs.Grown.{IsSafe}
 use Rattle.df_theory.specs.Steady.{IsSteady}
-use Rattle.df_theory.specs.Found.{IsFound}
+use Rattle.df_theory.specs.Found.{AreOfPlaces, IsClean, IsFound}
 use Rattle.df_theory.specs.Runs.{AtEach, Command, LeadOn, after_steps}
 
 -- an open of this image finds this state, and the log with the stop that left it is steady on it: the next session goes on from there
@@ -21,3 +22,11 @@ SurvivesEach sh log v (c ∷ cs) = AtEach (λ l. EachLeft l (λ image. Survives 
 
 abbrev pub HeadlineLaw : Type 0
 HeadlineLaw = (sh : Shape) (log : UnitLog) (v : View) (cs : List Command) → IsSteady sh log v → LeadOn sh log v cs → SurvivesEach sh log v cs
+
+-- the barrier of an open: a safe log whose image is found to have a state is steady on it after a sync
+abbrev pub BarrierLaw : Type 0
+BarrierLaw = (sh : Shape) (log : UnitLog) (v : View) → IsSafe sh log → IsFound sh (now log) v → IsSteady sh (add Synced log) v
+
+-- any image that is found to have a state, whatever was done to it, begins a log anew, where its copies are clean
+abbrev pub CleanStartLaw : Type 0
+CleanStartLaw = (sh : Shape) (image : Units) (v : View) → AreOfPlaces sh image → IsFound sh image v → IsClean image v → IsSteady sh (record { start = image; events = [] }) v
