@@ -16,7 +16,7 @@ use Rattle.df_theory.proofs.OneFound.{one_found_law}
 use Rattle.df_theory.proofs.Writes.{stop_law, anew_law, no_choice}
 use Rattle.df_theory.proofs.Runs.{each_weaker}
 
-survives : (sh : Shape) (log : UnitLog) (image : Units) (w : View) → IsSafe sh log → IsLeftBy log image → NoChance log image → Holds sh image w → Survives sh log image w
+pub survives : (sh : Shape) (log : UnitLog) (image : Units) (w : View) → IsSafe sh log → IsLeftBy log image → NoChance log image → Holds sh image w → Survives sh log image w
 survives sh log image w safe left chance holds = record { found = holds_found sh image w holds; steady = stop_law sh log w image safe left chance holds }
 
 pub headline_law : HeadlineLaw

@@ -7,6 +7,7 @@ mod histories;
 mod making;
 mod mending;
 mod sample_file;
+mod tidiness;
 mod views;
 mod wholes;
 mod writers;
@@ -27,6 +28,10 @@ pub use histories::{
 pub use making::{blank_is_safe, format_begins, second_copy_begins};
 pub use mending::{mending_ends_whole, mending_keeps};
 pub use sample_file::{a_file_is_kept, a_stop_is_survived};
+pub use tidiness::{
+    append_leads_tidily, block_leads_tidily, checkpoint_leads_tidily, format_ends_tidy,
+    mending_leads_tidily, reply_leads_tidily, run_ends_tidy,
+};
 pub use views::{
     found_is_answered, held_is_found, one_answer_is_given, one_is_chosen, one_is_found,
     one_view_is_held, slots_are_taken_or_empty,

@@ -1,0 +1,5 @@
+use Rattle.df_theory.proofs.Tidy.{tidy_format_law}
+use Rattle.df_theory.proofs.tidiness.format_ends_tidy.Goals as goal
+
+pub returns : goal.returns
+returns c = tidy_format_law
