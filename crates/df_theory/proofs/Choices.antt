@@ -2,7 +2,9 @@
 use Rattle.std.proofs.Common.{◌≡◌, ◌⊎◌, inl, inr, ℕ, zero, suc, ◌≤◌, ◌<◌, Some, sym, ◌∙◌, ap, arith}
 use Rattle.std.proofs.lemmas.Bool.{cases_eq}
 use Rattle.df_theory.specs.Units.{Content, CopyPlace, CopyUnit, Units}
-use Rattle.df_theory.specs.Copies.{Agree, IsChosen, rank_of}
+use Rattle.df_theory.specs.Copies.{Agree, IsChosen, IsNextContent, rank_of}
+use Rattle.df_theory.specs.View.{Checkpoint, View}
+use Rattle.df_theory.specs.Next.{IsFinish}
 
 pub same_copy : (image : Units) (n : ℕ) (c d : Content) → image (CopyPlace n) ≡ Some (CopyUnit c) → image (CopyPlace n) ≡ Some (CopyUnit d) → c ≡ d
 same_copy image n c d one two = let both : Some (CopyUnit c) ≡ Some (CopyUnit d) = sym one ∙ two in cc
@@ -38,3 +40,13 @@ one_chosen image c d x y =
     let same : rank_of d ≡ rank_of c = omega arith in
     let inside : x.agreed.first < 4 = omega (arith, x.agreed.apart, x.agreed.inside) in
     meet 4 image c d (x.lowest d y.agreed same) (y.lowest c x.agreed (sym same)) x.agreed.first inside inside x.agreed.at_first
+
+-- the next content is a higher one, and a finished checkpoint has the next one: where the order of contents changes, these change
+pub next_higher : (c d : Content) → IsNextContent c d → rank_of c < rank_of d
+next_higher c d next = omega arith
+
+pub finish_next : (v : View) (c : Checkpoint) → IsFinish v c → IsNextContent v.checkpoint.content c.content
+finish_next v c is = is.sequence
+
+pub finish_higher : (v : View) (c : Checkpoint) → IsFinish v c → rank_of v.checkpoint.content < rank_of c.content
+finish_higher v c is = next_higher v.checkpoint.content c.content (finish_next v c is)

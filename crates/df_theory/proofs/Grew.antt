@@ -8,6 +8,7 @@ use Rattle.df_theory.specs.View.{Checkpoint, View, head, sequence}
 use Rattle.df_theory.specs.Shows.{Agrees, AgreesCopy}
 use Rattle.df_theory.specs.Holds.{Sound}
 use Rattle.df_theory.specs.Next.{Append, Finish, Next, Reply, Same}
+use Rattle.df_theory.proofs.Choices.{finish_higher}
 use Rattle.df_theory.proofs.Tails.{in_front, in_drop}
 
 -- what later views keep of an earlier one
@@ -75,7 +76,7 @@ next_grew sh v _ sound (Append ps is) = record {
 next_grew sh v _ sound (Reply place r is) = record { head = omega arith; checkpoint = inl refl; sequence = omega arith; op = omega arith; replies = omega arith; tail = λ p at above. at }
 next_grew sh v _ sound (Finish c is) = record {
   head = omega (arith, length-drop (c.content.op - v.checkpoint.content.op) v.tail, is.op_from, is.op_to);
-  checkpoint = inr (omega (arith, is.sequence));
+  checkpoint = inr (finish_higher v c is);
   sequence = omega (arith, is.sequence);
   op = is.op_from;
   replies = omega arith;

@@ -3,7 +3,8 @@ use Rattle.std.proofs.Common.{◌≡◌, ◌⊎◌, inl, inr, ℕ, ◌+◌, ◌-
 use Rattle.df_theory.specs.Units.{AnyUnit, Content, Message, PreparePlace, PrepareUnit, Units}
 use Rattle.df_theory.specs.Tails.{In, last_checksum}
 use Rattle.df_theory.specs.Shape.{Shape}
-use Rattle.df_theory.specs.View.{View, head}
+use Rattle.df_theory.specs.Copies.{rank_of}
+use Rattle.df_theory.specs.View.{Checkpoint, View, head}
 use Rattle.df_theory.specs.Holds.{Holds}
 use Rattle.df_theory.specs.Next.{Append, Finish, Next, Reply, Same}
 use Rattle.df_theory.specs.Chance.{InImages}
@@ -16,14 +17,15 @@ use Rattle.df_theory.proofs.Tails.{in_one, in_either, in_dropped, chain_ops, tur
 use Rattle.df_theory.proofs.Steps.{grows_sound}
 
 -- later views have counted as far
-pub was_low : (sh : Shape) (images : List Units) (v : View) (grows : Grows sh images v) (w : View) → Was sh images v grows w → (w.checkpoint.content.sequence ≤ v.checkpoint.content.sequence) × (head w ≤ head v) × (w.replies ≤ v.replies)
+pub was_low : (sh : Shape) (images : List Units) (v : View) (grows : Grows sh images v) (w : View) → Was sh images v grows w → (w.checkpoint.content.sequence ≤ v.checkpoint.content.sequence) × (head w ≤ head v) × (w.replies ≤ v.replies) × (rank_of w.checkpoint.content ≤ rank_of v.checkpoint.content)
 was_low sh [] v grows w was = absurd was
-was_low sh (image ∷ images) v (holds, inl begins) w is = (omega (arith, ap (λ (x : View). x.checkpoint.content.sequence) is), omega (arith, ap head is), omega (arith, ap (λ (x : View). x.replies) is))
-was_low sh (image ∷ images) v (holds, inr (known, (u, next, grows))) w (inl is) = (omega (arith, ap (λ (x : View). x.checkpoint.content.sequence) is), omega (arith, ap head is), omega (arith, ap (λ (x : View). x.replies) is))
+was_low sh (image ∷ images) v (holds, inl begins) w is = (omega (arith, ap (λ (x : View). x.checkpoint.content.sequence) is), omega (arith, ap head is), omega (arith, ap (λ (x : View). x.replies) is), omega (arith, ap (λ (x : View). rank_of x.checkpoint.content) is))
+was_low sh (image ∷ images) v (holds, inr (known, (u, next, grows))) w (inl is) = (omega (arith, ap (λ (x : View). x.checkpoint.content.sequence) is), omega (arith, ap head is), omega (arith, ap (λ (x : View). x.replies) is), omega (arith, ap (λ (x : View). rank_of x.checkpoint.content) is))
 was_low sh (image ∷ images) v (holds, inr (known, (u, next, grows))) w (inr was) =
     let low = was_low sh images u grows w was in
     let grew = next_grew sh u v (grows_sound sh images u grows) next in
-    (omega (arith, low.0, grew.sequence), omega (arith, low.1, grew.head), omega (arith, low.2, grew.replies))
+    let rank : rank_of u.checkpoint.content ≤ rank_of v.checkpoint.content = elim grew.checkpoint [ inl same ↦ omega (arith, ap (λ (c : Checkpoint). rank_of c.content) same) | inr less ↦ omega arith ] in
+    (omega (arith, low.0, grew.sequence), omega (arith, low.1, grew.head), omega (arith, low.2, grew.replies), omega (arith, low.3))
 
 pub stamp_law : StampLaw
 stamp_law sh [] v grows s t r a b c was_a at_a was_b at_b was_c at_c = absurd was_a

@@ -15,7 +15,7 @@ use Rattle.df_theory.specs.Grown.{Known}
 use Rattle.df_theory.specs.Steady.{AgreeBeside, IsQuiet, IsSteady, MayShow, Stepped}
 use Rattle.df_theory.proofs.Tails.{in_dropped}
 use Rattle.df_theory.proofs.Grew.{Grew, agrees_grew, next_grew}
-use Rattle.df_theory.proofs.Choices.{same_copy, chosen_above}
+use Rattle.df_theory.proofs.Choices.{same_copy, chosen_above, finish_next, finish_higher}
 use Rattle.df_theory.proofs.Torn.{Tear, Kept, Loose, Touched, Torn, TornView}
 use Rattle.df_theory.proofs.Images.{IsOpen, rests_open}
 use Rattle.df_theory.proofs.Puts.{block_agrees, block_known, overlay_torn}
@@ -48,7 +48,7 @@ agree_at image c m n apart inside one two = record { first = m; second = n; apar
 pub agree_beside : (image : Units) (c : Content) (m n k : ℕ) → m < n → n < 4 → (m ≡ k → ⊥) → (n ≡ k → ⊥) → image (CopyPlace m) ≡ Some (CopyUnit c) → image (CopyPlace n) ≡ Some (CopyUnit c) → AgreeBeside image c k
 agree_beside image c m n k apart inside no_first no_second one two = record { agreed = record { first = m; second = n; apart = apart; inside = inside; at_first = one; at_second = two }; no_first = no_first; no_second = no_second }
 
-module _ (image : Units) (old new : Content) (more : rank_of new ≡ rank_of old + 1) where
+module _ (image : Units) (old new : Content) (more : rank_of old < rank_of new) where
   apart : new ≡ old → ⊥
   apart same = omega (arith, ap rank_of same)
 
@@ -201,9 +201,9 @@ module _ (sh : Shape) (log : UnitLog) (v : View) (c : Checkpoint) (put : Units) 
       view j torn = record {
         holds = record {
           bears = copy_rests sh log v put 0 v.checkpoint.content c.content rest.holds.bears quiet one j torn (copy_here sh log v put 0 v.checkpoint.content c.content rest.holds.bears quiet one agrees_first j torn);
-          chosen = chosen_first j v.checkpoint.content c.content is.sequence (stage_torn sh log v put 0 v.checkpoint.content c.content rest.holds.bears quiet one j torn stage);
+          chosen = chosen_first j v.checkpoint.content c.content (finish_higher v c is) (stage_torn sh log v put 0 v.checkpoint.content c.content rest.holds.bears quiet one j torn stage);
         };
-        known = copy_known sh log v put 0 v.checkpoint.content c.content rest.holds.bears quiet one j v (λ shown. (c.content, refl, inr (refl, is.sequence)));
+        known = copy_known sh log v put 0 v.checkpoint.content c.content rest.holds.bears quiet one j v (λ shown. (c.content, refl, inr (refl, finish_next v c is)));
       }
 
   -- copy 1: the old view or the new one
@@ -223,15 +223,15 @@ module _ (sh : Shape) (log : UnitLog) (v : View) (c : Checkpoint) (put : Units) 
           let one_content : a.0 ≡ c.content = (let e = a.1 in cc) in
           let same = ap rank_of one_content in
           elim (a.2 (λ zero_is. omega arith)) [
-            | inl base ↦ omega (arith, ap rank_of base, is.sequence)
-            | inr less ↦ omega (arith, is.sequence)
+            | inl base ↦ omega (arith, ap rank_of base, finish_higher v c is)
+            | inr less ↦ omega (arith, finish_higher v c is)
           ]
 
       before : (j : Units) → Torn sh log v put j → ((x : AnyUnit) → j (CopyPlace 1) ≡ Some x → InImages (settled log) (CopyPlace 1) x × Agrees sh v (CopyPlace 1) x) → TornView sh log v put j v
       before j torn old = record {
         holds = record {
           bears = copy_rests sh log v put 1 v.checkpoint.content c.content rest.holds.bears quiet one j torn (λ x shown. (old x shown).1);
-          chosen = chosen_not_yet j v.checkpoint.content c.content is.sequence (staged j torn) (not_new j old);
+          chosen = chosen_not_yet j v.checkpoint.content c.content (finish_higher v c is) (staged j torn) (not_new j old);
         };
         known = copy_known sh log v put 1 v.checkpoint.content c.content rest.holds.bears quiet one j v (λ shown. absurd (not_new j old shown));
       }
@@ -245,7 +245,7 @@ module _ (sh : Shape) (log : UnitLog) (v : View) (c : Checkpoint) (put : Units) 
           record {
             holds = record {
               bears = copy_rests sh log u put 1 v.checkpoint.content c.content now_rests quiet one j torn_u (copy_here sh log u put 1 v.checkpoint.content c.content now_rests quiet one (agrees_later 1) j torn_u);
-              chosen = chosen_second j v.checkpoint.content c.content is.sequence (staged j torn) shown;
+              chosen = chosen_second j v.checkpoint.content c.content (finish_higher v c is) (staged j torn) shown;
             };
             known = copy_known sh log v put 1 v.checkpoint.content c.content rest.holds.bears quiet one j u (λ shown. (c.content, refl, inl refl));
           }
@@ -264,7 +264,7 @@ module _ (sh : Shape) (log : UnitLog) (v : View) (c : Checkpoint) (put : Units) 
       view j torn = record {
         holds = record {
           bears = copy_rests sh log u put k v.checkpoint.content c.content rest.holds.bears quiet one j torn (copy_here sh log u put k v.checkpoint.content c.content rest.holds.bears quiet one (agrees_later k) j torn);
-          chosen = chosen_last j v.checkpoint.content c.content is.sequence k above (stage_torn sh log u put k v.checkpoint.content c.content rest.holds.bears quiet one j torn stage);
+          chosen = chosen_last j v.checkpoint.content c.content (finish_higher v c is) k above (stage_torn sh log u put k v.checkpoint.content c.content rest.holds.bears quiet one j torn stage);
         };
         known = copy_known sh log u put k v.checkpoint.content c.content rest.holds.bears quiet one j u (λ shown. (c.content, refl, inl refl));
       }
