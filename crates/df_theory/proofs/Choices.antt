@@ -46,7 +46,10 @@ pub next_higher : (c d : Content) → IsNextContent c d → rank_of c < rank_of 
 next_higher c d next = omega arith
 
 pub finish_next : (v : View) (c : Checkpoint) → IsFinish v c → IsNextContent v.checkpoint.content c.content
-finish_next v c is = is.sequence
+finish_next v c is = omega (arith, is.sequence)
 
 pub finish_higher : (v : View) (c : Checkpoint) → IsFinish v c → rank_of v.checkpoint.content < rank_of c.content
 finish_higher v c is = next_higher v.checkpoint.content c.content (finish_next v c is)
+
+pub same_rank : (c d : Content) → c.sequence ≡ d.sequence → rank_of c ≡ rank_of d
+same_rank c d same = omega arith

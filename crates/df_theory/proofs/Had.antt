@@ -15,6 +15,7 @@ use Rattle.df_theory.specs.Grown.{Grows}
 use Rattle.df_theory.specs.Found.{IsFound}
 use Rattle.df_theory.specs.Past.{FromEmpty, Was}
 use Rattle.df_theory.specs.HistoryLaws.{FoundWasLaw, OneContentLaw, OneReplyLaw}
+use Rattle.df_theory.proofs.Choices.{same_rank}
 use Rattle.df_theory.proofs.OneView.{same_says}
 use Rattle.df_theory.proofs.Past.{settled_was, was_one, stamp_law}
 use Rattle.df_theory.proofs.Settled.{settled_content, settled_reply, after_append, after_reply, after_base}
@@ -85,7 +86,7 @@ module _ (sh : Shape) (images : List Units) (v : View) (grows : Grows sh images 
     pub same_content : z.checkpoint.content ≡ w.checkpoint.content
     same_content =
         let a = checkpoint_event in
-        ap (λ (b : Checkpoint). b.content) (was_base sh images v grows z a.0 was a.1 (s ∙ ap rank_of (sym a.2))) ∙ a.2
+        ap (λ (b : Checkpoint). b.content) (was_base sh images v grows z a.0 was a.1 (same_rank z.checkpoint.content a.0.checkpoint.content (s ∙ ap (λ (c : Content). c.sequence) (sym a.2)))) ∙ a.2
 
     pub same_chain : z.checkpoint.chain ≡ w.checkpoint.chain
     same_chain = same_links (sh.layout.block_size - 256) w.checkpoint.content z.checkpoint.chain w.checkpoint.chain w.checkpoint.content.trailer w.checkpoint.content.trailer_checksum
