@@ -38,7 +38,7 @@ firm_sector f start (Sync ∷ es) place sector firm has = refl
 firm_sector f start ((Stop changes) ∷ es) place sector firm has = refl
 
 -- equal at each firm sector, equal at each firm place
-firm_units : (f : Format) (log : Log.Log) (image : Image) → ((sector : ℕ) → Log.loose log sector ≡ false → image sector ≡ Log.now log sector) → IsLeftBy (units_log f log) (f.unit_at image)
+pub firm_units : (f : Format) (log : Log.Log) (image : Image) → ((sector : ℕ) → Log.loose log sector ≡ false → image sector ≡ Log.now log sector) → IsLeftBy (units_log f log) (f.unit_at image)
 firm_units f log image kept place firm =
     f.local image (Log.now log) place (λ sector has. kept sector (firm_sector f log.start log.events place sector firm has)) ∙ (λ i. sym (now_units f log.start log.events) i place)
 
@@ -99,7 +99,7 @@ module _ (f : Format) (P : UnitLog → Type 0) (Q : Log.Log → Type 0) (implies
   moments (Sync ∷ es) ((Puts put) ∷ ss) log are each = absurd are
   moments ((Stop changes) ∷ es) ss log are each = absurd are
 
-same_log : (f : Format) (es : List Event) (ss : List Step) (log : Log.Log) → AreSteps f es ss → units_log f (adds es log) ≡ after_steps ss (units_log f log)
+pub same_log : (f : Format) (es : List Event) (ss : List Step) (log : Log.Log) → AreSteps f es ss → units_log f (adds es log) ≡ after_steps ss (units_log f log)
 same_log f [] [] log are = refl
 same_log f ((Write at bytes) ∷ es) ((Puts put) ∷ ss) log are = same_log f es ss (Log.add (Write at bytes) log) are.1 ∙ ap (λ (l : UnitLog). after_steps ss l) (put_law f log at bytes put are.0)
 same_log f (Sync ∷ es) (Syncs ∷ ss) log are = same_log f es ss (Log.add Sync log) are

@@ -104,7 +104,7 @@ tidy_block_law sh log v put a b tidy no_chain no_reference one =
     }
 
 -- both of two facts at each moment
-each_both : (P Q R : UnitLog → Type 0) → ((l : UnitLog) → P l → Q l → R l) → (ss : List Step) (log : UnitLog) → AtEach P log ss → AtEach Q log ss → AtEach R log ss
+pub each_both : (P Q R : UnitLog → Type 0) → ((l : UnitLog) → P l → Q l → R l) → (ss : List Step) (log : UnitLog) → AtEach P log ss → AtEach Q log ss → AtEach R log ss
 each_both P Q R both [] log one two = both log one two
 each_both P Q R both (s ∷ ss) log one two = (both log one.0 two.0, each_both P Q R both ss (after_step s log) one.1 two.1)
 

@@ -3,7 +3,7 @@ use Rattle.std.specs.Prelude.{◌≡◌, ◌⊎◌, ℕ, Bool, true, false, List
 use Rattle.df_theory.specs.Units.{AnyUnit, Place, Units, is_some, or_else}
 use Rattle.df_theory.specs.Shape.{Shape}
 use Rattle.df_theory.specs.View.{View}
-use Rattle.df_theory.specs.Holds.{Holds}
+use Rattle.df_theory.specs.Holds.{Holds, Stands}
 use Rattle.df_theory.specs.UnitLog.{Stopped, Synced, UnitEvent, UnitLog, Wrote}
 use Rattle.df_theory.specs.Chance.{NoChance}
 use Rattle.df_theory.specs.Grown.{Grown}
@@ -49,6 +49,11 @@ pub record IsGoodDisk (f : Format) (sh : Shape) (v u : View) (log : Log) : Type 
 pub record IsPartWayDisk (f : Format) (sh : Shape) (v : View) (cs : List Command) (log : Log) : Type 0 where
   pub safe : IsSafeDisk f sh log
   pub left : (image : Image) → IsLeft log image → NoChanceOf f log image → HoldsPart sh (f.unit_at image) v cs
+
+-- the log is safe, and each image that a stop may leave holds one of two views, with each block that it references
+pub record IsGoodWholeDisk (f : Format) (sh : Shape) (v u : View) (log : Log) : Type 0 where
+  pub safe : IsSafeDisk f sh log
+  pub left : (image : Image) → IsLeft log image → NoChanceOf f log image → (Holds sh (f.unit_at image) v × Stands (f.unit_at image) v) ⊎ (Holds sh (f.unit_at image) u × Stands (f.unit_at image) u)
 
 -- what a writer of bytes shows: the write puts these units, whole, and touches no other place
 pub record IsPut (f : Format) (at : ℕ) (bytes : List ℕ) (put : Units) : Type 0 where

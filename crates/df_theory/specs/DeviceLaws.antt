@@ -8,7 +8,8 @@ use Rattle.df_theory.specs.Grown.{IsSafe}
 use Rattle.df_theory.specs.Steady.{IsGoodLog}
 use Rattle.df_theory.specs.Runs.{AtEach, Command, IsPartWay, Step, after_steps}
 use Rattle.df_theory.specs.MakingLaws.{blank_log}
-use Rattle.df_theory.specs.Device.{AreSteps, Format, IsGoodDisk, IsPartWayDisk, IsPut, IsSafeDisk, adds, units_log}
+use Rattle.df_theory.specs.Device.{AreSteps, Format, IsGoodDisk, IsGoodWholeDisk, IsPartWayDisk, IsPut, IsSafeDisk, adds, units_log}
+use Rattle.df_theory.specs.TidyLaws.{IsTidy, LeadsTidily}
 use Rattle.df_base.specs.Image.{blank}
 use Rattle.df_base.specs.Log.{Event, Write, Log, add, new_log}
 use Rattle.df_base.specs.Moments.{EachMoment}
@@ -46,3 +47,9 @@ abbrev pub SafeMomentsLaw : Type 0
 SafeMomentsLaw =
     (f : Format) (sh : Shape) (log : Log) (es : List Event) (ss : List Step) → AreSteps f es ss
     → AtEach (IsSafe sh) (units_log f log) ss → EachMoment log (adds es log) (IsSafeDisk f sh)
+
+-- a command from one tidy file to the next: what its device calls have at each moment, and what they end with
+abbrev pub TidyMomentsLaw : Type 0
+TidyMomentsLaw =
+    (f : Format) (sh : Shape) (v : View) (c : Command) (log : Log) (es : List Event) → AreSteps f es c.steps → LeadsTidily sh (units_log f log) v c
+    → EachMoment log (adds es log) (IsGoodWholeDisk f sh v c.view) × IsTidy sh (units_log f (adds es log)) c.view

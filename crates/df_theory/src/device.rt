@@ -1,6 +1,6 @@
 // What is proved of places holds of sectors.
 
-ghost use Rattle.df_theory.specs.DeviceLaws.{PutLaw, NewDiskLaw, SafeDiskLaw, DiskLaw, MomentsLaw, RunMomentsLaw, SafeMomentsLaw};
+ghost use Rattle.df_theory.specs.DeviceLaws.{PutLaw, NewDiskLaw, SafeDiskLaw, DiskLaw, MomentsLaw, RunMomentsLaw, TidyMomentsLaw, SafeMomentsLaw};
 
 /// A write of whole units is a write of units.
 pub fn write_is_put()
@@ -30,6 +30,11 @@ pub fn steps_are_moments()
 /// Device calls that are the steps of a run of commands.
 pub fn commands_are_moments()
     ensures { RunMomentsLaw }
+{}
+
+/// Device calls that are the steps of a command from one tidy file to the next.
+pub fn tidy_command_is_moments()
+    ensures { TidyMomentsLaw }
 {}
 
 /// Device calls that are the steps of a format.

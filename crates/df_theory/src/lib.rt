@@ -19,7 +19,7 @@ pub use damage::{
 };
 pub use device::{
     commands_are_moments, format_is_moments, good_units_are_good_sectors, new_disk_is_blank,
-    safe_units_are_safe_sectors, steps_are_moments, write_is_put,
+    safe_units_are_safe_sectors, steps_are_moments, tidy_command_is_moments, write_is_put,
 };
 pub use histories::{
     counters_stood_together, found_was_had, found_was_had_by_the_log, one_content_a_rank,
