@@ -10,10 +10,11 @@ use Rattle.df_theory.specs.Steady.{IsGoodLog}
 use Rattle.df_theory.specs.Runs.{AtEach, IsPartWay, Puts, Step, Syncs, after_steps}
 use Rattle.df_theory.specs.Device.{AreSteps, Format, IsGoodDisk, IsPartWayDisk, IsSafeDisk, adds, units_log, units_of}
 use Rattle.df_theory.specs.DeviceLaws.{DiskLaw, MomentsLaw, NewDiskLaw, PutLaw, RunMomentsLaw, SafeDiskLaw, SafeMomentsLaw}
-use Rattle.df_base.specs.Image.{Image, written, changed}
+use Rattle.df_base.specs.Image.{Image, written, changed, IsPiece}
 use Rattle.df_base.specs.Log
 use Rattle.df_base.specs.Log.{Event, Write, Sync, Stop, IsLeft, AreLoose, new_log}
 use Rattle.df_base.specs.Moments.{Extends, EachMoment}
+use Rattle.df_theory.proofs.Sectors.{now_is_image}
 use Rattle.df_base.proofs.Goes.{extends_self, started, from_before}
 
 now_units : (f : Format) (start : Image) (es : List Event) → now_of (f.unit_at start) (units_of f start es) ≡ f.unit_at (Log.now_of start es)
@@ -65,14 +66,20 @@ disk_law f sh v u log good = record {
   left = λ image left chance. good.left (f.unit_at image) (firm_units f log image left.kept) chance;
 }
 
+whole_write : (log : Log.Log) (at : ℕ) (bytes : List ℕ) → Log.IsLog log → IsPiece bytes → Log.IsLog (Log.add (Write at bytes) log)
+whole_write log at bytes whole piece = record { start = whole.start; events = (piece, whole.events) }
+
+whole_sync : (log : Log.Log) → Log.IsLog log → Log.IsLog (Log.add Sync log)
+whole_sync log whole = record { start = whole.start; events = whole.events }
+
 pub put_law : PutLaw
-put_law f log at bytes put is = λ i. record {
+put_law f log at bytes put whole is = λ i. record {
   start = f.unit_at log.start;
   events = Wrote (λ place. is.touches place i) (λ place. is.stands place i) (λ place. shows place i) ∷ units_of f log.start log.events;
 }
   where
     shows : (place : Place) → f.unit_at (written at bytes (Log.now log)) place ≡ overlay put (now (units_log f log)) place
-    shows place = is.shows (Log.now log) place ∙ (λ i. or_else (put place) (sym (now_units f log.start log.events) i place))
+    shows place = is.shows (Log.now log) place (now_is_image log.start log.events whole.start whole.events) ∙ (λ i. or_else (put place) (sym (now_units f log.start log.events) i place))
 
 pub new_disk_law : NewDiskLaw
 new_disk_law f none = λ i. record { start = λ place. none place i; events = [] }
@@ -85,40 +92,41 @@ adds_extends (e ∷ es) log =
 
 -- what the steps have at each moment, the device calls have at each of theirs
 module _ (f : Format) (P : UnitLog → Type 0) (Q : Log.Log → Type 0) (implies : (log : Log.Log) → P (units_log f log) → Q log) where
-  pub moments : (es : List Event) (ss : List Step) (log : Log.Log) → AreSteps f es ss → AtEach P (units_log f log) ss → EachMoment log (adds es log) Q
-  moments [] [] log are each = started log Q (implies log each)
-  moments ((Write at bytes) ∷ es) ((Puts put) ∷ ss) log are each =
-      let same : units_log f (Log.add (Write at bytes) log) ≡ wrote put (units_log f log) = put_law f log at bytes put are.0 in
+  pub moments : (es : List Event) (ss : List Step) (log : Log.Log) → Log.IsLog log → AreSteps f es ss → AtEach P (units_log f log) ss → EachMoment log (adds es log) Q
+  moments [] [] log whole are each = started log Q (implies log each)
+  moments ((Write at bytes) ∷ es) ((Puts put) ∷ ss) log whole are each =
+      let same : units_log f (Log.add (Write at bytes) log) ≡ wrote put (units_log f log) = put_law f log at bytes put whole are.0 in
       from_before (Write at bytes) log (adds es (Log.add (Write at bytes) log)) Q (implies log each.0) (adds_extends es (Log.add (Write at bytes) log))
-      (moments es ss (Log.add (Write at bytes) log) are.1 (subst (λ (l : UnitLog). AtEach P l ss) (sym same) each.1))
-  moments (Sync ∷ es) (Syncs ∷ ss) log are each = from_before Sync log (adds es (Log.add Sync log)) Q (implies log each.0) (adds_extends es (Log.add Sync log)) (moments es ss (Log.add Sync log) are each.1)
-  moments [] (s ∷ ss) log are each = absurd are
-  moments ((Write at bytes) ∷ es) [] log are each = absurd are
-  moments ((Write at bytes) ∷ es) (Syncs ∷ ss) log are each = absurd are
-  moments (Sync ∷ es) [] log are each = absurd are
-  moments (Sync ∷ es) ((Puts put) ∷ ss) log are each = absurd are
-  moments ((Stop changes) ∷ es) ss log are each = absurd are
+      (moments es ss (Log.add (Write at bytes) log) (whole_write log at bytes whole are.0.piece) are.1 (subst (λ (l : UnitLog). AtEach P l ss) (sym same) each.1))
+  moments (Sync ∷ es) (Syncs ∷ ss) log whole are each = from_before Sync log (adds es (Log.add Sync log)) Q (implies log each.0) (adds_extends es (Log.add Sync log)) (moments es ss (Log.add Sync log) (whole_sync log whole) are each.1)
+  moments [] (s ∷ ss) log whole are each = absurd are
+  moments ((Write at bytes) ∷ es) [] log whole are each = absurd are
+  moments ((Write at bytes) ∷ es) (Syncs ∷ ss) log whole are each = absurd are
+  moments (Sync ∷ es) [] log whole are each = absurd are
+  moments (Sync ∷ es) ((Puts put) ∷ ss) log whole are each = absurd are
+  moments ((Stop changes) ∷ es) ss log whole are each = absurd are
 
-pub same_log : (f : Format) (es : List Event) (ss : List Step) (log : Log.Log) → AreSteps f es ss → units_log f (adds es log) ≡ after_steps ss (units_log f log)
-same_log f [] [] log are = refl
-same_log f ((Write at bytes) ∷ es) ((Puts put) ∷ ss) log are = same_log f es ss (Log.add (Write at bytes) log) are.1 ∙ ap (λ (l : UnitLog). after_steps ss l) (put_law f log at bytes put are.0)
-same_log f (Sync ∷ es) (Syncs ∷ ss) log are = same_log f es ss (Log.add Sync log) are
-same_log f [] (s ∷ ss) log are = absurd are
-same_log f ((Write at bytes) ∷ es) [] log are = absurd are
-same_log f ((Write at bytes) ∷ es) (Syncs ∷ ss) log are = absurd are
-same_log f (Sync ∷ es) [] log are = absurd are
-same_log f (Sync ∷ es) ((Puts put) ∷ ss) log are = absurd are
-same_log f ((Stop changes) ∷ es) ss log are = absurd are
+pub same_log : (f : Format) (es : List Event) (ss : List Step) (log : Log.Log) → Log.IsLog log → AreSteps f es ss → units_log f (adds es log) ≡ after_steps ss (units_log f log)
+same_log f [] [] log whole are = refl
+same_log f ((Write at bytes) ∷ es) ((Puts put) ∷ ss) log whole are =
+    same_log f es ss (Log.add (Write at bytes) log) (whole_write log at bytes whole are.0.piece) are.1 ∙ ap (λ (l : UnitLog). after_steps ss l) (put_law f log at bytes put whole are.0)
+same_log f (Sync ∷ es) (Syncs ∷ ss) log whole are = same_log f es ss (Log.add Sync log) (whole_sync log whole) are
+same_log f [] (s ∷ ss) log whole are = absurd are
+same_log f ((Write at bytes) ∷ es) [] log whole are = absurd are
+same_log f ((Write at bytes) ∷ es) (Syncs ∷ ss) log whole are = absurd are
+same_log f (Sync ∷ es) [] log whole are = absurd are
+same_log f (Sync ∷ es) ((Puts put) ∷ ss) log whole are = absurd are
+same_log f ((Stop changes) ∷ es) ss log whole are = absurd are
 
 pub moments_law : MomentsLaw
-moments_law f sh v u log es ss are = (same_log f es ss log are, moments f (IsGoodLog sh v u) (IsGoodDisk f sh v u) (disk_law f sh v u) es ss log are)
+moments_law f sh v u log es ss whole are = (same_log f es ss log whole are, moments f (IsGoodLog sh v u) (IsGoodDisk f sh v u) (disk_law f sh v u) es ss log whole are)
 
 pub run_moments_law : RunMomentsLaw
-run_moments_law f sh v cs log es ss are =
+run_moments_law f sh v cs log es ss whole are =
     moments f (IsPartWay sh v cs) (IsPartWayDisk f sh v cs) (λ l part. record {
       safe = safe_disk_law f sh l part.safe;
       left = λ image left chance. part.left (f.unit_at image) (firm_units f l image left.kept) chance;
-    }) es ss log are
+    }) es ss log whole are
 
 pub safe_moments_law : SafeMomentsLaw
-safe_moments_law f sh log es ss are = moments f (IsSafe sh) (IsSafeDisk f sh) (safe_disk_law f sh) es ss log are
+safe_moments_law f sh log es ss whole are = moments f (IsSafe sh) (IsSafeDisk f sh) (safe_disk_law f sh) es ss log whole are

@@ -35,8 +35,8 @@ on_disk f sh v u log good = record {
 }
 
 pub tidy_moments_law : TidyMomentsLaw
-tidy_moments_law f sh v c log es are leads = (
-  moments f (IsGoodWhole sh v c.view) (IsGoodWholeDisk f sh v c.view) (on_disk f sh v c.view) es c.steps log are
+tidy_moments_law f sh v c log es whole are leads = (
+  moments f (IsGoodWhole sh v c.view) (IsGoodWholeDisk f sh v c.view) (on_disk f sh v c.view) es c.steps log whole are
       (each_both (IsGoodLog sh v c.view) (λ l. EachLeft l (λ image. Stands image v × Stands image c.view)) (IsGoodWhole sh v c.view) (good_whole sh v c.view) c.steps (units_log f log) leads.leads.moments leads.stands),
-  subst (λ (l : UnitLog). IsTidy sh l c.view) (sym (same_log f es c.steps log are)) leads.tidy,
+  subst (λ (l : UnitLog). IsTidy sh l c.view) (sym (same_log f es c.steps log whole are)) leads.tidy,
 )

@@ -8,7 +8,7 @@ use Rattle.df_theory.specs.UnitLog.{Stopped, Synced, UnitEvent, UnitLog, Wrote}
 use Rattle.df_theory.specs.Chance.{NoChance}
 use Rattle.df_theory.specs.Grown.{Grown}
 use Rattle.df_theory.specs.Runs.{Command, HoldsPart, Puts, Step, Syncs}
-use Rattle.df_base.specs.Image.{Image, covers, written, changed}
+use Rattle.df_base.specs.Image.{Image, IsImage, IsPiece, covers, written, changed}
 use Rattle.df_base.specs.Log.{Event, Write, Sync, Stop, Log, add, now, now_of, IsLeft, AreLoose}
 
 -- the byte layer's side: which unit an image shows at a place, which one stands whole in a write, which places a write touches, and which sectors a place has
@@ -55,11 +55,12 @@ pub record IsGoodWholeDisk (f : Format) (sh : Shape) (v u : View) (log : Log) : 
   pub safe : IsSafeDisk f sh log
   pub left : (image : Image) → IsLeft log image → NoChanceOf f log image → (Holds sh (f.unit_at image) v × Stands (f.unit_at image) v) ⊎ (Holds sh (f.unit_at image) u × Stands (f.unit_at image) u)
 
--- what a writer of bytes shows: the write puts these units, whole, and touches no other place
+-- what a writer of bytes shows: the write, of whole sectors, puts these units and touches no other place
 pub record IsPut (f : Format) (at : ℕ) (bytes : List ℕ) (put : Units) : Type 0 where
+  pub piece : IsPiece bytes
   pub touches : (place : Place) → f.touches at bytes place ≡ is_some (put place)
   pub stands : (place : Place) → f.stands at bytes place ≡ put place
-  pub shows : (image : Image) (place : Place) → f.unit_at (written at bytes image) place ≡ or_else (put place) (f.unit_at image place)
+  pub shows : (image : Image) (place : Place) → IsImage image → f.unit_at (written at bytes image) place ≡ or_else (put place) (f.unit_at image place)
 
 -- these device calls, in order, are these steps
 abbrev pub AreSteps : Format → List Event → List Step → Type 0
