@@ -1,0 +1,42 @@
+// The table of recovery cases.
+//
+// A prepare is durable before its header sector is written. So a torn prepare has an old header and was never
+// acknowledged, a torn header sector spoils headers whose prepares are all durable, and a current header without its
+// prepare is damage.
+ghost use Rattle.std.specs.Prelude.{◌≡◌, ◌↔◌, ◌⊎◌, Bool};
+ghost use Rattle.df_cases.specs.Cases.{decision_of, IsFar, LacksPrepare, IsTaken, IsEmptied};
+
+use crate::Seen;
+
+/// What becomes of a slot.
+#[derive(Clone, Copy, Debug, PartialEq, Eq)]
+pub enum Decision {
+    /// The slot was used again after a later checkpoint than the one that was found.
+    Behind,
+    /// The prepare counts; the header is written again where `mend` is set.
+    Take { mend: bool },
+    /// The header's prepare was durable once, and isn't shown.
+    Lost,
+    /// Nothing was ever acknowledged there; a reserved header is written where `mend` is set.
+    Empty { mend: bool },
+}
+
+/// What becomes of a slot whose rings show this.
+pub fn case(header: Seen, prepare: Seen) -> Decision
+    ensures table { result ≡ decision_of header prepare }
+    ensures behind { (result ≡ Decision.Behind) ↔ (IsFar header ⊎ IsFar prepare) }
+    ensures lost { (result ≡ Decision.Lost) ↔ LacksPrepare header prepare }
+    ensures taken { (mend : Bool) → (result ≡ Decision.Take mend) ↔ IsTaken header prepare mend }
+    ensures emptied { (mend : Bool) → (result ≡ Decision.Empty mend) ↔ IsEmptied header prepare mend }
+{
+    match (header, prepare) {
+        (Seen::Far, _) | (_, Seen::Far) => Decision::Behind,
+        (Seen::Now(header), Seen::Now(prepare)) if header == prepare => Decision::Take {
+            mend: false,
+        },
+        (Seen::Now(_), _) => Decision::Lost,
+        (_, Seen::Now(_)) => Decision::Take { mend: true },
+        (Seen::Old, _) => Decision::Empty { mend: false },
+        (Seen::Nothing, _) => Decision::Empty { mend: true },
+    }
+}

@@ -1,0 +1,4 @@
+pub mod Limits
+pub mod Order
+pub mod Spans
+pub mod Zones

@@ -1,0 +1,22 @@
+// What the layers above rest on: how zones and spans lie in the file, for every layout and place.
+ghost use Rattle.std.specs.Prelude.{◌≡◌, ◌⊎◌};
+ghost use Rattle.df_layout.specs.Order.{ZonesFollow, IsInside, AreApart, ShareHeaderSector};
+ghost use Rattle.df_layout.specs.Spans.{HasPlace, span_of};
+ghost use Rattle.df_layout.specs.declared.layout.Layout.{Layout};
+ghost use Rattle.df_layout.specs.declared.places.Place.{Place};
+
+/// The zones follow one another with no gap, but for less than a block of padding before the grid.
+pub fn zones_in_order()
+    ensures { (layout : Layout) → ZonesFollow layout }
+{}
+
+/// Every span lies within its zone, and so within the file.
+pub fn places_are_inside()
+    ensures { (layout : Layout) (place : Place) → HasPlace layout place → IsInside layout place }
+{}
+
+/// The spans of two places share no sector, unless the places are one or are header slots of one sector.
+pub fn places_are_apart()
+    ensures { (layout : Layout) (a b : Place) → HasPlace layout a → HasPlace layout b
+        → (a ≡ b) ⊎ ShareHeaderSector a b ⊎ AreApart (span_of layout a) (span_of layout b) }
+{}

@@ -1,0 +1,17 @@
+//! Where each zone, slot and block of a data file stands: the layout and the places in it.
+#![tactic(auto)]
+
+mod damage;
+mod fields;
+mod laws;
+mod layout;
+mod places;
+
+pub use damage::{Class, Finding, Mend};
+pub use fields::Field;
+pub use laws::{places_are_apart, places_are_inside, zones_in_order};
+pub use layout::Layout;
+pub use places::{Place, Span, Zone};
+
+#[cfg(test)]
+mod tests;

@@ -1,0 +1,94 @@
+// The places of the two named layouts by number, and the limits, as the format's own tables give them.
+use crate::{Field, Layout, Place, Span, Zone};
+
+#[test]
+fn places_stand_where_the_tables_say(rt: HostRuntime) {
+    let small = [
+        (Zone::Superblock, 0, 0, 1),
+        (Zone::Superblock, 3, 3, 1),
+        (Zone::WalHeaders, 0, 4, 1),
+        (Zone::WalHeaders, 15, 4, 1),
+        (Zone::WalHeaders, 16, 5, 1),
+        (Zone::WalHeaders, 31, 5, 1),
+        (Zone::WalPrepares, 0, 6, 2),
+        (Zone::WalPrepares, 31, 68, 2),
+        (Zone::ClientReplies, 0, 70, 2),
+        (Zone::ClientReplies, 3, 76, 2),
+        (Zone::Grid, 1, 80, 4),
+        (Zone::Grid, 64, 332, 4),
+    ];
+    let large = [
+        (Zone::Superblock, 3, 3, 1),
+        (Zone::WalHeaders, 0, 4, 1),
+        (Zone::WalHeaders, 1023, 67, 1),
+        (Zone::WalPrepares, 0, 68, 256),
+        (Zone::WalPrepares, 1023, 261_956, 256),
+        (Zone::ClientReplies, 0, 262_212, 256),
+        (Zone::ClientReplies, 63, 278_340, 256),
+        (Zone::Grid, 1, 278_656, 128),
+        (Zone::Grid, 16_384, 2_375_680, 128),
+    ];
+    assert_eq!(rt; Layout::small().sectors(), 336);
+    assert_eq!(rt; Layout::large().sectors(), 2_375_808);
+    for (layout, rows) in [(Layout::small(), &small[..]), (Layout::large(), &large[..])] {
+        for (zone, index, first, count) in rows {
+            let place = Place {
+                zone: *zone,
+                index: *index,
+            };
+            assert!(rt; layout.has(place), "{place:?}");
+            let span = Span {
+                first: *first,
+                count: *count,
+            };
+            assert_eq!(rt; layout.sectors_of(place), span, "{place:?}");
+        }
+    }
+}
+
+#[test]
+fn numbers_end_at_their_limits(rt: HostRuntime) {
+    let least = (16, 4096, 1, 4096, 8);
+    let rows = [
+        (least, None),
+        ((1024, 1_048_576, 64, 524_288, 16_384), None),
+        ((0, 0, 0, 0, 0), Some(Field::Slots)),
+        ((1040, 4096, 1, 4096, 8), Some(Field::Slots)),
+        ((24, 4096, 1, 4096, 8), Some(Field::Slots)),
+        ((16, 0, 0, 0, 0), Some(Field::MessageSize)),
+        ((16, 4097, 1, 4096, 8), Some(Field::MessageSize)),
+        ((16, 1_052_672, 1, 4096, 8), Some(Field::MessageSize)),
+        ((16, 4096, 0, 0, 0), Some(Field::Clients)),
+        ((16, 4096, 65, 4096, 8), Some(Field::Clients)),
+        ((16, 4096, 1, 2048, 7), Some(Field::BlockSize)),
+        ((16, 4096, 1, 528_384, 8), Some(Field::BlockSize)),
+        ((16, 4096, 1, 4096, 7), Some(Field::Blocks)),
+        ((16, 4096, 1, 4096, 16_385), Some(Field::Blocks)),
+    ];
+    for ((slots, message_size, clients, block_size, blocks), refused) in rows {
+        let made = Layout::new(slots, message_size, clients, block_size, blocks);
+        assert_eq!(rt;
+            made.err(),
+            refused,
+            "{slots} {message_size} {clients} {block_size} {blocks}"
+        );
+    }
+}
+
+#[test]
+fn places_outside_are_told(rt: HostRuntime) {
+    let rows = [
+        (Zone::Superblock, 4),
+        (Zone::WalHeaders, 32),
+        (Zone::WalPrepares, 32),
+        (Zone::ClientReplies, 4),
+        (Zone::Grid, 0),
+        (Zone::Grid, 65),
+    ];
+    for (zone, index) in rows {
+        assert!(rt;
+            !Layout::small().has(Place { zone, index }),
+            "{zone:?} {index}"
+        );
+    }
+}

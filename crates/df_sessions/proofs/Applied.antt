@@ -1,0 +1,120 @@
+-- What a request makes of a table, where the client is known and where it is new.
+use Rattle.std.proofs.Common.{IsSome, Option, ◌≡◌, ◌≢◌, ℕ, ◌<◌, ◌⊎◌, inl, inr, Some, None, List, [], ◌∷◌, ◌++◌, length, get_or, set, arith, sym, subst, ◌∙◌, ap}
+use Rattle.std.specs.List.{position, slice_get}
+use Rattle.df_sessions.specs.declared.session.Session.{Session}
+use Rattle.df_sessions.specs.Table.{Table, IsTable, IsKnown, has_client, requested, with_request, with_reply}
+use Rattle.df_sessions.specs.Changes.{Change, changed, sessions_after}
+use Rattle.df_sessions.specs.Changes.Change.{Request, Reply}
+use Rattle.df_sessions.proofs.Kept.{request_keeps, reply_keeps}
+use Rattle.df_sessions.proofs.Latest.{one_more}
+use Rattle.df_sessions.proofs.Places.{IsFirst, first_place, request_known, request_new, place_known, place_new, reply_at, get_set_same, get_set_other, get_push_last, get_push_other}
+
+-- the request of a client is at this place, and nothing else has changed
+pub record HasRequest (client request op : ℕ) (old new : List Session) (place : ℕ) : Type 0 where
+  pub sessions : new ≡ with_request client request op old
+  pub place_is : position (has_client client) new ≡ Some place
+  pub there : slice_get new place ≡ Some (requested client request op)
+  pub others : (k : ℕ) → k ≢ place → slice_get new k ≡ slice_get old k
+  pub history : (changes : List Change) → old ≡ sessions_after changes → new ≡ sessions_after (changes ++ Request client request op ∷ [])
+
+-- what was so after changes is so after one more
+pub history_on : (change : Change) (old new : List Session) → new ≡ changed change old
+    → (changes : List Change) → old ≡ sessions_after changes → new ≡ sessions_after (changes ++ change ∷ [])
+history_on change old new step changes before = step ∙ ap (λ (all : List Session). changed change all) before ∙ sym (one_more changes change [])
+
+known_list : (client request op : ℕ) (old new : List Session) (place : ℕ) → Some place ≡ position (has_client client) old
+    → new ≡ set old place (requested client request op) → HasRequest client request op old new place
+known_list client request op old new place found put =
+    let d : Session = requested client request op in
+    let first : IsFirst (has_client client) old place d = first_place (has_client client) old place d (sym found) in
+    let step : with_request client request op old ≡ set old place d = request_known client request op old place d first in
+    record {
+      sessions = put ∙ sym step;
+      place_is = rw put (rw (← step) (place_known client request op old place d first));
+      there = rw put (get_set_same old place d first.within);
+      others = λ k other. rw put (get_set_other old place k d other);
+      history = history_on (Request client request op) old new (put ∙ sym step);
+    }
+
+new_list : (client request op : ℕ) (old new : List Session) → None ≡ position (has_client client) old
+    → new ≡ old ++ requested client request op ∷ [] → HasRequest client request op old new (length old)
+new_list client request op old new none push =
+    let d : Session = requested client request op in
+    let step : with_request client request op old ≡ old ++ d ∷ [] = request_new client request op old d (sym none) in
+    record {
+      sessions = push ∙ sym step;
+      place_is = rw push (rw (← step) (place_new client request op old d (sym none)));
+      there = rw push (get_push_last old d);
+      others = λ k other. rw push (get_push_other old k d other);
+      history = history_on (Request client request op) old new (push ∙ sym step);
+    }
+
+-- for a table that is seen as its fields
+pub known_client : (max client request op : ℕ) (items new : List Session) (place : ℕ) (now : Table) → record { max = max; sessions = items } ≡ now
+    → Some place ≡ position (has_client client) now.sessions → new ≡ set items place (requested client request op) → HasRequest client request op now.sessions new place
+known_client max client request op items new place now view found put =
+    let same : items ≡ now.sessions = ap (λ (t : Table). t.sessions) view in
+    known_list client request op now.sessions new place found (put ∙ ap (λ (all : List Session). set all place (requested client request op)) same)
+
+pub new_client : (max client request op : ℕ) (items new : List Session) (place : ℕ) (now : Table) → record { max = max; sessions = items } ≡ now
+    → None ≡ position (has_client client) now.sessions → new ≡ items ++ requested client request op ∷ [] → place ≡ length items → HasRequest client request op now.sessions new place
+new_client max client request op items new place now view none push last =
+    let same : items ≡ now.sessions = ap (λ (t : Table). t.sessions) view in
+    let is : HasRequest client request op now.sessions new (length now.sessions) =
+    new_list client request op now.sessions new none (push ∙ ap (λ (all : List Session). all ++ requested client request op ∷ []) same) in
+    subst (λ (n : ℕ). HasRequest client request op now.sessions new n) (sym (last ∙ ap length same)) is
+
+-- the table stays one
+pub stays_table : (max client request op : ℕ) (items new : List Session) (place : ℕ) (now : Table) → record { max = max; sessions = items } ≡ now
+    → IsTable (record { max = max; sessions = items }) → client ≢ 0 → IsKnown client now.sessions ⊎ (length now.sessions < now.max)
+    → HasRequest client request op now.sessions new place → IsTable (record { max = max; sessions = new })
+stays_table max client request op items new place now view is named room has =
+    let old : IsTable now = subst IsTable view is in
+    let most : max ≡ now.max = ap (λ (t : Table). t.max) view in
+    let kept : IsTable (record { max = now.max; sessions = with_request client request op now.sessions }) = request_keeps now.max client request op now.sessions old named room in
+    rw (most, has.sessions) kept
+
+-- there is room for a new client
+pub has_room : (max client : ℕ) (items : List Session) (now : Table) → record { max = max; sessions = items } ≡ now
+    → IsTable (record { max = max; sessions = items }) → None ≡ position (has_client client) now.sessions
+    → IsKnown client now.sessions ⊎ (length now.sessions < now.max) → length items < 64
+has_room max client items now view is none room =
+    let same : items ≡ now.sessions = ap (λ (t : Table). t.sessions) view in
+    let most : max ≡ now.max = ap (λ (t : Table). t.max) view in
+    let long : length items ≡ length now.sessions = ap length same in
+    elim room [
+      | inl known ↦ (let no : IsSome {T = ℕ} None = subst (λ (o : Option ℕ). IsSome o) (sym none) known in cc)
+      | inr left ↦ omega arith
+    ]
+
+-- what a stored reply makes of a table
+pub replied : (max place : ℕ) (reply : List ℕ) (items new : List Session) (d : Session) (now : Table) → record { max = max; sessions = items } ≡ now
+    → place < length now.sessions → new ≡ set items place (record (get_or items place d) { reply = Some reply }) → new ≡ with_reply place reply now.sessions
+replied max place reply items new d now view within put =
+    let same : items ≡ now.sessions = ap (λ (t : Table). t.sessions) view in
+    put ∙ ap (λ (all : List Session). set all place (record (get_or all place d) { reply = Some reply })) same ∙ sym (reply_at place reply now.sessions d within)
+
+-- the reply of the session at this place is stored, and nothing else has changed
+pub record HasReply (place : ℕ) (reply : List ℕ) (old new : List Session) : Type 0 where
+  pub sessions : new ≡ with_reply place reply old
+  pub others : (k : ℕ) → k ≢ place → slice_get new k ≡ slice_get old k
+  pub history : (changes : List Change) → old ≡ sessions_after changes → new ≡ sessions_after (changes ++ Reply place reply ∷ [])
+
+pub has_reply : (max place : ℕ) (reply : List ℕ) (items new : List Session) (d : Session) (now : Table) → record { max = max; sessions = items } ≡ now
+    → place < length now.sessions → new ≡ set items place (record (get_or items place d) { reply = Some reply }) → HasReply place reply now.sessions new
+has_reply max place reply items new d now view within put =
+    let step : new ≡ with_reply place reply now.sessions = replied max place reply items new d now view within put in
+    let same : items ≡ now.sessions = ap (λ (t : Table). t.sessions) view in
+    record {
+      sessions = step;
+      others = λ k other. rw put (get_set_other items place k (record (get_or items place d) { reply = Some reply }) other) ∙ ap (λ (all : List Session). slice_get all k) same;
+      history = history_on (Reply place reply) now.sessions new step;
+    }
+
+pub reply_stays_table : (max place : ℕ) (reply : List ℕ) (items new : List Session) (now : Table) → record { max = max; sessions = items } ≡ now
+    → IsTable (record { max = max; sessions = items }) → HasReply place reply now.sessions new → IsTable (record { max = max; sessions = new })
+reply_stays_table max place reply items new now view is has =
+    let old : IsTable now = subst IsTable view is in
+    let most : max ≡ now.max = ap (λ (t : Table). t.max) view in
+    let kept : IsTable (record { max = now.max; sessions = with_reply place reply now.sessions }) = reply_keeps now.max place reply now.sessions old in
+    rw (most, has.sessions) kept

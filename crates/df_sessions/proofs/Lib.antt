@@ -1,0 +1,4 @@
+pub mod Applied
+pub mod Kept
+pub mod Latest
+pub mod Places

@@ -1,0 +1,129 @@
+// The table of sessions, in order of first request; it takes no memory.
+ghost use Rattle.std.specs.Prelude.{◌≡◌, ◌≢◌, ◌<◌, ◌≤◌, ◌⊎◌, ◌++◌, [], ◌∷◌, ℕ, List, Some, IsSome, length, slice_get, slice_set};
+ghost use Rattle.arrayvec.specs.ArrayVec.{array_vec_len};
+ghost use Rattle.std.specs.List.{position};
+ghost use Rattle.df_sessions.specs.Table.{IsTable, IsKnown, has_client, requested, with_request, with_reply};
+ghost use Rattle.df_sessions.specs.Changes.{Change, sessions_after};
+ghost use Rattle.df_sessions.specs.Changes.Change.{Request, Reply};
+
+use crate::Session;
+use arrayvec::ArrayVec;
+use df_base::Check;
+use std::marker::Model;
+
+/// At most 64 sessions; a client's place never changes.
+#[derive(Drop)]
+pub struct SessionTable {
+    sessions: ArrayVec<Session, 64>,
+    max: u32,
+}
+
+impl Model for SessionTable {
+    ghost use Rattle.df_sessions.specs.Table.{Table, IsTable};
+
+    ghost Value = { Table };
+
+    ghost view = { λ t. record { max = t.max; sessions = t.sessions.items } };
+
+    ghost invariant = { λ t. IsTable (record { max = t.max; sessions = t.sessions.items }) };
+}
+
+impl SessionTable {
+    /// A table with no session, and places for `max` of them: 1 to 64.
+    pub fn new(max: u32) -> SessionTable
+        requires some { 1 ≤ max }
+        requires most { max ≤ 64 }
+        ensures empty { result.sessions ≡ [] }
+        ensures places { result.max ≡ max }
+    {
+        SessionTable {
+            sessions: ArrayVec::new(),
+            max,
+        }
+    }
+
+    /// How many sessions there are.
+    pub fn len(&self) -> u64
+        ensures value { result ≡ length self.now.sessions }
+        ensures table { IsTable self.now }
+    {
+        self.sessions.len() as u64
+    }
+
+    /// The session at a place, None exactly where the place isn't below `len`.
+    pub fn get(&self, place: u64) -> Option<Session>
+        ensures { result ≡ slice_get self.now.sessions place }
+    {
+        self.sessions.get(place as usize).copied()
+    }
+
+    /// The place of a client's session, None exactly where no session has that client.
+    pub fn place_of(&self, client: u128) -> Option<u64>
+        ensures { result ≡ position (has_client client) self.now.sessions }
+    {
+        self.find(client).map(|place| place as u64)
+    }
+
+    fn find(&self, client: u128) -> Option<usize>
+        ensures { result ≡ position (has_client client) self.now.sessions }
+    {
+        self.sessions
+            .iter()
+            .position(|session| session.client == client)
+    }
+
+    /// Records a client's request: a known client's request and op are replaced and its reply isn't stored yet, a new
+    /// client goes last. Answers the client's place.
+    pub fn apply(&mut self, client: u128, request: u64, op: u64) -> u64
+        requires named { client ≢ 0 }
+        requires room { IsKnown client self.old.sessions ⊎ (length self.old.sessions < self.old.max) }
+        ensures sessions { self.new.sessions ≡ with_request client request op self.old.sessions }
+        ensures places { self.new.max ≡ self.old.max }
+        ensures place { position (has_client client) self.new.sessions ≡ Some result }
+        ensures there { slice_get self.new.sessions result ≡ Some (requested client request op) }
+        ensures others { (k : ℕ) → k ≢ result → slice_get self.new.sessions k ≡ slice_get self.old.sessions k }
+        ensures history { (changes : List Change) → self.old.sessions ≡ sessions_after changes
+            → self.new.sessions ≡ sessions_after (changes ++ Request client request op ∷ []) }
+    {
+        let session = Session {
+            client,
+            request,
+            op,
+            reply: None,
+        };
+        match self.place_of(client) {
+            Some(place) => {
+                put(&mut self.sessions, place, session);
+                place
+            }
+            None => {
+                let place = self.sessions.len() as u64;
+                self.sessions.push(session);
+                place
+            }
+        }
+    }
+
+    /// Records that the reply to a session's latest request is stored.
+    pub fn store(&mut self, place: u64, reply: Check)
+        requires { place < length self.old.sessions }
+        ensures sessions { self.new.sessions ≡ with_reply place reply self.old.sessions }
+        ensures places { self.new.max ≡ self.old.max }
+        ensures others { (k : ℕ) → k ≢ place → slice_get self.new.sessions k ≡ slice_get self.old.sessions k }
+        ensures history { (changes : List Change) → self.old.sessions ≡ sessions_after changes
+            → self.new.sessions ≡ sessions_after (changes ++ Reply place reply ∷ []) }
+    {
+        let mut session = self.sessions[place as usize];
+        session.reply = Some(reply);
+        put(&mut self.sessions, place, session);
+    }
+}
+
+/// Puts a session in the place of another.
+fn put(sessions: &mut ArrayVec<Session, 64>, place: u64, session: Session)
+    requires { place < array_vec_len sessions.old }
+    ensures items { sessions.new.items ≡ slice_set sessions.old.items place session }
+    ensures len { array_vec_len sessions.new ≡ array_vec_len sessions.old }
+{
+    sessions[place as usize] = session;
+}
