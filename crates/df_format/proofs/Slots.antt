@@ -6,7 +6,8 @@ use Rattle.std.proofs.lemmas.Slice.Eq.{bytes_eq-Decides}
 use Rattle.df_base.specs.Fields.{AreBytes, check_of}
 use Rattle.df_format.specs.declared.header.Header.{Header}
 use Rattle.df_format.specs.declared.wal.Wal.{Wal}
-use Rattle.df_format.specs.Spelling.{spelling, IsSealed}
+use Rattle.df_format.specs.Spelling.{spelling}
+use Rattle.df_format.specs.Rules.{IsSealed}
 use Rattle.df_format.specs.Reading.{header_in}
 use Rattle.df_format.specs.Unit.{Prepare, BeginsWith, is_whole, with_body, prepare_in}
 use Rattle.df_format.specs.Laws.{SlotsHaveOnePrepare, HasOpOf}

@@ -3,9 +3,12 @@
 
 mod codec;
 mod header;
+mod kind;
 mod laws;
 mod pieces;
 mod places;
+mod reference;
+mod rules;
 #[cfg(test)]
 mod tests;
 mod unit;
@@ -13,9 +16,11 @@ mod wal;
 
 pub use codec::{decode_header, encode_header, seal_header};
 pub use header::Header;
+pub use kind::Kind;
 pub use laws::{
     blank_shows_none, headers_have_one_spelling, same_is_shown, shown_belongs,
     slots_have_one_prepare, written_is_shown,
 };
+pub use reference::Reference;
 pub use unit::{Made, decode_prepare, make_prepare};
 pub use wal::Wal;

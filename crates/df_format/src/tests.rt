@@ -1,7 +1,7 @@
 // The definitions against values from outside: the bytes of an example, and which changed bytes are refused.
 ghost use Rattle.df_format.specs.Making.{AreGiven};
 
-use crate::{Header, Wal, decode_header, decode_prepare, make_prepare};
+use crate::{Header, Kind, Wal, decode_header, decode_prepare, make_prepare};
 use df_base::{HEADER, check};
 
 // The prepare of op 1 in cluster 7 on layout small: client 5, request 1, no body, sequence 1, no reply stored. Its
@@ -30,6 +30,8 @@ fn given() -> Header
         checkpoint: 1,
         size: 0,
         slot: 0,
+        kind: Kind::Prepare,
+        block_kind: 0,
     }
 }
 

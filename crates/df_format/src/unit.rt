@@ -1,13 +1,21 @@
 // The prepare that a slot shows: how its bytes are tested, and how they are made.
 ghost use Rattle.std.specs.Prelude.{◌≡◌, ◌+◌, ◌-◌, ◌*◌, ◌/◌, ◌≤◌, ◌++◌, length, take, drop, replicate};
 ghost use Rattle.df_base.specs.Fields.{check_of};
-ghost use Rattle.df_format.specs.Spelling.{IsSealed, ObeysRules, spelling, sealed};
-ghost use Rattle.df_format.specs.Unit.{IsPrepare, prepare_in, header_of, is_whole, sectors_end, sectors_of};
+ghost use Rattle.df_format.specs.Spelling.{spelling, sealed};
+ghost use Rattle.df_format.specs.Rules.{IsSealed, ObeysRules};
+ghost use Rattle.df_format.specs.Message.{sectors_end, sectors_of};
+ghost use Rattle.df_format.specs.Unit.{IsPrepare, prepare_in, header_of, is_of_log, is_whole};
 ghost use Rattle.df_format.specs.Making.{AreGiven, filled};
 
 use crate::pieces::{put_bytes, put_zeros};
-use crate::{Header, Wal, decode_header, encode_header, seal_header};
+use crate::{Header, Kind, Wal, decode_header, encode_header, seal_header};
 use df_base::{HEADER, SECTOR, check};
+
+fn is_of_log(kind: Kind) -> bool
+    ensures { result ≡ is_of_log kind }
+{
+    matches!(kind, Kind::Prepare)
+}
 
 // The tests of a header for the slot that it was read from, and of the body behind it.
 fn is_whole(wal: &Wal, slot: u32, bytes: &[u8], header: &Header) -> bool
@@ -15,7 +23,8 @@ fn is_whole(wal: &Wal, slot: u32, bytes: &[u8], header: &Header) -> bool
     requires least { 256 ≤ header.now.size }
     ensures { result ≡ is_whole wal.now slot bytes.now header.now }
 {
-    header.cluster == wal.cluster
+    is_of_log(header.kind)
+        && header.cluster == wal.cluster
         && header.size <= wal.message_size
         && u64::from(header.slot) == header.op % u64::from(wal.slots)
         && header.slot == slot
@@ -65,6 +74,8 @@ fn fill(wal: &Wal, header: Header, body: &[u8]) -> Header
         checksum_body: check(body),
         size: (HEADER + body.len()) as u32,
         slot: (header.op % u64::from(wal.slots)) as u32,
+        kind: Kind::Prepare,
+        block_kind: 0,
         ..header
     }
 }
@@ -97,7 +108,7 @@ fn write_sectors(header: &Header, body: &[u8], into: &mut [u8]) -> usize
 }
 
 /// Makes a prepare with this body at the front of a buffer of a slot's length: it sets the header's cluster, size,
-/// slot and checksums, writes header, body and zeros up to the last whole sector, and leaves the rest of the buffer.
+/// slot, kind and checksums, writes header, body and zeros up to the last whole sector, and leaves the rest of the buffer.
 pub fn make_prepare(wal: &Wal, header: Header, body: &[u8], into: &mut [u8]) -> Made
     requires given { AreGiven header }
     requires body { 256 + length body.now ≤ wal.now.message_size }
