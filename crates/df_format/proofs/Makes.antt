@@ -4,25 +4,42 @@ use Rattle.std.proofs.lemmas.List.{drop-drop}
 use Rattle.df_base.specs.Fields.{AreBytes}
 use Rattle.df_format.specs.declared.header.Header.{Header}
 use Rattle.df_format.specs.declared.wal.Wal.{Wal}
-use Rattle.df_format.specs.Spelling.{spelling, spelling_rest, ObeysRules, IsSealed, sealed}
-use Rattle.df_format.specs.Unit.{Prepare, IsPrepare, sectors_of, sectors_end}
+use Rattle.df_format.specs.Spelling.{spelling, spelling_rest, sealed}
+use Rattle.df_format.specs.declared.kind.Kind.{Kind}
+use Rattle.df_format.specs.declared.kind.Kind.TheVariants.{Reserved, Prepare as AsPrepare, Reply, Block, Trailer}
+use Rattle.df_format.specs.Rules.{ObeysKind, ObeysRules, IsSealed}
+use Rattle.df_format.specs.Message.{sectors_of, sectors_end}
+use Rattle.df_format.specs.Unit.{Prepare, IsPrepare}
 use Rattle.df_format.specs.Making.{filled}
+
+-- the rules don't speak of the header's own checksum
+kind_sealed : (kind : Kind) (h : Header) → ObeysKind kind h → ObeysKind kind (sealed h)
+kind_sealed Reserved h is = record { body = is.body; parent = is.parent; client = is.client; op = is.op; request = is.request; mark = is.mark; checkpoint = is.checkpoint; size = is.size; block_kind = is.block_kind }
+kind_sealed AsPrepare h is = record { first = is.first; client = is.client; op = is.op; request = is.request; mark = is.mark; checkpoint = is.checkpoint; block_kind = is.block_kind }
+kind_sealed Reply h is = record { client = is.client; op = is.op; request = is.request; mark = is.mark; checkpoint = is.checkpoint; block_kind = is.block_kind }
+kind_sealed Block h is = record { parent = is.parent; client = is.client; op = is.op; request = is.request; mark = is.mark; checkpoint = is.checkpoint; slot = is.slot; block_kind = is.block_kind }
+kind_sealed Trailer h is = record { first = is.first; client = is.client; op = is.op; request = is.request; checkpoint = is.checkpoint; slot = is.slot; block_kind = is.block_kind }
 
 sealed_is : (h : Header) → ObeysRules h → IsSealed (sealed h)
 unfolding spelling_rest
 sealed_is h is = record {
   rules = record {
-    body = is.body;
+    fits = record {
+      body = is.fits.body;
+      cluster = is.fits.cluster;
+      parent = is.fits.parent;
+      client = is.fits.client;
+      op = is.fits.op;
+      request = is.fits.request;
+      mark = is.fits.mark;
+      checkpoint = is.fits.checkpoint;
+      size = is.fits.size;
+      slot = is.fits.slot;
+      block_kind = is.fits.block_kind;
+    };
     cluster = is.cluster;
-    parent = is.parent;
-    first = is.first;
-    client = is.client;
-    op = is.op;
-    request = is.request;
-    mark = is.mark;
-    checkpoint = is.checkpoint;
     size = is.size;
-    slot = is.slot;
+    kind = kind_sealed h.kind h is.kind;
   };
   checksum = refl;
 }
@@ -34,6 +51,7 @@ pub is_prepare : (wal : Wal) (h result : Header) (body : List ℕ) → result �
 is_prepare wal h result body is rules fits are =
     let there : IsPrepare wal (record { header = sealed (filled wal h body); body = body }) = record {
       sealed = sealed_is (filled wal h body) rules;
+      kind = refl;
       cluster = refl;
       size = refl;
       fits = fits;

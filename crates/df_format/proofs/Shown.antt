@@ -8,8 +8,12 @@ use Rattle.df_base.specs.Image.{IsImage, blank, covers}
 use Rattle.df_base.proofs.FieldBytes.{AreBytes-check_of, AreBytes-spelled}
 use Rattle.df_format.specs.declared.header.Header.{Header}
 use Rattle.df_format.specs.declared.wal.Wal.{Wal}
-use Rattle.df_format.specs.Spelling.{spelling, spelling_rest, tail_bytes, IsSealed}
-use Rattle.df_format.specs.Unit.{Prepare, IsPrepare, unit_of, prepare_in, prepare_at, slot_start, slot_sectors, sectors_of, sectors_end}
+use Rattle.df_format.specs.declared.kind.Kind.{Kind}
+use Rattle.df_format.specs.declared.kind.Kind.TheVariants.{Reserved, Prepare as AsPrepare, Reply, Block, Trailer}
+use Rattle.df_format.specs.Spelling.{code_of, version_bytes, spelling, spelling_rest, tail_bytes}
+use Rattle.df_format.specs.Rules.{IsSealed}
+use Rattle.df_format.specs.Message.{Message, unit_of, sectors_of, sectors_end}
+use Rattle.df_format.specs.Unit.{Prepare, IsPrepare, prepare_in, prepare_at, slot_start, slot_sectors}
 use Rattle.df_format.specs.Laws.{ShownHasOp, ShownIsPrepare, SameIsShown, WrittenIsShown, WrittenIsApart, SectorsFitSlot, BlankShowsNone}
 use Rattle.df_format.proofs.Parts.{bytes-append}
 use Rattle.df_format.proofs.Spelled.{read_as, length-spelling}
@@ -55,11 +59,21 @@ bytes-cons : (x : ℕ) (xs : List ℕ) → x < 256 → AreBytes xs → AreBytes 
 bytes-cons x xs small are zero = small
 bytes-cons x xs small are (suc i) = are i
 
-AreBytes-tail : AreBytes tail_bytes
+AreBytes-version : AreBytes version_bytes
+unfolding version_bytes
+AreBytes-version = bytes-cons 1 (0 ∷ replicate 132 0) (omega arith) (bytes-cons 0 (replicate 132 0) (omega arith) (AreBytes-zeros 132))
+
+code-small : (kind : Kind) → code_of kind < 256
+code-small Reserved = omega arith
+code-small AsPrepare = omega arith
+code-small Reply = omega arith
+code-small Block = omega arith
+code-small Trailer = omega arith
+
+AreBytes-tail : (kind : Kind) (block_kind : ℕ) → block_kind < 256 → AreBytes (tail_bytes kind block_kind)
 unfolding tail_bytes
-AreBytes-tail =
-    let zeros : List ℕ = replicate 132 0 in
-    bytes-cons 2 (0 ∷ 1 ∷ 0 ∷ zeros) (omega arith) (bytes-cons 0 (1 ∷ 0 ∷ zeros) (omega arith) (bytes-cons 1 (0 ∷ zeros) (omega arith) (bytes-cons 0 zeros (omega arith) (AreBytes-zeros 132))))
+AreBytes-tail kind block_kind small =
+    bytes-cons (code_of kind) (block_kind ∷ version_bytes) (code-small kind) (bytes-cons block_kind version_bytes small AreBytes-version)
 
 number : (n x : ℕ) (rest : List ℕ) → AreBytes rest → AreBytes (spelled n x ++ rest)
 number n x rest are = bytes-append (spelled n x) rest (AreBytes-spelled n x) are
@@ -67,16 +81,16 @@ number n x rest are = bytes-append (spelled n x) rest (AreBytes-spelled n x) are
 AreBytes-rest : (h : Header) → IsSealed h → AreBytes (spelling_rest h)
 unfolding spelling_rest
 AreBytes-rest h is =
-    let r116 : List ℕ = spelled 4 h.slot ++ tail_bytes in
+    let r116 : List ℕ = spelled 4 h.slot ++ tail_bytes h.kind h.block_kind in
     let r112 : List ℕ = spelled 4 h.size ++ r116 in
     let r104 : List ℕ = spelled 8 h.checkpoint ++ r112 in
     let r96 : List ℕ = spelled 8 h.mark ++ r104 in
     let r88 : List ℕ = spelled 8 h.request ++ r96 in
     let r80 : List ℕ = spelled 8 h.op ++ r88 in
     let r64 : List ℕ = spelled 16 h.client ++ r80 in
-    let b80 : AreBytes r80 = number 8 h.op r88 (number 8 h.request r96 (number 8 h.mark r104 (number 8 h.checkpoint r112 (number 4 h.size r116 (number 4 h.slot tail_bytes AreBytes-tail))))) in
-    let b48 : AreBytes (h.parent ++ r64) = bytes-append h.parent r64 is.rules.parent.each (number 16 h.client r80 b80) in
-    bytes-append h.checksum_body (spelled 16 h.cluster ++ (h.parent ++ r64)) is.rules.body.each (number 16 h.cluster (h.parent ++ r64) b48)
+    let b80 : AreBytes r80 = number 8 h.op r88 (number 8 h.request r96 (number 8 h.mark r104 (number 8 h.checkpoint r112 (number 4 h.size r116 (number 4 h.slot (tail_bytes h.kind h.block_kind) (AreBytes-tail h.kind h.block_kind is.rules.fits.block_kind)))))) in
+    let b48 : AreBytes (h.parent ++ r64) = bytes-append h.parent r64 is.rules.fits.parent.each (number 16 h.client r80 b80) in
+    bytes-append h.checksum_body (spelled 16 h.cluster ++ (h.parent ++ r64)) is.rules.fits.body.each (number 16 h.cluster (h.parent ++ r64) b48)
 
 AreBytes-spelling : (h : Header) → IsSealed h → AreBytes (spelling h)
 AreBytes-spelling h is = bytes-append h.checksum (spelling_rest h) (subst (λ (l : List ℕ). AreBytes l) (sym is.checksum) (AreBytes-check_of (spelling_rest h))) (AreBytes-rest h is)
@@ -136,9 +150,9 @@ blank_front : (sector : ℕ) (rest : List ℕ) → take 256 (blank sector ++ res
 unfolding blank
 blank_front sector rest = take-append-le 256 (replicate 4096 0) rest (omega (arith, length-replicate {A = ℕ} 4096 0)) ∙ take-replicate 256 4096 0 (omega arith)
 
-zeros_are_no_tail : take 136 (drop 120 (replicate 256 0)) ≡ tail_bytes → ⊥
-unfolding tail_bytes
-zeros_are_no_tail is = cc
+zeros_are_no_version : take 134 (drop 122 (replicate 256 0)) ≡ version_bytes → ⊥
+unfolding version_bytes
+zeros_are_no_version is = cc
 
 pub blank_none : (wal : Wal) → BlankShowsNone wal
 unfolding prepare_at
@@ -146,7 +160,7 @@ blank_none wal slot = none_unless _ (λ p is.
     let first = first_sector blank (slot_start wal slot) (slot_sectors wal) (omega (arith, wal.limits.least)) in
     let zeros = ap (λ (l : List ℕ). take 256 l) first.1 ∙ blank_front (slot_start wal slot) first.0 in
     let read = read_as _ _ (found_header wal slot _ p is) in
-    zeros_are_no_tail (subst (λ (l : List ℕ). take 136 (drop 120 l) ≡ tail_bytes) zeros read.tail))
+    zeros_are_no_version (subst (λ (l : List ℕ). take 134 (drop 122 l) ≡ version_bytes) zeros read.version))
 
 pub blank_image : IsImage blank
 unfolding blank

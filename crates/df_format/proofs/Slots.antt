@@ -7,15 +7,25 @@ use Rattle.df_base.specs.Fields.{AreBytes, check_of}
 use Rattle.df_format.specs.declared.header.Header.{Header}
 use Rattle.df_format.specs.declared.wal.Wal.{Wal}
 use Rattle.df_format.specs.Spelling.{spelling}
-use Rattle.df_format.specs.Rules.{IsSealed}
+use Rattle.df_format.specs.Rules.{ObeysKind, IsSealed}
 use Rattle.df_format.specs.Reading.{header_in}
-use Rattle.df_format.specs.Unit.{Prepare, BeginsWith, is_whole, with_body, prepare_in}
+use Rattle.df_format.specs.declared.kind.Kind.{Kind}
+use Rattle.df_format.specs.declared.kind.Kind.TheVariants.{Reserved, Prepare as AsPrepare, Reply, Block, Trailer}
+use Rattle.df_format.specs.Unit.{Prepare, BeginsWith, is_of_log, is_whole, with_body, prepare_in}
 use Rattle.df_format.specs.Laws.{SlotsHaveOnePrepare, HasOpOf}
 use Rattle.df_format.proofs.Parts.{bytes-take, bytes-drop}
 use Rattle.df_format.proofs.Spelled.{guard_is, read_as, reads, was_spelled, length-spelling}
 
+of_log : (kind : Kind) → is_of_log kind ≡ true → kind ≡ AsPrepare
+of_log Reserved is = absurd (cc)
+of_log AsPrepare is = refl
+of_log Reply is = absurd (cc)
+of_log Block is = absurd (cc)
+of_log Trailer is = absurd (cc)
+
 -- what the tests of a header for a slot say
 record IsFor (wal : Wal) (slot : ℕ) (bytes : List ℕ) (h : Header) : Type 0 where
+  kind : h.kind ≡ AsPrepare
   cluster : h.cluster ≡ wal.cluster
   fits : h.size ≤ wal.message_size
   slot_of : h.slot ≡ h.op % wal.slots
@@ -28,8 +38,10 @@ is_for wal slot bytes h is =
     let b = and_parts _ _ a.0 in
     let c = and_parts _ _ b.0 in
     let d = and_parts _ _ c.0 in
+    let e = and_parts _ _ d.0 in
     record {
-      cluster = eqb-true _ _ d.0;
+      kind = of_log _ e.0;
+      cluster = eqb-true _ _ e.1;
       fits = leb-true _ _ d.1;
       slot_of = eqb-true _ _ c.1;
       here = eqb-true _ _ b.1;
@@ -38,7 +50,8 @@ is_for wal slot bytes h is =
 
 passes_for : (wal : Wal) (slot : ℕ) (bytes : List ℕ) (h : Header) → IsFor wal slot bytes h → is_whole wal slot bytes h ≡ true
 passes_for wal slot bytes h is =
-    let a = and_from _ _ (eq-eqb h.cluster wal.cluster is.cluster) (le-leb h.size wal.message_size is.fits) in
+    let k = and_from _ _ (ap is_of_log is.kind) (eq-eqb h.cluster wal.cluster is.cluster) in
+    let a = and_from _ _ k (le-leb h.size wal.message_size is.fits) in
     let b = and_from _ _ a (eq-eqb h.slot (h.op % wal.slots) is.slot_of) in
     let c = and_from _ _ b (eq-eqb h.slot slot is.here) in
     and_from _ _ c ((bytes_eq-Decides _ _).1 is.sum)
@@ -71,7 +84,8 @@ found_header wal slot bytes p is = (found wal slot bytes p is).header
 pub found_op : (wal : Wal) (slot : ℕ) (bytes : List ℕ) (p : Prepare) → prepare_in wal slot bytes ≡ Some p → HasOpOf wal slot p
 found_op wal slot bytes p is =
     let f = found wal slot bytes p is in
-    record { some = (read_as _ _ f.header).ranges.op.0; op = sym f.whole.slot_of ∙ f.whole.here; here = f.whole.here }
+    let kind : ObeysKind AsPrepare p.header = subst (λ (k : Kind). ObeysKind k p.header) f.whole.kind (read_as _ _ f.header).ranges.kind in
+    record { some = kind.op.0; op = sym f.whole.slot_of ∙ f.whole.here; here = f.whole.here }
 
 module _ (wal : Wal) (slot : ℕ) (bytes : List ℕ) (p : Prepare) (size : length bytes ≡ wal.message_size) (are : AreBytes bytes) (is : IsFound wal slot bytes p) where
   least : 256 ≤ length bytes
@@ -80,18 +94,19 @@ module _ (wal : Wal) (slot : ℕ) (bytes : List ℕ) (p : Prepare) (size : lengt
   was : IsSealed p.header × (take 256 bytes ≡ spelling p.header)
   was =
       let read = read_as (take 256 bytes) p.header is.header in
-      was_spelled (take 256 bytes) (length-take-le 256 bytes least) (bytes-take 256 bytes are) read.tail p.header read
+      was_spelled (take 256 bytes) p.header (length-take-le 256 bytes least) (bytes-take 256 bytes are) read
 
   body_size : p.header.size ≡ 256 + length p.body
   body_size =
       let fits : p.header.size ≤ length bytes = omega (arith, is.whole.fits, size) in
       let long = length-take-le (p.header.size - 256) (drop 256 bytes) (omega (arith, length-drop 256 bytes, fits)) in
-      omega (arith, ap length is.body, long, was.0.rules.size.0)
+      omega (arith, ap length is.body, long, was.0.rules.size)
 
   begins_with : BeginsWith wal slot bytes p
   begins_with = record {
     is = record {
       sealed = was.0;
+      kind = is.whole.kind;
       cluster = is.whole.cluster;
       size = body_size;
       fits = is.whole.fits;
@@ -119,7 +134,7 @@ begun_is_found wal slot bytes p begins =
     let behind : drop 256 bytes ≡ p.body ++ begins.rest = ap (λ (l : List ℕ). drop 256 l) all ∙ drop_at (spelling p.header) _ 256 long in
     let count : p.header.size - 256 ≡ length p.body = omega (arith, is.size) in
     let body : take (p.header.size - 256) (drop 256 bytes) ≡ p.body = (λ i. take (count i) (behind i)) ∙ take_at p.body begins.rest (length p.body) refl in
-    let tests : IsFor wal slot bytes p.header = record { cluster = is.cluster; fits = is.fits; slot_of = is.slot; here = begins.here; sum = is.body ∙ ap check_of (sym body) } in
+    let tests : IsFor wal slot bytes p.header = record { kind = is.kind; cluster = is.cluster; fits = is.fits; slot_of = is.slot; here = begins.here; sum = is.body ∙ ap check_of (sym body) } in
     ap (λ (o : Option Header). with_body wal slot bytes o) (ap header_in head ∙ reads p.header is.sealed)
     ∙ cond-true (is_whole wal slot bytes p.header) _ None (passes_for wal slot bytes p.header tests)
     ∙ (λ i. Some (record { header = p.header; body = body i }))

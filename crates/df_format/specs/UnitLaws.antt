@@ -141,7 +141,7 @@ LeftIsApart =
 
 -- the log of a layout and a cluster
 pub record IsWalOf (layout : Layout) (cluster : ℕ) (wal : Wal) : Type 0 where
-  pub cluster : wal.cluster ≡ cluster
+  pub owner : wal.cluster ≡ cluster
   pub slots : wal.slots ≡ layout.slots
   pub message_size : wal.message_size ≡ layout.message_size
   pub first_sector : wal.first_sector ≡ first_sector layout WalPrepares

@@ -27,7 +27,7 @@ HasBody zone h body = IsBodyOf h body
 -- at its own place.
 pub record IsUnit (layout : Layout) (cluster : ℕ) (place : Place) (u : Message) : Type 0 where
   pub sealed : IsSealed u.header
-  pub cluster : u.header.cluster ≡ cluster
+  pub owner : u.header.cluster ≡ cluster
   pub fits : u.header.size ≤ greatest_size layout place.zone
   pub body : HasBody place.zone u.header u.body
   pub own : own_place layout place.zone u.header ≡ Some place
@@ -39,15 +39,15 @@ pub record Begins (layout : Layout) (cluster : ℕ) (place : Place) (bytes : Lis
   pub spelled : bytes ≡ unit_of u ++ rest
 
 -- a prepare's header belongs in the slot of its op
-pub record IsInSlot (layout : Layout) (slot : ℕ) (h : Header) : Type 0 where
+pub record IsInSlot (layout : Layout) (index : ℕ) (h : Header) : Type 0 where
   pub kind : h.kind ≡ Prepare
-  pub slot : h.slot ≡ slot
-  pub op : h.op % layout.slots ≡ slot
+  pub slot : h.slot ≡ index
+  pub op : h.op % layout.slots ≡ index
 
 -- a reserved header belongs in the slot that it names
-pub record IsForSlot (slot : ℕ) (h : Header) : Type 0 where
+pub record IsForSlot (index : ℕ) (h : Header) : Type 0 where
   pub kind : h.kind ≡ Reserved
-  pub slot : h.slot ≡ slot
+  pub slot : h.slot ≡ index
 
 -- a reply belongs at its session's place
 pub record IsOfSession (index : ℕ) (h : Header) : Type 0 where

@@ -11,16 +11,16 @@ pub data Wanted : Type 0 where
   Answer : (client request op : ℕ) → Wanted
 
 -- the prepare with this op
-pub record IsOp (op : ℕ) (u : Message) : Type 0 where
+pub record IsOp (n : ℕ) (u : Message) : Type 0 where
   pub kind : u.header.kind ≡ Prepare
-  pub op : u.header.op ≡ op
+  pub op : u.header.op ≡ n
 
 -- the reply with these numbers
-pub record IsAnswer (client request op : ℕ) (u : Message) : Type 0 where
+pub record IsAnswer (c r n : ℕ) (u : Message) : Type 0 where
   pub kind : u.header.kind ≡ Reply
-  pub client : u.header.client ≡ client
-  pub request : u.header.request ≡ request
-  pub op : u.header.op ≡ op
+  pub client : u.header.client ≡ c
+  pub request : u.header.request ≡ r
+  pub op : u.header.op ≡ n
 
 -- the unit is one that is wanted
 abbrev pub IsWanted : Wanted → Message → Type 0
