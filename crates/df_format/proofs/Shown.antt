@@ -15,7 +15,7 @@ use Rattle.df_format.specs.Rules.{IsSealed}
 use Rattle.df_format.specs.Message.{Message, unit_of, sectors_of, sectors_end}
 use Rattle.df_format.specs.Unit.{Prepare, IsPrepare, prepare_in, prepare_at, slot_start, slot_sectors}
 use Rattle.df_format.specs.Laws.{ShownHasOp, ShownIsPrepare, SameIsShown, WrittenIsShown, WrittenIsApart, SectorsFitSlot, BlankShowsNone}
-use Rattle.df_format.proofs.Parts.{bytes-append}
+use Rattle.df_format.proofs.Messages.{AreBytes-zeros, length-sectors, AreBytes-sectors}
 use Rattle.df_format.proofs.Spelled.{read_as, length-spelling}
 use Rattle.df_format.proofs.Slots.{found_header, found_op, begun_is_found, one_prepare}
 use Rattle.df_format.proofs.Sectors.{length-bytes_at, AreBytes-bytes_at, same_sectors, first_sector, written_begins}
@@ -38,73 +38,15 @@ pub shown_same : (wal : Wal) → SameIsShown wal
 unfolding prepare_at
 shown_same wal one two slot same = ap (λ (l : List ℕ). prepare_in wal slot l) (same_sectors one two (slot_start wal slot) (slot_sectors wal) same)
 
-length-unit : (wal : Wal) (p : Prepare) → IsPrepare wal p → length (unit_of p) ≡ 256 + length p.body
-length-unit wal p is = omega (arith, length-append (spelling p.header) p.body, length-spelling p.header is.sealed)
-
-length-sectors : (wal : Wal) (p : Prepare) → IsPrepare wal p → length (sectors_of p) ≡ sectors_end (256 + length p.body)
-unfolding sectors_of
-length-sectors wal p is =
-    let n : ℕ = 256 + length p.body in
-    omega (arith, length-append (unit_of p) (replicate (sectors_end n - n) 0), length-unit wal p is, length-replicate {A = ℕ} (sectors_end n - n) 0)
-
 sectors_fit : (wal : Wal) (p : Prepare) → IsPrepare wal p → length (sectors_of p) ≤ wal.message_size
-sectors_fit wal p is = omega (arith, length-sectors wal p is, is.size, is.fits, wal.limits.whole)
-
-AreBytes-zeros : (n : ℕ) → AreBytes (replicate n 0)
-AreBytes-zeros zero i = omega arith
-AreBytes-zeros (suc n) zero = omega arith
-AreBytes-zeros (suc n) (suc i) = AreBytes-zeros n i
-
-bytes-cons : (x : ℕ) (xs : List ℕ) → x < 256 → AreBytes xs → AreBytes (x ∷ xs)
-bytes-cons x xs small are zero = small
-bytes-cons x xs small are (suc i) = are i
-
-AreBytes-version : AreBytes version_bytes
-unfolding version_bytes
-AreBytes-version = bytes-cons 1 (0 ∷ replicate 132 0) (omega arith) (bytes-cons 0 (replicate 132 0) (omega arith) (AreBytes-zeros 132))
-
-code-small : (kind : Kind) → code_of kind < 256
-code-small Reserved = omega arith
-code-small AsPrepare = omega arith
-code-small Reply = omega arith
-code-small Block = omega arith
-code-small Trailer = omega arith
-
-AreBytes-tail : (kind : Kind) (block_kind : ℕ) → block_kind < 256 → AreBytes (tail_bytes kind block_kind)
-unfolding tail_bytes
-AreBytes-tail kind block_kind small =
-    bytes-cons (code_of kind) (block_kind ∷ version_bytes) (code-small kind) (bytes-cons block_kind version_bytes small AreBytes-version)
-
-number : (n x : ℕ) (rest : List ℕ) → AreBytes rest → AreBytes (spelled n x ++ rest)
-number n x rest are = bytes-append (spelled n x) rest (AreBytes-spelled n x) are
-
-AreBytes-rest : (h : Header) → IsSealed h → AreBytes (spelling_rest h)
-unfolding spelling_rest
-AreBytes-rest h is =
-    let r116 : List ℕ = spelled 4 h.slot ++ tail_bytes h.kind h.block_kind in
-    let r112 : List ℕ = spelled 4 h.size ++ r116 in
-    let r104 : List ℕ = spelled 8 h.checkpoint ++ r112 in
-    let r96 : List ℕ = spelled 8 h.mark ++ r104 in
-    let r88 : List ℕ = spelled 8 h.request ++ r96 in
-    let r80 : List ℕ = spelled 8 h.op ++ r88 in
-    let r64 : List ℕ = spelled 16 h.client ++ r80 in
-    let b80 : AreBytes r80 = number 8 h.op r88 (number 8 h.request r96 (number 8 h.mark r104 (number 8 h.checkpoint r112 (number 4 h.size r116 (number 4 h.slot (tail_bytes h.kind h.block_kind) (AreBytes-tail h.kind h.block_kind is.rules.fits.block_kind)))))) in
-    let b48 : AreBytes (h.parent ++ r64) = bytes-append h.parent r64 is.rules.fits.parent.each (number 16 h.client r80 b80) in
-    bytes-append h.checksum_body (spelled 16 h.cluster ++ (h.parent ++ r64)) is.rules.fits.body.each (number 16 h.cluster (h.parent ++ r64) b48)
-
-AreBytes-spelling : (h : Header) → IsSealed h → AreBytes (spelling h)
-AreBytes-spelling h is = bytes-append h.checksum (spelling_rest h) (subst (λ (l : List ℕ). AreBytes l) (sym is.checksum) (AreBytes-check_of (spelling_rest h))) (AreBytes-rest h is)
-
-AreBytes-sectors : (wal : Wal) (p : Prepare) → IsPrepare wal p → AreBytes (sectors_of p)
-unfolding sectors_of
-AreBytes-sectors wal p is = bytes-append (unit_of p) _ (bytes-append (spelling p.header) p.body (AreBytes-spelling p.header is.sealed) is.each) (AreBytes-zeros _)
+sectors_fit wal p is = omega (arith, length-sectors p is.sealed, is.size, is.fits, wal.limits.whole)
 
 pub sectors_piece : (wal : Wal) → SectorsFitSlot wal
 sectors_piece wal p is = record {
   piece = record {
-    some = omega (arith, length-sectors wal p is);
-    whole = omega (arith, length-sectors wal p is);
-    each = AreBytes-sectors wal p is;
+    some = omega (arith, length-sectors p is.sealed);
+    whole = omega (arith, length-sectors p is.sealed);
+    each = AreBytes-sectors p is.sealed is.each;
   };
   fits = sectors_fit wal p is;
 }

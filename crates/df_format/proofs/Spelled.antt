@@ -51,7 +51,7 @@ kind_of-code Reply = refl
 kind_of-code Block = refl
 kind_of-code Trailer = refl
 
-some-eq : {X : Type 0} {x y : X} → Some x ≡ Some y → x ≡ y
+pub some-eq : {X : Type 0} {x y : X} → Some x ≡ Some y → x ≡ y
 some-eq is = cc
 
 -- one test of a code: it has passed, or a later one
