@@ -63,11 +63,11 @@ below first a b k s order inside =
     let rows = mul-le-mul_right s order in
     omega (arith, rows)
 
-uncovered_below : (at : ℕ) (bytes : List ℕ) (sector : ℕ) → sector < at → covers at bytes sector ≡ false
+pub uncovered_below : (at : ℕ) (bytes : List ℕ) (sector : ℕ) → sector < at → covers at bytes sector ≡ false
 unfolding covers
 uncovered_below at bytes sector order = and_left _ _ (lt-leb at sector order)
 
-uncovered_above : (at : ℕ) (bytes : List ℕ) (sector n : ℕ) → length bytes ≤ 4096 * n → at + n ≤ sector → covers at bytes sector ≡ false
+pub uncovered_above : (at : ℕ) (bytes : List ℕ) (sector n : ℕ) → length bytes ≤ 4096 * n → at + n ≤ sector → covers at bytes sector ≡ false
 unfolding covers
 uncovered_above at bytes sector n fits order = and_right _ _ (le-ltb (4096 * (sector - at)) (length bytes) (omega arith))
 
@@ -84,7 +84,7 @@ written_apart wal p other k is apart inside =
       ]
     ]
 
-none_unless : {X : Type 0} (o : Option X) → ((x : X) → o ≡ Some x → ⊥) → o ≡ None
+pub none_unless : {X : Type 0} (o : Option X) → ((x : X) → o ≡ Some x → ⊥) → o ≡ None
 none_unless None never = refl
 none_unless (Some x) never = absurd (never x refl)
 
