@@ -24,13 +24,13 @@ of_log Block is = absurd (cc)
 of_log Trailer is = absurd (cc)
 
 -- what the tests of a header for a slot say
-record IsFor (wal : Wal) (slot : ℕ) (bytes : List ℕ) (h : Header) : Type 0 where
-  kind : h.kind ≡ AsPrepare
-  cluster : h.cluster ≡ wal.cluster
-  fits : h.size ≤ wal.message_size
-  slot_of : h.slot ≡ h.op % wal.slots
-  here : h.slot ≡ slot
-  sum : h.checksum_body ≡ check_of (take (h.size - 256) (drop 256 bytes))
+pub record IsFor (wal : Wal) (slot : ℕ) (bytes : List ℕ) (h : Header) : Type 0 where
+  pub kind : h.kind ≡ AsPrepare
+  pub cluster : h.cluster ≡ wal.cluster
+  pub fits : h.size ≤ wal.message_size
+  pub slot_of : h.slot ≡ h.op % wal.slots
+  pub here : h.slot ≡ slot
+  pub sum : h.checksum_body ≡ check_of (take (h.size - 256) (drop 256 bytes))
 
 is_for : (wal : Wal) (slot : ℕ) (bytes : List ℕ) (h : Header) → is_whole wal slot bytes h ≡ true → IsFor wal slot bytes h
 is_for wal slot bytes h is =
@@ -57,10 +57,10 @@ passes_for wal slot bytes h is =
     and_from _ _ c ((bytes_eq-Decides _ _).1 is.sum)
 
 -- how a prepare was found
-record IsFound (wal : Wal) (slot : ℕ) (bytes : List ℕ) (p : Prepare) : Type 0 where
-  header : header_in (take 256 bytes) ≡ Some p.header
-  whole : IsFor wal slot bytes p.header
-  body : take (p.header.size - 256) (drop 256 bytes) ≡ p.body
+pub record IsFound (wal : Wal) (slot : ℕ) (bytes : List ℕ) (p : Prepare) : Type 0 where
+  pub header : header_in (take 256 bytes) ≡ Some p.header
+  pub whole : IsFor wal slot bytes p.header
+  pub body : take (p.header.size - 256) (drop 256 bytes) ≡ p.body
 
 with_parts : (wal : Wal) (slot : ℕ) (bytes : List ℕ) (p : Prepare) (o : Option Header) → with_body wal slot bytes o ≡ Some p → o ≡ header_in (take 256 bytes) → IsFound wal slot bytes p
 with_parts wal slot bytes p None is from = absurd (cc)
@@ -73,7 +73,7 @@ with_parts wal slot bytes p (Some h) is from =
       body = subst (λ (x : Header). take (x.size - 256) (drop 256 bytes) ≡ p.body) same (ap (λ (q : Prepare). q.body) parts.1);
     }
 
-found : (wal : Wal) (slot : ℕ) (bytes : List ℕ) (p : Prepare) → prepare_in wal slot bytes ≡ Some p → IsFound wal slot bytes p
+pub found : (wal : Wal) (slot : ℕ) (bytes : List ℕ) (p : Prepare) → prepare_in wal slot bytes ≡ Some p → IsFound wal slot bytes p
 unfolding prepare_in
 found wal slot bytes p is = with_parts wal slot bytes p (header_in (take 256 bytes)) is refl
 
@@ -123,9 +123,16 @@ module _ (wal : Wal) (slot : ℕ) (bytes : List ℕ) (p : Prepare) (size : lengt
         ∙ sym (append_assoc (spelling p.header) p.body (drop (p.header.size - 256) (drop 256 bytes)));
   }
 
+-- what was found is shown
+pub is_found : (wal : Wal) (slot : ℕ) (bytes : List ℕ) (p : Prepare) → IsFound wal slot bytes p → prepare_in wal slot bytes ≡ Some p
+unfolding prepare_in
+is_found wal slot bytes p is =
+    ap (λ (o : Option Header). with_body wal slot bytes o) is.header
+    ∙ cond-true (is_whole wal slot bytes p.header) _ None (passes_for wal slot bytes p.header is.whole)
+    ∙ (λ i. Some (record { header = p.header; body = is.body i }))
+
 -- bytes that begin with a prepare show it
 pub begun_is_found : (wal : Wal) (slot : ℕ) (bytes : List ℕ) (p : Prepare) → BeginsWith wal slot bytes p → prepare_in wal slot bytes ≡ Some p
-unfolding prepare_in
 begun_is_found wal slot bytes p begins =
     let is = begins.is in
     let long = length-spelling p.header is.sealed in
@@ -135,9 +142,7 @@ begun_is_found wal slot bytes p begins =
     let count : p.header.size - 256 ≡ length p.body = omega (arith, is.size) in
     let body : take (p.header.size - 256) (drop 256 bytes) ≡ p.body = (λ i. take (count i) (behind i)) ∙ take_at p.body begins.rest (length p.body) refl in
     let tests : IsFor wal slot bytes p.header = record { kind = is.kind; cluster = is.cluster; fits = is.fits; slot_of = is.slot; here = begins.here; sum = is.body ∙ ap check_of (sym body) } in
-    ap (λ (o : Option Header). with_body wal slot bytes o) (ap header_in head ∙ reads p.header is.sealed)
-    ∙ cond-true (is_whole wal slot bytes p.header) _ None (passes_for wal slot bytes p.header tests)
-    ∙ (λ i. Some (record { header = p.header; body = body i }))
+    is_found wal slot bytes p (record { header = ap header_in head ∙ reads p.header is.sealed; whole = tests; body = body })
 
 -- a slot shows a prepare exactly where its bytes begin with it
 pub one_prepare : (wal : Wal) → SlotsHaveOnePrepare wal
