@@ -133,8 +133,16 @@ has_its_body layout WalPrepares h bytes size are least fits tested = body_is h b
 has_its_body layout ClientReplies h bytes size are least fits tested = body_is h bytes are least (omega (arith, fits_slot layout ClientReplies (λ same. cc))) tested
 has_its_body layout Grid h bytes size are least fits tested = body_is h bytes are least (omega (arith, fits_slot layout Grid (λ same. cc))) tested
 
+-- elsewhere than in the header ring a place is a whole slot
+pub place_is_slot : (layout : Layout) (zone : Zone) → zone ≢ WalHeaders → place_size layout zone ≡ 4096 * place_sectors layout zone
+place_is_slot layout Superblock other = refl
+place_is_slot layout WalHeaders other = absurd (other refl)
+place_is_slot layout WalPrepares other = refl
+place_is_slot layout ClientReplies other = refl
+place_is_slot layout Grid other = refl
+
 -- the place has a header at least
-least_size : (layout : Layout) (zone : Zone) → 256 ≤ place_size layout zone
+pub least_size : (layout : Layout) (zone : Zone) → 256 ≤ place_size layout zone
 unfolding place_sectors
 least_size layout Superblock = omega arith
 least_size layout WalHeaders = omega arith

@@ -40,6 +40,10 @@ unit_in layout cluster place bytes = if_own place (whole_in layout cluster place
 unfoldable pub is_blank : List ℕ → Bool
 is_blank bytes = bytes_eq (take 256 bytes) (replicate 256 0)
 
+-- the class of bytes that are no whole unit
+abbrev pub class_of_none : List ℕ → Class
+class_of_none bytes = if is_blank bytes then Blank else Garbled
+
 -- the class of bytes that aren't blank
 abbrev pub class_of_whole : Place → Option Whole → Class
 class_of_whole place None = Garbled

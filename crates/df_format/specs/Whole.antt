@@ -51,3 +51,8 @@ if_unit layout cluster zone bytes (Some h) = if is_unit layout cluster zone byte
 -- the whole unit that bytes are, which are read in a zone
 unfoldable pub whole_in : Layout → ℕ → Zone → List ℕ → Option Whole
 whole_in layout cluster zone bytes = if_unit layout cluster zone bytes (header_in (take 256 bytes))
+
+-- its header, and where it belongs
+abbrev pub owner_of : Option Whole → Option (Header × Place)
+owner_of None = None
+owner_of (Some w) = Some (w.unit.header, w.own)

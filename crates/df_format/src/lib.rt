@@ -2,9 +2,11 @@
 #![tactic(auto)]
 
 mod codec;
+mod decode;
 mod header;
 mod kind;
 mod laws;
+mod own;
 mod pieces;
 mod places;
 mod reference;
@@ -15,12 +17,14 @@ mod unit;
 mod wal;
 
 pub use codec::{decode_header, encode_header, seal_header};
+pub use decode::decode_unit;
 pub use header::Header;
 pub use kind::Kind;
 pub use laws::{
     blank_shows_none, headers_have_one_spelling, same_is_shown, shown_belongs,
     slots_have_one_prepare, written_is_shown,
 };
+pub use own::own_place;
 pub use reference::Reference;
 pub use unit::{Made, decode_prepare, make_prepare};
 pub use wal::Wal;
