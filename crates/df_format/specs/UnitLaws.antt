@@ -17,6 +17,7 @@ use Rattle.df_format.specs.Spelling.{spelling}
 use Rattle.df_format.specs.Rules.{IsSealed}
 use Rattle.df_format.specs.Message.{Message, sectors_of}
 use Rattle.df_format.specs.Own.{place_in, own_place}
+use Rattle.df_format.specs.Whole.{greatest_size}
 use Rattle.df_format.specs.Shown.{part_in, unit_in, class_of, unit_at, class_at}
 use Rattle.df_format.specs.Valid.{IsUnit, Begins, Belongs}
 use Rattle.df_format.specs.Unit.{prepare_at}
@@ -151,3 +152,9 @@ abbrev pub PreparesAreUnits : Type 0
 PreparesAreUnits =
     (layout : Layout) (cluster : ℕ) (wal : Wal) (image : Image) (slot : ℕ) → IsWalOf layout cluster wal
     → prepare_at wal image slot ≡ unit_at layout cluster image (place_in WalPrepares slot)
+
+-- a unit that was made is valid at its own place, where it fits that; in the header ring it has no body
+abbrev pub MadeIsUnit : Message → Type 0
+MadeIsUnit u =
+    (layout : Layout) (place : Place) → own_place layout place.zone u.header ≡ Some place → u.header.size ≤ greatest_size layout place.zone → (place.zone ≡ WalHeaders → u.body ≡ [])
+    → IsUnit layout u.header.cluster place u

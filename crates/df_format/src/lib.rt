@@ -6,6 +6,7 @@ mod decode;
 mod header;
 mod kind;
 mod laws;
+mod make;
 mod own;
 mod pieces;
 mod places;
@@ -24,7 +25,8 @@ pub use laws::{
     blank_shows_none, headers_have_one_spelling, same_is_shown, shown_belongs,
     slots_have_one_prepare, written_is_shown,
 };
+pub use make::{Made, make_unit};
 pub use own::own_place;
 pub use reference::Reference;
-pub use unit::{Made, decode_prepare, make_prepare};
+pub use unit::{decode_prepare, make_prepare};
 pub use wal::Wal;
