@@ -15,6 +15,7 @@ mod rules;
 #[cfg(test)]
 mod tests;
 mod unit;
+mod unit_laws;
 mod wal;
 
 pub use codec::{decode_header, encode_header, seal_header};
@@ -29,4 +30,9 @@ pub use make::{Made, make_unit};
 pub use own::own_place;
 pub use reference::Reference;
 pub use unit::{decode_prepare, make_prepare};
+pub use unit_laws::{
+    blank_shows_no_unit, classes_tell, header_sector_is_shown, other_places_stay,
+    places_show_their_sectors, prepares_are_units, units_belong, units_have_one_spelling,
+    written_unit_is_shown,
+};
 pub use wal::Wal;
