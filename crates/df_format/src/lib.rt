@@ -1,10 +1,16 @@
 //! The bytes of a unit in the file: the header's one spelling, and which unit a slot shows.
 #![tactic(auto)]
 
+#[cfg(test)]
+mod class_tests;
 mod codec;
 mod decode;
+#[cfg(test)]
+mod examples;
 mod header;
 mod kind;
+#[cfg(test)]
+mod kind_tests;
 mod laws;
 mod make;
 mod own;
