@@ -11,7 +11,7 @@ use Rattle.df_format.specs.Message.{Message}
 use Rattle.df_format.specs.Whole.{Whole, whole_in, owner_of}
 use Rattle.df_format.specs.Shown.{same_place, if_own, unit_in, is_blank, class_of_none, class_of_whole, class_of, header_or_class}
 use Rattle.df_format.proofs.Owned.{same_place-true, same_place-self}
-use Rattle.df_format.proofs.Spelled.{some-eq}
+use Rattle.df_format.proofs.Codes.{some-eq}
 use Rattle.df_format.proofs.Wholes.{false_unless, whole_is_not_blank}
 
 -- the answer by the whole unit

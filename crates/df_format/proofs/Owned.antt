@@ -12,7 +12,8 @@ use Rattle.df_format.specs.declared.kind.Kind.TheVariants.{Reserved, Prepare, Re
 use Rattle.df_format.specs.Own.{place_in, named_in_ring, named_elsewhere, named_place, has_op_of_slot, has_index, inside, own_place}
 use Rattle.df_format.specs.Shown.{same_zone, same_place}
 use Rattle.df_format.specs.Valid.{IsInSlot, IsForSlot, IsOfSession, IsAtAddress, Belongs}
-use Rattle.df_format.proofs.Spelled.{guard_is, some-eq}
+use Rattle.df_format.proofs.Codes.{some-eq}
+use Rattle.df_format.proofs.Spelled.{guard_is}
 
 same_zone-true : (a b : Zone) → same_zone a b ≡ true → a ≡ b
 same_zone-true Superblock Superblock is = refl

@@ -14,6 +14,7 @@ use Rattle.df_format.specs.Spelling.{code_of, version_bytes, tail_bytes, spellin
 use Rattle.df_format.specs.Rules.{FitsFields, ObeysRules, IsSealed}
 use Rattle.df_format.specs.Reading.{kind_of, fields_of, has_numbers, is_spelled, header_of_kind, header_in}
 use Rattle.df_format.specs.Laws.{HeadersHaveOneSpelling}
+use Rattle.df_format.proofs.Codes.{kind_of-code, code_of-kind}
 use Rattle.df_format.proofs.Parts.{bytes-take, bytes-drop, piece, past}
 use Rattle.df_format.proofs.Ranges.{AreInRange, in_range, passes}
 
@@ -41,31 +42,6 @@ length-checksum h is = ap length is.checksum ∙ length-check_of (spelling_rest 
 
 pub length-spelling : (h : Header) → IsSealed h → length (spelling h) ≡ 256
 length-spelling h is = simp length-append (omega (arith, length-checksum h is, length-spelling_rest h is.rules))
-
--- a kind has one code
-kind_of-code : (kind : Kind) → kind_of (code_of kind) ≡ Some kind
-unfolding kind_of
-kind_of-code Reserved = refl
-kind_of-code Prepare = refl
-kind_of-code Reply = refl
-kind_of-code Block = refl
-kind_of-code Trailer = refl
-
-pub some-eq : {X : Type 0} {x y : X} → Some x ≡ Some y → x ≡ y
-some-eq is = cc
-
--- one test of a code: it has passed, or a later one
-code_by : (code : ℕ) (b : Bool) (first kind : Kind) (o : Option Kind) → (code == code_of first) ≡ b → cond b (Some first) o ≡ Some kind → (o ≡ Some kind → code ≡ code_of kind) → code ≡ code_of kind
-code_by code true first kind o is found later = eqb-true _ _ is ∙ ap code_of (some-eq found)
-code_by code false first kind o is found later = later found
-
-code_of-kind : (code : ℕ) (kind : Kind) → kind_of code ≡ Some kind → code ≡ code_of kind
-unfolding kind_of
-code_of-kind code kind is =
-    let of_trailer = λ (found : cond (code == 5) (Some Trailer) None ≡ Some kind). code_by code (code == 5) Trailer kind None refl found (λ none. absurd (cc)) in
-    let of_block = λ (found : cond (code == 4) (Some Block) (cond (code == 5) (Some Trailer) None) ≡ Some kind). code_by code (code == 4) Block kind _ refl found of_trailer in
-    let of_reply = λ (found : cond (code == 3) (Some Reply) (cond (code == 4) (Some Block) (cond (code == 5) (Some Trailer) None)) ≡ Some kind). code_by code (code == 3) Reply kind _ refl found of_block in
-    code_by code (code == 1) Reserved kind _ refl is (λ found. code_by code (code == 2) Prepare kind _ refl found of_reply)
 
 kind_of-fields : (kind : Kind) (bytes : List ℕ) (h : Header) → fields_of kind bytes ≡ h → kind ≡ h.kind
 unfolding fields_of

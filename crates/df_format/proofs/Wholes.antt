@@ -23,7 +23,8 @@ use Rattle.df_format.specs.Shown.{same_place, if_own, unit_in, is_blank, class_o
 use Rattle.df_format.specs.Valid.{IsBodyOf, HasBody, IsUnit, Begins}
 use Rattle.df_format.specs.UnitLaws.{place_size, UnitsHaveOneSpelling, ValidIsStale, ElsewhereIsOther}
 use Rattle.df_format.proofs.Parts.{bytes-take, bytes-drop}
-use Rattle.df_format.proofs.Spelled.{guard_is, some-eq, read_as, reads, was_spelled, length-spelling}
+use Rattle.df_format.proofs.Codes.{some-eq}
+use Rattle.df_format.proofs.Spelled.{guard_is, read_as, reads, was_spelled, length-spelling}
 use Rattle.df_format.proofs.Owned.{own_is, same_place-true, same_place-self}
 
 -- how a whole unit was found

@@ -73,7 +73,7 @@ is_reserved h = is_bare h && bytes_eq h.checksum_body (check_of []) && (h.op == 
 unfoldable pub is_block : Header → Bool
 is_block h = is_bare h && nat_lt 0 h.op && (h.slot == 0) && nat_lt 0 h.block_kind
 
--- the index of a trailer block is 0, it has no parent, and there is none before it; or none of these is asked for
+-- a trailer block with index 0 has no parent and none before it, and any other names the one before it
 abbrev pub is_linked : Header → Bool
 is_linked h = if h.mark == 0 then (h.request == 0) && has_no_parent h else nat_lt 0 h.request
 

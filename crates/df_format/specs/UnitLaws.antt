@@ -2,7 +2,7 @@
 use Rattle.std.specs.Prelude.{◌≡◌, ◌≢◌, ◌⊎◌, ◌↔◌, ◌<◌, ◌≤◌, ◌+◌, ◌*◌, ◌/◌, ◌%◌, ℕ, false, List, [], ◌∷◌, ◌++◌, length, slice_get, Some, None}
 use Rattle.df_base.specs.Fields.{AreBytes}
 use Rattle.df_base.specs.Image.{Image, IsImage, IsPiece, blank, written}
-use Rattle.df_base.specs.Log.{Log, Write, IsLeft, add, loose, now}
+use Rattle.df_base.specs.Log.{Log, Write, IsLeft, add, loose, now, settled}
 use Rattle.df_layout.specs.declared.damage.Class.TheVariants.{Blank, Elsewhere, Stale}
 use Rattle.df_layout.specs.declared.layout.Layout.{Layout}
 use Rattle.df_layout.specs.declared.places.Place.{Place}
@@ -21,7 +21,7 @@ use Rattle.df_format.specs.Whole.{greatest_size}
 use Rattle.df_format.specs.Shown.{part_in, unit_in, class_of, unit_at, class_at}
 use Rattle.df_format.specs.Valid.{IsUnit, Begins, Belongs}
 use Rattle.df_format.specs.Unit.{prepare_at}
-use Rattle.df_format.specs.Pools.{NoChance}
+use Rattle.df_format.specs.Pools.{InImages, NoChance}
 
 -- how many bytes a place of a zone has; a header has its part of a sector
 abbrev pub place_size : Layout → Zone → ℕ
@@ -139,6 +139,12 @@ LeftIsApart =
     (layout : Layout) (cluster : ℕ) (log : Log) (image : Image) (place other : Place) (bytes : List ℕ) → HasPlace layout place → IsOther layout place other
     → length bytes ≤ 4096 * (span_of layout place).count → IsQuiet layout log other → IsLeft (add (Write (span_of layout place).first bytes) log) image
     → ShowSame layout cluster other image (now log)
+
+-- what a stop within a write leaves at a quiet place is a unit that was durable there, or one that the write itself brings
+abbrev pub LeftIsOldOrNew : Type 0
+LeftIsOldOrNew =
+    (layout : Layout) (cluster : ℕ) (log : Log) (image : Image) (place : Place) (at : ℕ) (bytes : List ℕ) (u : Message) → IsQuiet layout log place → NoChance layout cluster (add (Write at bytes) log) image
+    → unit_at layout cluster image place ≡ Some u → InImages layout cluster (settled log) place u ⊎ (unit_at layout cluster (written at bytes blank) place ≡ Some u)
 
 -- the log of a layout and a cluster
 pub record IsWalOf (layout : Layout) (cluster : ℕ) (wal : Wal) : Type 0 where

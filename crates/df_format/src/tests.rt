@@ -3,6 +3,7 @@ ghost use Rattle.df_format.specs.Making.{AreGiven};
 
 use crate::examples::{PREPARE, changed, spelled};
 use crate::{Header, Kind, Wal, decode_header, decode_prepare, make_prepare};
+use df_layout::Layout;
 
 // What the maker of the example says of it; the other fields are set.
 fn given() -> Header
@@ -39,7 +40,8 @@ fn is_example_before_nines(slot: &[u8]) -> bool {
 
 #[test]
 fn makes_and_reads_the_example(rt: HostRuntime) {
-    let wal = Wal::small();
+    let wal = Wal::of(&Layout::small(), 7);
+    assert_eq!(rt; wal, Wal::small());
     let mut slot = [9u8; 8192];
     let made = make_prepare(&wal, given(), &[], &mut slot);
     assert_eq!(rt; made.length, 4096);

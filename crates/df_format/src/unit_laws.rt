@@ -1,5 +1,5 @@
 // Laws of every unit, place and image of a layout, each the clause of a function that does nothing.
-ghost use Rattle.df_format.specs.UnitLaws.{UnitsHaveOneSpelling, ShownBelongs, ShownIsUnit, ValidIsStale, ElsewhereIsOther, SameIsShown, WrittenIsShown, SectorsFitPlace, WrittenIsApart, LeftIsApart, SectorIsShown, HeadersFillSector, HeaderIsShown, BlankShowsNone, PreparesAreUnits};
+ghost use Rattle.df_format.specs.UnitLaws.{UnitsHaveOneSpelling, ShownBelongs, ShownIsUnit, ValidIsStale, ElsewhereIsOther, SameIsShown, WrittenIsShown, SectorsFitPlace, WrittenIsApart, LeftIsApart, LeftIsOldOrNew, SectorIsShown, HeadersFillSector, HeaderIsShown, BlankShowsNone, PreparesAreUnits};
 
 /// A place shows a unit exactly where its bytes begin with one that is valid there.
 pub fn units_have_one_spelling()
@@ -42,6 +42,12 @@ pub fn header_sector_is_shown()
 pub fn other_places_stay()
     ensures written { WrittenIsApart }
     ensures left { LeftIsApart }
+{}
+
+/// A stop within a write, under no chance, leaves at a place where nothing else is loose a unit that was durable there, or
+/// one that the write itself brings.
+pub fn left_is_old_or_new()
+    ensures { LeftIsOldOrNew }
 {}
 
 /// A blank image shows no unit, and each place of it is blank.
