@@ -1,5 +1,5 @@
 -- The answers of the decoder: the header of the unit that is valid at a place, or the class of what stands there.
-use Rattle.std.proofs.Common.{◌≡◌, ◌≢◌, ◌≤◌, ◌*◌, inl, inr, ℕ, Bool, true, false, List, length, Option, Some, None, cond, refl, sym, ◌∙◌, ap, subst}
+use Rattle.std.proofs.Common.{◌≡◌, ◌≢◌, ℕ, true, false, List, Option, Some, None, cond, refl, sym, ◌∙◌, ap}
 use Rattle.std.specs.Prelude.{Result, Ok, Err}
 use Rattle.std.proofs.lemmas.Bool.{cond-true, cond-false}
 use Rattle.df_layout.specs.declared.damage.Class.{Class}

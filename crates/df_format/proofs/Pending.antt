@@ -1,5 +1,5 @@
 -- What a stop within a write may leave at a place: a unit that was durable there, or the one that the write brings.
-use Rattle.std.proofs.Common.{◌≡◌, inl, inr, ◌⊎◌, ◌+◌, ◌<◌, ◌||◌, ℕ, Bool, true, false, List, [], ◌∷◌, Some, None, refl, ◌∙◌, sym}
+use Rattle.std.proofs.Common.{◌≡◌, inl, inr, ◌⊎◌, ◌+◌, ◌<◌, ◌||◌, ℕ, Bool, true, false, List, [], ◌∷◌, Some, refl}
 use Rattle.df_base.specs.Image.{blank, covers, written}
 use Rattle.df_base.specs.Log.{Event, Write, Sync, Stop, Log, loose_of, settled}
 use Rattle.df_layout.specs.declared.layout.Layout.{Layout}

@@ -1,8 +1,8 @@
 -- The slots of a layout's log show the units of the ring of prepares.
-use Rattle.std.proofs.Common.{◌≡◌, ◌<◌, ◌≤◌, ◌+◌, ◌*◌, ◌/◌, ◌%◌, ◌^◌, ◌==◌, ℕ, true, List, Option, Some, None, refl, sym, ◌∙◌, ap, subst, arith}
+use Rattle.std.proofs.Common.{◌≡◌, ◌<◌, ◌≤◌, ◌+◌, ◌*◌, ◌/◌, ◌%◌, ◌^◌, ℕ, List, Option, Some, None, refl, sym, ◌∙◌, ap, arith}
 use Rattle.std.proofs.lemmas.Bool.{eq-eqb}
 use Rattle.std.proofs.lemmas.Slice.Eq.{bytes_eq-Decides}
-use Rattle.df_base.specs.Image.{Image, bytes_at}
+use Rattle.df_base.specs.Image.{bytes_at}
 use Rattle.df_layout.specs.declared.layout.Layout.{Layout}
 use Rattle.df_layout.specs.declared.places.Place.{Place}
 use Rattle.df_layout.specs.declared.places.Zone.TheVariants.{WalPrepares}
@@ -15,12 +15,12 @@ use Rattle.df_format.specs.declared.kind.Kind.TheVariants.{Prepare as AsPrepare}
 use Rattle.df_format.specs.declared.wal.Wal.{Wal}
 use Rattle.df_format.specs.Limits.{IsWal}
 use Rattle.df_format.specs.Message.{Message}
-use Rattle.df_format.specs.Unit.{Prepare, prepare_in, prepare_at, slot_start, slot_sectors}
+use Rattle.df_format.specs.Unit.{prepare_in, prepare_at, slot_start, slot_sectors}
 use Rattle.df_format.specs.Own.{place_in, named_elsewhere, has_op_of_slot, own_place}
 use Rattle.df_format.specs.Shown.{bytes_of, unit_in, unit_at}
 use Rattle.df_format.specs.Valid.{IsInSlot}
 use Rattle.df_format.specs.UnitLaws.{IsWalOf, PreparesAreUnits}
-use Rattle.df_format.proofs.Owned.{IsOwn, own_is, is_own, belongs}
+use Rattle.df_format.proofs.Owned.{own_is, is_own, belongs}
 use Rattle.df_format.proofs.Slots.{found, is_found}
 use Rattle.df_format.proofs.Wholes.{unit_found, found_unit}
 

@@ -1,22 +1,16 @@
 -- What an image shows in its slots: the laws that the ring of prepares rests on.
-use Rattle.std.proofs.Common.{◌≡◌, inl, inr, ◌<◌, ◌≤◌, ◌+◌, ◌-◌, ◌*◌, ℕ, zero, suc, false, List, ◌∷◌, ◌++◌, length, take, drop, replicate, Option, Some, None, refl, sym, ◌∙◌, ap, subst, arith, append_assoc, length-append}
+use Rattle.std.proofs.Common.{◌≡◌, inl, inr, ◌<◌, ◌≤◌, ◌+◌, ◌-◌, ◌*◌, ℕ, false, List, ◌++◌, length, take, drop, replicate, Option, Some, None, refl, ◌∙◌, ap, subst, arith, append_assoc}
 use Rattle.std.proofs.lemmas.Bool.{and_left, and_right, lt-leb, le-ltb, cases_order}
 use Rattle.std.proofs.lemmas.List.{length-replicate, take-append-le, take-replicate}
 use Rattle.std.proofs.Math.Nat.{mul-le-mul_right}
-use Rattle.df_base.specs.Fields.{AreBytes, spelled}
 use Rattle.df_base.specs.Image.{IsImage, blank, covers}
-use Rattle.df_base.proofs.FieldBytes.{AreBytes-check_of, AreBytes-spelled}
-use Rattle.df_format.specs.declared.header.Header.{Header}
 use Rattle.df_format.specs.declared.wal.Wal.{Wal}
-use Rattle.df_format.specs.declared.kind.Kind.{Kind}
-use Rattle.df_format.specs.declared.kind.Kind.TheVariants.{Reserved, Prepare as AsPrepare, Reply, Block, Trailer}
-use Rattle.df_format.specs.Spelling.{code_of, version_bytes, spelling, spelling_rest, tail_bytes}
-use Rattle.df_format.specs.Rules.{IsSealed}
-use Rattle.df_format.specs.Message.{Message, unit_of, sectors_of, sectors_end}
+use Rattle.df_format.specs.Spelling.{version_bytes}
+use Rattle.df_format.specs.Message.{unit_of, sectors_of}
 use Rattle.df_format.specs.Unit.{Prepare, IsPrepare, prepare_in, prepare_at, slot_start, slot_sectors}
 use Rattle.df_format.specs.Laws.{ShownHasOp, ShownIsPrepare, SameIsShown, WrittenIsShown, WrittenIsApart, SectorsFitSlot, BlankShowsNone}
 use Rattle.df_format.proofs.Messages.{AreBytes-zeros, length-sectors, AreBytes-sectors}
-use Rattle.df_format.proofs.Spelled.{read_as, length-spelling}
+use Rattle.df_format.proofs.Spelled.{read_as}
 use Rattle.df_format.proofs.Slots.{found_header, found_op, begun_is_found, one_prepare}
 use Rattle.df_format.proofs.Sectors.{length-bytes_at, AreBytes-bytes_at, same_sectors, first_sector, written_begins}
 

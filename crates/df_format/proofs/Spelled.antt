@@ -1,7 +1,7 @@
 -- A header is read from its spelling, and what is read as a header is its spelling.
-use Rattle.std.proofs.Common.{◌≡◌, ℕ, ◌+◌, ◌≤◌, ◌==◌, ◌&&◌, Bool, true, false, List, [], ◌∷◌, ◌++◌, length, take, drop, Option, Some, None, cond, refl, sym, ◌∙◌, ap, subst, arith, length-append, drop-cons}
+use Rattle.std.proofs.Common.{◌≡◌, ℕ, ◌+◌, ◌≤◌, ◌&&◌, Bool, true, false, List, [], ◌∷◌, ◌++◌, length, take, drop, Option, Some, None, cond, refl, sym, ◌∙◌, ap, subst, arith, length-append, drop-cons}
 use Rattle.std.specs.Prelude.{slice_index}
-use Rattle.std.proofs.lemmas.Bool.{cond-true, and_parts, and_from, eqb-true}
+use Rattle.std.proofs.lemmas.Bool.{cond-true, and_parts, and_from}
 use Rattle.std.proofs.lemmas.List.{take_at, take_all, drop_at, length-take-le, length-drop, get_or-drop}
 use Rattle.std.proofs.lemmas.Slice.Eq.{bytes_eq-Decides}
 use Rattle.std.specs.Str.{bytes_eq}
@@ -9,9 +9,8 @@ use Rattle.df_base.specs.Fields.{AreBytes, field_at, spelled, check_of}
 use Rattle.df_base.proofs.FieldBytes.{length-check_of, length-spelled, field_spelled, field_at-lt, spelled-field_at}
 use Rattle.df_format.specs.declared.header.Header.{Header}
 use Rattle.df_format.specs.declared.kind.Kind.{Kind}
-use Rattle.df_format.specs.declared.kind.Kind.TheVariants.{Reserved, Prepare, Reply, Block, Trailer}
 use Rattle.df_format.specs.Spelling.{code_of, version_bytes, tail_bytes, spelling, spelling_rest, IsCheck}
-use Rattle.df_format.specs.Rules.{FitsFields, ObeysRules, IsSealed}
+use Rattle.df_format.specs.Rules.{ObeysRules, IsSealed}
 use Rattle.df_format.specs.Reading.{kind_of, fields_of, has_numbers, is_spelled, header_of_kind, header_in}
 use Rattle.df_format.specs.Laws.{HeadersHaveOneSpelling}
 use Rattle.df_format.proofs.Codes.{kind_of-code, code_of-kind}

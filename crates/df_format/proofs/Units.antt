@@ -1,35 +1,33 @@
 -- What an image shows at its places, and what a write of a unit leaves of it.
-use Rattle.std.proofs.Common.{◌≡◌, ◌≢◌, inl, inr, ◌<◌, ◌≤◌, ◌+◌, ◌-◌, ◌*◌, ◌/◌, ◌%◌, ◌||◌, ℕ, Bool, zero, suc, true, false, List, [], ◌∷◌, ◌++◌, length, take, drop, replicate, Option, Some, None, refl, sym, ◌∙◌, ap, subst, arith, append_assoc, length-append}
+use Rattle.std.proofs.Common.{◌≡◌, ◌≢◌, inl, inr, ◌<◌, ◌≤◌, ◌+◌, ◌-◌, ◌*◌, ◌/◌, ◌%◌, ◌||◌, ℕ, Bool, zero, suc, false, List, [], ◌∷◌, ◌++◌, length, take, drop, replicate, Some, refl, sym, ◌∙◌, ap, arith, append_assoc, length-append}
 use Rattle.std.specs.Prelude.{slice_get}
-use Rattle.std.proofs.lemmas.Bool.{cond-true, cond-false, and_left, and_right, lt-leb, le-ltb}
+use Rattle.std.proofs.lemmas.Bool.{cond-true, cond-false}
 use Rattle.std.proofs.lemmas.List.{length-replicate, length-take-le, length-drop, take-append-le, drop-append-le, take-replicate, drop-replicate, take_all, take_at, drop_at, drop-drop, append-nil}
 use Rattle.df_base.specs.Fields.{AreBytes}
-use Rattle.df_base.specs.Image.{Image, IsImage, IsPiece, blank, bytes_at, covers, written}
-use Rattle.df_base.specs.Log.{Log, Write, IsLeft, add, loose, now}
+use Rattle.df_base.specs.Image.{Image, IsImage, blank, bytes_at, covers, written}
+use Rattle.df_base.specs.Log.{now}
 use Rattle.df_layout.specs.declared.damage.Class.TheVariants.{Blank}
 use Rattle.df_layout.specs.declared.layout.Layout.{Layout}
 use Rattle.df_layout.specs.declared.places.Place.{Place}
 use Rattle.df_layout.specs.declared.places.Zone.{Zone}
 use Rattle.df_layout.specs.declared.places.Zone.TheVariants.{Superblock, WalHeaders, WalPrepares, ClientReplies, Grid}
-use Rattle.df_layout.specs.Order.{AreApart, ShareHeaderSector}
 use Rattle.df_layout.specs.Spans.{HasPlace, place_sectors, sectors_before, span_of}
 use Rattle.df_layout.proofs.Spans.{are_apart}
 use Rattle.df_format.specs.declared.header.Header.{Header}
 use Rattle.df_format.specs.Spelling.{spelling}
 use Rattle.df_format.specs.Rules.{IsSealed}
-use Rattle.df_format.specs.Message.{Message, unit_of, sectors_of, sectors_end}
-use Rattle.df_format.specs.Own.{place_in, own_place}
-use Rattle.df_format.specs.Whole.{Whole, greatest_size, whole_in}
-use Rattle.df_format.specs.Shown.{part_in, bytes_of, unit_in, class_of, class_of_whole, unit_at, class_at, is_blank}
+use Rattle.df_format.specs.Message.{Message, unit_of, sectors_of}
+use Rattle.df_format.specs.Own.{place_in}
+use Rattle.df_format.specs.Shown.{part_in, bytes_of, unit_in, class_of, unit_at, class_at}
 use Rattle.df_format.specs.Valid.{IsBodyOf, HasBody, IsUnit}
-use Rattle.df_format.specs.UnitLaws.{place_size, IsAtPlace, ShownBelongs, ShownIsUnit, AgreeAt, ShowSame, SameIsShown, put, WrittenIsShown, AreForPlace, SectorsFitPlace, IsOther, WrittenIsApart, SectorIsShown, headers_bytes, AreSixteen, HeadersFillSector, HeaderIsShown, BlankShowsNone, IsQuiet, LeftIsApart}
+use Rattle.df_format.specs.UnitLaws.{place_size, ShownBelongs, ShownIsUnit, AgreeAt, SameIsShown, WrittenIsShown, SectorsFitPlace, IsOther, WrittenIsApart, SectorIsShown, headers_bytes, HeadersFillSector, HeaderIsShown, BlankShowsNone, LeftIsApart}
 use Rattle.df_format.proofs.Messages.{length-sectors, AreBytes-sectors, AreBytes-spelling}
 use Rattle.df_format.proofs.Owned.{own_is, belongs}
 use Rattle.df_format.proofs.Parts.{bytes-take, bytes-drop, bytes-append}
 use Rattle.df_format.proofs.Sectors.{length-bytes_at, AreBytes-bytes_at, same_sectors, written_begins}
-use Rattle.df_format.proofs.Shown.{none_unless, blank_image, uncovered_below, uncovered_above}
+use Rattle.df_format.proofs.Shown.{none_unless, uncovered_below, uncovered_above}
 use Rattle.df_format.proofs.Spelled.{length-spelling}
-use Rattle.df_format.proofs.Wholes.{unit_found, begun_is_shown, one_unit, fits_slot, zeros_are_none, blank-true, blank-from}
+use Rattle.df_format.proofs.Wholes.{unit_found, begun_is_shown, one_unit, fits_slot, zeros_are_none, blank-from}
 
 pub shown_belongs : ShownBelongs
 unfolding unit_at

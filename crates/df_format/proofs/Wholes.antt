@@ -1,12 +1,12 @@
 -- Which unit the bytes of a place show: exactly the one that they begin with.
-use Rattle.std.proofs.Common.{◌≡◌, ◌≢◌, inl, inr, ◌<◌, ◌≤◌, ◌+◌, ◌-◌, ◌*◌, ◌==◌, ℕ, Bool, true, false, List, [], ◌++◌, length, take, drop, replicate, Option, Some, None, cond, refl, sym, ◌∙◌, ap, subst, arith, append_assoc}
+use Rattle.std.proofs.Common.{◌≡◌, ◌≢◌, ◌≤◌, ◌-◌, ◌*◌, ℕ, Bool, true, false, List, ◌++◌, length, take, drop, replicate, Option, Some, None, cond, refl, sym, ◌∙◌, ap, subst, arith, append_assoc}
 use Rattle.std.proofs.lemmas.Bool.{cond-true, cond-false, and_parts, and_from, eqb-true, eq-eqb, leb-true, le-leb}
 use Rattle.std.proofs.lemmas.List.{take_at, drop_at, take-append-drop, length-take-le, length-drop}
 use Rattle.std.proofs.lemmas.Slice.Eq.{bytes_eq-Decides}
 use Rattle.std.specs.Str.{bytes_eq}
 use Rattle.df_base.specs.Fields.{AreBytes, check_of}
 use Rattle.df_layout.specs.declared.damage.Class.{Class}
-use Rattle.df_layout.specs.declared.damage.Class.TheVariants.{Blank, Garbled, Elsewhere, Stale}
+use Rattle.df_layout.specs.declared.damage.Class.TheVariants.{Blank, Elsewhere, Stale}
 use Rattle.df_layout.specs.declared.layout.Layout.{Layout}
 use Rattle.df_layout.specs.declared.places.Place.{Place}
 use Rattle.df_layout.specs.declared.places.Zone.{Zone}
@@ -20,7 +20,7 @@ use Rattle.df_format.specs.Message.{Message}
 use Rattle.df_format.specs.Own.{own_place}
 use Rattle.df_format.specs.Whole.{Whole, greatest_size, body_in, has_body, is_unit, with_own, if_unit, whole_in}
 use Rattle.df_format.specs.Shown.{same_place, if_own, unit_in, is_blank, class_of_whole, class_of}
-use Rattle.df_format.specs.Valid.{IsBodyOf, HasBody, IsUnit, Begins}
+use Rattle.df_format.specs.Valid.{IsBodyOf, HasBody, Begins}
 use Rattle.df_format.specs.UnitLaws.{place_size, UnitsHaveOneSpelling, ValidIsStale, ElsewhereIsOther}
 use Rattle.df_format.proofs.Parts.{bytes-take, bytes-drop}
 use Rattle.df_format.proofs.Codes.{some-eq}

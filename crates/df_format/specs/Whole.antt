@@ -1,5 +1,5 @@
 -- The whole unit that the bytes of a place are, wherever it belongs.
-use Rattle.std.specs.Prelude.{◌≡◌, ◌≤◌, ◌+◌, ◌-◌, ◌==◌, ℕ, List, [], Bool, true, ◌&&◌, nat_le, if◌then◌else◌, length, take, drop, Option, Some, None}
+use Rattle.std.specs.Prelude.{◌-◌, ◌==◌, ℕ, List, [], Bool, true, ◌&&◌, nat_le, if◌then◌else◌, take, drop, Option, Some, None}
 use Rattle.std.specs.Str.{bytes_eq}
 use Rattle.df_base.specs.Fields.{check_of}
 use Rattle.df_layout.specs.declared.layout.Layout.{Layout}

@@ -32,10 +32,20 @@ fn shown(cluster: u128, zone: Zone, index: u64, front: &[u8; 256]) -> Result<Hea
         Zone::Superblock => Err(Class::Garbled),
         Zone::WalHeaders => decode_unit(&small, cluster, place(Zone::WalHeaders, index), front),
         Zone::WalPrepares => {
-            decode_unit(&small, cluster, place(Zone::WalPrepares, index), &slot_of(front))
+            decode_unit(
+                &small,
+                cluster,
+                place(Zone::WalPrepares, index),
+                &slot_of(front),
+            )
         }
         Zone::ClientReplies => {
-            decode_unit(&small, cluster, place(Zone::ClientReplies, index), &slot_of(front))
+            decode_unit(
+                &small,
+                cluster,
+                place(Zone::ClientReplies, index),
+                &slot_of(front),
+            )
         }
         Zone::Grid => decode_unit(&small, cluster, place(Zone::Grid, index), &block_of(front)),
     }
@@ -66,12 +76,32 @@ fn shows_the_unit_of_each_place(rt: HostRuntime) {
 #[test]
 fn tells_units_of_other_places(rt: HostRuntime) {
     let cases = [
-        (Zone::WalHeaders, 4, RESERVED, elsewhere(Zone::WalHeaders, 3)),
+        (
+            Zone::WalHeaders,
+            4,
+            RESERVED,
+            elsewhere(Zone::WalHeaders, 3),
+        ),
         (Zone::WalHeaders, 2, PREPARE, elsewhere(Zone::WalHeaders, 1)),
-        (Zone::WalPrepares, 2, PREPARE, elsewhere(Zone::WalPrepares, 1)),
-        (Zone::ClientReplies, 1, PREPARE, elsewhere(Zone::WalPrepares, 1)),
+        (
+            Zone::WalPrepares,
+            2,
+            PREPARE,
+            elsewhere(Zone::WalPrepares, 1),
+        ),
+        (
+            Zone::ClientReplies,
+            1,
+            PREPARE,
+            elsewhere(Zone::WalPrepares, 1),
+        ),
         (Zone::Grid, 1, PREPARE, elsewhere(Zone::WalPrepares, 1)),
-        (Zone::WalPrepares, 2, REPLY, elsewhere(Zone::ClientReplies, 2)),
+        (
+            Zone::WalPrepares,
+            2,
+            REPLY,
+            elsewhere(Zone::ClientReplies, 2),
+        ),
         (Zone::WalPrepares, 9, BLOCK, elsewhere(Zone::Grid, 9)),
         (Zone::Grid, 8, BLOCK, elsewhere(Zone::Grid, 9)),
         (Zone::WalPrepares, 3, RESERVED, Some(Class::Garbled)),
@@ -98,11 +128,15 @@ fn tells_what_is_no_whole_unit(rt: HostRuntime) {
         (Zone::WalHeaders, 1, changed(&PREPARE, 113, 0x21)),
         (Zone::Grid, 9, changed(&BLOCK, 113, 0x41)),
         // a byte that the checksum doesn't cover rightly
-        (Zone::WalPrepares, 1, {
-            let mut bytes = spelled(&PREPARE);
-            bytes[80] = 2;
-            bytes
-        }),
+        (
+            Zone::WalPrepares,
+            1,
+            {
+                let mut bytes = spelled(&PREPARE);
+                bytes[80] = 2;
+                bytes
+            },
+        ),
     ];
     for (zone, index, front) in cases {
         assert_eq!(rt; shown(7, zone, index, &front), Err(Class::Garbled));
@@ -114,11 +148,21 @@ fn tells_what_is_no_whole_unit(rt: HostRuntime) {
 #[test]
 fn looks_at_a_header_alone_for_blank(rt: HostRuntime) {
     let mut one = [0; 256];
-    for zone in [Zone::WalHeaders, Zone::WalPrepares, Zone::ClientReplies, Zone::Grid] {
+    for zone in [
+        Zone::WalHeaders,
+        Zone::WalPrepares,
+        Zone::ClientReplies,
+        Zone::Grid,
+    ] {
         assert_eq!(rt; shown(7, zone, 1, &[0; 256]), Err(Class::Blank));
     }
     one[255] = 1;
-    for zone in [Zone::WalHeaders, Zone::WalPrepares, Zone::ClientReplies, Zone::Grid] {
+    for zone in [
+        Zone::WalHeaders,
+        Zone::WalPrepares,
+        Zone::ClientReplies,
+        Zone::Grid,
+    ] {
         assert_eq!(rt; shown(7, zone, 1, &one), Err(Class::Garbled));
     }
 }

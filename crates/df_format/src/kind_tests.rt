@@ -128,7 +128,11 @@ fn tests_what_all_kinds_have(rt: HostRuntime) {
     ];
     for front in [RESERVED, PREPARE, REPLY, BLOCK, FIRST_TRAILER, TRAILER] {
         for (at, byte, is) in cases {
-            assert_eq!(rt; decode_header(&changed(&front, at, byte)).is_some(), is, "at {at}");
+            assert_eq!(rt;
+                decode_header(&changed(&front, at, byte)).is_some(),
+                is,
+                "at {at}"
+            );
         }
     }
 }
@@ -179,11 +183,7 @@ const OF_BLOCKS: [(usize, u8, bool); 11] = [
     (121, 255, true),
 ];
 
-const OF_FIRST_TRAILERS: [(usize, u8, bool); 3] = [
-    (48, 1, false),
-    (88, 1, false),
-    (96, 1, false),
-];
+const OF_FIRST_TRAILERS: [(usize, u8, bool); 3] = [(48, 1, false), (88, 1, false), (96, 1, false)];
 
 const OF_TRAILERS: [(usize, u8, bool); 9] = [
     (48, 9, true),

@@ -77,7 +77,11 @@ fn tests_each_field_that_needs_no_layout(rt: HostRuntime) {
         (255, 1, false),
     ];
     for (at, byte, is) in cases {
-        assert_eq!(rt; decode_header(&changed(&PREPARE, at, byte)).is_some(), is, "at {at}");
+        assert_eq!(rt;
+            decode_header(&changed(&PREPARE, at, byte)).is_some(),
+            is,
+            "at {at}"
+        );
     }
     let mut bytes = example();
     bytes[80] = 2;

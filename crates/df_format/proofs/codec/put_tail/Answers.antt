@@ -1,6 +1,6 @@
 use Rattle.std.proofs.Common.{arith, List, ℕ, [], ◌∷◌, ◌++◌, sym, ◌∙◌, ap, take, append_assoc}
 use Rattle.std.proofs.lemmas.List.{take_all}
-use Rattle.df_format.specs.Spelling.{code_of, version_bytes, tail_bytes}
+use Rattle.df_format.specs.Spelling.{version_bytes, tail_bytes}
 use Rattle.df_format.proofs.codec.put_tail.Goals as goal
 
 pub returns : goal.returns
