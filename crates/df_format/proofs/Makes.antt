@@ -1,28 +1,49 @@
 -- What is made is a prepare of its log, and its sectors stand at the front of the buffer.
-use Rattle.std.proofs.Common.{◌≡◌, ℕ, ◌+◌, ◌-◌, ◌≤◌, List, ◌++◌, length, take, drop, replicate, refl, sym, ◌∙◌, ap, subst, arith}
+use Rattle.std.proofs.Common.{◌≡◌, ℕ, ◌+◌, ◌-◌, ◌≤◌, List, [], ◌++◌, length, take, drop, replicate, refl, sym, ◌∙◌, ap, subst, arith}
 use Rattle.std.proofs.lemmas.List.{drop-drop}
 use Rattle.df_base.specs.Fields.{AreBytes}
 use Rattle.df_format.specs.declared.header.Header.{Header}
 use Rattle.df_format.specs.declared.wal.Wal.{Wal}
-use Rattle.df_format.specs.Spelling.{spelling, spelling_rest, ObeysRules, IsSealed, sealed}
-use Rattle.df_format.specs.Unit.{Prepare, IsPrepare, sectors_of, sectors_end}
-use Rattle.df_format.specs.Making.{filled}
+use Rattle.df_format.specs.Spelling.{spelling, spelling_rest, sealed}
+use Rattle.df_format.specs.declared.kind.Kind.{Kind}
+use Rattle.df_format.specs.declared.kind.Kind.TheVariants.{Reserved, Prepare as AsPrepare, Reply, Block, Trailer}
+use Rattle.df_format.specs.Rules.{ObeysKind, ObeysRules, IsSealed}
+use Rattle.df_format.specs.Message.{sectors_of, sectors_end}
+use Rattle.df_format.specs.Unit.{Prepare, IsPrepare}
+use Rattle.df_format.specs.Making.{filled, for_body}
+use Rattle.df_format.specs.UnitLaws.{MadeIsUnit}
+use Rattle.df_format.specs.Valid.{IsBodyOf, HasBody}
+use Rattle.df_layout.specs.declared.places.Zone.{Zone}
+use Rattle.df_layout.specs.declared.places.Zone.TheVariants.{Superblock, WalHeaders, WalPrepares, ClientReplies, Grid}
+
+-- the rules don't speak of the header's own checksum
+kind_sealed : (kind : Kind) (h : Header) → ObeysKind kind h → ObeysKind kind (sealed h)
+kind_sealed Reserved h is = record { body = is.body; parent = is.parent; client = is.client; op = is.op; request = is.request; mark = is.mark; checkpoint = is.checkpoint; size = is.size; block_kind = is.block_kind }
+kind_sealed AsPrepare h is = record { first = is.first; client = is.client; op = is.op; request = is.request; mark = is.mark; checkpoint = is.checkpoint; block_kind = is.block_kind }
+kind_sealed Reply h is = record { client = is.client; op = is.op; request = is.request; mark = is.mark; checkpoint = is.checkpoint; block_kind = is.block_kind }
+kind_sealed Block h is = record { parent = is.parent; client = is.client; op = is.op; request = is.request; mark = is.mark; checkpoint = is.checkpoint; slot = is.slot; block_kind = is.block_kind }
+kind_sealed Trailer h is = record { first = is.first; client = is.client; op = is.op; request = is.request; checkpoint = is.checkpoint; slot = is.slot; block_kind = is.block_kind }
 
 sealed_is : (h : Header) → ObeysRules h → IsSealed (sealed h)
 unfolding spelling_rest
 sealed_is h is = record {
   rules = record {
-    body = is.body;
+    fits = record {
+      body = is.fits.body;
+      cluster = is.fits.cluster;
+      parent = is.fits.parent;
+      client = is.fits.client;
+      op = is.fits.op;
+      request = is.fits.request;
+      mark = is.fits.mark;
+      checkpoint = is.fits.checkpoint;
+      size = is.fits.size;
+      slot = is.fits.slot;
+      block_kind = is.fits.block_kind;
+    };
     cluster = is.cluster;
-    parent = is.parent;
-    first = is.first;
-    client = is.client;
-    op = is.op;
-    request = is.request;
-    mark = is.mark;
-    checkpoint = is.checkpoint;
     size = is.size;
-    slot = is.slot;
+    kind = kind_sealed h.kind h is.kind;
   };
   checksum = refl;
 }
@@ -34,6 +55,7 @@ pub is_prepare : (wal : Wal) (h result : Header) (body : List ℕ) → result �
 is_prepare wal h result body is rules fits are =
     let there : IsPrepare wal (record { header = sealed (filled wal h body); body = body }) = record {
       sealed = sealed_is (filled wal h body) rules;
+      kind = refl;
       cluster = refl;
       size = refl;
       fits = fits;
@@ -55,3 +77,15 @@ pub sectors_made : (p : Prepare) (s1 s2 s3 : List ℕ) (end : ℕ) → take 256 
 unfolding sectors_of
 sectors_made p s1 s2 s3 end head body zeros is =
     zeros ∙ (λ i. (body ∙ ap (λ (l : List ℕ). l ++ p.body) head) i ++ replicate (is i - (256 + length p.body)) 0)
+
+body_made : (zone : Zone) (h : Header) (body : List ℕ) → IsBodyOf h body → (zone ≡ WalHeaders → body ≡ []) → HasBody zone h body
+body_made Superblock h body is none = is
+body_made WalHeaders h body is none = none refl
+body_made WalPrepares h body is none = is
+body_made ClientReplies h body is none = is
+body_made Grid h body is none = is
+
+pub made_is_unit : (h result : Header) (body : List ℕ) → result ≡ sealed (for_body h body) → IsSealed result → AreBytes body → MadeIsUnit (record { header = result; body = body })
+made_is_unit h result body is good are layout place own fits none =
+    let its : IsBodyOf result body = record { size = ap (λ (x : Header). x.size) is; checksum = ap (λ (x : Header). x.checksum_body) is; each = are } in
+    record { sealed = good; owner = refl; fits = fits; body = body_made place.zone result body its none; own = own }

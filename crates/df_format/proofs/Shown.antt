@@ -1,18 +1,16 @@
 -- What an image shows in its slots: the laws that the ring of prepares rests on.
-use Rattle.std.proofs.Common.{◌≡◌, inl, inr, ◌<◌, ◌≤◌, ◌+◌, ◌-◌, ◌*◌, ℕ, zero, suc, false, List, ◌∷◌, ◌++◌, length, take, drop, replicate, Option, Some, None, refl, sym, ◌∙◌, ap, subst, arith, append_assoc, length-append}
+use Rattle.std.proofs.Common.{◌≡◌, inl, inr, ◌<◌, ◌≤◌, ◌+◌, ◌-◌, ◌*◌, ℕ, false, List, ◌++◌, length, take, drop, replicate, Option, Some, None, refl, ◌∙◌, ap, subst, arith, append_assoc}
 use Rattle.std.proofs.lemmas.Bool.{and_left, and_right, lt-leb, le-ltb, cases_order}
 use Rattle.std.proofs.lemmas.List.{length-replicate, take-append-le, take-replicate}
 use Rattle.std.proofs.Math.Nat.{mul-le-mul_right}
-use Rattle.df_base.specs.Fields.{AreBytes, spelled}
 use Rattle.df_base.specs.Image.{IsImage, blank, covers}
-use Rattle.df_base.proofs.FieldBytes.{AreBytes-check_of, AreBytes-spelled}
-use Rattle.df_format.specs.declared.header.Header.{Header}
 use Rattle.df_format.specs.declared.wal.Wal.{Wal}
-use Rattle.df_format.specs.Spelling.{spelling, spelling_rest, tail_bytes, IsSealed}
-use Rattle.df_format.specs.Unit.{Prepare, IsPrepare, unit_of, prepare_in, prepare_at, slot_start, slot_sectors, sectors_of, sectors_end}
+use Rattle.df_format.specs.Spelling.{version_bytes}
+use Rattle.df_format.specs.Message.{unit_of, sectors_of}
+use Rattle.df_format.specs.Unit.{Prepare, IsPrepare, prepare_in, prepare_at, slot_start, slot_sectors}
 use Rattle.df_format.specs.Laws.{ShownHasOp, ShownIsPrepare, SameIsShown, WrittenIsShown, WrittenIsApart, SectorsFitSlot, BlankShowsNone}
-use Rattle.df_format.proofs.Parts.{bytes-append}
-use Rattle.df_format.proofs.Spelled.{read_as, length-spelling}
+use Rattle.df_format.proofs.Messages.{AreBytes-zeros, length-sectors, AreBytes-sectors}
+use Rattle.df_format.proofs.Spelled.{read_as}
 use Rattle.df_format.proofs.Slots.{found_header, found_op, begun_is_found, one_prepare}
 use Rattle.df_format.proofs.Sectors.{length-bytes_at, AreBytes-bytes_at, same_sectors, first_sector, written_begins}
 
@@ -34,63 +32,15 @@ pub shown_same : (wal : Wal) → SameIsShown wal
 unfolding prepare_at
 shown_same wal one two slot same = ap (λ (l : List ℕ). prepare_in wal slot l) (same_sectors one two (slot_start wal slot) (slot_sectors wal) same)
 
-length-unit : (wal : Wal) (p : Prepare) → IsPrepare wal p → length (unit_of p) ≡ 256 + length p.body
-length-unit wal p is = omega (arith, length-append (spelling p.header) p.body, length-spelling p.header is.sealed)
-
-length-sectors : (wal : Wal) (p : Prepare) → IsPrepare wal p → length (sectors_of p) ≡ sectors_end (256 + length p.body)
-unfolding sectors_of
-length-sectors wal p is =
-    let n : ℕ = 256 + length p.body in
-    omega (arith, length-append (unit_of p) (replicate (sectors_end n - n) 0), length-unit wal p is, length-replicate {A = ℕ} (sectors_end n - n) 0)
-
 sectors_fit : (wal : Wal) (p : Prepare) → IsPrepare wal p → length (sectors_of p) ≤ wal.message_size
-sectors_fit wal p is = omega (arith, length-sectors wal p is, is.size, is.fits, wal.limits.whole)
-
-AreBytes-zeros : (n : ℕ) → AreBytes (replicate n 0)
-AreBytes-zeros zero i = omega arith
-AreBytes-zeros (suc n) zero = omega arith
-AreBytes-zeros (suc n) (suc i) = AreBytes-zeros n i
-
-bytes-cons : (x : ℕ) (xs : List ℕ) → x < 256 → AreBytes xs → AreBytes (x ∷ xs)
-bytes-cons x xs small are zero = small
-bytes-cons x xs small are (suc i) = are i
-
-AreBytes-tail : AreBytes tail_bytes
-unfolding tail_bytes
-AreBytes-tail =
-    let zeros : List ℕ = replicate 132 0 in
-    bytes-cons 2 (0 ∷ 1 ∷ 0 ∷ zeros) (omega arith) (bytes-cons 0 (1 ∷ 0 ∷ zeros) (omega arith) (bytes-cons 1 (0 ∷ zeros) (omega arith) (bytes-cons 0 zeros (omega arith) (AreBytes-zeros 132))))
-
-number : (n x : ℕ) (rest : List ℕ) → AreBytes rest → AreBytes (spelled n x ++ rest)
-number n x rest are = bytes-append (spelled n x) rest (AreBytes-spelled n x) are
-
-AreBytes-rest : (h : Header) → IsSealed h → AreBytes (spelling_rest h)
-unfolding spelling_rest
-AreBytes-rest h is =
-    let r116 : List ℕ = spelled 4 h.slot ++ tail_bytes in
-    let r112 : List ℕ = spelled 4 h.size ++ r116 in
-    let r104 : List ℕ = spelled 8 h.checkpoint ++ r112 in
-    let r96 : List ℕ = spelled 8 h.mark ++ r104 in
-    let r88 : List ℕ = spelled 8 h.request ++ r96 in
-    let r80 : List ℕ = spelled 8 h.op ++ r88 in
-    let r64 : List ℕ = spelled 16 h.client ++ r80 in
-    let b80 : AreBytes r80 = number 8 h.op r88 (number 8 h.request r96 (number 8 h.mark r104 (number 8 h.checkpoint r112 (number 4 h.size r116 (number 4 h.slot tail_bytes AreBytes-tail))))) in
-    let b48 : AreBytes (h.parent ++ r64) = bytes-append h.parent r64 is.rules.parent.each (number 16 h.client r80 b80) in
-    bytes-append h.checksum_body (spelled 16 h.cluster ++ (h.parent ++ r64)) is.rules.body.each (number 16 h.cluster (h.parent ++ r64) b48)
-
-AreBytes-spelling : (h : Header) → IsSealed h → AreBytes (spelling h)
-AreBytes-spelling h is = bytes-append h.checksum (spelling_rest h) (subst (λ (l : List ℕ). AreBytes l) (sym is.checksum) (AreBytes-check_of (spelling_rest h))) (AreBytes-rest h is)
-
-AreBytes-sectors : (wal : Wal) (p : Prepare) → IsPrepare wal p → AreBytes (sectors_of p)
-unfolding sectors_of
-AreBytes-sectors wal p is = bytes-append (unit_of p) _ (bytes-append (spelling p.header) p.body (AreBytes-spelling p.header is.sealed) is.each) (AreBytes-zeros _)
+sectors_fit wal p is = omega (arith, length-sectors p is.sealed, is.size, is.fits, wal.limits.whole)
 
 pub sectors_piece : (wal : Wal) → SectorsFitSlot wal
 sectors_piece wal p is = record {
   piece = record {
-    some = omega (arith, length-sectors wal p is);
-    whole = omega (arith, length-sectors wal p is);
-    each = AreBytes-sectors wal p is;
+    some = omega (arith, length-sectors p is.sealed);
+    whole = omega (arith, length-sectors p is.sealed);
+    each = AreBytes-sectors p is.sealed is.each;
   };
   fits = sectors_fit wal p is;
 }
@@ -107,11 +57,11 @@ below first a b k s order inside =
     let rows = mul-le-mul_right s order in
     omega (arith, rows)
 
-uncovered_below : (at : ℕ) (bytes : List ℕ) (sector : ℕ) → sector < at → covers at bytes sector ≡ false
+pub uncovered_below : (at : ℕ) (bytes : List ℕ) (sector : ℕ) → sector < at → covers at bytes sector ≡ false
 unfolding covers
 uncovered_below at bytes sector order = and_left _ _ (lt-leb at sector order)
 
-uncovered_above : (at : ℕ) (bytes : List ℕ) (sector n : ℕ) → length bytes ≤ 4096 * n → at + n ≤ sector → covers at bytes sector ≡ false
+pub uncovered_above : (at : ℕ) (bytes : List ℕ) (sector n : ℕ) → length bytes ≤ 4096 * n → at + n ≤ sector → covers at bytes sector ≡ false
 unfolding covers
 uncovered_above at bytes sector n fits order = and_right _ _ (le-ltb (4096 * (sector - at)) (length bytes) (omega arith))
 
@@ -128,7 +78,7 @@ written_apart wal p other k is apart inside =
       ]
     ]
 
-none_unless : {X : Type 0} (o : Option X) → ((x : X) → o ≡ Some x → ⊥) → o ≡ None
+pub none_unless : {X : Type 0} (o : Option X) → ((x : X) → o ≡ Some x → ⊥) → o ≡ None
 none_unless None never = refl
 none_unless (Some x) never = absurd (never x refl)
 
@@ -136,9 +86,9 @@ blank_front : (sector : ℕ) (rest : List ℕ) → take 256 (blank sector ++ res
 unfolding blank
 blank_front sector rest = take-append-le 256 (replicate 4096 0) rest (omega (arith, length-replicate {A = ℕ} 4096 0)) ∙ take-replicate 256 4096 0 (omega arith)
 
-zeros_are_no_tail : take 136 (drop 120 (replicate 256 0)) ≡ tail_bytes → ⊥
-unfolding tail_bytes
-zeros_are_no_tail is = cc
+zeros_are_no_version : take 134 (drop 122 (replicate 256 0)) ≡ version_bytes → ⊥
+unfolding version_bytes
+zeros_are_no_version is = cc
 
 pub blank_none : (wal : Wal) → BlankShowsNone wal
 unfolding prepare_at
@@ -146,7 +96,7 @@ blank_none wal slot = none_unless _ (λ p is.
     let first = first_sector blank (slot_start wal slot) (slot_sectors wal) (omega (arith, wal.limits.least)) in
     let zeros = ap (λ (l : List ℕ). take 256 l) first.1 ∙ blank_front (slot_start wal slot) first.0 in
     let read = read_as _ _ (found_header wal slot _ p is) in
-    zeros_are_no_tail (subst (λ (l : List ℕ). take 136 (drop 120 l) ≡ tail_bytes) zeros read.tail))
+    zeros_are_no_version (subst (λ (l : List ℕ). take 134 (drop 122 l) ≡ version_bytes) zeros read.version))
 
 pub blank_image : IsImage blank
 unfolding blank

@@ -4,9 +4,11 @@ use Rattle.df_base.specs.Fields.{AreBytes}
 use Rattle.df_base.specs.Image.{Image, IsImage, IsPiece, blank, covers, written}
 use Rattle.df_format.specs.declared.header.Header.{Header}
 use Rattle.df_format.specs.declared.wal.Wal.{Wal}
-use Rattle.df_format.specs.Spelling.{spelling, IsSealed}
+use Rattle.df_format.specs.Spelling.{spelling}
+use Rattle.df_format.specs.Rules.{IsSealed}
 use Rattle.df_format.specs.Reading.{header_in}
-use Rattle.df_format.specs.Unit.{Prepare, IsPrepare, BeginsWith, prepare_in, prepare_at, slot_start, slot_sectors, sectors_of}
+use Rattle.df_format.specs.Message.{sectors_of}
+use Rattle.df_format.specs.Unit.{Prepare, IsPrepare, BeginsWith, prepare_in, prepare_at, slot_start, slot_sectors}
 
 -- 256 bytes are read as a header exactly where it is sealed and they are its spelling
 abbrev pub HeadersHaveOneSpelling : Type 0

@@ -1,7 +1,16 @@
 pub mod Limits
 pub mod Spelling
+pub mod Rules
 pub mod Reading
+pub mod Message
 pub mod Unit
+pub mod Own
+pub mod Whole
+pub mod Shown
+pub mod Valid
+pub mod Wanted
 pub mod Chance
+pub mod Pools
 pub mod Laws
+pub mod UnitLaws
 pub mod Making

@@ -1,13 +1,21 @@
 -- The fields of a header at their offsets, and the tests that its bytes have to pass.
-use Rattle.std.specs.Prelude.{◌^◌, ◌==◌, ℕ, List, Bool, ◌&&◌, ◌||◌, not, nat_lt, nat_le, if◌then◌else◌, take, drop, Option, Some, None}
+use Rattle.std.specs.Prelude.{◌^◌, ◌==◌, ℕ, List, [], Bool, ◌&&◌, ◌||◌, not, nat_lt, nat_le, if◌then◌else◌, take, drop, slice_index, Option, Some, None}
 use Rattle.std.specs.Str.{bytes_eq}
 use Rattle.df_base.specs.Fields.{field_at, check_of}
 use Rattle.df_format.specs.declared.header.Header.{Header}
-use Rattle.df_format.specs.Spelling.{tail_bytes, no_checksum}
+use Rattle.df_format.specs.declared.kind.Kind.{Kind}
+use Rattle.df_format.specs.declared.kind.Kind.TheVariants.{Reserved, Prepare, Reply, Block, Trailer}
+use Rattle.df_format.specs.Spelling.{no_checksum, version_bytes}
 
--- the fields as they stand, wherever the bytes come from
-unfoldable pub fields_of : List ℕ → Header
-fields_of bytes = record {
+-- the kind of a code
+unfoldable pub kind_of : ℕ → Option Kind
+kind_of code =
+    if code == 1 then Some Reserved
+    else (if code == 2 then Some Prepare else (if code == 3 then Some Reply else (if code == 4 then Some Block else (if code == 5 then Some Trailer else None))))
+
+-- the fields as they stand, wherever the bytes come from, for the kind that byte 120 says
+unfoldable pub fields_of : Kind → List ℕ → Header
+fields_of kind bytes = record {
   checksum = take 16 bytes;
   checksum_body = take 16 (drop 16 bytes);
   cluster = field_at 16 32 bytes;
@@ -19,32 +27,88 @@ fields_of bytes = record {
   checkpoint = field_at 8 104 bytes;
   size = field_at 4 112 bytes;
   slot = field_at 4 116 bytes;
+  kind = kind;
+  block_kind = slice_index bytes 121;
 }
 
 -- a number from 1 to 2 ^ 62
 abbrev pub is_counter : ℕ → Bool
 is_counter n = nat_lt 0 n && nat_le n (2 ^ 62)
 
--- the numbers of a header are in their ranges, and op 1 has no parent
-unfoldable pub has_numbers : Header → Bool
-has_numbers h =
-    nat_lt 0 h.cluster
+-- no parent
+abbrev pub has_no_parent : Header → Bool
+has_no_parent h = bytes_eq h.parent no_checksum
+
+-- the tests of a prepare's header
+unfoldable pub is_prepare : Header → Bool
+is_prepare h =
+    (not (h.op == 1) || has_no_parent h)
     && nat_lt 0 h.client
     && is_counter h.op
     && is_counter h.request
     && nat_lt h.mark h.op
     && is_counter h.checkpoint
-    && nat_le 256 h.size
-    && (not (h.op == 1) || bytes_eq h.parent no_checksum)
+    && (h.block_kind == 0)
 
--- the checksum is right, and the bytes that no field of a prepare varies are as they have to be
+-- of a reply's
+unfoldable pub is_reply : Header → Bool
+is_reply h =
+    nat_lt 0 h.client
+    && is_counter h.op
+    && is_counter h.request
+    && nat_le h.op h.mark
+    && nat_le h.mark (2 ^ 62)
+    && is_counter h.checkpoint
+    && (h.block_kind == 0)
+
+-- neither a parent nor a client, no numbers of a request and a checkpoint
+unfoldable pub is_bare : Header → Bool
+is_bare h = has_no_parent h && (h.client == 0) && (h.request == 0) && (h.mark == 0) && (h.checkpoint == 0)
+
+-- of a reserved header
+unfoldable pub is_reserved : Header → Bool
+is_reserved h = is_bare h && bytes_eq h.checksum_body (check_of []) && (h.op == 0) && (h.size == 256) && (h.block_kind == 0)
+
+-- of a block's
+unfoldable pub is_block : Header → Bool
+is_block h = is_bare h && nat_lt 0 h.op && (h.slot == 0) && nat_lt 0 h.block_kind
+
+-- a trailer block with index 0 has no parent and none before it, and any other names the one before it
+abbrev pub is_linked : Header → Bool
+is_linked h = if h.mark == 0 then (h.request == 0) && has_no_parent h else nat_lt 0 h.request
+
+-- of a trailer block's
+unfoldable pub is_trailer : Header → Bool
+is_trailer h =
+    is_linked h
+    && (h.client == 0)
+    && nat_lt 0 h.op
+    && nat_le 2 h.checkpoint
+    && nat_le h.checkpoint (2 ^ 62)
+    && (h.slot == 0)
+    && (h.block_kind == 0)
+
+-- of a kind's
+abbrev pub is_of_kind : Kind → Header → Bool
+is_of_kind Reserved h = is_reserved h
+is_of_kind Prepare h = is_prepare h
+is_of_kind Reply h = is_reply h
+is_of_kind Block h = is_block h
+is_of_kind Trailer h = is_trailer h
+
+-- the numbers of a header are in their ranges
+abbrev pub has_numbers : Header → Bool
+has_numbers h = nat_lt 0 h.cluster && nat_le 256 h.size && is_of_kind h.kind h
+
+-- the checksum is right, and the bytes that are the same in every header are as they have to be
 unfoldable pub is_spelled : List ℕ → Bool
-is_spelled bytes = bytes_eq (take 16 bytes) (check_of (take 240 (drop 16 bytes))) && bytes_eq (take 136 (drop 120 bytes)) tail_bytes
+is_spelled bytes = bytes_eq (take 16 bytes) (check_of (take 240 (drop 16 bytes))) && bytes_eq (take 134 (drop 122 bytes)) version_bytes
 
--- the bytes pass every test of a header that needs no layout
-abbrev pub is_header : List ℕ → Bool
-is_header bytes = is_spelled bytes && has_numbers (fields_of bytes)
+-- the header of this kind, where the bytes pass every test that needs no layout
+abbrev pub header_of_kind : List ℕ → Option Kind → Option Header
+header_of_kind bytes None = None
+header_of_kind bytes (Some kind) = if is_spelled bytes && has_numbers (fields_of kind bytes) then Some (fields_of kind bytes) else None
 
 -- the header that 256 bytes are, where they are one
 unfoldable pub header_in : List ℕ → Option Header
-header_in bytes = if is_header bytes then Some (fields_of bytes) else None
+header_in bytes = header_of_kind bytes (kind_of (slice_index bytes 120))

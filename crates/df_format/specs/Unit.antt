@@ -1,32 +1,32 @@
 -- The prepare that a slot shows.
-use Rattle.std.specs.Prelude.{◌≡◌, ◌≤◌, ◌+◌, ◌-◌, ◌*◌, ◌/◌, ◌%◌, ◌==◌, ℕ, List, Bool, ◌&&◌, ◌++◌, nat_le, if◌then◌else◌, length, take, drop, replicate, Option, Some, None}
+use Rattle.std.specs.Prelude.{◌≡◌, ◌≤◌, ◌+◌, ◌-◌, ◌*◌, ◌/◌, ◌%◌, ◌==◌, ℕ, List, Bool, true, false, ◌&&◌, ◌++◌, nat_le, if◌then◌else◌, length, take, drop, Option, Some, None}
 use Rattle.std.specs.Str.{bytes_eq}
 use Rattle.df_base.specs.Fields.{AreBytes, check_of}
 use Rattle.df_base.specs.Image.{Image, bytes_at}
 use Rattle.df_format.specs.declared.header.Header.{Header}
+use Rattle.df_format.specs.declared.kind.Kind.{Kind}
+use Rattle.df_format.specs.declared.kind.Kind.TheVariants.{Prepare as AsPrepare}
 use Rattle.df_format.specs.declared.wal.Wal.{Wal}
-use Rattle.df_format.specs.Spelling.{spelling, IsSealed}
+use Rattle.df_format.specs.Rules.{IsSealed}
 use Rattle.df_format.specs.Reading.{header_in}
+unfoldable pub use Rattle.df_format.specs.Message.{unit_of, sectors_of, sectors_end}
+use Rattle.df_format.specs.Message.{Message}
 
--- a header and the body that follows it
-pub record Prepare : Type 0 where
-  pub header : Header
-  pub body : List ℕ
+-- a unit of the log: a header and the body that follows it
+abbrev pub Prepare : Type 0
+Prepare = Message
 
--- A prepare of this log with its own slot: sealed, of the log's cluster, no longer than a slot, with the checksum
+-- A prepare of this log with its own slot: sealed as a prepare, of the log's cluster, no longer than a slot, with the checksum
 -- of its body, and in the slot that its op belongs to.
 pub record IsPrepare (wal : Wal) (p : Prepare) : Type 0 where
   pub sealed : IsSealed p.header
+  pub kind : p.header.kind ≡ AsPrepare
   pub cluster : p.header.cluster ≡ wal.cluster
   pub size : p.header.size ≡ 256 + length p.body
   pub fits : p.header.size ≤ wal.message_size
   pub body : p.header.checksum_body ≡ check_of p.body
   pub each : AreBytes p.body
   pub slot : p.header.slot ≡ p.header.op % wal.slots
-
--- the bytes of a whole prepare
-abbrev pub unit_of : Prepare → List ℕ
-unit_of p = spelling p.header ++ p.body
 
 -- the bytes begin with a whole prepare, whose slot is this one
 pub record BeginsWith (wal : Wal) (slot : ℕ) (bytes : List ℕ) (p : Prepare) : Type 0 where
@@ -35,10 +35,16 @@ pub record BeginsWith (wal : Wal) (slot : ℕ) (bytes : List ℕ) (p : Prepare) 
   pub rest : List ℕ
   pub spelled : bytes ≡ unit_of p ++ rest
 
--- the tests of a header for a slot: its cluster, its size, its slot, and the checksum of the body behind it
+-- the kind of a prepare
+abbrev pub is_of_log : Kind → Bool
+is_of_log AsPrepare = true
+is_of_log _ = false
+
+-- the tests of a header for a slot: its kind, its cluster, its size, its slot, and the checksum of the body behind it
 abbrev pub is_whole : Wal → ℕ → List ℕ → Header → Bool
 is_whole wal slot bytes h =
-    (h.cluster == wal.cluster)
+    is_of_log h.kind
+    && (h.cluster == wal.cluster)
     && nat_le h.size wal.message_size
     && (h.slot == h.op % wal.slots)
     && (h.slot == slot)
@@ -69,11 +75,3 @@ slot_start wal slot = wal.first_sector + slot * slot_sectors wal
 -- the valid prepare that an image shows in a slot
 unfoldable pub prepare_at : Wal → Image → ℕ → Option Prepare
 prepare_at wal image slot = prepare_in wal slot (bytes_at image (slot_start wal slot) (slot_sectors wal))
-
--- how many bytes of whole sectors n bytes cover
-abbrev pub sectors_end : ℕ → ℕ
-sectors_end n = 4096 * ((n + 4095) / 4096)
-
--- the whole sectors of a prepare, filled with zeros
-unfoldable pub sectors_of : Prepare → List ℕ
-sectors_of p = unit_of p ++ replicate (sectors_end (256 + length p.body) - (256 + length p.body)) 0

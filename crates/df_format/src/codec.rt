@@ -1,11 +1,13 @@
 // The 256 bytes of a header: how they are written, and how they are tested and read. A header has one spelling.
 ghost use Rattle.std.specs.Prelude.{◌≡◌, ◌+◌, ◌≤◌, ◌++◌, length, take, drop};
 ghost use Rattle.std.specs.Str.{bytes_eq};
-ghost use Rattle.df_format.specs.Spelling.{ObeysRules, IsSealed, sealed, spelling, spelling_rest, tail_bytes};
-ghost use Rattle.df_format.specs.Reading.{fields_of, is_counter, has_numbers, is_spelled, header_in};
+ghost use Rattle.df_format.specs.Spelling.{sealed, spelling, spelling_rest, code_of, tail_bytes};
+ghost use Rattle.df_format.specs.Rules.{ObeysRules, IsSealed};
+ghost use Rattle.df_format.specs.Reading.{kind_of, fields_of, is_spelled, header_in};
 
-use crate::Header;
 use crate::pieces::put_bytes;
+use crate::rules::has_numbers;
+use crate::{Header, Kind};
 use df_base::{Check, HEADER, check, put_u32, put_u64, put_u128, u32_at, u64_at, u128_at};
 
 // The end of the checksum, which covers all that follows it.
@@ -14,20 +16,17 @@ const SUMMED: usize = 16;
 // Where the kind begins, and behind it version, boot and zeros.
 const TAIL: usize = 120;
 
-// Bytes 120 to 256 of a prepare's header: its kind, no block kind, version 1, boot 0, and zeros.
-const TAIL_BYTES: [u8; 136] = [
-    2, 0, 1, 0, 0, 0, 0, 0, 0, 0, 0, 0, 0, 0, 0, 0, 0, 0, 0, 0, 0, 0, 0, 0, 0, 0, 0, 0, 0, 0, 0, 0,
+// Where the version begins, and behind it boot and zeros.
+const VERSION: usize = 122;
+
+// Bytes 122 to 256 of every header: version 1, boot 0, and zeros.
+const VERSION_BYTES: [u8; 134] = [
+    1, 0, 0, 0, 0, 0, 0, 0, 0, 0, 0, 0, 0, 0, 0, 0, 0, 0, 0, 0, 0, 0, 0, 0, 0, 0, 0, 0, 0, 0, 0, 0,
     0, 0, 0, 0, 0, 0, 0, 0, 0, 0, 0, 0, 0, 0, 0, 0, 0, 0, 0, 0, 0, 0, 0, 0, 0, 0, 0, 0, 0, 0, 0, 0,
     0, 0, 0, 0, 0, 0, 0, 0, 0, 0, 0, 0, 0, 0, 0, 0, 0, 0, 0, 0, 0, 0, 0, 0, 0, 0, 0, 0, 0, 0, 0, 0,
     0, 0, 0, 0, 0, 0, 0, 0, 0, 0, 0, 0, 0, 0, 0, 0, 0, 0, 0, 0, 0, 0, 0, 0, 0, 0, 0, 0, 0, 0, 0, 0,
-    0, 0, 0, 0, 0, 0, 0, 0,
+    0, 0, 0, 0, 0, 0,
 ];
-
-// The greatest op, request and sequence.
-const GREATEST: u64 = 1 << 62;
-
-// What stands in place of a checksum where there is none.
-const NO_CHECKSUM: Check = [0; 16];
 
 // Writes a checksum over 16 bytes.
 fn put_check(into: &mut [u8], at: usize, value: &Check)
@@ -37,12 +36,26 @@ fn put_check(into: &mut [u8], at: usize, value: &Check)
     put_bytes(into, at, value);
 }
 
-#[tactic(auto, unfolding(crate::specs::Spelling::tail_bytes))]
-fn put_tail(into: &mut [u8])
-    requires { length into.old ≡ 256 }
-    ensures { into.new ≡ take 120 into.old ++ tail_bytes }
+// The byte that says a kind.
+fn code_of(kind: Kind) -> u8
+    ensures { result ≡ code_of kind }
 {
-    put_bytes(into, TAIL, &TAIL_BYTES);
+    match kind {
+        Kind::Reserved => 1,
+        Kind::Prepare => 2,
+        Kind::Reply => 3,
+        Kind::Block => 4,
+        Kind::Trailer => 5,
+    }
+}
+
+#[tactic(auto, unfolding(crate::specs::Spelling::tail_bytes, crate::specs::Spelling::version_bytes))]
+fn put_tail(into: &mut [u8], kind: Kind, block_kind: u8)
+    requires { length into.old ≡ 256 }
+    ensures { into.new ≡ take 120 into.old ++ tail_bytes kind block_kind }
+{
+    put_bytes(into, TAIL, &[code_of(kind), block_kind]);
+    put_bytes(into, VERSION, &VERSION_BYTES);
 }
 
 // Writes all that the checksum covers.
@@ -60,7 +73,7 @@ fn put_fields(into: &mut [u8], header: &Header)
     put_u64(into, 104, header.checkpoint);
     put_u32(into, 112, header.size);
     put_u32(into, 116, header.slot);
-    put_tail(into);
+    put_tail(into, header.kind, header.block_kind);
 }
 
 /// The header with the checksum that its other fields give.
@@ -97,9 +110,9 @@ fn check_at(bytes: &[u8], at: usize) -> Check
 }
 
 #[tactic(auto, unfolding(crate::specs::Reading::fields_of))]
-fn fields_of(bytes: &[u8]) -> Header
+fn fields_of(kind: Kind, bytes: &[u8]) -> Header
     requires { length bytes.now ≡ 256 }
-    ensures { result ≡ fields_of bytes.now }
+    ensures { result ≡ fields_of kind bytes.now }
 {
     Header {
         checksum: check_at(bytes, 0),
@@ -113,46 +126,44 @@ fn fields_of(bytes: &[u8]) -> Header
         checkpoint: u64_at(bytes, 104),
         size: u32_at(bytes, 112),
         slot: u32_at(bytes, 116),
+        kind,
+        block_kind: bytes[121],
     }
 }
 
-fn is_counter(n: u64) -> bool
-    ensures { result ≡ is_counter n }
+// The kind that a byte says.
+#[tactic(auto, unfolding(crate::specs::Reading::kind_of))]
+fn kind_of(code: u8) -> Option<Kind>
+    ensures { result ≡ kind_of code }
 {
-    0 < n && n <= GREATEST
+    match code {
+        1 => Some(Kind::Reserved),
+        2 => Some(Kind::Prepare),
+        3 => Some(Kind::Reply),
+        4 => Some(Kind::Block),
+        5 => Some(Kind::Trailer),
+        _ => None,
+    }
 }
 
-#[tactic(auto, unfolding(crate::specs::Reading::has_numbers, crate::specs::Spelling::no_checksum))]
-fn has_numbers(header: &Header) -> bool
-    ensures { result ≡ has_numbers header.now }
-{
-    0 < header.cluster
-        && 0 < header.client
-        && is_counter(header.op)
-        && is_counter(header.request)
-        && header.mark < header.op
-        && is_counter(header.checkpoint)
-        && HEADER as u32 <= header.size
-        && (header.op != 1 || header.parent == NO_CHECKSUM)
-}
-
-#[tactic(auto, unfolding(crate::specs::Reading::is_spelled, crate::specs::Spelling::tail_bytes))]
+#[tactic(auto, unfolding(crate::specs::Reading::is_spelled, crate::specs::Spelling::version_bytes))]
 fn is_spelled(bytes: &[u8]) -> bool
     requires { length bytes.now ≡ 256 }
     ensures { result ≡ is_spelled bytes.now }
 {
     &bytes[..SUMMED] == check(&bytes[SUMMED..HEADER]).as_slice()
-        && &bytes[TAIL..HEADER] == TAIL_BYTES.as_slice()
+        && &bytes[VERSION..HEADER] == VERSION_BYTES.as_slice()
 }
 
-/// The header that 256 bytes are the spelling of; None where they are that of no prepare's header that obeys the
-/// rules. The rules that need a layout aren't tested.
+/// The header that 256 bytes are the spelling of; None where they are that of no header that obeys the rules of its
+/// kind. The rules that need a layout aren't tested.
 #[tactic(auto, unfolding(crate::specs::Reading::header_in))]
 pub fn decode_header(bytes: &[u8]) -> Option<Header>
     requires { length bytes.now ≡ 256 }
     ensures { result ≡ header_in bytes.now }
 {
-    let header = fields_of(bytes);
+    let kind = kind_of(bytes[TAIL])?;
+    let header = fields_of(kind, bytes);
     if is_spelled(bytes) && has_numbers(&header) {
         Some(header)
     } else {

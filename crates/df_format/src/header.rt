@@ -1,7 +1,8 @@
-// The message header: what it says of a unit.
+// The message header: what it says of a unit. Fields that its kind has no use for are zero.
+use crate::Kind;
 use df_base::Check;
 
-/// The header of a prepare, 256 bytes in the file.
+/// The header of a unit, 256 bytes in the file.
 #[derive(Clone, Copy, Debug, PartialEq, Eq)]
 pub struct Header {
     /// The checksum of bytes 16 to 256 of the header.
@@ -9,17 +10,24 @@ pub struct Header {
     /// The checksum of the body.
     pub checksum_body: Check,
     pub cluster: u128,
-    /// The checksum of the prepare with the op before, zeros for op 1.
+    /// Of a prepare, the checksum of the one with the op before (zeros for op 1); of a reply, that of its prepare; of a
+    /// trailer block, that of the one with the index before (zeros for index 0).
     pub parent: Check,
     pub client: u128,
+    /// The op of a prepare or of the one that a reply answers; the address of a block.
     pub op: u64,
+    /// The client's request; of a trailer block the address of the one before it, 0 for index 0.
     pub request: u64,
-    /// The number of replies that were stored when it was appended.
+    /// Of a prepare, how many replies were stored when it was appended; of a reply, the greatest op when it was stored;
+    /// of a trailer block, its index.
     pub mark: u64,
-    /// The superblock's sequence when it was appended.
+    /// The superblock's sequence when the unit was made; of a trailer block, that of its checkpoint.
     pub checkpoint: u64,
     /// Bytes of header and body.
     pub size: u32,
-    /// Its slot in the ring.
+    /// The slot in the rings, or the session's place of a reply.
     pub slot: u32,
+    pub kind: Kind,
+    /// What its owner says of a block, from 1; 0 in all other kinds.
+    pub block_kind: u8,
 }

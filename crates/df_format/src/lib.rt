@@ -1,21 +1,44 @@
 //! The bytes of a unit in the file: the header's one spelling, and which unit a slot shows.
 #![tactic(auto)]
 
+#[cfg(test)]
+mod class_tests;
 mod codec;
+mod decode;
+#[cfg(test)]
+mod examples;
 mod header;
+mod kind;
+#[cfg(test)]
+mod kind_tests;
 mod laws;
+mod make;
+mod own;
 mod pieces;
 mod places;
+mod reference;
+mod rules;
 #[cfg(test)]
 mod tests;
 mod unit;
+mod unit_laws;
 mod wal;
 
 pub use codec::{decode_header, encode_header, seal_header};
+pub use decode::decode_unit;
 pub use header::Header;
+pub use kind::Kind;
 pub use laws::{
     blank_shows_none, headers_have_one_spelling, same_is_shown, shown_belongs,
     slots_have_one_prepare, written_is_shown,
 };
-pub use unit::{Made, decode_prepare, make_prepare};
+pub use make::{Made, make_unit};
+pub use own::own_place;
+pub use reference::Reference;
+pub use unit::{decode_prepare, make_prepare};
+pub use unit_laws::{
+    blank_shows_no_unit, classes_tell, header_sector_is_shown, left_is_old_or_new,
+    other_places_stay, places_show_their_sectors, prepares_are_units, units_belong,
+    units_have_one_spelling, written_unit_is_shown,
+};
 pub use wal::Wal;

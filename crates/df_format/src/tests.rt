@@ -1,18 +1,9 @@
 // The definitions against values from outside: the bytes of an example, and which changed bytes are refused.
 ghost use Rattle.df_format.specs.Making.{AreGiven};
 
-use crate::{Header, Wal, decode_header, decode_prepare, make_prepare};
-use df_base::{HEADER, check};
-
-// The prepare of op 1 in cluster 7 on layout small: client 5, request 1, no body, sequence 1, no reply stored. Its
-// checksum is from another implementation of SHA-256.
-const EXAMPLE: [u8; 124] = [
-    0xb8, 0xf7, 0x0a, 0xe1, 0xa7, 0xa8, 0x9d, 0x53, 0x38, 0x37, 0xc1, 0x10, 0x9c, 0x02, 0x8b, 0x26,
-    0xe3, 0xb0, 0xc4, 0x42, 0x98, 0xfc, 0x1c, 0x14, 0x9a, 0xfb, 0xf4, 0xc8, 0x99, 0x6f, 0xb9, 0x24,
-    7, 0, 0, 0, 0, 0, 0, 0, 0, 0, 0, 0, 0, 0, 0, 0, 0, 0, 0, 0, 0, 0, 0, 0, 0, 0, 0, 0, 0, 0, 0, 0,
-    5, 0, 0, 0, 0, 0, 0, 0, 0, 0, 0, 0, 0, 0, 0, 0, 1, 0, 0, 0, 0, 0, 0, 0, 1, 0, 0, 0, 0, 0, 0, 0,
-    0, 0, 0, 0, 0, 0, 0, 0, 1, 0, 0, 0, 0, 0, 0, 0, 0, 1, 0, 0, 1, 0, 0, 0, 2, 0, 1, 0,
-];
+use crate::examples::{PREPARE, changed, spelled};
+use crate::{Header, Kind, Wal, decode_header, decode_prepare, make_prepare};
+use df_layout::Layout;
 
 // What the maker of the example says of it; the other fields are set.
 fn given() -> Header
@@ -30,24 +21,13 @@ fn given() -> Header
         checkpoint: 1,
         size: 0,
         slot: 0,
+        kind: Kind::Prepare,
+        block_kind: 0,
     }
 }
 
 fn example() -> [u8; 256] {
-    let mut bytes = [0; HEADER];
-    bytes[..124].copy_from_slice(&EXAMPLE);
-    bytes
-}
-
-// Whether the example is still a header with one byte changed and the checksum made right again.
-fn is_header_with(at: usize, byte: u8) -> bool {
-    let mut bytes = example();
-    if at < bytes.len() {
-        bytes[at] = byte;
-    }
-    let sum = check(&bytes[16..]);
-    bytes[..16].copy_from_slice(&sum);
-    decode_header(&bytes).is_some()
+    spelled(&PREPARE)
 }
 
 // The example, zeros up to the end of its sector, and nines behind it.
@@ -60,7 +40,8 @@ fn is_example_before_nines(slot: &[u8]) -> bool {
 
 #[test]
 fn makes_and_reads_the_example(rt: HostRuntime) {
-    let wal = Wal::small();
+    let wal = Wal::of(&Layout::small(), 7);
+    assert_eq!(rt; wal, Wal::small());
     let mut slot = [9u8; 8192];
     let made = make_prepare(&wal, given(), &[], &mut slot);
     assert_eq!(rt; made.length, 4096);
@@ -96,7 +77,11 @@ fn tests_each_field_that_needs_no_layout(rt: HostRuntime) {
         (255, 1, false),
     ];
     for (at, byte, is) in cases {
-        assert_eq!(rt; is_header_with(at, byte), is, "at {at}");
+        assert_eq!(rt;
+            decode_header(&changed(&PREPARE, at, byte)).is_some(),
+            is,
+            "at {at}"
+        );
     }
     let mut bytes = example();
     bytes[80] = 2;

@@ -1,13 +1,20 @@
-// The prepare that a slot shows: how its bytes are tested, and how they are made.
+// The prepare that a slot of the log shows: how its bytes are tested, and how they are made.
 ghost use Rattle.std.specs.Prelude.{◌≡◌, ◌+◌, ◌-◌, ◌*◌, ◌/◌, ◌≤◌, ◌++◌, length, take, drop, replicate};
 ghost use Rattle.df_base.specs.Fields.{check_of};
-ghost use Rattle.df_format.specs.Spelling.{IsSealed, ObeysRules, spelling, sealed};
-ghost use Rattle.df_format.specs.Unit.{IsPrepare, prepare_in, header_of, is_whole, sectors_end, sectors_of};
+ghost use Rattle.df_format.specs.Spelling.{sealed};
+ghost use Rattle.df_format.specs.Rules.{ObeysRules};
+ghost use Rattle.df_format.specs.Message.{sectors_end, sectors_of};
+ghost use Rattle.df_format.specs.Unit.{IsPrepare, prepare_in, header_of, is_of_log, is_whole};
 ghost use Rattle.df_format.specs.Making.{AreGiven, filled};
 
-use crate::pieces::{put_bytes, put_zeros};
-use crate::{Header, Wal, decode_header, encode_header, seal_header};
-use df_base::{HEADER, SECTOR, check};
+use crate::{Header, Kind, Made, Wal, decode_header, make_unit};
+use df_base::{HEADER, check};
+
+fn is_of_log(kind: Kind) -> bool
+    ensures { result ≡ is_of_log kind }
+{
+    matches!(kind, Kind::Prepare)
+}
 
 // The tests of a header for the slot that it was read from, and of the body behind it.
 fn is_whole(wal: &Wal, slot: u32, bytes: &[u8], header: &Header) -> bool
@@ -15,7 +22,8 @@ fn is_whole(wal: &Wal, slot: u32, bytes: &[u8], header: &Header) -> bool
     requires least { 256 ≤ header.now.size }
     ensures { result ≡ is_whole wal.now slot bytes.now header.now }
 {
-    header.cluster == wal.cluster
+    is_of_log(header.kind)
+        && header.cluster == wal.cluster
         && header.size <= wal.message_size
         && u64::from(header.slot) == header.op % u64::from(wal.slots)
         && header.slot == slot
@@ -37,22 +45,6 @@ pub fn decode_prepare(wal: &Wal, slot: u32, bytes: &[u8]) -> Option<Header>
     }
 }
 
-/// A prepare that was made in a buffer.
-#[derive(Clone, Copy, Debug, PartialEq, Eq)]
-pub struct Made {
-    pub header: Header,
-    /// Bytes of its whole sectors, at the front of the buffer.
-    pub length: usize,
-}
-
-// How many bytes of whole sectors so many bytes cover.
-fn sectors_end(size: usize) -> usize
-    requires { size ≤ 1048576 }
-    ensures { result ≡ sectors_end size }
-{
-    SECTOR * ((size + SECTOR - 1) / SECTOR)
-}
-
 // The header with the fields that follow from the log, the op and the body.
 fn fill(wal: &Wal, header: Header, body: &[u8]) -> Header
     requires given { AreGiven header }
@@ -65,39 +57,14 @@ fn fill(wal: &Wal, header: Header, body: &[u8]) -> Header
         checksum_body: check(body),
         size: (HEADER + body.len()) as u32,
         slot: (header.op % u64::from(wal.slots)) as u32,
+        kind: Kind::Prepare,
+        block_kind: 0,
         ..header
     }
 }
 
-// Writes the header over the first 256 bytes.
-fn put_header(into: &mut [u8], header: &Header)
-    requires header { IsSealed header.now }
-    requires room { 256 ≤ length into.old }
-    ensures front { take 256 into.new ≡ spelling header.now }
-    ensures rest { drop 256 into.new ≡ drop 256 into.old }
-{
-    encode_header(header, &mut into[..HEADER]);
-}
-
-// Writes header, body and zeros up to the end of a sector, and gives that end.
-fn write_sectors(header: &Header, body: &[u8], into: &mut [u8]) -> usize
-    requires header { IsSealed header.now }
-    requires room { sectors_end (256 + length body.now) ≤ length into.old }
-    requires size { 256 + length body.now ≤ 1048576 }
-    ensures length { result ≡ sectors_end (256 + length body.now) }
-    ensures sectors { take result into.new ≡ sectors_of (record { header = header.now; body = body.now }) }
-    ensures rest { drop result into.new ≡ drop result into.old }
-{
-    let size = HEADER + body.len();
-    let end = sectors_end(size);
-    put_header(into, header);
-    put_bytes(into, HEADER, body);
-    put_zeros(into, size, end);
-    end
-}
-
 /// Makes a prepare with this body at the front of a buffer of a slot's length: it sets the header's cluster, size,
-/// slot and checksums, writes header, body and zeros up to the last whole sector, and leaves the rest of the buffer.
+/// slot, kind and checksums, writes header, body and zeros up to the last whole sector, and leaves the rest of the buffer.
 pub fn make_prepare(wal: &Wal, header: Header, body: &[u8], into: &mut [u8]) -> Made
     requires given { AreGiven header }
     requires body { 256 + length body.now ≤ wal.now.message_size }
@@ -108,7 +75,5 @@ pub fn make_prepare(wal: &Wal, header: Header, body: &[u8], into: &mut [u8]) -> 
     ensures sectors { take result.length into.new ≡ sectors_of (record { header = result.header; body = body.now }) }
     ensures rest { drop result.length into.new ≡ drop result.length into.old }
 {
-    let header = seal_header(fill(wal, header, body));
-    let length = write_sectors(&header, body, into);
-    Made { header, length }
+    make_unit(fill(wal, header, body), body, into)
 }

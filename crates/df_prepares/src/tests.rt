@@ -8,7 +8,7 @@ ghost use Rattle.df_format.specs.Spelling.{no_checksum};
 use super::*;
 use df_base::{Failed, SECTOR};
 use df_disk::Disk;
-use df_format::{Header, Wal, make_prepare};
+use df_format::{Header, Kind, Wal, make_prepare};
 use std::alloc::{AllocError, Global};
 use std::test::Fail;
 
@@ -90,6 +90,8 @@ fn child_of(head: &Head) -> Header
         checkpoint: 1,
         size: 0,
         slot: 0,
+        kind: Kind::Prepare,
+        block_kind: 0,
     }
 }
 

@@ -4,6 +4,7 @@ use Rattle.df_base.specs.Fields.{check_of}
 use Rattle.df_base.specs.Image.{Image}
 use Rattle.df_base.specs.Log.{Log}
 use Rattle.df_format.specs.declared.header.Header.{Header}
+use Rattle.df_format.specs.declared.kind.Kind.TheVariants.{Prepare as AsPrepare}
 use Rattle.df_format.specs.declared.wal.Wal.{Wal}
 use Rattle.df_format.specs.Spelling.{no_checksum, sealed}
 use Rattle.df_format.specs.Unit.{Prepare}
@@ -26,6 +27,8 @@ header_for wal parent op (Append client request body) = sealed (record {
   checkpoint = 1;
   size = 256 + length body;
   slot = op % wal.slots;
+  kind = AsPrepare;
+  block_kind = 0;
 })
 
 abbrev pub body_of : Said → List ℕ

@@ -12,7 +12,7 @@ ghost use Rattle.df_top.specs.Texts.{count_after};
 
 use df_base::Failed;
 use df_disk::Disk;
-use df_format::{Header, Made, Wal, make_prepare};
+use df_format::{Header, Kind, Made, Wal, make_prepare};
 use df_prepares::{Head, write_prepare};
 
 // What stands in place of a checksum that is set later.
@@ -51,6 +51,8 @@ fn make_behind(
         checkpoint: FIRST_SEQUENCE,
         size: 0,
         slot: 0,
+        kind: Kind::Prepare,
+        block_kind: 0,
     };
     make_prepare(wal, header, body, room)
 }

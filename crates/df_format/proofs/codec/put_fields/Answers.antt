@@ -17,4 +17,4 @@ returns c =
     let s8 = number_behind 104 8 h.checkpoint c.put_u64-3.new.bytes c.put_u64-4.new.bytes _ (omega arith) c.put_u64-4.ensures s7 in
     let s9 = number_behind 112 4 h.size c.put_u64-4.new.bytes c.put_u32.new.bytes _ (omega arith) c.put_u32.ensures s8 in
     let s10 = number_behind 116 4 h.slot c.put_u32.new.bytes c.put_u32-2.new.bytes _ (omega arith) c.put_u32-2.ensures s9 in
-    c.put_tail.ensures ∙ ap (λ (l : List ℕ). l ++ tail_bytes) s10 ∙ simp append_assoc
+    c.put_tail.ensures ∙ ap (λ (l : List ℕ). l ++ tail_bytes h.kind h.block_kind) s10 ∙ simp append_assoc

@@ -1,0 +1,132 @@
+-- The own place of a unit: the layout has it, and the unit's header says what belongs there.
+use Rattle.std.proofs.Common.{◌≡◌, ◌⊎◌, inl, inr, ℕ, Bool, true, false, Option, Some, None, cond, refl, sym, ◌∙◌, ap, subst}
+use Rattle.std.proofs.lemmas.Bool.{cond-true, and_parts, and_from, ltb-true, lt-ltb, leb-true, le-leb, eqb-true, eq-eqb}
+use Rattle.df_layout.specs.declared.layout.Layout.{Layout}
+use Rattle.df_layout.specs.declared.places.Place.{Place}
+use Rattle.df_layout.specs.declared.places.Zone.{Zone}
+use Rattle.df_layout.specs.declared.places.Zone.TheVariants.{Superblock, WalHeaders, WalPrepares, ClientReplies, Grid}
+use Rattle.df_layout.specs.Spans.{HasIndex, HasPlace}
+use Rattle.df_format.specs.declared.header.Header.{Header}
+use Rattle.df_format.specs.declared.kind.Kind.{Kind}
+use Rattle.df_format.specs.declared.kind.Kind.TheVariants.{Reserved, Prepare, Reply, Block, Trailer}
+use Rattle.df_format.specs.Own.{place_in, named_in_ring, named_elsewhere, named_place, has_op_of_slot, has_index, inside, own_place}
+use Rattle.df_format.specs.Shown.{same_zone, same_place}
+use Rattle.df_format.specs.Valid.{IsInSlot, IsForSlot, IsOfSession, IsAtAddress, Belongs}
+use Rattle.df_format.proofs.Codes.{some-eq}
+use Rattle.df_format.proofs.Spelled.{guard_is}
+
+same_zone-true : (a b : Zone) → same_zone a b ≡ true → a ≡ b
+same_zone-true Superblock Superblock is = refl
+same_zone-true WalHeaders WalHeaders is = refl
+same_zone-true WalPrepares WalPrepares is = refl
+same_zone-true ClientReplies ClientReplies is = refl
+same_zone-true Grid Grid is = refl
+same_zone-true _ _ is = absurd (cc)
+
+same_zone-self : (a : Zone) → same_zone a a ≡ true
+same_zone-self Superblock = refl
+same_zone-self WalHeaders = refl
+same_zone-self WalPrepares = refl
+same_zone-self ClientReplies = refl
+same_zone-self Grid = refl
+
+pub same_place-true : (a b : Place) → same_place a b ≡ true → a ≡ b
+same_place-true a b is =
+    let parts = and_parts _ _ is in
+    let zone = same_zone-true a.zone b.zone parts.0 in
+    let index : a.index ≡ b.index = eqb-true _ _ parts.1 in
+    λ i. record { zone = zone i; index = index i }
+
+pub same_place-self : (a : Place) → same_place a a ≡ true
+same_place-self a = and_from _ _ (same_zone-self a.zone) (eq-eqb a.index a.index refl)
+
+pub has-true : (layout : Layout) (zone : Zone) (index : ℕ) → has_index layout zone index ≡ true → HasIndex layout zone index
+has-true layout Superblock index is = ltb-true _ _ is
+has-true layout WalHeaders index is = ltb-true _ _ is
+has-true layout WalPrepares index is = ltb-true _ _ is
+has-true layout ClientReplies index is = ltb-true _ _ is
+has-true layout Grid index is = let parts = and_parts _ _ is in (leb-true _ _ parts.0, leb-true _ _ parts.1)
+
+pub has-from : (layout : Layout) (zone : Zone) (index : ℕ) → HasIndex layout zone index → has_index layout zone index ≡ true
+has-from layout Superblock index has = lt-ltb _ _ has
+has-from layout WalHeaders index has = lt-ltb _ _ has
+has-from layout WalPrepares index has = lt-ltb _ _ has
+has-from layout ClientReplies index has = lt-ltb _ _ has
+has-from layout Grid index has = and_from _ _ (le-leb _ _ has.0) (le-leb _ _ has.1)
+
+-- what the tests of an own place say
+pub record IsOwn (layout : Layout) (zone : Zone) (h : Header) (place : Place) : Type 0 where
+  pub op : has_op_of_slot layout h.kind h ≡ true
+  pub named : named_place zone h ≡ Some place
+  pub has : HasPlace layout place
+
+inside_is : (layout : Layout) (o : Option Place) (place : Place) → inside layout o ≡ Some place → (o ≡ Some place) × HasPlace layout place
+inside_is layout None place is = absurd (cc)
+inside_is layout (Some named) place is =
+    let parts = guard_is _ _ place is in
+    (ap Some parts.1, subst (λ (p : Place). HasPlace layout p) parts.1 (has-true layout named.zone named.index parts.0))
+
+cond_some : {X : Type 0} (b : Bool) (o : Option X) (x : X) → cond b o None ≡ Some x → (b ≡ true) × (o ≡ Some x)
+cond_some true o x is = (refl, is)
+cond_some false o x is = absurd (cc)
+
+pub own_is : (layout : Layout) (zone : Zone) (h : Header) (place : Place) → own_place layout zone h ≡ Some place → IsOwn layout zone h place
+unfolding own_place
+own_is layout zone h place is =
+    let parts = cond_some _ _ place is in
+    let there = inside_is layout _ place parts.1 in
+    record { op = parts.0; named = there.0; has = there.1 }
+
+pub is_own : (layout : Layout) (zone : Zone) (h : Header) (place : Place) → IsOwn layout zone h place → own_place layout zone h ≡ Some place
+unfolding own_place
+is_own layout zone h place is =
+    cond-true _ _ None is.op
+    ∙ ap (λ (o : Option Place). inside layout o) is.named
+    ∙ cond-true _ (Some place) None (has-from layout place.zone place.index is.has)
+
+-- two names of a place
+same_index : (z w : Zone) (i j : ℕ) → Some (place_in z i) ≡ Some (place_in w j) → i ≡ j
+same_index z w i j is = ap (λ (p : Place). p.index) (some-eq is)
+
+same_zones : (z w : Zone) (i j : ℕ) → Some (place_in z i) ≡ Some (place_in w j) → z ≡ w
+same_zones z w i j is = ap (λ (p : Place). p.zone) (some-eq is)
+
+ring_belongs : (layout : Layout) (kind : Kind) (h : Header) (index : ℕ) → h.kind ≡ kind → has_op_of_slot layout kind h ≡ true → named_in_ring kind h ≡ Some (place_in WalHeaders index)
+    → IsForSlot index h ⊎ IsInSlot layout index h
+ring_belongs layout Reserved h index k op is = inl (record { kind = k; slot = same_index _ _ _ _ is })
+ring_belongs layout Prepare h index k op is =
+    let slot = same_index _ _ h.slot index is in
+    inr (record { kind = k; slot = slot; op = sym (eqb-true _ _ op) ∙ slot })
+ring_belongs layout Reply h index k op is = absurd (cc)
+ring_belongs layout Block h index k op is = absurd (cc)
+ring_belongs layout Trailer h index k op is = absurd (cc)
+
+prepares_belong : (layout : Layout) (kind : Kind) (h : Header) (index : ℕ) → h.kind ≡ kind → has_op_of_slot layout kind h ≡ true → named_elsewhere kind h ≡ Some (place_in WalPrepares index) → IsInSlot layout index h
+prepares_belong layout Reserved h index k op is = absurd (cc)
+prepares_belong layout Prepare h index k op is =
+    let slot = same_index _ _ h.slot index is in
+    record { kind = k; slot = slot; op = sym (eqb-true _ _ op) ∙ slot }
+prepares_belong layout Reply h index k op is = let z = same_zones _ _ _ _ is in absurd (cc)
+prepares_belong layout Block h index k op is = let z = same_zones _ _ _ _ is in absurd (cc)
+prepares_belong layout Trailer h index k op is = let z = same_zones _ _ _ _ is in absurd (cc)
+
+replies_belong : (kind : Kind) (h : Header) (index : ℕ) → h.kind ≡ kind → named_elsewhere kind h ≡ Some (place_in ClientReplies index) → IsOfSession index h
+replies_belong Reserved h index k is = absurd (cc)
+replies_belong Prepare h index k is = let z = same_zones _ _ _ _ is in absurd (cc)
+replies_belong Reply h index k is = record { kind = k; slot = same_index _ _ _ _ is }
+replies_belong Block h index k is = let z = same_zones _ _ _ _ is in absurd (cc)
+replies_belong Trailer h index k is = let z = same_zones _ _ _ _ is in absurd (cc)
+
+blocks_belong : (kind : Kind) (h : Header) (index : ℕ) → h.kind ≡ kind → named_elsewhere kind h ≡ Some (place_in Grid index) → IsAtAddress index h
+blocks_belong Reserved h index k is = absurd (cc)
+blocks_belong Prepare h index k is = let z = same_zones _ _ _ _ is in absurd (cc)
+blocks_belong Reply h index k is = let z = same_zones _ _ _ _ is in absurd (cc)
+blocks_belong Block h index k is = record { kind = inl k; op = same_index _ _ _ _ is }
+blocks_belong Trailer h index k is = record { kind = inr k; op = same_index _ _ _ _ is }
+
+pub belongs : (layout : Layout) (zone : Zone) (index : ℕ) (h : Header) → IsOwn layout zone h (place_in zone index) → Belongs layout zone index h
+belongs layout Superblock index h is = absurd (cc (is.named))
+belongs layout WalHeaders index h is = ring_belongs layout h.kind h index refl is.op is.named
+belongs layout WalPrepares index h is = prepares_belong layout h.kind h index refl is.op is.named
+belongs layout ClientReplies index h is = replies_belong h.kind h index refl is.named
+belongs layout Grid index h is = blocks_belong h.kind h index refl is.named

@@ -1,0 +1,8 @@
+use Rattle.df_format.proofs.Units.{shown_belongs, shown_is_unit}
+use Rattle.df_format.proofs.unit_laws.units_belong.Goals as goal
+
+pub returns-clause-belongs : goal.returns-clause-belongs
+returns-clause-belongs c = shown_belongs
+
+pub returns-clause-unit : goal.returns-clause-unit
+returns-clause-unit c = shown_is_unit

@@ -1,0 +1,21 @@
+-- A unit of the file, and the bytes that it is written as.
+use Rattle.std.specs.Prelude.{◌+◌, ◌-◌, ◌*◌, ◌/◌, ℕ, List, ◌++◌, length, replicate}
+use Rattle.df_format.specs.declared.header.Header.{Header}
+use Rattle.df_format.specs.Spelling.{spelling}
+
+-- a unit of any kind: a header, and the body that follows it
+pub record Message : Type 0 where
+  pub header : Header
+  pub body : List ℕ
+
+-- the bytes of a whole unit
+abbrev pub unit_of : Message → List ℕ
+unit_of u = spelling u.header ++ u.body
+
+-- how many bytes of whole sectors n bytes cover
+abbrev pub sectors_end : ℕ → ℕ
+sectors_end n = 4096 * ((n + 4095) / 4096)
+
+-- the whole sectors of a unit, filled with zeros
+unfoldable pub sectors_of : Message → List ℕ
+sectors_of u = unit_of u ++ replicate (sectors_end (256 + length u.body) - (256 + length u.body)) 0

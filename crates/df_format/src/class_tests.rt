@@ -1,0 +1,168 @@
+// What each place of layout small shows with given bytes: the unit that is valid there, or the class of what is.
+ghost use Rattle.std.specs.Prelude.{◌≡◌};
+
+use crate::examples::{BLOCK, FIRST_TRAILER, PREPARE, REPLY, RESERVED, TRAILER, changed, spelled};
+use crate::{Header, decode_header, decode_unit};
+use df_layout::{Class, Layout, Place, Zone};
+
+// A slot that begins with these bytes, nines behind them.
+fn slot_of(front: &[u8; 256]) -> [u8; 8192] {
+    let mut slot = [9; 8192];
+    slot[..256].copy_from_slice(front);
+    slot
+}
+
+fn block_of(front: &[u8; 256]) -> [u8; 16_384] {
+    let mut block = [9; 16_384];
+    block[..256].copy_from_slice(front);
+    block
+}
+
+fn place(zone: Zone, index: u64) -> Place
+    ensures { result.zone ≡ zone }
+{
+    Place { zone, index }
+}
+
+// What a place of layout small shows whose bytes begin with these.
+#[tactic(auto, unfolding(df_layout::specs::Spans::place_sectors))]
+fn shown(cluster: u128, zone: Zone, index: u64, front: &[u8; 256]) -> Result<Header, Class> {
+    let small = Layout::small();
+    match zone {
+        Zone::Superblock => Err(Class::Garbled),
+        Zone::WalHeaders => decode_unit(&small, cluster, place(Zone::WalHeaders, index), front),
+        Zone::WalPrepares => {
+            decode_unit(
+                &small,
+                cluster,
+                place(Zone::WalPrepares, index),
+                &slot_of(front),
+            )
+        }
+        Zone::ClientReplies => {
+            decode_unit(
+                &small,
+                cluster,
+                place(Zone::ClientReplies, index),
+                &slot_of(front),
+            )
+        }
+        Zone::Grid => decode_unit(&small, cluster, place(Zone::Grid, index), &block_of(front)),
+    }
+}
+
+fn elsewhere(zone: Zone, index: u64) -> Option<Class> {
+    Some(Class::Elsewhere(Place { zone, index }))
+}
+
+#[test]
+fn shows_the_unit_of_each_place(rt: HostRuntime) {
+    let cases = [
+        (Zone::WalHeaders, 3, RESERVED),
+        (Zone::WalHeaders, 1, PREPARE),
+        (Zone::WalPrepares, 1, PREPARE),
+        (Zone::ClientReplies, 2, REPLY),
+        (Zone::Grid, 9, BLOCK),
+        (Zone::Grid, 8, FIRST_TRAILER),
+        (Zone::Grid, 9, TRAILER),
+    ];
+    for (zone, index, front) in cases {
+        let bytes = spelled(&front);
+        assert_eq!(rt; shown(7, zone, index, &bytes).ok(), decode_header(&bytes));
+        assert_eq!(rt; shown(8, zone, index, &bytes), Err(Class::Garbled));
+    }
+}
+
+#[test]
+fn tells_units_of_other_places(rt: HostRuntime) {
+    let cases = [
+        (
+            Zone::WalHeaders,
+            4,
+            RESERVED,
+            elsewhere(Zone::WalHeaders, 3),
+        ),
+        (Zone::WalHeaders, 2, PREPARE, elsewhere(Zone::WalHeaders, 1)),
+        (
+            Zone::WalPrepares,
+            2,
+            PREPARE,
+            elsewhere(Zone::WalPrepares, 1),
+        ),
+        (
+            Zone::ClientReplies,
+            1,
+            PREPARE,
+            elsewhere(Zone::WalPrepares, 1),
+        ),
+        (Zone::Grid, 1, PREPARE, elsewhere(Zone::WalPrepares, 1)),
+        (
+            Zone::WalPrepares,
+            2,
+            REPLY,
+            elsewhere(Zone::ClientReplies, 2),
+        ),
+        (Zone::WalPrepares, 9, BLOCK, elsewhere(Zone::Grid, 9)),
+        (Zone::Grid, 8, BLOCK, elsewhere(Zone::Grid, 9)),
+        (Zone::WalPrepares, 3, RESERVED, Some(Class::Garbled)),
+        (Zone::WalHeaders, 2, REPLY, Some(Class::Garbled)),
+        (Zone::WalHeaders, 9, BLOCK, Some(Class::Garbled)),
+    ];
+    for (zone, index, front, class) in cases {
+        assert_eq!(rt; shown(7, zone, index, &spelled(&front)).err(), class);
+    }
+}
+
+#[test]
+fn tells_what_is_no_whole_unit(rt: HostRuntime) {
+    let cases = [
+        // a prepare's slot that isn't its op's, and slots, places and addresses that the layout lacks
+        (Zone::WalPrepares, 1, changed(&PREPARE, 116, 2)),
+        (Zone::WalHeaders, 1, changed(&PREPARE, 116, 2)),
+        (Zone::WalHeaders, 3, changed(&RESERVED, 116, 32)),
+        (Zone::ClientReplies, 3, changed(&REPLY, 116, 4)),
+        (Zone::Grid, 64, changed(&BLOCK, 80, 65)),
+        // a body that isn't there, and sizes above the greatest of the place
+        (Zone::WalPrepares, 1, changed(&PREPARE, 112, 1)),
+        (Zone::WalPrepares, 1, changed(&BLOCK, 113, 0x21)),
+        (Zone::WalHeaders, 1, changed(&PREPARE, 113, 0x21)),
+        (Zone::Grid, 9, changed(&BLOCK, 113, 0x41)),
+        // a byte that the checksum doesn't cover rightly
+        (
+            Zone::WalPrepares,
+            1,
+            {
+                let mut bytes = spelled(&PREPARE);
+                bytes[80] = 2;
+                bytes
+            },
+        ),
+    ];
+    for (zone, index, front) in cases {
+        assert_eq!(rt; shown(7, zone, index, &front), Err(Class::Garbled));
+    }
+    let header = shown(7, Zone::WalHeaders, 1, &changed(&PREPARE, 113, 0x20));
+    assert!(rt; header.is_ok());
+}
+
+#[test]
+fn looks_at_a_header_alone_for_blank(rt: HostRuntime) {
+    let mut one = [0; 256];
+    for zone in [
+        Zone::WalHeaders,
+        Zone::WalPrepares,
+        Zone::ClientReplies,
+        Zone::Grid,
+    ] {
+        assert_eq!(rt; shown(7, zone, 1, &[0; 256]), Err(Class::Blank));
+    }
+    one[255] = 1;
+    for zone in [
+        Zone::WalHeaders,
+        Zone::WalPrepares,
+        Zone::ClientReplies,
+        Zone::Grid,
+    ] {
+        assert_eq!(rt; shown(7, zone, 1, &one), Err(Class::Garbled));
+    }
+}

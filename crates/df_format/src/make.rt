@@ -1,0 +1,84 @@
+// Units as they are made at the front of a buffer: header, body, and zeros up to the last whole sector.
+ghost use Rattle.std.specs.Prelude.{◌≡◌, ◌+◌, ◌-◌, ◌*◌, ◌/◌, ◌≤◌, length, take, drop};
+ghost use Rattle.df_format.specs.Spelling.{spelling, sealed};
+ghost use Rattle.df_format.specs.Rules.{IsSealed, ObeysRules};
+ghost use Rattle.df_format.specs.Message.{sectors_end, sectors_of};
+ghost use Rattle.df_format.specs.Making.{for_body};
+ghost use Rattle.df_format.specs.UnitLaws.{MadeIsUnit};
+
+use crate::pieces::{put_bytes, put_zeros};
+use crate::{Header, encode_header, seal_header};
+use df_base::{HEADER, SECTOR, check};
+
+/// A unit that was made in a buffer.
+#[derive(Clone, Copy, Debug, PartialEq, Eq)]
+pub struct Made {
+    pub header: Header,
+    /// Bytes of its whole sectors, at the front of the buffer.
+    pub length: usize,
+}
+
+// How many bytes of whole sectors so many bytes cover.
+fn sectors_end(size: usize) -> usize
+    requires { size ≤ 1048576 }
+    ensures { result ≡ sectors_end size }
+{
+    SECTOR * ((size + SECTOR - 1) / SECTOR)
+}
+
+// Writes the header over the first 256 bytes.
+fn put_header(into: &mut [u8], header: &Header)
+    requires header { IsSealed header.now }
+    requires room { 256 ≤ length into.old }
+    ensures front { take 256 into.new ≡ spelling header.now }
+    ensures rest { drop 256 into.new ≡ drop 256 into.old }
+{
+    encode_header(header, &mut into[..HEADER]);
+}
+
+// Writes header, body and zeros up to the end of a sector, and gives that end.
+fn write_sectors(header: &Header, body: &[u8], into: &mut [u8]) -> usize
+    requires header { IsSealed header.now }
+    requires room { sectors_end (256 + length body.now) ≤ length into.old }
+    requires size { 256 + length body.now ≤ 1048576 }
+    ensures length { result ≡ sectors_end (256 + length body.now) }
+    ensures sectors { take result into.new ≡ sectors_of (record { header = header.now; body = body.now }) }
+    ensures rest { drop result into.new ≡ drop result into.old }
+{
+    let size = HEADER + body.len();
+    let end = sectors_end(size);
+    put_header(into, header);
+    put_bytes(into, HEADER, body);
+    put_zeros(into, size, end);
+    end
+}
+
+// The header with the fields that follow from the body.
+fn for_body(header: Header, body: &[u8]) -> Header
+    requires { 256 + length body.now ≤ 1048576 }
+    ensures { result ≡ for_body header body.now }
+{
+    Header {
+        checksum_body: check(body),
+        size: (HEADER + body.len()) as u32,
+        ..header
+    }
+}
+
+/// Makes a unit of any kind with this body at the front of a buffer: it sets the header's size and checksums, writes
+/// header, body and zeros up to the last whole sector, and leaves the rest of the buffer.
+pub fn make_unit(header: Header, body: &[u8], into: &mut [u8]) -> Made
+    requires rules { ObeysRules (for_body header body.now) }
+    requires size { 256 + length body.now ≤ 1048576 }
+    requires room { sectors_end (256 + length body.now) ≤ length into.old }
+    ensures header { result.header ≡ sealed (for_body header body.now) }
+    ensures length { result.length ≡ sectors_end (256 + length body.now) }
+    ensures sealed { IsSealed result.header }
+    ensures unit { MadeIsUnit (record { header = result.header; body = body.now }) }
+    ensures sectors { take result.length into.new ≡ sectors_of (record { header = result.header; body = body.now }) }
+    ensures rest { drop result.length into.new ≡ drop result.length into.old }
+{
+    let header = seal_header(for_body(header, body));
+    let length = write_sectors(&header, body, into);
+    Made { header, length }
+}

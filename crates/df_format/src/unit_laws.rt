@@ -1,0 +1,61 @@
+// Laws of every unit, place and image of a layout, each the clause of a function that does nothing.
+ghost use Rattle.df_format.specs.UnitLaws.{UnitsHaveOneSpelling, ShownBelongs, ShownIsUnit, ValidIsStale, ElsewhereIsOther, SameIsShown, WrittenIsShown, SectorsFitPlace, WrittenIsApart, LeftIsApart, LeftIsOldOrNew, SectorIsShown, HeadersFillSector, HeaderIsShown, BlankShowsNone, PreparesAreUnits};
+
+/// A place shows a unit exactly where its bytes begin with one that is valid there.
+pub fn units_have_one_spelling()
+    ensures { UnitsHaveOneSpelling }
+{}
+
+/// A place that shows a unit is one of the layout, and the unit says that it belongs there; on an image of whole
+/// sectors it is valid there.
+pub fn units_belong()
+    ensures belongs { ShownBelongs }
+    ensures unit { ShownIsUnit }
+{}
+
+/// A valid unit that isn't the one wanted is stale; what is elsewhere belongs at another place of the layout.
+pub fn classes_tell()
+    ensures valid { ValidIsStale }
+    ensures elsewhere { ElsewhereIsOther }
+{}
+
+/// What a place shows depends on its own sectors alone.
+pub fn places_show_their_sectors()
+    ensures { SameIsShown }
+{}
+
+/// A unit that is written at its own place is shown there; its sectors fit the place.
+pub fn written_unit_is_shown()
+    ensures shown { WrittenIsShown }
+    ensures fits { SectorsFitPlace }
+{}
+
+/// A header sector that is written shows at each of its sixteen slots what is in it; sixteen headers fill it.
+pub fn header_sector_is_shown()
+    ensures sector { SectorIsShown }
+    ensures header { HeaderIsShown }
+    ensures fits { HeadersFillSector }
+{}
+
+/// A write that fits a place leaves what every other place shows, and so does a stop within it where nothing else of
+/// that other place is loose.
+pub fn other_places_stay()
+    ensures written { WrittenIsApart }
+    ensures left { LeftIsApart }
+{}
+
+/// A stop within a write, under no chance, leaves at a place where nothing else is loose a unit that was durable there, or
+/// one that the write itself brings.
+pub fn left_is_old_or_new()
+    ensures { LeftIsOldOrNew }
+{}
+
+/// A blank image shows no unit, and each place of it is blank.
+pub fn blank_shows_no_unit()
+    ensures { BlankShowsNone }
+{}
+
+/// The slots of a layout's log show the units of the ring of prepares.
+pub fn prepares_are_units()
+    ensures { PreparesAreUnits }
+{}
