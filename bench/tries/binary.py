@@ -7,8 +7,11 @@ import subprocess
 from typing import NamedTuple, Optional
 
 WAIT = 120
-TRACED = "trace=openat,open,read,write,pread64,pwrite64,pwritev,writev,fdatasync,fsync,sync_file_range,ftruncate,brk,mmap,lseek,close"
-LINE = re.compile(r"^\d+\s+(\w+)\((.*)\)\s+= (-?\d+|0x[0-9a-f]+|\?)(.*)$")
+TRACED = (
+    "trace=openat,open,read,write,pread64,pwrite64,pwritev,writev,fdatasync,fsync,sync_file_range,ftruncate,brk,mmap,"
+    "lseek,close"
+)
+LINE = re.compile(r"^\d+\s+(\w+)\((.*)\)\s+= (0x[0-9a-f]+|-?\d+|\?)(.*)$")
 
 
 class Disagreement(Exception):

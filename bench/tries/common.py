@@ -5,7 +5,7 @@ from random import Random
 from typing import NamedTuple, Optional
 
 from . import form, script
-from .binary import Binary, Call, Result, expect, require
+from .binary import Binary, Result, expect, require
 
 
 class Try(NamedTuple):
@@ -24,7 +24,8 @@ def same_bytes(what: str, wanted: Optional[bytes], got: Optional[bytes]) -> None
         expect(f"{what}: the file is there", wanted is not None, got is not None)
     size = max(len(wanted), len(got))
     for at in range(0, size, form.SECTOR):
-        expect(f"{what}: sector {at // form.SECTOR}", form.part(wanted, at, form.SECTOR), form.part(got, at, form.SECTOR))
+        sectors = (form.part(data, at, form.SECTOR) for data in (wanted, got))
+        expect(f"{what}: sector {at // form.SECTOR}", *sectors)
     expect(f"{what}: the length of the file", len(wanted), len(got))
 
 
@@ -60,18 +61,16 @@ def state(data: bytes, events: list) -> bytes:
 
 
 def on_file(t: Try, calls: list) -> tuple:
-    """The calls on the data file and on the standard streams, and the file's descriptor."""
+    """The calls from the opening of the data file on, without those on other open files; and the file's descriptor."""
     opened = [call for call in calls if call.name == "openat" and f'"{t.binary.path}"' in call.args[1]]
     if not opened or opened[-1].result < 0:
         return [], None
     start = calls.index(opened[0])
     fd = opened[-1].result
-    return [call for call in calls[start:] if call.fd in (0, 1, fd) or call.name in ("openat", "fsync", "brk", "mmap")], fd
+    any_file = ("openat", "fsync", "brk", "mmap")
+    return [call for call in calls[start:] if call.fd in (0, 1, fd) or call.name in any_file], fd
 
 
 def named(calls: list, name: str, fd: Optional[int] = None) -> list:
     """The calls of one name, on one descriptor where it is given."""
     return [call for call in calls if call.name == name and (fd is None or call.fd == fd)]
-
-
-__all__ = ["Call", "Try", "expect", "named", "on_file", "reopen", "require", "same_bytes", "same_run", "session", "state"]

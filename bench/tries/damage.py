@@ -7,11 +7,12 @@ from .common import Try, session
 def strike(t: Try, data: bytearray) -> None:
     """One piece of damage at a random place, most often in the ring."""
     random = t.random
-    what = random.choice(("byte", "bit", "sector", "swap", "copy", "slot", "cut", "grow", "earlier", "zeros"))
+    what = random.choice(("byte", "bit", "sector", "flip", "swap", "copy", "slot", "cut", "grow", "earlier", "zeros"))
     t.counts[f"strikes: {what}"] += 1
     used = max(1, len(data))
     slot = random.randint(0, 33)
-    at = min(used - 1, form.FIRST + slot * form.SLOT + random.choice((random.randrange(form.HEADER), random.randrange(form.SLOT))))
+    within = random.choice((random.randrange(form.HEADER), random.randrange(form.SLOT)))
+    at = min(used - 1, form.FIRST + slot * form.SLOT + within)
     sector = at // form.SECTOR * form.SECTOR
     other = random.randrange(0, form.END, form.SECTOR)
     if what == "byte" and data:
@@ -22,6 +23,8 @@ def strike(t: Try, data: bytearray) -> None:
         put(data, sector, random.choice((b"\xa5" * form.SECTOR, random.randbytes(form.SECTOR))))
     elif what == "zeros":
         put(data, sector, bytes(form.SECTOR))
+    elif what == "flip":
+        put(data, sector, bytes(byte ^ 0xFF for byte in form.part(data, sector, form.SECTOR)))
     elif what == "swap":
         one, two = form.part(data, sector, form.SECTOR), form.part(data, other, form.SECTOR)
         put(data, sector, two)
@@ -60,8 +63,10 @@ def struck(t: Try) -> None:
 def garbage(t: Try) -> None:
     """A file of random bytes, equal bytes or text, of any length."""
     random = t.random
-    size = random.choice((0, 1, 255, 4096, 24576, 32768, 32769, 40960, form.END, form.END + 1, random.randint(0, 500000)))
-    data = random.choice((random.randbytes(size), b"\xa5" * size, b"\xff" * size, (b"append 1 1 -\n" * (size // 13 + 1))[:size]))
+    sizes = (0, 1, 255, 4096, 24576, 32768, 32769, 40960, form.END, form.END + 1, random.randint(0, 500000))
+    size = random.choice(sizes)
+    lines = (b"append 1 1 -\n" * (size // 13 + 1))[:size]
+    data = random.choice((random.randbytes(size), b"\xa5" * size, b"\xff" * size, lines))
     t.binary.put(data)
     session(t, "a file of garbage", data, generate.good_script(random, 4))
     t.counts["files of garbage"] += 1
@@ -82,7 +87,8 @@ def forged(t: Try) -> None:
         if random.random() < 0.3:
             # What stands behind the body doesn't matter.
             put(data, form.place(op) + form.SLOT - 200, random.randbytes(200))
-        t.counts["forged prepares that are shown" if len(form.ring(data)) >= op else "forged prepares that aren't shown"] += 1
+        shown = len(form.ring(data)) >= op
+        t.counts["forged prepares that are shown" if shown else "forged prepares that aren't shown"] += 1
     t.binary.put(bytes(data))
     session(t, "a forged prepare", bytes(data), generate.good_script(random, 3))
 

@@ -1,7 +1,6 @@
-"""Tries of faults: system calls that fail, are interrupted or do less than asked; closed and full streams; small limits.
-After each of them the file opens with every append that was answered."""
+"""Tries of faults: system calls that fail, are interrupted or do less than asked, and want of memory. After each of
+them the file opens with every append that was answered."""
 
-import os
 import resource
 import signal
 from typing import Optional
@@ -9,16 +8,19 @@ from typing import Optional
 from . import form, generate, script
 from .binary import expect, require
 from .common import Try, named, on_file, reopen, same_bytes, same_run, state
+from .stops import left
 
 DISK, READ, WRITE, MEMORY = 5, 6, 7, 8
-ERRORS = ("EIO", "ENOSPC", "EACCES", "EINVAL", "EBADF", "EAGAIN", "EPIPE", "ENOMEM", "EROFS", "EDQUOT", "EISDIR", "ETIMEDOUT")
+ERRORS = "EIO ENOSPC EACCES EINVAL EBADF EAGAIN EPIPE ENOMEM EROFS EDQUOT EISDIR ETIMEDOUT".split()
 
 
 class Plan:
     """One session over one file: what the model has, and the calls of a run in which nothing fails."""
 
-    def __init__(self, t: Try, most: int = 20):
-        self.data: Optional[bytes] = generate.image(t.random, most) if t.random.random() < 0.7 else None
+    def __init__(self, t: Try, most: int = 20, data: Optional[bytes] = None):
+        if data is None and t.random.random() < 0.7:
+            data = generate.image(t.random, most)
+        self.data = data
         self.text = generate.any_script(t.random) if t.random.random() < 0.3 else generate.good_script(t.random)
         self.wanted = script.run(self.data or b"", self.text)
         t.binary.put(self.data)
@@ -37,14 +39,20 @@ class Plan:
         """The prepares that are durable by what was printed."""
         return form.ring(self.data or b"") + self.wanted.accepted[: text.count(b"appended ")]
 
-    def ends(self, t: Try, what: str, got, upto: int, status: int) -> None:
+    def ends(self, t: Try, what: str, got, upto: int, status: int) -> bytes:
         """The run ended with this status after the first `upto` events, and the file opens with what was answered."""
         expect(f"{what}: status", status, got.status)
         expect(f"{what}: text", script.answers(self.wanted.events[:upto]), got.text)
         data = state(self.data or b"", self.wanted.events[:upto])
         same_bytes(what, data, t.binary.get() or b"")
-        reopen(t, what, self.answered(got.text), t.binary.get())
         t.counts[what] += 1
+        return reopen(t, what, self.answered(got.text), t.binary.get())
+
+    def torn(self, t: Try, what: str, at: int, text: bytes) -> bytes:
+        """The write at this event wasn't synced: a stop tears it, and the file opens with what was answered."""
+        image = left(t, state(self.data or b"", self.wanted.events[:at]), self.wanted.events[at])
+        t.binary.put(image)
+        return reopen(t, f"{what}, then a stop", self.answered(text), image)
 
 
 def event_of(plan: Plan, kind: str, number: int) -> int:
@@ -52,17 +60,25 @@ def event_of(plan: Plan, kind: str, number: int) -> int:
     return [at for at, event in enumerate(plan.wanted.events) if event.kind == kind][number]
 
 
-def order(t: Try) -> None:
-    """The order of the calls: a barrier, reads of whole slots, then for each append one write, one sync, one answer."""
-    plan = Plan(t, 32)
+def events_of(calls: list, fd: int) -> list:
+    """The writes, syncs and answers that a run did, in order, with their offsets and lengths."""
     seen = []
-    for call in plan.calls:
-        if call.name == "pwrite64" and call.fd == plan.fd:
+    for call in calls:
+        if call.result < 0:
+            continue
+        if call.name == "pwrite64" and call.fd == fd:
             seen.append(("write", int(call.args[-1]), int(call.args[-2])))
-        elif call.name in ("fdatasync", "fsync") and call.fd == plan.fd:
+        elif call.name in ("fdatasync", "fsync") and call.fd == fd:
             seen.append(("sync", 0, 0))
         elif call.name == "write" and call.fd == 1:
             seen.append(("answer", 0, call.result))
+    return seen
+
+
+def order(t: Try) -> None:
+    """The order of the calls: a barrier, reads of whole slots, then for each append one write, one sync, one answer."""
+    plan = Plan(t, 32)
+    seen = events_of(plan.calls, plan.fd)
     wanted = [(e.kind, e.at, len(e.data)) for e in plan.wanted.events]
     expect("the order of writes, syncs and answers", wanted, seen)
     allowed = {"openat", "fsync", "fdatasync", "pread64", "pwrite64", "read", "write", "close", "brk", "mmap"}
@@ -79,64 +95,78 @@ def order(t: Try) -> None:
     t.counts["runs whose calls were in order"] += 1
 
 
-def disk(t: Try) -> None:
-    """One call on the file fails: status 5, and the text of what went before."""
-    plan = Plan(t)
+def disk(t: Try, plan: Optional[Plan] = None) -> Optional[bytes]:
+    """One call on the file fails: status 5, and the text of what went before. A stop may tear the write that failed."""
+    plan = plan or Plan(t)
     name = t.random.choice(("pwrite64", "pwrite64", "fdatasync", "fdatasync", "pread64", "openat", "fsync"))
-    if name in ("openat", "fsync"):
-        places = [c for c in plan.calls if c.name == name and (c.fd != plan.fd)]
-    else:
-        places = named(plan.calls, name, plan.fd)
+    places = named(plan.calls, name, None if name in ("openat", "fsync") else plan.fd)
     if not places:
-        return
+        return plan.data
     number = t.random.randrange(len(places))
     error, on = t.random.choice(ERRORS), t.random.choice(("", "+"))
     got = plan.again(t, [f"{name}:error={error}:when={places[number].number}{on}"])
-    if name == "pwrite64":
-        upto = event_of(plan, "write", number)
-    elif name == "fdatasync":
-        upto = event_of(plan, "sync", number)
-    else:
-        upto = 0
-    plan.ends(t, f"faults of {name}", got, upto, DISK)
+    kind = {"pwrite64": "write", "fdatasync": "sync"}.get(name)
+    upto = event_of(plan, kind, number) if kind else 0
+    data = plan.ends(t, f"faults of {name}", got, upto, DISK)
+    write = upto if name == "pwrite64" else upto - 1
+    if kind and write > 0 and t.random.random() < 0.5:
+        return plan.torn(t, f"faults of {name}", write, got.text)
+    return data
 
 
-def output(t: Try) -> None:
+def output(t: Try, plan: Optional[Plan] = None) -> Optional[bytes]:
     """One write to standard output fails: status 7, and the append is in the file."""
-    plan = Plan(t)
+    plan = plan or Plan(t)
     places = named(plan.calls, "write", 1)
     if not places:
-        return
+        return plan.data
     number = t.random.randrange(len(places))
     error = t.random.choice(ERRORS)
     got = plan.again(t, [f"write:error={error}:when={places[number].number}{t.random.choice(('', '+'))}"])
-    plan.ends(t, "faults of write", got, event_of(plan, "answer", number), WRITE)
+    return plan.ends(t, "faults of write", got, event_of(plan, "answer", number), WRITE)
 
 
-def script_read(t: Try) -> None:
+def script_read(t: Try, plan: Optional[Plan] = None) -> Optional[bytes]:
     """One read of standard input fails: status 6, after the lines that were there before."""
-    plan = Plan(t)
+    plan = plan or Plan(t)
     places = named(plan.calls, "read", 0)
     if not places:
-        return
+        return plan.data
     number = t.random.randrange(len(places))
-    got = plan.again(t, [f"read:error={t.random.choice(ERRORS)}:when={places[number].number}{t.random.choice(('', '+'))}"])
+    error, on = t.random.choice(ERRORS), t.random.choice(("", "+"))
+    got = plan.again(t, [f"read:error={error}:when={places[number].number}{on}"])
     given = plan.text[: sum(call.result for call in places[:number])]
     whole = given[: given.rfind(b"\n") + 1]
     upto = len(script.run(plan.data or b"", whole).events)
-    plan.ends(t, "faults of read", got, upto, READ)
+    return plan.ends(t, "faults of read", got, upto, READ)
+
+
+def in_a_row(t: Try) -> None:
+    """Several sessions with faults over one file."""
+    data = None
+    for _ in range(t.random.randint(2, 4)):
+        data = t.random.choice((disk, disk, output, script_read))(t, Plan(t, 8, data))
+    t.counts["rows of sessions with faults"] += 1
 
 
 def interrupted(t: Try) -> None:
-    """A call is interrupted by a signal, once or a few times in a row: the run is as if it weren't."""
+    """A call is interrupted by a signal, once or a few times: it is done again, and the run is as if it weren't."""
     plan = Plan(t)
-    name, fd = t.random.choice((("pread64", plan.fd), ("pwrite64", plan.fd), ("read", 0), ("write", 1)))
+    name, fd = t.random.choice((
+        ("pread64", plan.fd), ("pwrite64", plan.fd), ("read", 0), ("write", 1), ("fdatasync", plan.fd), ("fsync", None),
+    ))
     places = named(plan.calls, name, fd)
     if not places:
         return
     first = t.random.choice(places).number
-    got = plan.again(t, [f"{name}:error=EINTR:when={first}..{first + t.random.randint(0, 5)}"])
-    plan.ends(t, f"interruptions of {name}", got, len(plan.wanted.events), plan.wanted.status)
+    t.binary.put(plan.data)
+    got, calls = t.binary.trace(plan.text, [f"{name}:error=EINTR:when={first}..{first + t.random.randint(0, 5)}"])
+    calls, fd = on_file(t, calls)
+    what = f"interruptions of {name}"
+    expect(f"{what}: the calls that were done", events_of(plan.calls, plan.fd), events_of(calls, fd))
+    folders = [len([c for c in named(run, "fsync") if c.result == 0]) for run in (plan.calls, calls)]
+    expect(f"{what}: syncs of the folder", folders[0], folders[1])
+    plan.ends(t, what, got, len(plan.wanted.events), plan.wanted.status)
 
 
 def short(t: Try) -> None:
@@ -242,81 +272,9 @@ def file_limit(t: Try) -> None:
     t.counts["limits of the file's length"] += 1
 
 
-def streams(t: Try) -> None:
-    """Standard streams that are closed, full, of the wrong direction or a directory."""
-    data = generate.image(t.random, 20)
-    t.binary.put(data)
-    text = generate.any_script(t.random)
-    wanted = script.run(data, text)
-    what = t.random.choice(("closed input", "directory input", "unreadable input", "closed output", "full output",
-                            "unwritable output", "broken output", "all closed"))
-    if what in ("closed input", "directory input", "unreadable input", "all closed"):
-        got = run_without_input(t, what)
-        expect(f"{what}: status", READ, got.status)
-        expect(f"{what}: text", b"", got.text)
-        same_bytes(what, data, t.binary.get())
-    else:
-        first = next((at for at, event in enumerate(wanted.events) if event.kind == "answer"), None)
-        got = run_without_output(t, what, text)
-        expect(f"{what}: status", 0 if first is None else WRITE, got.status)
-        data = state(data, wanted.events if first is None else wanted.events[: first])
-        same_bytes(what, data, t.binary.get())
-    reopen(t, what, form.ring(data), data)
-    t.counts[f"streams: {what}"] += 1
-
-
-def run_without_input(t: Try, what: str):
-    if what == "closed input":
-        return t.binary.run(None, stdin=None, before=lambda: os.close(0))
-    if what == "all closed":
-        got = t.binary.run(None, stdin=None, before=lambda: [os.close(fd) for fd in (0, 1)])
-        return got
-    path, mode = ("/", os.O_RDONLY) if what == "directory input" else (os.devnull, os.O_WRONLY)
-    fd = os.open(path, mode)
-    try:
-        return t.binary.run(None, stdin=fd)
-    finally:
-        os.close(fd)
-
-
-def run_without_output(t: Try, what: str, text: bytes):
-    words = ("run",)
-    if what == "closed output":
-        return t.binary.run(text, words, before=lambda: os.close(1))
-    if what == "broken output":
-        read, write = os.pipe()
-        os.close(read)
-    else:
-        write = os.open("/dev/full", os.O_WRONLY) if what == "full output" else os.open(os.devnull, os.O_RDONLY)
-    try:
-        return t.binary.run(text, words, stdout=write)
-    finally:
-        os.close(write)
-
-
-def no_file(t: Try) -> None:
-    """Paths that can't be a data file: status 5, nothing printed, the script unread. Words come first, output above all."""
-    missing = os.path.join(t.binary.folder, "missing", "file")
-    loop = os.path.join(t.binary.folder, "loop")
-    if not os.path.lexists(loop):
-        os.symlink(loop, loop)
-    path = t.random.choice(("", "/", t.binary.folder, missing, loop, "/dev/null/x", os.devnull, "x" * 300, "/" + "y/" * 3000))
-    source = os.path.join(t.binary.folder, "input")
-    with open(source, "wb") as file:
-        file.write(b"append 1 1 -\n")
-    with open(source, "rb", buffering=0) as stdin:
-        got = t.binary.run(None, path=path, stdin=stdin)
-        expect("no data file: the script is unread", 0, stdin.seek(0, os.SEEK_CUR))
-    expect(f"no data file at {path[:40]!r}: status", DISK, got.status)
-    expect("no data file: text", b"", got.text)
-    with open("/dev/full", "wb") as full:
-        got = t.binary.run(b"", words=("walk",), path=path, stdout=full)
-    expect("words without a meaning and a full output: status", WRITE, got.status)
-    t.counts["paths without a data file"] += 1
-
-
 KINDS = {
     "order": (order, 4), "disk": (disk, 8), "output": (output, 4), "script_read": (script_read, 4),
+    "in_a_row": (in_a_row, 3),
     "interrupted": (interrupted, 4), "short": (short, 4), "ended_early": (ended_early, 2), "unaffected": (unaffected, 2),
-    "memory": (memory, 1), "file_limit": (file_limit, 3), "streams": (streams, 4), "no_file": (no_file, 2),
+    "memory": (memory, 1), "file_limit": (file_limit, 3),
 }

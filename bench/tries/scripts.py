@@ -4,8 +4,9 @@ import os
 import select
 import time
 
-from . import form, generate, script
-from .common import Try, expect, require, same_bytes, same_run, session
+from . import generate, script
+from .binary import expect, require
+from .common import Try, same_bytes, session
 
 
 def sessions(t: Try) -> None:
@@ -27,7 +28,7 @@ def one_line(t: Try) -> None:
 
 def words(t: Try) -> None:
     """Words without a meaning: the usage line, status 2, neither the file nor standard input touched."""
-    choices = ("", "run", "RUN", "Run", "run ", " run", "runn", "ru", "-", "--", "--run", "-h", "--help", "format", "r\n", "0")
+    choices = ("", "run", "RUN", "Run", "run ", " run", "runn", "ru", "-", "--", "--run", "-h", "--help", "format", "0")
     given = [t.random.choice(choices) for _ in range(t.random.randint(0, 4))]
     if given == ["run"]:
         given = ["run", "run"]
@@ -82,7 +83,7 @@ def feed(t: Try, process, text: bytes) -> None:
 
 
 def answers_in_time(t: Try) -> None:
-    """Each answer comes as soon as its line is there, while the input stays open; and the prepare is in the file then."""
+    """Each answer comes when its line is there, while the input stays open; and the prepare is in the file then."""
     t.binary.put(None)
     process = t.binary.start()
     data = b""
@@ -132,4 +133,3 @@ def long_line(t: Try) -> None:
 
 KINDS = {"sessions": (sessions, 10), "one_line": (one_line, 8), "words": (words, 2), "pieces": (pieces, 4),
          "answers_in_time": (answers_in_time, 2), "long_line": (long_line, 2)}
-assert form.SLOTS == 32 and same_run

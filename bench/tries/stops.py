@@ -1,12 +1,12 @@
-"""Tries of stops: what a stop leaves after each prefix of the device's events, opened by the program, several in a row."""
+"""Tries of stops: what a stop leaves after a prefix of the events, opened by the program, several in a row."""
 
 import os
 import signal
 import time
 
 from . import form, generate, script
-from .binary import expect
-from .common import Try, named, on_file, reopen, require, same_bytes, session, state
+from .binary import expect, require
+from .common import Try, named, on_file, reopen, same_bytes, session, state
 
 HALF = form.SECTOR // 2
 
@@ -41,7 +41,7 @@ def stop(t: Try, data: bytes, events: list, upto: int) -> bytes:
 
 
 class Kept:
-    """What must be kept over a chain of stops: the appends that were answered or found, and all that were ever accepted."""
+    """What is kept over a chain of stops: the appends that were answered or found, and all that were ever accepted."""
 
     def __init__(self):
         self.answered: list = []
@@ -53,7 +53,8 @@ class Kept:
         require("an answered append is lost by a stop", found[: len(self.answered)] == self.answered)
         require("more than one unanswered append is there", len(found) <= len(self.answered) + 1)
         require("an append is there that was never accepted", set(found) <= self.accepted)
-        t.counts["stops that kept one more" if len(found) > len(self.answered) else "stops that kept the answered ones"] += 1
+        more = len(found) > len(self.answered)
+        t.counts["stops that kept one more" if more else "stops that kept the answered ones"] += 1
         self.answered = found
 
 
@@ -81,7 +82,8 @@ def chain(t: Try) -> None:
         data = stop(t, data, wanted.events, upto)
         kept.after(t, data)
         t.binary.put(data)
-        more = session(t, f"the open after stop {number + 1}", data, t.random.choice((b"", b"append 8 9 -\n", repeated)))
+        text = t.random.choice((b"", b"append 8 9 -\n", repeated))
+        more = session(t, f"the open after stop {number + 1}", data, text)
         kept.accepted |= set(more.accepted)
         data = more.data
         kept.answered = form.ring(data)
@@ -118,29 +120,34 @@ def every_prefix(t: Try) -> None:
 
 def killed(t: Try) -> None:
     """The program itself is killed at its entry into a call; its last write is then torn, and the file opened."""
-    data = generate.image(t.random, 20)
+    data = generate.image(t.random, 20) if t.random.random() < 0.8 else None
     t.binary.put(data)
-    text = script_for(t, data)
-    wanted = script.run(data, text)
-    name = t.random.choice(("pwrite64", "fdatasync", "write"))
+    text = script_for(t, data or b"")
+    wanted = script.run(data or b"", text)
+    names = ("pwrite64", "pwrite64", "fdatasync", "fdatasync", "write", "read", "pread64", "openat", "fsync")
+    name = t.random.choice(names)
     calls, fd = on_file(t, t.binary.trace(text)[1])
-    places = named(calls, name, 1 if name == "write" else fd)
+    places = named(calls, name, {"write": 1, "read": 0, "openat": None, "fsync": None}.get(name, fd))
     if not places:
         return
     number = t.random.randrange(len(places))
     t.binary.put(data)
     got, _ = t.binary.trace(text, [f"{name}:signal=SIGKILL:when={places[number].number}"])
-    expect("killed: status", -signal.SIGKILL, got.status)
-    upto = at_call(wanted.events, name, number)
-    expect(f"killed at {name} {number + 1}: text", script.answers(wanted.events[:upto]), got.text)
-    same_bytes(f"killed at {name} {number + 1}", state(data, wanted.events[:upto]), t.binary.get())
-    after_kill(t, data, wanted, upto)
+    given = text[: sum(call.result for call in places[:number])] if name == "read" else b""
+    upto = at_call(wanted.events, name, number, len(script.run(data or b"", given[: given.rfind(b"\n") + 1]).events))
+    what = f"killed at {name} {number + 1}"
+    expect(f"{what}: status", -signal.SIGKILL, got.status)
+    expect(f"{what}: text", script.answers(wanted.events[:upto]), got.text)
+    same_bytes(what, state(data or b"", wanted.events[:upto]), t.binary.get() or b"")
+    after_kill(t, data or b"", wanted, upto)
     t.counts[f"kills at {name}"] += 1
 
 
-def at_call(events: list, name: str, number: int) -> int:
-    """The number of events before one call of a name."""
-    kind = {"pwrite64": "write", "fdatasync": "sync", "write": "answer"}[name]
+def at_call(events: list, name: str, number: int, read: int) -> int:
+    """The number of events before one call of a name; `read` events come before a read of the script."""
+    kind = {"pwrite64": "write", "fdatasync": "sync", "write": "answer"}.get(name)
+    if kind is None:
+        return read if name == "read" else 0
     return [at for at, event in enumerate(events) if event.kind == kind][number]
 
 
@@ -178,4 +185,7 @@ def killed_any_time(t: Try) -> None:
     t.counts["kills at any time"] += 1
 
 
-KINDS = {"chain": (chain, 10), "every_prefix": (every_prefix, 4), "killed": (killed, 4), "killed_any_time": (killed_any_time, 2)}
+KINDS = {
+    "chain": (chain, 10), "every_prefix": (every_prefix, 4), "killed": (killed, 4),
+    "killed_any_time": (killed_any_time, 2),
+}
