@@ -10,6 +10,7 @@ import sys
 sys.dont_write_bytecode = True
 
 import argparse
+import fcntl
 import os
 import statistics
 import struct
@@ -23,6 +24,8 @@ from tries.binary import Binary, expect, has_strace
 from tries.common import named
 
 SIZES = (0, 128, 3840, 7936)
+# Linux's call that makes a pipe hold more, so that a whole script can wait in it.
+SET_PIPE_SIZE = 1031
 RAW = os.path.join(os.path.dirname(os.path.abspath(__file__)), "raw_loop.py")
 
 
@@ -73,10 +76,22 @@ def first_in_line() -> None:
         pass
 
 
-def run_timed(command: list, stdin) -> tuple:
-    """What a command prints, the time at which each of its lines came, and the processor's nanoseconds that it took."""
-    stamps, printed = [], b""
-    with subprocess.Popen(command, stdin=stdin, stdout=subprocess.PIPE, bufsize=0, preexec_fn=first_in_line) as process:
+def run_timed(command: list, first: bytes = b"", rest: bytes = b"") -> tuple:
+    """What a command prints, the time at which each line came, and the processor's nanoseconds that it took.
+
+    It gets the first lines of its input once it waits for them, and the rest once it has answered these. The first of the
+    times is that at which the rest was given, so that the late waking of this process counts against the command alone.
+    """
+    pipe = subprocess.PIPE
+    with subprocess.Popen(command, stdin=pipe, stdout=pipe, bufsize=0, preexec_fn=first_in_line) as process:
+        if first:
+            fcntl.fcntl(process.stdin, SET_PIPE_SIZE, 1 << 20)
+            time.sleep(0.03)
+            process.stdin.write(first)
+        printed = os.read(process.stdout.fileno(), 65536)
+        stamps = [time.perf_counter_ns()]
+        process.stdin.write(rest)
+        process.stdin.close()
         while piece := os.read(process.stdout.fileno(), 65536):
             stamps += [time.perf_counter_ns()] * piece.count(b"\n")
             printed += piece
@@ -93,23 +108,18 @@ class Rounds:
     def __init__(self, binary: Binary, text: bytes):
         self.binary, self.text = binary, text
         self.wanted = script.run(b"", text)
-        self.source = os.path.join(binary.folder, "script")
-        self.nothing = os.path.join(binary.folder, "nothing")
         self.plan = os.path.join(binary.folder, "plan")
         writes = [event for event in self.wanted.events if event.kind == "write"]
-        put(self.source, text)
-        put(self.nothing, b"append 1 1 -\n")
         put(self.plan, b"".join(struct.pack("<QQ", event.at, len(event.data)) + event.data for event in writes))
 
     def program(self) -> tuple:
         """The nanoseconds of each of the program's appends but the first, from answer to answer; the processor's."""
         command = [self.binary.program, self.binary.path, "run"]
+        end = self.text.index(b"\n") + 1
         self.binary.put(None)
-        with open(self.nothing, "rb") as stdin:
-            _, _, least = run_timed(command, stdin)
+        _, _, least = run_timed(command, self.text[:end])
         self.binary.put(None)
-        with open(self.source, "rb") as stdin:
-            printed, stamps, processor = run_timed(command, stdin)
+        printed, stamps, processor = run_timed(command, self.text[:end], self.text[end:])
         expect("the answers", self.wanted.text, printed)
         expect("the file", self.wanted.data, self.binary.get())
         return [after - before for before, after in zip(stamps, stamps[1:])], processor - least
@@ -118,7 +128,7 @@ class Rounds:
         """The same for the raw loop, measured within it."""
         self.binary.put(None)
         command = [sys.executable, "-I", "-S", RAW, self.binary.path, self.plan]
-        printed, _, _ = run_timed(command, subprocess.DEVNULL)
+        printed, _, _ = run_timed(command)
         expect("the raw loop's file", self.wanted.data, self.binary.get())
         processor, *times = map(int, printed.split())
         return times, processor
@@ -137,26 +147,25 @@ def quarters(ratios: list) -> str:
 def ratio_row(binary: Binary, random: Random, size: int, rounds: int) -> list:
     """One row of the table of times."""
     both = Rounds(binary, script_of(random, size))
-    seen: dict = {"program": [], "raw": []}
+    seen: dict = {"program": [], "raw": [], "raw again": []}
+    runs = {"program": both.program, "raw": both.raw, "raw again": both.raw}
     for _ in range(rounds):
-        order = [both.program, both.raw]
-        random.shuffle(order)
-        for call in order:
-            seen[call.__name__].append(call())
-    pairs = list(zip(seen["program"], seen["raw"]))
-    whole = [sum(one[0]) / sum(two[0]) for one, two in pairs]
-    typical = [statistics.median(one[0]) / statistics.median(two[0]) for one, two in pairs]
-    times = [statistics.median(sum(times) for times, _ in seen[name]) / 31 for name in ("program", "raw")]
-    beyond = statistics.median(one[1] - two[1] for one, two in pairs) / 31
-    return [str(size), quarters(whole), quarters(typical), *(f"{time_ / 1e3:.0f}" for time_ in (*times, beyond))]
+        for name in random.sample(sorted(runs), len(runs)):
+            seen[name].append(runs[name]())
+    own, raw, again = ([sum(times) for times, _ in seen[name]] for name in seen)
+    typical = [statistics.median(one[0]) / statistics.median(two[0]) for one, two in zip(seen["program"], seen["raw"])]
+    beyond = statistics.median(one[1] - two[1] for one, two in zip(seen["program"], seen["raw"])) / 31
+    ratios = [[one / two for one, two in zip(own, raw)], typical, [one / two for one, two in zip(again, raw)]]
+    times = [statistics.median(own) / 31, statistics.median(raw) / 31, beyond]
+    return [str(size), *map(quarters, ratios), *(f"{time_ / 1e3:.0f}" for time_ in times)]
 
 
 def show_times(binary: Binary, random: Random, rounds: int) -> None:
     print(f"Time of 31 appends against a raw loop of the same writes and syncs, {rounds} rounds in random order; the")
     print("median of the rounds' ratios, with its quartiles:\n")
-    print("| body | ratio of the whole | ratio of the median append | an append, us | raw, us "
-          "| processor beyond raw, us |")
-    print("|---|---|---|---|---|---|")
+    print("| body | ratio of the whole | ratio of the median append | of two raw loops (what the machine adds) "
+          "| an append, us | raw, us | processor beyond raw, us |")
+    print("|---|---|---|---|---|---|---|")
     sizes = list(SIZES)
     random.shuffle(sizes)
     for row in sorted((ratio_row(binary, random, size, rounds) for size in sizes), key=lambda row: int(row[0])):
@@ -170,6 +179,7 @@ def main() -> None:
     parser.add_argument("--seed", type=int, default=1, help="the seed of the bodies and of the order (default 1)")
     parser.add_argument("--folder", help="where the files stand (default: the folder for temporary files)")
     given = parser.parse_args()
+    first_in_line()
     with tempfile.TemporaryDirectory(dir=given.folder) as folder:
         binary, random = Binary(given.program, folder), Random(given.seed)
         show_calls(binary, random)
