@@ -28,7 +28,8 @@ def one_line(t: Try) -> None:
 
 def words(t: Try) -> None:
     """Words without a meaning: the usage line, status 2, neither the file nor standard input touched."""
-    choices = ("", "run", "RUN", "Run", "run ", " run", "runn", "ru", "-", "--", "--run", "-h", "--help", "format", "0")
+    choices = ("", "run", "RUN", "Run", "run ", " run", "runn", "ru", "-", "--", "--run", "-h", "--help", "format", "0",
+               b"\xff", b"run\xc3")
     given = [t.random.choice(choices) for _ in range(t.random.randint(0, 4))]
     if given == ["run"]:
         given = ["run", "run"]
@@ -41,7 +42,10 @@ def words(t: Try) -> None:
         if t.random.random() < 0.1:
             got = t.binary.call([t.binary.program], None, None, {"stdin": stdin})
         else:
-            got = t.binary.run(None, words=given, stdin=stdin)
+            path = os.path.join(t.binary.folder.encode(), b"\xfe") if t.random.random() < 0.1 else None
+            given = ["run"] if path and t.random.random() < 0.5 else given
+            got = t.binary.run(None, words=given, path=path, stdin=stdin)
+            require("words: no file at a path that isn't UTF-8", path is None or not os.path.exists(path))
         expect("words: standard input is untouched", 0, stdin.seek(0, os.SEEK_CUR))
     expect(f"words {given}: text", script.USAGE, got.text)
     expect(f"words {given}: status", 2, got.status)
