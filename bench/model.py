@@ -1,0 +1,80 @@
+"""Tries the built program against an independent model, written from docs/FORMAT.md and docs/SCRIPT.md alone.
+
+    python3 bench/model.py PATH-TO-datafile [--seconds N] [--seed N] [--kind NAME] [--first N] [--folder PATH]
+
+Prints what was tried, with counts, or the first disagreement and the command that tries it again. Ends with status 1
+where the two disagree. See docs/MODEL-TRIES.md.
+"""
+
+import sys
+
+sys.dont_write_bytecode = True
+
+import argparse
+import subprocess
+import tempfile
+import time
+from collections import Counter
+from random import Random, SystemRandom
+
+from tries import budget, damage, faults, scripts, stops, streams
+from tries.binary import Binary, Disagreement, has_strace
+from tries.common import Try
+
+KINDS = {**budget.KINDS, **scripts.KINDS, **damage.KINDS, **stops.KINDS, **streams.KINDS, **faults.KINDS}
+TRACED = {"killed", *faults.KINDS}
+
+
+def words() -> argparse.Namespace:
+    parser = argparse.ArgumentParser(description="Tries the built program against an independent model.")
+    parser.add_argument("program", help="the built program datafile")
+    parser.add_argument("--seconds", type=float, default=60, help="how long to try (default 60)")
+    parser.add_argument("--seed", type=int, help="the seed (default: a new one)")
+    parser.add_argument("--kind", choices=sorted(KINDS), action="append", help="this kind alone; may be repeated")
+    parser.add_argument("--first", type=int, default=0, help="the number of the first try")
+    parser.add_argument("--folder", help="where the files stand (default: the folder for temporary files)")
+    return parser.parse_args()
+
+
+def attempt(given, kinds: list, number: int, binary: Binary, counts: Counter) -> str:
+    """One try: its kind and its random numbers follow from the seed and its number."""
+    random = Random(f"{given.seed} {number}")
+    kind = random.choices(kinds, [KINDS[name][1] or 1 for name in kinds])[0]
+    try:
+        KINDS[kind][0](Try(random, binary, counts))
+    except (Disagreement, subprocess.TimeoutExpired, BrokenPipeError) as error:
+        raise Disagreement(f"try {number}, {kind}: {error}") from error
+    counts[f"tries: {kind}"] += 1
+    return kind
+
+
+def main() -> int:
+    given = words()
+    given.seed = SystemRandom().randrange(2**32) if given.seed is None else given.seed
+    # A kind of weight 0 is tried only where it is named.
+    kinds = [name for name in KINDS if name in (given.kind or ()) or (not given.kind and KINDS[name][1])]
+    if not has_strace():
+        print("strace isn't installed: the faults of single calls and the kills at calls aren't tried")
+        kinds = [name for name in kinds if name not in TRACED]
+    counts: Counter = Counter()
+    start, number = time.monotonic(), given.first
+    print(f"seed {given.seed}", flush=True)
+    with tempfile.TemporaryDirectory(dir=given.folder) as folder:
+        binary = Binary(given.program, folder)
+        while time.monotonic() - start < given.seconds:
+            try:
+                attempt(given, kinds, number, binary, counts)
+            except Disagreement as error:
+                print(f"DISAGREEMENT, {error}")
+                chosen = "".join(f" --kind {name}" for name in given.kind or ())
+                print(f"again: python3 bench/model.py {given.program} --seed {given.seed} --first {number}{chosen}")
+                return 1
+            number += 1
+    for name, count in sorted(counts.items()):
+        print(f"{count:8} {name}")
+    print(f"{number - given.first} tries, {binary.runs} runs of the program, no disagreement, seed {given.seed}")
+    return 0
+
+
+if __name__ == "__main__":
+    sys.exit(main())

@@ -1,0 +1,49 @@
+"""The writes and syncs of a ring of appends and nothing else, for bench/appends.py: raw_loop.py FILE PLAN.
+
+PLAN holds for each write two numbers of 8 bytes, offset and length, and its bytes. Prints the processor's nanoseconds
+of all writes and syncs but the first, then the nanoseconds that each of these took, one number a line.
+"""
+
+import gc
+import os
+import struct
+import sys
+import time
+
+
+def plan_of(path: str) -> list:
+    with open(path, "rb") as file:
+        text = file.read()
+    writes, at = [], 0
+    while at < len(text):
+        offset, length = struct.unpack_from("<QQ", text, at)
+        writes.append((offset, text[at + 16 : at + 16 + length]))
+        at += 16 + length
+    return writes
+
+
+def main() -> None:
+    writes = plan_of(sys.argv[2])
+    file = os.open(sys.argv[1], os.O_RDWR | os.O_CREAT, 0o666)
+    folder = os.open(os.path.dirname(sys.argv[1]) or ".", os.O_RDONLY)
+    os.fdatasync(file)
+    os.fsync(folder)
+    # The interpreter's start has used processor time, for which a scheduler may let others go first for a while.
+    time.sleep(0.03)
+    gc.disable()
+    pwrite, fdatasync, clock = os.pwrite, os.fdatasync, time.perf_counter_ns
+    offset, piece = writes[0]
+    pwrite(file, piece, offset)
+    fdatasync(file)
+    start, times = time.process_time_ns(), [clock()]
+    for offset, piece in writes[1:]:
+        pwrite(file, piece, offset)
+        fdatasync(file)
+        times.append(clock())
+    print(time.process_time_ns() - start)
+    for before, after in zip(times, times[1:]):
+        print(after - before)
+
+
+if __name__ == "__main__":
+    main()

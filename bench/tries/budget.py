@@ -1,0 +1,71 @@
+"""The bound of 2^32 bytes on a script. A try takes minutes, so that it is only made where it is asked for."""
+
+import os
+import subprocess
+
+from . import form, script
+from .binary import expect
+from .common import Try, same_bytes
+
+LINE = b"append 1 1 " + b"5a" * form.BODY_MAX + b"\n"
+BLOCK = LINE * 200
+
+
+def tail_of(rest: int) -> bytes:
+    """Lines of `rest` bytes in all, the last of them with its byte 10."""
+    lines = b""
+    while rest > len(LINE) + 100:
+        lines += LINE
+        rest -= len(LINE)
+    if rest > len(LINE):
+        lines += b"append 1 1 -\n"
+        rest -= 13
+    # The spelling of a body has an even number of digits; a client of two digits makes the length odd.
+    client = b"1" if (rest - 12) % 2 == 0 else b"11"
+    digits = rest - 11 - len(client)
+    return lines + b"append %s 1 %s\n" % (client, b"0" * digits)
+
+
+def budget(t: Try) -> None:
+    """Scripts of just 2^32 bytes and of some more, over a full ring."""
+    data = script.run(b"", b"append 1 1 -\n" * 32).data
+    cases = (
+        (0, "just 2^32 bytes"), (1, "one byte more, a byte 10"), (-1, "2^32 bytes without a last byte 10"),
+        (2, "2^32 bytes and a further line"),
+    )
+    for beyond, name in cases:
+        t.binary.put(data)
+        blocks = (script.BUDGET - 60000) // len(BLOCK)
+        rest = script.BUDGET - blocks * len(BLOCK) + {0: 0, 1: 1, -1: 1, 2: 0}[beyond]
+        tail = tail_of(rest)
+        tail = tail[:-1] if beyond == -1 else tail + (b"append 2 2 -\n" if beyond == 2 else b"")
+        good = blocks * 200 + len(script.lines(tail)) - (beyond in (1, 2))
+        wanted = script.FULL * good + (b"script %d\n" % (good + 1) if beyond in (1, 2) else b"")
+        text, status = feed(t, blocks, tail)
+        expect(f"{name}: status", 3 if beyond in (1, 2) else 0, status)
+        expect(f"{name}: text", wanted, text)
+        same_bytes(name, data, t.binary.get())
+        t.counts[f"scripts of {name}"] += 1
+
+
+def feed(t: Try, blocks: int, tail: bytes) -> tuple:
+    """Runs the program with so many blocks and then the tail as its input."""
+    answers = os.path.join(t.binary.folder, "answers")
+    t.binary.runs += 1
+    with open(answers, "wb") as out:
+        process = subprocess.Popen([t.binary.program, t.binary.path, "run"], stdin=subprocess.PIPE, stdout=out)
+    try:
+        for _ in range(blocks):
+            process.stdin.write(BLOCK)
+        process.stdin.write(tail)
+        process.stdin.close()
+    except BrokenPipeError:
+        pass
+    status = process.wait(120)
+    with open(answers, "rb") as file:
+        text = file.read()
+    os.unlink(answers)
+    return text, status
+
+
+KINDS = {"budget": (budget, 0)}

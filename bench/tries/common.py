@@ -1,0 +1,76 @@
+"""What all tries share: one try's random numbers, program and counts, and a run that is compared with the model."""
+
+from collections import Counter
+from random import Random
+from typing import NamedTuple, Optional
+
+from . import form, script
+from .binary import Binary, Result, expect, require
+
+
+class Try(NamedTuple):
+    """One try: its random numbers, the program over its file, and the counts of what was tried."""
+
+    random: Random
+    binary: Binary
+    counts: Counter
+
+
+def same_bytes(what: str, wanted: Optional[bytes], got: Optional[bytes]) -> None:
+    """The file has just these bytes; names the first sector that differs."""
+    if wanted == got:
+        return
+    if wanted is None or got is None:
+        expect(f"{what}: the file is there", wanted is not None, got is not None)
+    size = max(len(wanted), len(got))
+    for at in range(0, size, form.SECTOR):
+        sectors = (form.part(data, at, form.SECTOR) for data in (wanted, got))
+        expect(f"{what}: sector {at // form.SECTOR}", *sectors)
+    expect(f"{what}: the length of the file", len(wanted), len(got))
+
+
+def same_run(what: str, wanted: script.Outcome, got: Result) -> None:
+    """The run printed the model's text and ended with its status."""
+    expect(f"{what}: text", wanted.text, got.text)
+    expect(f"{what}: status", wanted.status, got.status)
+
+
+def session(t: Try, what: str, data: Optional[bytes], text: bytes) -> script.Outcome:
+    """Runs a script over the file, which holds `data`, and compares text, status and bytes with the model."""
+    wanted = script.run(data or b"", text)
+    same_run(what, wanted, t.binary.run(text))
+    same_bytes(what, wanted.data, t.binary.get())
+    t.counts["runs that were as the model's"] += 1
+    return wanted
+
+
+def reopen(t: Try, what: str, kept: list, data: Optional[bytes]) -> bytes:
+    """Opens the file with one more append: each prepare of `kept` is there, and the run is the model's."""
+    found = form.ring(data or b"")
+    require(f"{what}: the file has lost an answered append: {len(found)} of {len(kept)}", found[: len(kept)] == kept)
+    wanted = session(t, what, data, b"append 77 78 797a\n")
+    require(f"{what}: an append is lost at the open", form.ring(wanted.data)[: len(found)] == found)
+    return wanted.data
+
+
+def state(data: bytes, events: list) -> bytes:
+    """The file after these events."""
+    for event in events:
+        data = script.apply(data, event)
+    return data
+
+
+def on_file(t: Try, calls: list) -> tuple:
+    """The calls from the opening of the data file on, without those on other open files; and the file's descriptor."""
+    opened = [call for call in calls if call.name == "openat" and f'"{t.binary.path}"' in call.args[1]]
+    if not opened or opened[-1].result < 0:
+        return [], None
+    start = calls.index(opened[0])
+    fd = opened[-1].result
+    any_file = ("openat", "fsync", "brk", "mmap")
+    return [call for call in calls[start:] if call.fd in (0, 1, fd) or call.name in any_file], fd
+
+
+def named(calls: list, name: str, fd: Optional[int] = None) -> list:
+    """The calls of one name, on one descriptor where it is given."""
+    return [call for call in calls if call.name == name and (fd is None or call.fd == fd)]
