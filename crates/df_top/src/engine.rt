@@ -4,7 +4,7 @@ ghost use Rattle.df_base.specs.Causes.{HasCause};
 ghost use Rattle.df_disk.specs.Told.{after};
 ghost use Rattle.df_base.specs.Log.{Sync};
 ghost use Rattle.df_prepares.specs.Found.{IsHeadOf};
-ghost use Rattle.df_top.specs.Run.{AreRun, IsUntouched, OnSmall, Prints, PrintsUsage, Runs};
+ghost use Rattle.df_top.specs.Run.{AreRun, IsSmall, IsUntouched, OnSmall, Prints, PrintsUsage, Runs};
 ghost use Rattle.df_top.specs.Serving.{Blames, IsFreshSession, IsOpened};
 
 use crate::session::Session;
@@ -15,6 +15,7 @@ use crate::words::are_run;
 use df_base::{Failed, OutOfMemory, Sink, Source};
 use df_disk::Disk;
 use df_format::Wal;
+use df_layout::Layout;
 use df_prepares::{Head, find_ring};
 use df_script::LineRoom;
 use std::alloc::Global;
@@ -22,11 +23,22 @@ use std::alloc::Global;
 // Bytes of the longest line of a script, its byte 10 aside.
 const LINE_BOUND: u64 = 32_832;
 
+// The cluster of every file, until a superblock says it.
+const CLUSTER: u128 = 7;
+
+// The ring of prepares of layout `small`.
+#[tactic(auto, unfolding(df_layout::specs::Zones::first_sector, df_layout::specs::Zones::zone_sectors))]
+fn small_wal() -> Wal
+    ensures { IsSmall result }
+{
+    Wal::of(&Layout::small(), CLUSTER)
+}
+
 // Takes all the memory of a session over layout `small`.
 fn reserve(alloc: Global) -> Result<Session, OutOfMemory>
     ensures { IfOk result IsFreshSession }
 {
-    let wal = Wal::small();
+    let wal = small_wal();
     let lines = LineRoom::reserve(alloc, LINE_BOUND)?;
     let Ok(room) = vec![in alloc; 0; wal.message_size as usize] else {
         return Err(OutOfMemory);
