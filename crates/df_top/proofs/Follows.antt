@@ -1,8 +1,7 @@
 -- Runs follow one another, and a text has one script.
-use Rattle.std.proofs.Common.{◌≡◌, ◌⊎◌, inl, inr, ℕ, ◌-◌, List, [], ◌∷◌, ◌++◌, length, Option, Some, refl, sym, ◌∙◌, ap, subst}
+use Rattle.std.proofs.Common.{◌≡◌, ◌⊎◌, inl, inr, ℕ, ◌-◌, List, [], ◌∷◌, refl, sym, ◌∙◌, subst}
 use Rattle.df_base.specs.Image.{changed}
-use Rattle.df_base.specs.Log.{Stop, AreLoose, new_log, add, now}
-use Rattle.df_base.specs.Moments.{IsMoment}
+use Rattle.df_base.specs.Log.{now}
 use Rattle.df_base.proofs.Goes.{extends_self}
 use Rattle.df_format.specs.declared.wal.Wal.{Wal}
 use Rattle.df_prepares.specs.Steady.{IsSafe}
@@ -11,7 +10,7 @@ use Rattle.df_prepares.proofs.Rests.{new_rests, stop_rests}
 use Rattle.df_script.specs.Grammar.{Said, Says}
 use Rattle.df_script.specs.Text.{line_of, after_line, taken}
 use Rattle.df_script.proofs.Meanings.{one_said}
-use Rattle.df_top.specs.Script.{IsAppend, Begins, IsRefused, IsScript}
+use Rattle.df_top.specs.Script.{IsAppend, Begins, IsRefused}
 use Rattle.df_top.specs.Laws.{NewIsSafe, RunsFollow, OneScript}
 use Rattle.df_top.proofs.LineEnds.{nothing_said}
 

@@ -1,4 +1,5 @@
 mod Written
+mod Writes
 mod Lines
 mod Rounds
 mod Steps

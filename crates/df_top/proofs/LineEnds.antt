@@ -1,15 +1,14 @@
 -- What one line does to a session: it goes on with the append that the line asks for, or ends.
-use Rattle.std.proofs.Common.{◌≡◌, ◌≢◌, ◌⊎◌, inl, inr, ℕ, ◌+◌, ◌-◌, List, [], ◌∷◌, ◌++◌, length, Option, Some, None, Result, Ok, Err, OnOk, IfErr, IsErrOf, refl, sym, ◌∙◌, ap, subst}
-use Rattle.df_base.specs.Streams.{Appends, AppendsPart}
+use Rattle.std.proofs.Common.{◌≡◌, inl, inr, ℕ, List, [], Option, Some, Result, Ok, Err, OnOk, IfErr, IsErrOf, sym, ◌∙◌, ap, subst}
 use Rattle.df_disk.specs.Told.{Told}
 use Rattle.df_format.specs.declared.wal.Wal.{Wal}
 use Rattle.df_script.specs.declared.line.Line.{Line}
 use Rattle.df_script.specs.Grammar.{Said, Append, Says, said_with}
 use Rattle.df_script.specs.Reads.{IsLine, TakesLine, RefusesNext}
 use Rattle.df_script.specs.Room.{Room, Tells}
-use Rattle.df_script.specs.Text.{line_of, after_line, taken, unread}
+use Rattle.df_script.specs.Text.{line_of, unread}
 use Rattle.df_script.proofs.Meanings.{one_said}
-use Rattle.df_top.specs.Script.{IsTaken, IsAppend, IsRefused}
+use Rattle.df_top.specs.Script.{IsTaken, IsRefused}
 use Rattle.df_top.specs.Session.{State}
 use Rattle.df_top.specs.Step.{Takes, GoesOn, Ends}
 use Rattle.df_top.specs.Run.{line_bound}

@@ -1,5 +1,5 @@
 -- The first lines of a text, and one line more.
-use Rattle.std.proofs.Common.{◌≡◌, ℕ, ◌-◌, List, [], ◌∷◌, ◌++◌, refl, sym, ◌∙◌, subst}
+use Rattle.std.proofs.Common.{ℕ, ◌-◌, List, [], ◌∷◌, ◌++◌, subst}
 use Rattle.df_format.specs.declared.wal.Wal.{Wal}
 use Rattle.df_script.specs.Grammar.{Said}
 use Rattle.df_script.specs.Text.{after_line, taken}

@@ -1,10 +1,10 @@
 -- A session goes on by one line, or ends.
-use Rattle.std.proofs.Common.{◌≡◌, ◌⊎◌, inl, inr, ℕ, ◌+◌, ◌-◌, ◌≤◌, ◌<◌, Bool, true, false, List, [], ◌∷◌, ◌++◌, length, take, Option, Some, None, refl, sym, ◌∙◌, ap, subst, arith, length-append}
+use Rattle.std.proofs.Common.{◌≡◌, inl, ℕ, ◌+◌, ◌-◌, true, false, List, [], ◌∷◌, ◌++◌, length, take, Option, Some, refl, sym, ◌∙◌, ap, subst, arith, length-append}
 use Rattle.std.proofs.lemmas.List.{take-append-le}
 use Rattle.df_base.specs.Log.{Log}
 use Rattle.df_base.specs.Moments.{Extends, EachMoment}
 use Rattle.df_base.specs.Streams.{Appends, AppendsPart}
-use Rattle.df_disk.specs.Told.{Told, IsHonest}
+use Rattle.df_disk.specs.Told.{Told}
 use Rattle.df_format.specs.declared.wal.Wal.{Wal}
 use Rattle.df_format.specs.Unit.{Prepare}
 use Rattle.df_prepares.specs.Laws.{RestIsKept}
@@ -12,11 +12,11 @@ use Rattle.df_prepares.specs.Ring.{IsRing}
 use Rattle.df_prepares.specs.declared.ring.Head.{Head}
 use Rattle.df_script.specs.Grammar.{Said}
 use Rattle.df_script.specs.Text.{after_line, taken}
-use Rattle.df_top.specs.Script.{IsAppend, Begins, IsRefused}
+use Rattle.df_top.specs.Script.{Begins, IsRefused}
 use Rattle.df_top.specs.Appends.{ring_after, IsGood}
-use Rattle.df_top.specs.Texts.{answer, answers, count_after, counts_after, printed, script_line}
+use Rattle.df_top.specs.Texts.{answer, answers, count_after, counts_after, script_line}
 use Rattle.df_top.specs.Session.{State, Rests, Since, Executed}
-use Rattle.df_top.specs.Ending.{EndsText, IsAnswered, IsAfter, LeavesRing, Ended}
+use Rattle.df_top.specs.Ending.{EndsText, LeavesRing}
 use Rattle.df_top.specs.Step.{StepDone, StepFailed, Takes, GoesOn, Ends}
 use Rattle.df_top.specs.declared.status.Status.{Status}
 use Rattle.df_top.specs.declared.status.Status.TheVariants.{Done, Script, DiskFault, ReadFault, WriteFault}

@@ -1,25 +1,23 @@
 -- One append, as a step of what holds at each moment.
-use Rattle.std.proofs.Common.{◌≡◌, ◌⊎◌, inl, inr, ℕ, ◌+◌, ◌-◌, ◌*◌, ◌%◌, ◌≤◌, ◌<◌, List, [], ◌∷◌, ◌++◌, length, take, drop, cond, ltb, Option, Some, refl, sym, ◌∙◌, ap, subst, arith, length-append}
+use Rattle.std.proofs.Common.{◌≡◌, inl, inr, ℕ, ◌+◌, ◌-◌, ◌*◌, ◌%◌, ◌≤◌, ◌<◌, List, [], ◌∷◌, ◌++◌, length, take, drop, cond, ltb, Option, Some, refl, sym, ◌∙◌, ap, subst, arith, length-append}
 use Rattle.std.proofs.lemmas.Bool.{cond-true, cond-false, lt-ltb, le-ltb}
 use Rattle.std.proofs.lemmas.List.{take-append-le, take_all}
 use Rattle.df_base.specs.Image.{Image, written, covers}
-use Rattle.df_base.specs.Log.{Event, Write, Sync, Stop, Log, add, now}
+use Rattle.df_base.specs.Log.{Event, Write, Sync, Log, add, now}
 use Rattle.df_base.specs.Moments.{EachMoment, Extends}
 use Rattle.df_base.proofs.Goes.{more, extends_add, weaker}
 use Rattle.df_disk.specs.Told.{Told, did, IsHonest}
-use Rattle.df_disk.specs.Adds.{Adds, AddsPart, after_all}
+use Rattle.df_disk.specs.Adds.{AddsPart, after_all}
 use Rattle.df_format.specs.declared.wal.Wal.{Wal}
 use Rattle.df_format.specs.Unit.{Prepare, IsPrepare, slot_start, sectors_of}
-use Rattle.df_format.specs.Chance.{NoChance, EachLeft}
 use Rattle.df_prepares.specs.declared.ring.Head.{Head}
 use Rattle.df_prepares.specs.Ring.{IsRing, IsHead, IsNext}
-use Rattle.df_prepares.specs.Steady.{IsSafe, IsAtRest}
+use Rattle.df_prepares.specs.Steady.{IsAtRest}
 use Rattle.df_prepares.specs.Laws.{wrote, HasOldOrNew, WriteKeeps, NextMayBeWritten, RestIsKept}
 use Rattle.df_script.specs.Grammar.{Said, Append}
-use Rattle.df_top.specs.Appends.{next_of, appended, ring_after, IsAfterSome, LeavesSome, IsGood}
+use Rattle.df_top.specs.Appends.{next_of, appended, ring_after, IsAfterSome, IsGood}
 use Rattle.df_top.specs.Session.{Rests, Since}
 use Rattle.df_top.specs.Ending.{IsAfter, LeavesRing}
-use Rattle.df_top.specs.declared.status.Status.{Status}
 use Rattle.df_top.specs.declared.status.Status.TheVariants.{DiskFault}
 
 -- ---- the ring after one append more

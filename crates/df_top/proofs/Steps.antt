@@ -1,23 +1,21 @@
 -- One append over the ring, whatever was executed before it.
-use Rattle.std.proofs.Common.{◌≡◌, ◌⊎◌, inl, inr, ℕ, ◌+◌, ◌≤◌, ◌<◌, List, [], ◌∷◌, ◌++◌, length, cond, ltb, Option, Some, Result, Ok, Err, OnOk, refl, sym, ◌∙◌, ap, subst, arith, length-append}
+use Rattle.std.proofs.Common.{◌≡◌, ℕ, ◌+◌, ◌≤◌, ◌<◌, List, [], ◌∷◌, ltb, Option, Result, Ok, Err, OnOk, refl, sym, ◌∙◌, ap, subst, length-append}
 use Rattle.std.proofs.lemmas.Bool.{cond-true, cond-false, lt-ltb, le-ltb}
-use Rattle.df_base.specs.Log.{Event, Write, Sync, Log}
+use Rattle.df_base.specs.Log.{Event, Write, Sync}
 use Rattle.df_disk.specs.Told.{Told}
 use Rattle.df_disk.specs.Adds.{Adds, AddsPart, after_all}
 use Rattle.df_format.specs.declared.wal.Wal.{Wal}
 use Rattle.df_format.specs.Spelling.{no_checksum}
 use Rattle.df_format.specs.Unit.{Prepare, IsPrepare, slot_start, sectors_of}
 use Rattle.df_prepares.specs.declared.ring.Head.{Head}
-use Rattle.df_prepares.specs.Ring.{IsHead, end_of}
-use Rattle.df_top.specs.Heads.{IsEnd}
+use Rattle.df_prepares.specs.Ring.{IsHead}
 use Rattle.df_prepares.proofs.Chains.{end_of-append}
 use Rattle.df_script.specs.Grammar.{Said, Append}
-use Rattle.df_top.specs.Appends.{prepare_for, next_of, ring_after, IsGood}
+use Rattle.df_top.specs.Appends.{prepare_for, next_of, ring_after}
 use Rattle.df_top.specs.Texts.{count_after}
-use Rattle.df_top.specs.Session.{Rests, Since}
 use Rattle.df_top.specs.Step.{behind, append_events, IsNextHead, StepDone, StepFailed, Steps}
 use Rattle.df_prepares.proofs.Rests.{next_written, rest_kept}
-use Rattle.df_top.proofs.Rounds.{step_done, step_failed, step_refused, next_is}
+use Rattle.df_top.proofs.Rounds.{step_done, step_failed, step_refused}
 
 behind_is : (wal : Wal) (head : Head) (ps : List Prepare) (said : Said) → IsHead ps head → behind wal head said ≡ next_of wal ps said
 behind_is wal head ps said is = λ i. prepare_for wal (is.checksum i) (is.op i + 1) said

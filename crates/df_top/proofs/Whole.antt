@@ -1,7 +1,7 @@
 -- A whole run: the barrier, the opening, and the session behind it.
-use Rattle.std.proofs.Common.{◌≡◌, ◌⊎◌, inl, inr, ℕ, ◌+◌, ◌≤◌, Bool, true, false, List, [], ◌∷◌, ◌++◌, length, take, Option, Some, None, refl, sym, ◌∙◌, ap, subst, arith, append_assoc}
+use Rattle.std.proofs.Common.{◌≡◌, ◌⊎◌, inl, inr, ℕ, ◌+◌, false, List, [], ◌∷◌, ◌++◌, Option, Some, None, refl, sym, ◌∙◌, ap, subst, arith, append_assoc}
 use Rattle.df_base.specs.Log.{Event, Log, Sync, add, now}
-use Rattle.df_base.specs.Moments.{EachMoment, Extends}
+use Rattle.df_base.specs.Moments.{Extends}
 use Rattle.df_base.specs.Streams.{Appends}
 use Rattle.df_base.proofs.Goes.{started, extends_self, extends_add, weaker, from_before, more}
 use Rattle.df_disk.specs.Told.{Told, did, after, IsHonest}
@@ -14,20 +14,18 @@ use Rattle.df_prepares.specs.Laws.{NextMayBeWritten, RestIsKept, SyncRests}
 use Rattle.df_prepares.specs.Found.{IsHeadOf}
 use Rattle.df_prepares.specs.Ring.{IsRing, IsHead}
 use Rattle.df_prepares.specs.Steady.{IsSafe, IsAtRest}
-use Rattle.df_script.specs.Grammar.{Said}
 use Rattle.df_script.specs.Room.{Room}
 use Rattle.df_script.specs.Text.{Reading, unread}
-use Rattle.df_top.specs.Appends.{ring_after, IsGood, LeavesSome, IsAfterSome}
-use Rattle.df_top.specs.Script.{Begins}
+use Rattle.df_top.specs.Appends.{IsGood, LeavesSome}
 use Rattle.df_top.specs.Serving.{IsFreshSession, IsOpened, state}
 use Rattle.df_top.specs.declared.session.Session.{Session}
 use Rattle.df_top.specs.Session.{State, Rests, Since}
-use Rattle.df_top.specs.Ending.{EndsText, IsAnswered, IsAfter, LeavesRing, Ended}
-use Rattle.df_top.specs.Run.{line_bound, script_budget, Printed, Prints, FromBarrier, NoBarrier, Ran, Runs}
+use Rattle.df_top.specs.Ending.{IsAnswered, Ended}
+use Rattle.df_top.specs.Run.{line_bound, script_budget, Prints, Ran, Runs}
 use Rattle.df_top.specs.declared.status.Status.{Status}
-use Rattle.df_top.specs.declared.status.Status.TheVariants.{Done, DiskFault, Memory}
+use Rattle.df_top.specs.declared.status.Status.TheVariants.{DiskFault, Memory}
 use Rattle.df_top.proofs.Written.{appends_none}
-use Rattle.df_top.proofs.Rounds.{rest_good, honest_sync, one_disk}
+use Rattle.df_top.proofs.Rounds.{rest_good, honest_sync}
 
 -- what goes on from a log with one event more goes on from the log
 extends_before : (e : Event) (earlier later : Log) → Extends later (add e earlier) → Extends later earlier

@@ -1,5 +1,5 @@
 -- What appends make of a ring.
-use Rattle.std.specs.Prelude.{◌≡◌, ◌≤◌, ◌+◌, ◌%◌, ℕ, List, [], ◌∷◌, ◌++◌, length, take, nat_lt, if◌then◌else◌}
+use Rattle.std.specs.Prelude.{◌≤◌, ◌+◌, ◌%◌, ℕ, List, [], ◌∷◌, ◌++◌, length, take, nat_lt, if◌then◌else◌}
 use Rattle.df_base.specs.Fields.{check_of}
 use Rattle.df_base.specs.Image.{Image}
 use Rattle.df_base.specs.Log.{Log}

@@ -9,3 +9,4 @@ pub mod Run
 pub mod Serving
 pub mod Laws
 pub mod Statuses
+pub mod Writes

@@ -1,5 +1,5 @@
 -- How far a session has come: what it has executed, and what a stop may leave of it.
-use Rattle.std.specs.Prelude.{◌≡◌, ◌+◌, ◌≤◌, ℕ, List, [], length, Option, Some}
+use Rattle.std.specs.Prelude.{◌≡◌, ◌+◌, ℕ, List, [], length, Option, Some}
 use Rattle.df_base.specs.Log.{Log}
 use Rattle.df_base.specs.Moments.{EachMoment, Extends}
 use Rattle.df_base.specs.Streams.{Appends}

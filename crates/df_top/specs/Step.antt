@@ -3,7 +3,6 @@ use Rattle.std.specs.Prelude.{◌≡◌, ◌<◌, ◌≤◌, ◌+◌, ◌-◌, �
 use Rattle.df_base.specs.Log.{Event, Write, Sync, Log}
 use Rattle.df_disk.specs.Told.{Told}
 use Rattle.df_format.specs.declared.wal.Wal.{Wal}
-use Rattle.df_format.specs.Spelling.{no_checksum}
 use Rattle.df_format.specs.Unit.{Prepare, slot_start, sectors_of}
 use Rattle.df_prepares.specs.declared.ring.Head.{Head}
 use Rattle.df_script.specs.Grammar.{Said}

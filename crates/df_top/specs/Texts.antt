@@ -1,6 +1,5 @@
 -- The texts that a run prints.
 use Rattle.std.specs.Prelude.{◌+◌, ℕ, Bool, true, false, List, length, [], ◌∷◌, ◌++◌, nat_lt, if◌then◌else◌, codes, decimal}
-use Rattle.df_format.specs.declared.wal.Wal.{Wal}
 use Rattle.df_script.specs.Grammar.{Said}
 
 unfoldable pub usage : List ℕ

@@ -9,6 +9,7 @@ ghost use Rattle.df_script.specs.Grammar.{Append};
 ghost use Rattle.df_top.specs.Script.{IsTaken};
 ghost use Rattle.df_top.specs.Step.{behind, append_events, AreSlotful, IsNextHead, Steps};
 ghost use Rattle.df_top.specs.Texts.{count_after};
+ghost use Rattle.df_top.specs.Writes.{WritesRing};
 
 use df_base::Failed;
 use df_disk::Disk;
@@ -102,6 +103,7 @@ pub fn append<D: Disk>(
     requires taken { IsTaken wal.now (Append client request body.now) }
     requires end { IsEnd wal.now head.old }
     ensures steps { Steps wal.now (D.told disk.old) head.old (Append client request body.now) (D.told disk.new) head.new result }
+    ensures writes { WritesRing wal.now (D.told disk.old) (D.told disk.new) }
     ensures count { OnOk result (head.new.op ≡ count_after wal.now.slots head.old.op) }
     ensures end { IsEnd wal.now head.new }
     ensures cause { HasCause (D.faults disk.old) (D.faults disk.new) result }

@@ -6,6 +6,7 @@ ghost use Rattle.df_base.specs.Log.{Sync};
 ghost use Rattle.df_prepares.specs.Found.{IsHeadOf};
 ghost use Rattle.df_top.specs.Run.{AreRun, IsSmall, IsUntouched, OnSmall, Prints, PrintsUsage, Runs};
 ghost use Rattle.df_top.specs.Serving.{Blames, IsFreshSession, IsOpened};
+ghost use Rattle.df_top.specs.Writes.{WritesRing};
 
 use crate::session::Session;
 use crate::status::Status;
@@ -80,6 +81,7 @@ fn execute<D: Disk, S: Source, W: Sink>(
     requires { IsFreshSession session.old }
     ensures prints { Prints session.old.wal (D.told disk.old) (S.left source.old) (S.left source.new) (W.written sink.old) (W.written sink.new) result }
     ensures runs { Runs session.old.wal (D.told disk.old) (D.told disk.new) (S.left source.old) (W.written sink.old) (W.written sink.new) result }
+    ensures writes { WritesRing session.old.wal (D.told disk.old) (D.told disk.new) }
     ensures disk { Blames Status.DiskFault (D.faults disk.old) (D.faults disk.new) result }
     ensures source { Blames Status.ReadFault (S.faults source.old) (S.faults source.new) result }
     ensures sink { Blames Status.WriteFault (W.faults sink.old) (W.faults sink.new) result }
@@ -124,6 +126,9 @@ pub fn run<D: Disk, S: Source, W: Sink>(
     // At every moment the log is safe, and whatever a stop leaves has the ring after the first of the appends.
     ensures runs { AreRun (map string_bytes words.now) → OnSmall (λ wal. Runs wal
         (D.told disk.old) (D.told disk.new) (S.left source.old) (W.written sink.old) (W.written sink.new) result) }
+
+    // The disk gets prepares, each in its own slot, and syncs; nothing else is written.
+    ensures writes { OnSmall (λ wal. WritesRing wal (D.told disk.old) (D.told disk.new)) }
 
     // Each fault has its cause; want of memory comes before anything was read or written.
     ensures disk_fault { Blames Status.DiskFault (D.faults disk.old) (D.faults disk.new) result }

@@ -3,6 +3,7 @@ ghost use Rattle.std.specs.Prelude.{◌≡◌, ◌↔◌, ◌<◌, ◌≤◌, �
 ghost use Rattle.df_script.specs.Grammar.{Append};
 ghost use Rattle.df_top.specs.Script.{IsTaken};
 ghost use Rattle.df_top.specs.Serving.{AnswersAppend, Blames, BlamesIfErr, IsReady, KeepsReader, RefusesLine, state};
+ghost use Rattle.df_top.specs.Writes.{WritesRing};
 
 use crate::append::append;
 use crate::session::Session;
@@ -51,6 +52,7 @@ pub fn serve_append<D: Disk, W: Sink>(
     requires size { size ≤ length session.old.lines.body }
     requires taken { IsTaken session.old.wal (Append client request (take size session.old.lines.body)) }
     ensures answers { AnswersAppend session.old.wal (D.told disk.old) (W.written sink.old) session.old (Append client request (take size session.old.lines.body)) (D.told disk.new) (W.written sink.new) session.new result }
+    ensures writes { WritesRing session.old.wal (D.told disk.old) (D.told disk.new) }
     ensures ready { IsReady session.new }
     ensures reader { KeepsReader session.old session.new }
     ensures disk { BlamesIfErr Status.DiskFault (D.faults disk.old) (D.faults disk.new) result }

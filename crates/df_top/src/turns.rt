@@ -5,6 +5,7 @@ ghost use Rattle.df_top.specs.Ending.{Ended};
 ghost use Rattle.df_top.specs.Step.{GoesOn, Ends};
 ghost use Rattle.df_top.specs.Run.{line_bound};
 ghost use Rattle.df_top.specs.Serving.{AnswersLine, Blames, BlamesIfErr, EndedIsEnd, IsReady, KeepsReader, state};
+ghost use Rattle.df_top.specs.Writes.{WritesRing};
 
 use crate::serve::{is_taken, refuse, serve_append};
 use crate::session::Session;
@@ -24,6 +25,7 @@ fn serve_line<D: Disk, W: Sink>(
     requires room { session.old.count < 2 ^ 33 }
     requires size { body_length line ≤ length session.old.lines.body }
     ensures answers { AnswersLine session.old.wal (D.told disk.old) (W.written sink.old) session.old (said_with session.old.lines.body line) (D.told disk.new) (W.written sink.new) session.new result }
+    ensures writes { WritesRing session.old.wal (D.told disk.old) (D.told disk.new) }
     ensures ready { IsReady session.new }
     ensures reader { KeepsReader session.old session.new }
     ensures disk { BlamesIfErr Status.DiskFault (D.faults disk.old) (D.faults disk.new) result }
@@ -56,6 +58,7 @@ fn turn<D: Disk, S: Source, W: Sink>(
     ensures ends { IfErr result (Ends session.old.wal line_bound
         (state (D.told disk.old) (S.left source.old) (W.written sink.old) session.old)
         (state (D.told disk.new) (S.left source.new) (W.written sink.new) session.new)) }
+    ensures writes { WritesRing session.old.wal (D.told disk.old) (D.told disk.new) }
     ensures ready { IsReady session.new }
     ensures wal { session.new.wal ≡ session.old.wal }
     ensures count { OnOk result (session.new.count + session.new.lines.reading.budget ≤ session.old.count + session.old.lines.reading.budget) }
@@ -86,6 +89,7 @@ pub fn serve<D: Disk, S: Source, W: Sink>(
     ensures session { Ended session.old.wal line_bound
         (state (D.told disk.old) (S.left source.old) (W.written sink.old) session.old)
         (state (D.told disk.new) (S.left source.new) (W.written sink.new) session.new) result }
+    ensures writes { WritesRing session.old.wal (D.told disk.old) (D.told disk.new) }
     ensures disk { Blames Status.DiskFault (D.faults disk.old) (D.faults disk.new) result }
     ensures source { Blames Status.ReadFault (S.faults source.old) (S.faults source.new) result }
     ensures sink { Blames Status.WriteFault (W.faults sink.old) (W.faults sink.new) result }

@@ -1,10 +1,8 @@
-use Rattle.std.proofs.Common.{◌≡◌, ◌+◌, ◌*◌, ◌/◌, ◌%◌, ◌≤◌, ◌<◌, ℕ, List, length, take, refl, sym, ◌∙◌, ap, subst, arith}
+use Rattle.std.proofs.Common.{◌∙◌, ap, subst}
 use Rattle.df_format.specs.declared.header.Header.{Header}
 use Rattle.df_format.specs.Spelling.{spelling_rest}
-use Rattle.df_format.specs.Message.{sectors_of, sectors_end}
-use Rattle.df_format.specs.Unit.{Prepare, IsPrepare}
-use Rattle.df_script.specs.Grammar.{Append}
-use Rattle.df_top.specs.Step.{behind, AreSlotful}
+use Rattle.df_format.specs.Message.{sectors_of}
+use Rattle.df_format.specs.Unit.{IsPrepare}
 use Rattle.df_top.proofs.append.make_behind.Goals as goal
 
 -- the checksum that a header had before it is sealed doesn't count

@@ -1,9 +1,8 @@
 -- The append is a step of the ring, with the body that the reader holds; then its answer is written.
-use Rattle.std.proofs.Common.{◌≡◌, ◌+◌, ℕ, List, refl, ◌∙◌, ap, subst}
+use Rattle.std.proofs.Common.{ℕ, List, refl, ◌∙◌, subst}
 use Rattle.df_base.specs.Streams.{Appends, AppendsPart}
 use Rattle.df_script.specs.Grammar.{Append}
 use Rattle.df_top.specs.Step.{StepDone, StepFailed}
-use Rattle.df_top.specs.Texts.{answer}
 use Rattle.df_top.proofs.serve.serve_append.Goals as goal
 
 pub returns-in-Err-clause-answers : goal.returns-in-Err-clause-answers

@@ -1,7 +1,6 @@
 -- Each arm is one way in which a line ends or goes on.
-use Rattle.std.proofs.Common.{◌≡◌, ℕ, List, [], Option, Some, refl, sym, ◌∙◌, ap, subst}
+use Rattle.std.proofs.Common.{refl, subst}
 use Rattle.df_script.specs.Reads.{GivesNext}
-use Rattle.df_top.specs.Script.{IsRefused}
 use Rattle.df_top.specs.Run.{line_bound}
 use Rattle.df_top.specs.Serving.{state}
 use Rattle.df_prepares.proofs.Rests.{rest_kept}

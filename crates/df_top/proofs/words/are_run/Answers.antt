@@ -1,8 +1,7 @@
-use Rattle.std.proofs.Common.{rules, ◌≡◌, ◌↔◌, IsTrue, map, string_bytes, ℕ, ◌+◌, ◌<◌, ◌≤◌, length, true, false, List, [], ◌∷◌, Global, refl, sym, ◌∙◌, ap, subst, arith, String, get_or}
+use Rattle.std.proofs.Common.{◌≡◌, map, string_bytes, ℕ, ◌<◌, ◌≤◌, length, List, [], ◌∷◌, sym, ◌∙◌, ap, arith, get_or}
 use Rattle.std.specs.Str.{bytes_eq}
 use Rattle.std.specs.Prelude.{codes}
 use Rattle.std.proofs.lemmas.Slice.Eq.{bytes_eq-Decides}
-use Rattle.df_top.specs.Run.{AreRun}
 use Rattle.df_top.proofs.words.are_run.Goals as goal
 
 -- a list of one element is that element alone
