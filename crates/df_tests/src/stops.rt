@@ -171,19 +171,15 @@ fn cuts(alloc: Global, ring: u64, count: u64, fates: &[[Fate; 2]]) -> Result<Vec
 {
     let mut cuts = Vec::new(alloc);
     for call in 1..calls_of_open(ring) + 2 * count + 1 {
-        match op_in_flight(ring, call) {
-            Some(_) => {
-                for fates in fates {
-                    cuts.push(Cut {
-                        call,
-                        fates: *fates,
-                    })?;
-                }
-            }
-            None => cuts.push(Cut {
+        let tried = match op_in_flight(ring, call) {
+            Some(_) => fates,
+            None => &FATES[..1],
+        };
+        for fates in tried {
+            cuts.push(Cut {
                 call,
-                fates: FATES[0],
-            })?,
+                fates: *fates,
+            })?;
         }
     }
     Ok(cuts)
