@@ -3,7 +3,7 @@ ghost use Rattle.df_layout.specs.declared.places.Zone.{Zone};
 ghost use Rattle.df_layout.specs.declared.places.Zone.TheVariants.{WalHeaders, WalPrepares, ClientReplies, Grid};
 ghost use Rattle.df_format.specs.declared.kind.Kind.{Kind};
 ghost use Rattle.df_format.specs.declared.kind.Kind.TheVariants.{Prepare as AsPrepare, Reply as AsReply, Block as AsBlock, Trailer as AsTrailer};
-ghost use Rattle.df_buffers.specs.Rooms.{HasSlots};
+ghost use Rattle.df_buffers.specs.Rooms.{StandsIn};
 
 use df_format::Kind;
 use df_layout::Zone;
@@ -15,13 +15,13 @@ pub trait RoomKind {
     const ZONE: Zone;
 }
 
-/// The kind of a unit, whose zone has a whole slot for each unit.
+/// The kind of a unit, which has a whole slot of the zone.
 pub trait UnitKind: RoomKind {
     ghost KIND: { Kind };
 
     const KIND: Kind;
 
-    ghost slots: { HasSlots Self.ZONE };
+    ghost stands: { StandsIn KIND Self.ZONE };
 }
 
 /// An entry of the write-ahead log.
@@ -55,7 +55,7 @@ impl UnitKind for Prepare {
 
     const KIND: Kind = Kind::Prepare;
 
-    ghost slots = { tt };
+    ghost stands = { tt };
 }
 
 impl RoomKind for Reply {
@@ -69,7 +69,7 @@ impl UnitKind for Reply {
 
     const KIND: Kind = Kind::Reply;
 
-    ghost slots = { tt };
+    ghost stands = { tt };
 }
 
 impl RoomKind for Block {
@@ -83,7 +83,7 @@ impl UnitKind for Block {
 
     const KIND: Kind = Kind::Block;
 
-    ghost slots = { tt };
+    ghost stands = { tt };
 }
 
 impl RoomKind for Trailer {
@@ -97,7 +97,7 @@ impl UnitKind for Trailer {
 
     const KIND: Kind = Kind::Trailer;
 
-    ghost slots = { tt };
+    ghost stands = { tt };
 }
 
 impl RoomKind for HeaderSector {

@@ -1,0 +1,108 @@
+-- What the tests of a unit find, and that a room is sound where they pass.
+use Rattle.std.proofs.Common.{◌≡◌, ◌≢◌, ◌≤◌, ◌-◌, ◌*◌, ℕ, List, [], length, take, drop, Option, Some, None, refl, sym, ◌∙◌, ap, subst, arith}
+use Rattle.std.specs.Prelude.{Ok}
+use Rattle.df_layout.specs.declared.damage.Class.{Class}
+use Rattle.df_layout.specs.declared.damage.Class.TheVariants.{Stale}
+use Rattle.df_layout.specs.declared.layout.Layout.{Layout}
+use Rattle.df_layout.specs.declared.places.Place.{Place}
+use Rattle.df_layout.specs.declared.places.Zone.{Zone}
+use Rattle.df_layout.specs.declared.places.Zone.TheVariants.{Superblock, WalHeaders, WalPrepares, ClientReplies, Grid}
+use Rattle.df_layout.specs.Spans.{place_sectors}
+use Rattle.df_format.specs.declared.header.Header.{Header}
+use Rattle.df_format.specs.declared.kind.Kind.{Kind}
+use Rattle.df_format.specs.declared.kind.Kind.TheVariants.{Reserved, Prepare, Reply, Block, Trailer}
+use Rattle.df_format.specs.Message.{Message, sectors_end}
+use Rattle.df_format.specs.Whole.{body_in}
+use Rattle.df_format.specs.Shown.{unit_in, class_of, header_or_class}
+use Rattle.df_format.proofs.Spelled.{read_as}
+use Rattle.df_format.proofs.Wholes.{valid_stale, unit_found, fits_slot}
+use Rattle.df_buffers.specs.declared.identity.Identity.{Identity}
+use Rattle.df_buffers.specs.Rooms.{StandsIn, room_size}
+use Rattle.df_buffers.specs.Found.{Finds, FindsKind, class_for}
+use Rattle.df_buffers.specs.Sounds.{Holding, IsSound, unit_with}
+
+some_stale : (layout : Layout) (cluster : ℕ) (place : Place) (bytes : List ℕ) (o : Option Message) (class : Class) (h : Header) → unit_in layout cluster place bytes ≡ o → Ok h ≡ header_or_class o class
+    → class_of layout cluster place bytes ≡ Stale
+some_stale layout cluster place bytes None class h is ok = absurd (cc)
+some_stale layout cluster place bytes (Some u) class h is ok = valid_stale layout cluster place bytes u is
+
+-- bytes that are valid at the place have the class of a unit that isn't wanted
+pub valid_class : (identity : Identity) (bytes : List ℕ) (h : Header)
+    → Ok h ≡ header_or_class (unit_in identity.layout identity.cluster identity.place bytes) (class_of identity.layout identity.cluster identity.place bytes) → Stale ≡ class_for identity bytes
+valid_class identity bytes h ok = sym (some_stale identity.layout identity.cluster identity.place bytes _ _ h refl ok)
+
+pub found_class : (identity : Identity) (bytes : List ℕ) (u : Message) → Finds identity bytes u → Stale ≡ class_for identity bytes
+found_class identity bytes u found = sym (valid_stale identity.layout identity.cluster identity.place bytes u found.valid)
+
+pub is_no_ring : (kind : Kind) (zone : Zone) → StandsIn kind zone → zone ≢ WalHeaders
+is_no_ring kind WalPrepares stands same = cc
+is_no_ring kind ClientReplies stands same = cc
+is_no_ring kind Grid stands same = cc
+is_no_ring Reserved zone stands same = absurd stands
+is_no_ring Prepare zone stands same = absurd (subst (λ (z : Zone). StandsIn Prepare z) same stands)
+is_no_ring Reply zone stands same = absurd (subst (λ (z : Zone). StandsIn Reply z) same stands)
+is_no_ring Block zone stands same = absurd (subst (λ (z : Zone). StandsIn Block z) same stands)
+is_no_ring Trailer zone stands same = absurd (subst (λ (z : Zone). StandsIn Trailer z) same stands)
+
+body_behind : (zone : Zone) (size : ℕ) (bytes : List ℕ) → zone ≢ WalHeaders → body_in zone size bytes ≡ take (size - 256) (drop 256 bytes)
+body_behind Superblock size bytes other = refl
+body_behind WalHeaders size bytes other = absurd (other refl)
+body_behind WalPrepares size bytes other = refl
+body_behind ClientReplies size bytes other = refl
+body_behind Grid size bytes other = refl
+
+-- the unit of a slot is its header, and the body that follows it
+pub found_whole : (layout : Layout) (cluster : ℕ) (place : Place) (bytes : List ℕ) (u : Message) (h : Header) → place.zone ≢ WalHeaders → u.header ≡ h → unit_in layout cluster place bytes ≡ Some u → u ≡ unit_with h bytes
+found_whole layout cluster place bytes u h other same valid =
+    let f = unit_found layout cluster place bytes u valid in
+    let body : u.body ≡ take (u.header.size - 256) (drop 256 bytes) = sym f.body ∙ body_behind place.zone u.header.size bytes other in
+    let whole : u ≡ unit_with u.header bytes = λ i. record { header = u.header; body = body i } in
+    whole ∙ ap (λ (x : Header). unit_with x bytes) same
+
+pub found_kind : (kind : Kind) (identity : Identity) (bytes : List ℕ) (u : Message) (h : Header) → StandsIn kind identity.place.zone → u.header ≡ h → h.kind ≡ kind → Finds identity bytes u
+    → FindsKind kind identity bytes (unit_with h bytes)
+found_kind kind identity bytes u h stands same of found =
+    let whole = found_whole identity.layout identity.cluster identity.place bytes u h (is_no_ring kind identity.place.zone stands) same found.valid in
+    record { found = subst (λ (x : Message). Finds identity bytes x) whole found; of_kind = of }
+
+-- a room is sound where the tests pass
+pub sound_from : (zone : Zone) (kind : Kind) (layout : Layout) (identity : Identity) (bytes : List ℕ) (h : Header) → identity.layout ≡ layout → identity.place.zone ≡ zone
+    → FindsKind kind identity bytes (unit_with h bytes) → IsSound zone kind (record { layout = layout; unit = unit_with h bytes; bytes = bytes })
+sound_from zone kind layout identity bytes h same in_zone found =
+    let f = unit_found identity.layout identity.cluster identity.place bytes (unit_with h bytes) found.found.valid in
+    let valid : unit_in layout h.cluster identity.place bytes ≡ Some (unit_with h bytes) =
+    (λ i. unit_in (sym same i) (f.owner i) identity.place bytes) ∙ found.found.valid in
+    record { of_kind = found.of_kind; place = identity.place; in_zone = in_zone; valid = valid }
+
+-- where the parts of a sound room end
+pub record Ends (holding : Holding) : Type 0 where
+  pub least : 256 ≤ holding.unit.header.size
+  pub size : holding.unit.header.size ≤ length holding.bytes
+  pub sectors : sectors_end holding.unit.header.size ≤ length holding.bytes
+
+pub ends : (zone : Zone) (kind : Kind) (holding : Holding) → StandsIn kind zone → length holding.bytes ≡ room_size holding.layout zone → IsSound zone kind holding → Ends holding
+ends zone kind holding stands long is =
+    let f = unit_found _ _ is.place holding.bytes holding.unit is.valid in
+    let most : holding.unit.header.size ≤ 4096 * place_sectors holding.layout zone =
+    subst (λ (z : Zone). z ≢ WalHeaders → holding.unit.header.size ≤ 4096 * place_sectors holding.layout z) is.in_zone (λ other. omega (arith, f.fits, fits_slot holding.layout is.place.zone other)) (is_no_ring kind zone stands) in
+    record {
+      least = (read_as _ holding.unit.header f.header).ranges.size;
+      size = omega (arith, most, long);
+      sectors = omega (arith, most, long);
+    }
+
+pub found_in : (kind kind2 : Kind) (identity : Identity) (bytes bytes2 : List ℕ) (h : Header) → kind ≡ kind2 → bytes ≡ bytes2 → FindsKind kind identity bytes (unit_with h bytes) → FindsKind kind2 identity bytes2 (unit_with h bytes2)
+found_in kind kind2 identity bytes bytes2 h same here found =
+    subst (λ (x : List ℕ). FindsKind kind2 identity x (unit_with h x)) here (subst (λ (x : Kind). FindsKind x identity bytes (unit_with h bytes)) same found)
+
+-- a header of the ring is a unit with no body
+pub found_header : (identity : Identity) (bytes : List ℕ) (u : Message) (h : Header) → identity.place.zone ≡ WalHeaders → u.header ≡ h → Finds identity bytes u → Finds identity bytes (record { header = h; body = [] })
+found_header identity bytes u h ring same found =
+    let f = unit_found identity.layout identity.cluster identity.place bytes u found.valid in
+    let none : u.body ≡ [] = sym f.body ∙ ap (λ (z : Zone). body_in z u.header.size bytes) ring in
+    let whole : u ≡ record { header = h; body = [] } = λ i. record { header = same i; body = none i } in
+    subst (λ (x : Message). Finds identity bytes x) whole found
+
+pub sector_size : (layout : Layout) → room_size layout WalHeaders ≡ 4096
+unfolding place_sectors
+sector_size layout = refl

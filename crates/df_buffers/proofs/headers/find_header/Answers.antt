@@ -1,0 +1,7 @@
+use Rattle.df_buffers.proofs.Finds.{found_header}
+use Rattle.df_buffers.proofs.headers.find_header.Goals as goal
+
+pub returns-clause-found : goal.returns-clause-found
+returns-clause-found c =
+    let f = c.in_ok-header.ensures.found in
+    found_header c.args.identity.now c.args.bytes.now f.0 c.in_ok-header.header c.requires.zone f.1 f.2
