@@ -6,6 +6,7 @@ ghost use Rattle.df_format.specs.Message.{sectors_of, sectors_end};
 ghost use Rattle.df_format.specs.Own.{own_place};
 ghost use Rattle.df_format.specs.Whole.{greatest_size};
 ghost use Rattle.df_format.specs.Making.{for_body};
+ghost use Rattle.df_format.specs.UnitLaws.{MadeIsUnit};
 
 use crate::{Raw, Sound, UnitKind};
 use df_format::{Header, make_unit};
@@ -19,6 +20,7 @@ impl<K: UnitKind> Raw<K> {
         requires own { IsSome (own_place self.layout K.ZONE header) }
         requires fits { 256 + length body.now ≤ greatest_size self.layout K.ZONE }
         ensures unit { result.unit ≡ record { header = sealed (for_body header body.now); body = body.now } }
+        ensures valid { MadeIsUnit result.unit }
         ensures sectors { take (sectors_end (256 + length body.now)) result.bytes ≡ sectors_of result.unit }
         ensures rest { drop (sectors_end (256 + length body.now)) result.bytes ≡ drop (sectors_end (256 + length body.now)) self.bytes }
         ensures layout { result.layout ≡ self.layout }

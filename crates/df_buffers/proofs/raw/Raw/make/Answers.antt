@@ -5,6 +5,7 @@ use Rattle.df_format.specs.Message.{Message, sectors_end, sectors_of}
 use Rattle.df_format.specs.Whole.{greatest_size}
 use Rattle.df_format.specs.Own.{own_place}
 use Rattle.std.specs.Prelude.{IsSome}
+use Rattle.df_format.specs.UnitLaws.{MadeIsUnit}
 use Rattle.df_buffers.specs.Rooms.{Room}
 use Rattle.df_buffers.proofs.Finds.{is_no_ring}
 use Rattle.df_buffers.proofs.Making.{IsMade, made_in, made_fits, put_back}
@@ -44,6 +45,9 @@ invariant_of-result g c = (
 
 pub returns-clause-unit : goal.returns-clause-unit
 returns-clause-unit g c = (made g c).unit ∙ ap (λ (h : Header). record { header = h; body = c.args.body.now }) c.make_unit-made.ensures.header
+
+pub returns-clause-valid : goal.returns-clause-valid
+returns-clause-valid g c = subst (λ (u : Message). MadeIsUnit u) (sym (made g c).unit) c.make_unit-made.ensures.unit
 
 pub returns-clause-sectors : goal.returns-clause-sectors
 returns-clause-sectors g c = sectors_are g c ∙ ap (λ (u : Message). sectors_of u) (sym (made g c).unit)
