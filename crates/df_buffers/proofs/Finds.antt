@@ -17,7 +17,7 @@ use Rattle.df_format.specs.Shown.{unit_in, class_of, header_or_class}
 use Rattle.df_format.proofs.Spelled.{read_as}
 use Rattle.df_format.proofs.Wholes.{valid_stale, unit_found, fits_slot}
 use Rattle.df_buffers.specs.declared.identity.Identity.{Identity}
-use Rattle.df_buffers.specs.Rooms.{StandsIn, room_size}
+use Rattle.df_buffers.specs.Rooms.{StandsIn, FillsRoom, room_size}
 use Rattle.df_buffers.specs.Found.{Finds, FindsKind, class_for}
 use Rattle.df_buffers.specs.Sounds.{Holding, IsSound, unit_with}
 
@@ -66,13 +66,13 @@ found_kind kind identity bytes u h stands same of found =
     record { found = subst (λ (x : Message). Finds identity bytes x) whole found; of_kind = of }
 
 -- a room is sound where the tests pass
-pub sound_from : (zone : Zone) (kind : Kind) (layout : Layout) (identity : Identity) (bytes : List ℕ) (h : Header) → identity.layout ≡ layout → identity.place.zone ≡ zone
+pub sound_from : (zone : Zone) (kind : Kind) (layout : Layout) (identity : Identity) (bytes : List ℕ) (h : Header) → FillsRoom layout zone bytes → identity.layout ≡ layout → identity.place.zone ≡ zone
     → FindsKind kind identity bytes (unit_with h bytes) → IsSound zone kind (record { layout = layout; unit = unit_with h bytes; bytes = bytes })
-sound_from zone kind layout identity bytes h same in_zone found =
+sound_from zone kind layout identity bytes h fills same in_zone found =
     let f = unit_found identity.layout identity.cluster identity.place bytes (unit_with h bytes) found.found.valid in
     let valid : unit_in layout h.cluster identity.place bytes ≡ Some (unit_with h bytes) =
     (λ i. unit_in (sym same i) (f.owner i) identity.place bytes) ∙ found.found.valid in
-    record { of_kind = found.of_kind; place = identity.place; in_zone = in_zone; valid = valid }
+    record { fills = fills; of_kind = found.of_kind; place = identity.place; in_zone = in_zone; valid = valid }
 
 -- where the parts of a sound room end
 pub record Ends (holding : Holding) : Type 0 where
@@ -80,15 +80,15 @@ pub record Ends (holding : Holding) : Type 0 where
   pub size : holding.unit.header.size ≤ length holding.bytes
   pub sectors : sectors_end holding.unit.header.size ≤ length holding.bytes
 
-pub ends : (zone : Zone) (kind : Kind) (holding : Holding) → StandsIn kind zone → length holding.bytes ≡ room_size holding.layout zone → IsSound zone kind holding → Ends holding
-ends zone kind holding stands long is =
+pub ends : (zone : Zone) (kind : Kind) (holding : Holding) → StandsIn kind zone → IsSound zone kind holding → Ends holding
+ends zone kind holding stands is =
     let f = unit_found _ _ is.place holding.bytes holding.unit is.valid in
     let most : holding.unit.header.size ≤ 4096 * place_sectors holding.layout zone =
     subst (λ (z : Zone). z ≢ WalHeaders → holding.unit.header.size ≤ 4096 * place_sectors holding.layout z) is.in_zone (λ other. omega (arith, f.fits, fits_slot holding.layout is.place.zone other)) (is_no_ring kind zone stands) in
     record {
       least = (read_as _ holding.unit.header f.header).ranges.size;
-      size = omega (arith, most, long);
-      sectors = omega (arith, most, long);
+      size = omega (arith, most, is.fills);
+      sectors = omega (arith, most, is.fills);
     }
 
 pub found_in : (kind kind2 : Kind) (identity : Identity) (bytes bytes2 : List ℕ) (h : Header) → kind ≡ kind2 → bytes ≡ bytes2 → FindsKind kind identity bytes (unit_with h bytes) → FindsKind kind2 identity bytes2 (unit_with h bytes2)

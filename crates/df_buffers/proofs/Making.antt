@@ -19,7 +19,7 @@ use Rattle.df_format.specs.UnitLaws.{MadeIsUnit}
 use Rattle.df_format.proofs.Spelled.{some-eq}
 use Rattle.df_format.proofs.Owned.{own_is}
 use Rattle.df_format.proofs.Wholes.{begun_is_shown, fits_slot}
-use Rattle.df_buffers.specs.Rooms.{StandsIn}
+use Rattle.df_buffers.specs.Rooms.{StandsIn, FillsRoom}
 use Rattle.df_buffers.specs.Sounds.{IsSound, unit_with}
 use Rattle.df_buffers.proofs.Finds.{is_no_ring, found_whole}
 
@@ -81,10 +81,10 @@ pub record IsMade (zone : Zone) (kind : Kind) (layout : Layout) (bytes : List �
   pub unit : unit_with u.header bytes ≡ u
   pub sound : IsSound zone kind (record { layout = layout; unit = unit_with u.header bytes; bytes = bytes })
 
-pub made_in : (zone : Zone) (kind : Kind) (layout : Layout) (h result : Header) (body bytes : List ℕ) → StandsIn kind zone → h.kind ≡ kind → IsSome (own_place layout zone h)
+pub made_in : (zone : Zone) (kind : Kind) (layout : Layout) (h result : Header) (body bytes : List ℕ) → FillsRoom layout zone bytes → StandsIn kind zone → h.kind ≡ kind → IsSome (own_place layout zone h)
     → 256 + length body ≤ greatest_size layout zone → result ≡ sealed (for_body h body) → MadeIsUnit (record { header = result; body = body })
     → take (sectors_end (256 + length body)) bytes ≡ sectors_of (record { header = result; body = body }) → IsMade zone kind layout bytes (record { header = result; body = body })
-made_in zone kind layout h result body bytes stands same some fits is unit sectors =
+made_in zone kind layout h result body bytes fills stands same some fits is unit sectors =
     let own = some_of _ some in
     let its : own_place layout zone result ≡ Some own.0 = ap (λ (x : Header). own_place layout zone x) is ∙ own_same layout zone h body ∙ own.1 in
     let here : own.0.zone ≡ zone = zone_named kind zone h own.0 stands same (own_is layout zone h own.0 own.1).named in
@@ -96,7 +96,7 @@ made_in zone kind layout h result body bytes stands same some fits is unit secto
     let whole = found_whole layout result.cluster own.0 bytes (record { header = result; body = body }) result other refl valid in
     record {
       unit = sym whole;
-      sound = record { of_kind = ap (λ (x : Header). x.kind) is ∙ same; place = own.0; in_zone = here; valid = valid ∙ ap Some whole };
+      sound = record { fills = fills; of_kind = ap (λ (x : Header). x.kind) is ∙ same; place = own.0; in_zone = here; valid = valid ∙ ap Some whole };
     }
 
 -- no part of a unit that fits lies beyond its room

@@ -1,5 +1,5 @@
 -- Rooms: the bytes of one place of a layout.
-use Rattle.std.specs.Prelude.{◌*◌, ℕ, List, take, drop}
+use Rattle.std.specs.Prelude.{◌≡◌, ◌*◌, ℕ, List, length, take, drop}
 use Rattle.df_layout.specs.declared.layout.Layout.{Layout}
 use Rattle.df_layout.specs.declared.places.Zone.{Zone}
 use Rattle.df_layout.specs.declared.places.Zone.TheVariants.{WalPrepares, ClientReplies, Grid}
@@ -18,6 +18,10 @@ StandsIn kind zone = ⊥
 -- the bytes of the sectors of a place of the zone
 abbrev pub room_size : Layout → Zone → ℕ
 room_size layout zone = 4096 * place_sectors layout zone
+
+-- the bytes fill a room of the zone
+abbrev pub FillsRoom : Layout → Zone → List ℕ → Type 0
+FillsRoom layout zone bytes = length bytes ≡ room_size layout zone
 
 -- what a raw room is seen as: the layout that it was reserved for, and its bytes
 pub record Room : Type 0 where

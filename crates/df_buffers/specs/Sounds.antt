@@ -7,6 +7,7 @@ use Rattle.df_format.specs.declared.header.Header.{Header}
 use Rattle.df_format.specs.declared.kind.Kind.{Kind}
 use Rattle.df_format.specs.Message.{Message}
 use Rattle.df_format.specs.Shown.{unit_in}
+use Rattle.df_buffers.specs.Rooms.{FillsRoom}
 
 -- what a sound room is seen as: the layout that it was reserved for, its unit, and its bytes
 pub record Holding : Type 0 where
@@ -18,8 +19,13 @@ pub record Holding : Type 0 where
 abbrev pub unit_with : Header → List ℕ → Message
 unit_with header bytes = record { header = header; body = take (header.size - 256) (drop 256 bytes) }
 
--- the bytes are a unit of the kind, valid at a place of the zone
+-- the bytes of a room that hold the unit of a header
+abbrev pub holding_of : Layout → Header → List ℕ → Holding
+holding_of layout header bytes = record { layout = layout; unit = unit_with header bytes; bytes = bytes }
+
+-- the room has the length of its layout's, and its bytes are a unit of the kind that is valid at a place of the zone
 pub record IsSound (zone : Zone) (kind : Kind) (holding : Holding) : Type 0 where
+  pub fills : FillsRoom holding.layout zone holding.bytes
   pub of_kind : holding.unit.header.kind ≡ kind
   pub place : Place
   pub in_zone : place.zone ≡ zone

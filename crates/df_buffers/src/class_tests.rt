@@ -1,5 +1,5 @@
 // What rooms of layout small answer to given bytes: the unit wanted, or the class of what is there.
-ghost use Rattle.std.specs.Prelude.{◌≡◌, IfOk};
+ghost use Rattle.std.specs.Prelude.{◌≡◌, length, IfOk};
 
 use crate::examples::{BLOCK, Fields, PREPARE, REPLY, RESERVED, TRAILER, changed, spelled};
 use crate::{
@@ -9,6 +9,15 @@ use df_base::OutOfMemory;
 use df_format::{Header, decode_header};
 use df_layout::{Class, Layout, Place, Zone};
 use std::alloc::Global;
+
+// Bytes that a caller puts into a room are the room's.
+fn fill<K: RoomKind>(room: &mut Raw<K>, from: &[u8])
+    requires { length from.now ≡ length room.old.bytes }
+    ensures bytes { room.new.bytes ≡ from.now }
+    ensures layout { room.new.layout ≡ room.old.layout }
+{
+    room.bytes_mut().copy_from_slice(from);
+}
 
 // Puts bytes at the front and nines behind them.
 fn begin_with(bytes: &mut [u8], front: &[u8; 256]) {

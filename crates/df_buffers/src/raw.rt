@@ -1,7 +1,7 @@
 // Raw rooms: buffers of the length of a kind's place, with any bytes.
 ghost use Rattle.std.specs.Prelude.{◌≡◌, ◌≤◌, ◌++◌, List, ℕ, length, take, drop, replicate, IfOk};
 ghost use Rattle.std.specs.Borrow.{sem, Lends, Array, u8 as byte};
-ghost use Rattle.df_buffers.specs.Rooms.{room_size};
+ghost use Rattle.df_buffers.specs.Rooms.{FillsRoom, room_size};
 ghost use Rattle.df_buffers.specs.contracts.raw.Raw.{the_row};
 
 use crate::RoomKind;
@@ -19,14 +19,13 @@ pub struct Raw<K: RoomKind> {
 }
 
 impl<K: RoomKind> Model for Raw<K> {
-    ghost use Rattle.std.specs.Prelude.{◌≡◌, length};
-    ghost use Rattle.df_buffers.specs.Rooms.{Room, room_size};
+    ghost use Rattle.df_buffers.specs.Rooms.{Room, FillsRoom};
 
     ghost Value = { Room };
 
     ghost view = { λ s. record { layout = s.layout; bytes = s.bytes.items } };
 
-    ghost invariant = { λ s. length s.bytes.items ≡ room_size s.layout K.ZONE };
+    ghost invariant = { λ s. FillsRoom s.layout K.ZONE s.bytes.items };
 }
 
 // How many bytes a room of a zone has: those of the sectors of a place.
@@ -61,7 +60,7 @@ impl<K: RoomKind> Raw<K> {
     pub fn bytes_mut(&mut self) -> &mut [u8]
         ensures* writes_back { sem 𝓛 (Lends (the_row K.row K.RoomKind) (Array byte 0) self.entry result (λ w. record { layout = self.entry.now.layout; bytes = take (length self.entry.now.bytes) (w ++ drop (length w) self.entry.now.bytes) })) }
         ensures value { result.now ≡ self.old.bytes }
-        ensures size { length result.now ≡ room_size self.old.layout K.ZONE }
+        ensures size { FillsRoom self.old.layout K.ZONE result.now }
     {
         self.bytes.as_mut_slice()
     }

@@ -20,15 +20,13 @@ pub struct Sound<K: UnitKind> {
 }
 
 impl<K: UnitKind> Model for Sound<K> {
-    ghost use Rattle.std.specs.Prelude.{◌≡◌, length};
-    ghost use Rattle.df_buffers.specs.Rooms.{room_size};
-    ghost use Rattle.df_buffers.specs.Sounds.{Holding, unit_with, IsSound};
+    ghost use Rattle.df_buffers.specs.Sounds.{Holding, holding_of, IsSound};
 
     ghost Value = { Holding };
 
-    ghost view = { λ s. record { layout = s.layout; unit = unit_with s.header s.bytes.items; bytes = s.bytes.items } };
+    ghost view = { λ s. holding_of s.layout s.header s.bytes.items };
 
-    ghost invariant = { λ s. (length s.bytes.items ≡ room_size s.layout K.ZONE) × IsSound K.ZONE K.KIND (record { layout = s.layout; unit = unit_with s.header s.bytes.items; bytes = s.bytes.items }) };
+    ghost invariant = { λ s. IsSound K.ZONE K.KIND (holding_of s.layout s.header s.bytes.items) };
 }
 
 // What follows the header in a unit of this size.

@@ -6,7 +6,7 @@ use Rattle.df_format.specs.Whole.{greatest_size}
 use Rattle.df_format.specs.Own.{own_place}
 use Rattle.std.specs.Prelude.{IsSome}
 use Rattle.df_format.specs.UnitLaws.{MadeIsUnit}
-use Rattle.df_buffers.specs.Rooms.{Room}
+use Rattle.df_buffers.specs.Rooms.{Room, FillsRoom}
 use Rattle.df_buffers.proofs.Finds.{is_no_ring}
 use Rattle.df_buffers.proofs.Making.{IsMade, made_in, made_fits, put_back}
 use Rattle.df_buffers.proofs.raw.Raw.make.Given.{Over}
@@ -28,6 +28,10 @@ sectors_are : (g : Over) (c : goal.After-result-1 g)
     ≡ sectors_of (record { header = c.make_unit-made.result.header; body = c.args.body.now })
 sectors_are g c = (λ i. take (sym c.make_unit-made.ensures.length i) (bytes_are g c i)) ∙ c.make_unit-made.ensures.sectors
 
+fills : (g : Over) (c : goal.After-result-1 g)
+    → FillsRoom c.self.inside.layout g.K.RoomKind.ZONE (take c.self.inside.bytes.len (c.make_unit-made.new.into ++ drop (length c.make_unit-made.new.into) c.self.inside.bytes.items))
+fills g c = ap (λ (l : List ℕ). length l) (bytes_are g c) ∙ c.make_unit-made.auto.into ∙ ap (λ (l : List ℕ). length l) c.deref_mut.ensures.value ∙ c.self.invariant
+
 made : (g : Over) (c : goal.After-result-1 g)
     → IsMade g.K.RoomKind.ZONE g.K.UnitKind.KIND c.self.inside.layout (take c.self.inside.bytes.len (c.make_unit-made.new.into ++ drop (length c.make_unit-made.new.into) c.self.inside.bytes.items))
     (record { header = c.make_unit-made.result.header; body = c.args.body.now })
@@ -35,13 +39,10 @@ made g c =
     let same = ap (λ (r : Room). r.layout) c.self.view_is in
     let fits = subst (λ (l : Layout). 256 + length c.args.body.now ≤ greatest_size l g.K.RoomKind.ZONE) (sym same) c.requires.fits in
     let own = subst (λ (l : Layout). IsSome (own_place l g.K.RoomKind.ZONE c.args.header)) (sym same) c.requires.own in
-    made_in _ _ _ c.args.header _ _ _ g.met.K.UnitKind.stands c.requires.kind own fits c.make_unit-made.ensures.header c.make_unit-made.ensures.unit (sectors_are g c)
+    made_in _ _ _ c.args.header _ _ _ (fills g c) g.met.K.UnitKind.stands c.requires.kind own fits c.make_unit-made.ensures.header c.make_unit-made.ensures.unit (sectors_are g c)
 
 pub invariant_of-result : goal.invariant_of-result
-invariant_of-result g c = (
-  ap (λ (l : List ℕ). length l) (bytes_are g c) ∙ c.make_unit-made.auto.into ∙ ap (λ (l : List ℕ). length l) c.deref_mut.ensures.value ∙ c.self.invariant,
-  (made g c).sound,
-)
+invariant_of-result g c = (made g c).sound
 
 pub returns-clause-unit : goal.returns-clause-unit
 returns-clause-unit g c = (made g c).unit ∙ ap (λ (h : Header). record { header = h; body = c.args.body.now }) c.make_unit-made.ensures.header

@@ -4,8 +4,6 @@ use Rattle.df_buffers.proofs.Finds.{sound_from, found_in}
 use Rattle.df_buffers.proofs.raw.Raw.prove.Goals as goal
 
 pub invariant_of-result : goal.invariant_of-result
-invariant_of-result g c = (
-  c.self.invariant,
-  sound_from _ _ _ c.args.identity.now _ c.in-Ok.header (c.requires.layout ∙ ap (λ (r : Room). r.layout) (sym c.self.view_is)) c.requires.zone
-      (found_in _ _ c.args.identity.now _ _ c.in-Ok.header c.KIND.ensures c.deref.ensures.value c.in-Ok.ensures.found),
-)
+invariant_of-result g c =
+    let found = found_in _ _ c.args.identity.now _ _ c.in-Ok.header c.KIND.ensures c.deref.ensures.value c.in-Ok.ensures.found in
+    sound_from _ _ _ c.args.identity.now _ c.in-Ok.header c.self.invariant (c.requires.layout ∙ ap (λ (r : Room). r.layout) (sym c.self.view_is)) c.requires.zone found

@@ -4,5 +4,5 @@ use Rattle.df_buffers.proofs.sound.Sound.body.Goals as goal
 
 pub body_in-requires : goal.body_in-requires
 body_in-requires g c =
-    let e = ends _ _ _ g.met.K.UnitKind.stands c.self.invariant.0 c.self.invariant.1 in
+    let e = ends _ _ _ g.met.K.UnitKind.stands c.self.invariant in
     (e.least, omega (arith, e.size, c.deref.ensures.len))
