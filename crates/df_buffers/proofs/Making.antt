@@ -1,5 +1,5 @@
 -- A room in which a unit was made is sound.
-use Rattle.std.proofs.Common.{◌≡◌, ◌≢◌, ◌≤◌, ◌+◌, ◌-◌, ◌*◌, ℕ, List, ◌++◌, length, take, drop, replicate, Option, Some, None, cond, refl, sym, ◌∙◌, ap, subst, append_assoc, arith}
+use Rattle.std.proofs.Common.{◌≡◌, ◌≢◌, ◌≤◌, ◌+◌, ◌-◌, ◌*◌, ℕ, Bool, true, false, List, ◌++◌, length, take, drop, replicate, Option, Some, None, cond, refl, sym, ◌∙◌, ap, subst, append_assoc, arith}
 use Rattle.std.specs.Prelude.{IsSome}
 use Rattle.std.proofs.lemmas.List.{take-append-drop, take_at}
 use Rattle.df_layout.specs.declared.layout.Layout.{Layout}
@@ -15,17 +15,32 @@ use Rattle.df_format.specs.Message.{Message, unit_of, sectors_of, sectors_end}
 use Rattle.df_format.specs.Own.{named_in_ring, named_elsewhere, named_place, has_op_of_slot, inside, own_place}
 use Rattle.df_format.specs.Whole.{greatest_size}
 use Rattle.df_format.specs.Making.{for_body}
+use Rattle.df_format.specs.Valid.{IsUnit}
 use Rattle.df_format.specs.UnitLaws.{MadeIsUnit}
-use Rattle.df_format.proofs.Spelled.{some-eq}
-use Rattle.df_format.proofs.Owned.{own_is}
-use Rattle.df_format.proofs.Wholes.{begun_is_shown, fits_slot}
+use Rattle.df_format.proofs.Wholes.{begun_is_shown}
 use Rattle.df_buffers.specs.Rooms.{StandsIn, FillsRoom}
 use Rattle.df_buffers.specs.Sounds.{IsSound, unit_with}
-use Rattle.df_buffers.proofs.Finds.{is_no_ring, found_whole}
+use Rattle.df_buffers.proofs.Finds.{is_no_ring, fits_slot, found_whole}
 
 some_of : {X : Type 0} (o : Option X) → IsSome o → (x : X) × (o ≡ Some x)
 some_of None is = absurd (cc)
 some_of (Some x) is = (x, refl)
+
+some_same : {X : Type 0} {x y : X} → Some x ≡ Some y → x ≡ y
+some_same is = cc
+
+if_true : {X : Type 0} (b : Bool) (o : Option X) (x : X) → cond b o None ≡ Some x → o ≡ Some x
+if_true true o x is = is
+if_true false o x is = absurd (cc)
+
+if_inside : (layout : Layout) (o : Option Place) (place : Place) → inside layout o ≡ Some place → o ≡ Some place
+if_inside layout None place is = absurd (cc)
+if_inside layout (Some named) place is = if_true _ (Some named) place is
+
+-- the own place is the one named
+own_named : (layout : Layout) (zone : Zone) (h : Header) (place : Place) → own_place layout zone h ≡ Some place → named_place zone h ≡ Some place
+unfolding own_place
+own_named layout zone h place is = if_inside layout _ place (if_true _ _ place is)
 
 -- sealing and the body change nothing that names the place
 named_same : (kind : Kind) (h : Header) (body : List ℕ) → named_elsewhere kind (sealed (for_body h body)) ≡ named_elsewhere kind h
@@ -62,10 +77,10 @@ own_same layout zone h body = λ i. cond (slot_same layout h.kind h body i) (ins
 
 -- what a kind's header names lies in its zone
 zone_named : (kind : Kind) (zone : Zone) (h : Header) (place : Place) → StandsIn kind zone → h.kind ≡ kind → named_place zone h ≡ Some place → place.zone ≡ zone
-zone_named Prepare WalPrepares h place stands same is = sym (ap (λ (p : Place). p.zone) (some-eq (ap (λ (k : Kind). named_elsewhere k h) (sym same) ∙ is)))
-zone_named Reply ClientReplies h place stands same is = sym (ap (λ (p : Place). p.zone) (some-eq (ap (λ (k : Kind). named_elsewhere k h) (sym same) ∙ is)))
-zone_named Block Grid h place stands same is = sym (ap (λ (p : Place). p.zone) (some-eq (ap (λ (k : Kind). named_elsewhere k h) (sym same) ∙ is)))
-zone_named Trailer Grid h place stands same is = sym (ap (λ (p : Place). p.zone) (some-eq (ap (λ (k : Kind). named_elsewhere k h) (sym same) ∙ is)))
+zone_named Prepare WalPrepares h place stands same is = sym (ap (λ (p : Place). p.zone) (some_same (ap (λ (k : Kind). named_elsewhere k h) (sym same) ∙ is)))
+zone_named Reply ClientReplies h place stands same is = sym (ap (λ (p : Place). p.zone) (some_same (ap (λ (k : Kind). named_elsewhere k h) (sym same) ∙ is)))
+zone_named Block Grid h place stands same is = sym (ap (λ (p : Place). p.zone) (some_same (ap (λ (k : Kind). named_elsewhere k h) (sym same) ∙ is)))
+zone_named Trailer Grid h place stands same is = sym (ap (λ (p : Place). p.zone) (some_same (ap (λ (k : Kind). named_elsewhere k h) (sym same) ∙ is)))
 zone_named kind zone h place stands same is = absurd stands
 
 -- the bytes begin with the unit whose sectors were written over them
@@ -87,7 +102,7 @@ pub made_in : (zone : Zone) (kind : Kind) (layout : Layout) (h result : Header) 
 made_in zone kind layout h result body bytes fills stands same some fits is unit sectors =
     let own = some_of _ some in
     let its : own_place layout zone result ≡ Some own.0 = ap (λ (x : Header). own_place layout zone x) is ∙ own_same layout zone h body ∙ own.1 in
-    let here : own.0.zone ≡ zone = zone_named kind zone h own.0 stands same (own_is layout zone h own.0 own.1).named in
+    let here : own.0.zone ≡ zone = zone_named kind zone h own.0 stands same (own_named layout zone h own.0 own.1) in
     let other : own.0.zone ≢ WalHeaders = λ ring. is_no_ring kind zone stands (sym here ∙ ring) in
     let small : result.size ≤ greatest_size layout own.0.zone = subst (λ (z : Zone). result.size ≤ greatest_size layout z) (sym here) (subst (λ (n : ℕ). n ≤ greatest_size layout zone) (ap (λ (x : Header). x.size) (sym is)) fits) in
     let good = unit layout own.0 (ap (λ (z : Zone). own_place layout z result) here ∙ its) small (λ ring. absurd (other ring)) in
@@ -96,7 +111,7 @@ made_in zone kind layout h result body bytes fills stands same some fits is unit
     let whole = found_whole layout result.cluster own.0 bytes (record { header = result; body = body }) result other refl valid in
     record {
       unit = sym whole;
-      sound = record { fills = fills; of_kind = ap (λ (x : Header). x.kind) is ∙ same; place = own.0; in_zone = here; valid = valid ∙ ap Some whole };
+      sound = record { fills = fills; of_kind = ap (λ (x : Header). x.kind) is ∙ same; place = own.0; in_zone = here; is = subst (λ (x : Message). IsUnit layout result.cluster own.0 x) whole good; valid = valid ∙ ap Some whole };
     }
 
 -- no part of a unit that fits lies beyond its room

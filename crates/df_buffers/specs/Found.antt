@@ -4,6 +4,7 @@ use Rattle.df_layout.specs.declared.damage.Class.{Class}
 use Rattle.df_format.specs.declared.kind.Kind.{Kind}
 use Rattle.df_format.specs.Message.{Message}
 use Rattle.df_format.specs.Shown.{unit_in, class_of}
+use Rattle.df_format.specs.Valid.{IsUnit}
 use Rattle.df_format.specs.Wanted.{IsWanted, Wanted as Words, Any as AnyOne, Op as WithOp, Checksum as WithChecksum, Answer as AnswerTo}
 use Rattle.df_buffers.specs.declared.identity.Identity.{Identity}
 use Rattle.df_buffers.specs.declared.identity.Wanted.{Wanted}
@@ -25,6 +26,10 @@ pub record Finds (identity : Identity) (bytes : List ℕ) (u : Message) : Type 0
 pub record FindsKind (kind : Kind) (identity : Identity) (bytes : List ℕ) (u : Message) : Type 0 where
   pub found : Finds identity bytes u
   pub of_kind : u.header.kind ≡ kind
+
+-- a unit is valid at the place
+abbrev pub IsThere : Identity → Message → Type 0
+IsThere identity u = IsUnit identity.layout identity.cluster identity.place u
 
 -- the class of bytes that aren't the unit wanted at the place
 abbrev pub class_for : Identity → List ℕ → Class

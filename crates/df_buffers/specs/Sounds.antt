@@ -7,6 +7,7 @@ use Rattle.df_format.specs.declared.header.Header.{Header}
 use Rattle.df_format.specs.declared.kind.Kind.{Kind}
 use Rattle.df_format.specs.Message.{Message}
 use Rattle.df_format.specs.Shown.{unit_in}
+use Rattle.df_format.specs.Valid.{IsUnit}
 use Rattle.df_buffers.specs.Rooms.{FillsRoom}
 
 -- what a sound room is seen as: the layout that it was reserved for, its unit, and its bytes
@@ -29,4 +30,5 @@ pub record IsSound (zone : Zone) (kind : Kind) (holding : Holding) : Type 0 wher
   pub of_kind : holding.unit.header.kind ≡ kind
   pub place : Place
   pub in_zone : place.zone ≡ zone
+  pub is : IsUnit holding.layout holding.unit.header.cluster place holding.unit
   pub valid : unit_in holding.layout holding.unit.header.cluster place holding.bytes ≡ Some holding.unit

@@ -4,7 +4,7 @@ ghost use Rattle.df_format.specs.Message.{Message};
 ghost use Rattle.df_format.specs.UnitLaws.{place_size};
 ghost use Rattle.df_format.specs.Wanted.{IsWanted};
 ghost use Rattle.df_buffers.specs.Rooms.{StandsIn};
-ghost use Rattle.df_buffers.specs.Found.{words_of, Finds, FindsKind, class_for};
+ghost use Rattle.df_buffers.specs.Found.{words_of, Finds, FindsKind, IsThere, class_for};
 ghost use Rattle.df_buffers.specs.Sounds.{unit_with};
 
 use crate::{Identity, Wanted};
@@ -46,7 +46,7 @@ fn is_wanted(wanted: &Wanted, header: &Header) -> bool
 pub(crate) fn find(identity: &Identity, bytes: &[u8]) -> Result<Header, Class>
     requires size { length bytes.now ≡ place_size identity.now.layout identity.now.place.zone }
     requires copy { identity.now.place.zone ≢ Zone.Superblock }
-    ensures found { IfOk result (λ h. (u : Message) × (u.header ≡ h) × Finds identity.now bytes.now u) }
+    ensures found { IfOk result (λ h. (u : Message) × (u.header ≡ h) × Finds identity.now bytes.now u × IsThere identity.now u) }
     ensures unwanted { IfErr result (λ _. (u : Message) → ¬ Finds identity.now bytes.now u) }
     ensures class { IfErr result (λ class. class ≡ class_for identity.now bytes.now) }
 {
@@ -69,6 +69,7 @@ pub(crate) fn find_kind(kind: Kind, identity: &Identity, bytes: &[u8]) -> Result
     requires size { length bytes.now ≡ place_size identity.now.layout identity.now.place.zone }
     requires stands { StandsIn kind identity.now.place.zone }
     ensures found { IfOk result (λ h. FindsKind kind identity.now bytes.now (unit_with h bytes.now)) }
+    ensures there { IfOk result (λ h. IsThere identity.now (unit_with h bytes.now)) }
     ensures unwanted { IfErr result (λ _. (u : Message) → ¬ FindsKind kind identity.now bytes.now u) }
     ensures class { IfErr result (λ class. class ≡ class_for identity.now bytes.now) }
 {

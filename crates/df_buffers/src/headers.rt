@@ -2,7 +2,7 @@
 ghost use Rattle.std.specs.Prelude.{◌≡◌, ◌<◌, [], length, IfOk, IfErr};
 ghost use Rattle.df_format.specs.Message.{Message};
 ghost use Rattle.df_buffers.specs.Rooms.{header_bytes};
-ghost use Rattle.df_buffers.specs.Found.{Finds, class_for};
+ghost use Rattle.df_buffers.specs.Found.{Finds, IsThere, class_for};
 
 use crate::find::find;
 use crate::{HeaderSector, Identity, Raw};
@@ -26,6 +26,7 @@ fn find_header(identity: &Identity, bytes: &[u8]) -> Result<Header, Class>
     requires size { length bytes.now ≡ 256 }
     requires zone { identity.now.place.zone ≡ Zone.WalHeaders }
     ensures found { IfOk result (λ h. Finds identity.now bytes.now (record { header = h; body = [] })) }
+    ensures there { IfOk result (λ h. IsThere identity.now (record { header = h; body = [] })) }
     ensures unwanted { IfErr result (λ _. (u : Message) → ¬ Finds identity.now bytes.now u) }
     ensures class { IfErr result (λ class. class ≡ class_for identity.now bytes.now) }
 {
@@ -40,6 +41,7 @@ impl Raw<HeaderSector> {
         requires place { place < 16 }
         requires zone { identity.now.place.zone ≡ Zone.WalHeaders }
         ensures found { IfOk result (λ h. Finds identity.now (header_bytes place self.now.bytes) (record { header = h; body = [] })) }
+        ensures there { IfOk result (λ h. IsThere identity.now (record { header = h; body = [] })) }
         ensures unwanted { IfErr result (λ _. (u : Message) → ¬ Finds identity.now (header_bytes place self.now.bytes) u) }
         ensures class { IfErr result (λ class. class ≡ class_for identity.now (header_bytes place self.now.bytes)) }
     {
