@@ -1,0 +1,163 @@
+-- What the tests of a unit find, and that a room is sound where they pass.
+use Rattle.std.proofs.Common.{◌≡◌, ◌≢◌, ◌≤◌, ◌-◌, ◌*◌, ℕ, List, [], length, take, drop, Option, Some, None, refl, sym, ◌∙◌, ap, subst, arith}
+use Rattle.std.specs.Prelude.{Result, Ok}
+use Rattle.df_base.specs.Fields.{AreBytes}
+use Rattle.df_layout.specs.declared.damage.Class.{Class}
+use Rattle.df_layout.specs.declared.damage.Class.TheVariants.{Stale}
+use Rattle.df_layout.specs.declared.layout.Layout.{Layout}
+use Rattle.df_layout.specs.declared.places.Place.{Place}
+use Rattle.df_layout.specs.declared.places.Zone.{Zone}
+use Rattle.df_layout.specs.declared.places.Zone.TheVariants.{Superblock, WalHeaders, WalPrepares, ClientReplies, Grid}
+use Rattle.df_layout.specs.Spans.{place_sectors}
+use Rattle.df_format.specs.declared.header.Header.{Header}
+use Rattle.df_format.specs.declared.kind.Kind.{Kind}
+use Rattle.df_format.specs.declared.kind.Kind.TheVariants.{Reserved, Prepare, Reply, Block, Trailer}
+use Rattle.df_format.specs.Message.{Message, sectors_end}
+use Rattle.df_format.specs.Whole.{greatest_size, body_in}
+use Rattle.df_format.specs.Shown.{unit_in, class_of, header_or_class}
+use Rattle.df_format.specs.Valid.{IsUnit}
+use Rattle.df_format.specs.Wanted.{IsWanted, Wanted as Words, Any as AnyOne, Op as WithOp, Checksum as WithChecksum, Answer as AnswerTo}
+use Rattle.df_format.specs.UnitLaws.{place_size}
+use Rattle.df_format.proofs.Wholes.{one_unit, valid_stale, unit_found}
+use Rattle.df_buffers.specs.declared.identity.Identity.{Identity}
+use Rattle.df_buffers.specs.Rooms.{StandsIn, FillsRoom, room_size}
+use Rattle.df_buffers.specs.Found.{words_of, Finds, FindsKind, IsThere, class_for}
+use Rattle.df_buffers.specs.Sounds.{Holding, IsSound, unit_with}
+
+ok_same : {h k : Header} → (let one : Result Header Class = Ok h in one ≡ Ok k) → h ≡ k
+ok_same is = cc
+
+some_stale : (layout : Layout) (cluster : ℕ) (place : Place) (bytes : List ℕ) (o : Option Message) (class : Class) (h : Header) → unit_in layout cluster place bytes ≡ o → Ok h ≡ header_or_class o class
+    → class_of layout cluster place bytes ≡ Stale
+some_stale layout cluster place bytes None class h is ok = absurd (cc)
+some_stale layout cluster place bytes (Some u) class h is ok = valid_stale layout cluster place bytes u is
+
+-- bytes that are valid at the place have the class of a unit that isn't wanted
+pub valid_class : (identity : Identity) (bytes : List ℕ) (h : Header)
+    → Ok h ≡ header_or_class (unit_in identity.layout identity.cluster identity.place bytes) (class_of identity.layout identity.cluster identity.place bytes) → Stale ≡ class_for identity bytes
+valid_class identity bytes h ok = sym (some_stale identity.layout identity.cluster identity.place bytes _ _ h refl ok)
+
+-- whether a unit is wanted depends on its header alone
+wanted_same : (wanted : Words) (u v : Message) → u.header ≡ v.header → IsWanted wanted u → IsWanted wanted v
+wanted_same AnyOne u v same is = is
+wanted_same (WithOp op) u v same is = record { kind = ap (λ (h : Header). h.kind) (sym same) ∙ is.kind; op = ap (λ (h : Header). h.op) (sym same) ∙ is.op }
+wanted_same (WithChecksum checksum) u v same is = ap (λ (h : Header). h.checksum) (sym same) ∙ is
+wanted_same (AnswerTo client request op) u v same is = record {
+  kind = ap (λ (h : Header). h.kind) (sym same) ∙ is.kind;
+  client = ap (λ (h : Header). h.client) (sym same) ∙ is.client;
+  request = ap (λ (h : Header). h.request) (sym same) ∙ is.request;
+  op = ap (λ (h : Header). h.op) (sym same) ∙ is.op;
+}
+
+abbrev FindsHeader : Identity → List ℕ → Header → Type 0
+FindsHeader identity bytes h = (u : Message) × (u.header ≡ h) × Finds identity bytes u × IsThere identity u
+
+some_found : (identity : Identity) (bytes : List ℕ) (o : Option Message) (class : Class) (h : Header) → length bytes ≡ place_size identity.layout identity.place.zone → AreBytes bytes
+    → unit_in identity.layout identity.cluster identity.place bytes ≡ o → Ok h ≡ header_or_class o class → IsWanted (words_of identity.wanted) (record { header = h; body = [] }) → FindsHeader identity bytes h
+some_found identity bytes None class h size are is ok wanted = absurd (cc)
+some_found identity bytes (Some u) class h size are is ok wanted =
+    let same : u.header ≡ h = sym (ok_same ok) in (
+      u,
+      same,
+      record { valid = is; wanted = wanted_same (words_of identity.wanted) (record { header = h; body = [] }) u (sym same) wanted },
+      ((one_unit identity.layout identity.cluster identity.place bytes u size are).0 is).is,
+    )
+
+-- the unit that was decoded and is wanted is the one to be found
+pub found_by : (identity : Identity) (bytes : List ℕ) (h : Header) → length bytes ≡ place_size identity.layout identity.place.zone → AreBytes bytes
+    → Ok h ≡ header_or_class (unit_in identity.layout identity.cluster identity.place bytes) (class_of identity.layout identity.cluster identity.place bytes)
+    → IsWanted (words_of identity.wanted) (record { header = h; body = [] }) → FindsHeader identity bytes h
+found_by identity bytes h size are ok wanted = some_found identity bytes _ _ h size are refl ok wanted
+
+pub found_class : (identity : Identity) (bytes : List ℕ) (u : Message) → Finds identity bytes u → Stale ≡ class_for identity bytes
+found_class identity bytes u found = sym (valid_stale identity.layout identity.cluster identity.place bytes u found.valid)
+
+pub is_no_ring : (kind : Kind) (zone : Zone) → StandsIn kind zone → zone ≢ WalHeaders
+is_no_ring kind WalPrepares stands same = cc
+is_no_ring kind ClientReplies stands same = cc
+is_no_ring kind Grid stands same = cc
+is_no_ring Reserved zone stands same = absurd stands
+is_no_ring Prepare zone stands same = absurd (subst (λ (z : Zone). StandsIn Prepare z) same stands)
+is_no_ring Reply zone stands same = absurd (subst (λ (z : Zone). StandsIn Reply z) same stands)
+is_no_ring Block zone stands same = absurd (subst (λ (z : Zone). StandsIn Block z) same stands)
+is_no_ring Trailer zone stands same = absurd (subst (λ (z : Zone). StandsIn Trailer z) same stands)
+
+-- no unit is longer than its slot
+pub fits_slot : (layout : Layout) (zone : Zone) → zone ≢ WalHeaders → greatest_size layout zone ≤ 4096 * place_sectors layout zone
+unfolding place_sectors
+fits_slot layout Superblock other = omega arith
+fits_slot layout WalHeaders other = absurd (other refl)
+fits_slot layout WalPrepares other = omega (arith, layout.message_size_within.2)
+fits_slot layout ClientReplies other = omega (arith, layout.message_size_within.2)
+fits_slot layout Grid other = omega (arith, layout.block_size_within.2)
+
+body_behind : (zone : Zone) (size : ℕ) (bytes : List ℕ) → zone ≢ WalHeaders → body_in zone size bytes ≡ take (size - 256) (drop 256 bytes)
+body_behind Superblock size bytes other = refl
+body_behind WalHeaders size bytes other = absurd (other refl)
+body_behind WalPrepares size bytes other = refl
+body_behind ClientReplies size bytes other = refl
+body_behind Grid size bytes other = refl
+
+-- the unit of a slot is its header, and the body that follows it
+pub found_whole : (layout : Layout) (cluster : ℕ) (place : Place) (bytes : List ℕ) (u : Message) (h : Header) → place.zone ≢ WalHeaders → u.header ≡ h → unit_in layout cluster place bytes ≡ Some u → u ≡ unit_with h bytes
+found_whole layout cluster place bytes u h other same valid =
+    let f = unit_found layout cluster place bytes u valid in
+    let body : u.body ≡ take (u.header.size - 256) (drop 256 bytes) = sym f.body ∙ body_behind place.zone u.header.size bytes other in
+    let whole : u ≡ unit_with u.header bytes = λ i. record { header = u.header; body = body i } in
+    whole ∙ ap (λ (x : Header). unit_with x bytes) same
+
+pub found_kind : (kind : Kind) (identity : Identity) (bytes : List ℕ) (u : Message) (h : Header) → StandsIn kind identity.place.zone → u.header ≡ h → h.kind ≡ kind → Finds identity bytes u
+    → FindsKind kind identity bytes (unit_with h bytes)
+found_kind kind identity bytes u h stands same of found =
+    let whole = found_whole identity.layout identity.cluster identity.place bytes u h (is_no_ring kind identity.place.zone stands) same found.valid in
+    record { found = subst (λ (x : Message). Finds identity bytes x) whole found; of_kind = of }
+
+pub kind_there : (identity : Identity) (bytes : List ℕ) (u : Message) (h : Header) (kind : Kind) → StandsIn kind identity.place.zone → u.header ≡ h → Finds identity bytes u → IsThere identity u → IsThere identity (unit_with h bytes)
+kind_there identity bytes u h kind stands same found there =
+    subst (λ (x : Message). IsThere identity x) (found_whole identity.layout identity.cluster identity.place bytes u h (is_no_ring kind identity.place.zone stands) same found.valid) there
+
+-- a room is sound where the tests pass
+pub sound_from : (zone : Zone) (kind : Kind) (layout : Layout) (identity : Identity) (bytes : List ℕ) (h : Header) → FillsRoom layout zone bytes → identity.layout ≡ layout → identity.place.zone ≡ zone
+    → FindsKind kind identity bytes (unit_with h bytes) → IsThere identity (unit_with h bytes) → IsSound zone kind (record { layout = layout; unit = unit_with h bytes; bytes = bytes })
+sound_from zone kind layout identity bytes h fills same in_zone found there =
+    let valid : unit_in layout h.cluster identity.place bytes ≡ Some (unit_with h bytes) =
+    (λ i. unit_in (sym same i) (there.owner i) identity.place bytes) ∙ found.found.valid in
+    let is = subst (λ (l : Layout). IsUnit l h.cluster identity.place (unit_with h bytes)) same (subst (λ (c : ℕ). IsUnit identity.layout c identity.place (unit_with h bytes)) (sym there.owner) there) in
+    record { fills = fills; of_kind = found.of_kind; place = identity.place; in_zone = in_zone; is = is; valid = valid }
+
+-- where the parts of a sound room end
+pub record Ends (holding : Holding) : Type 0 where
+  pub least : 256 ≤ holding.unit.header.size
+  pub size : holding.unit.header.size ≤ length holding.bytes
+  pub sectors : sectors_end holding.unit.header.size ≤ length holding.bytes
+
+pub ends : (zone : Zone) (kind : Kind) (holding : Holding) → StandsIn kind zone → IsSound zone kind holding → Ends holding
+ends zone kind holding stands is =
+    let most : holding.unit.header.size ≤ 4096 * place_sectors holding.layout zone =
+    subst (λ (z : Zone). z ≢ WalHeaders → holding.unit.header.size ≤ 4096 * place_sectors holding.layout z) is.in_zone (λ other. omega (arith, is.is.fits, fits_slot holding.layout is.place.zone other)) (is_no_ring kind zone stands) in
+    record { least = is.is.sealed.rules.size; size = omega (arith, most, is.fills); sectors = omega (arith, most, is.fills) }
+
+-- a header of the ring is a unit with no body
+header_whole : (identity : Identity) (bytes : List ℕ) (u : Message) (h : Header) → identity.place.zone ≡ WalHeaders → u.header ≡ h → Finds identity bytes u → u ≡ record { header = h; body = [] }
+header_whole identity bytes u h ring same found =
+    let f = unit_found identity.layout identity.cluster identity.place bytes u found.valid in
+    let none : u.body ≡ [] = sym f.body ∙ ap (λ (z : Zone). body_in z u.header.size bytes) ring in
+    λ i. record { header = same i; body = none i }
+
+pub found_header : (identity : Identity) (bytes : List ℕ) (u : Message) (h : Header) → identity.place.zone ≡ WalHeaders → u.header ≡ h → Finds identity bytes u → Finds identity bytes (record { header = h; body = [] })
+found_header identity bytes u h ring same found = subst (λ (x : Message). Finds identity bytes x) (header_whole identity bytes u h ring same found) found
+
+pub header_there : (identity : Identity) (bytes : List ℕ) (u : Message) (h : Header) → identity.place.zone ≡ WalHeaders → u.header ≡ h → Finds identity bytes u → IsThere identity u → IsThere identity (record { header = h; body = [] })
+header_there identity bytes u h ring same found there = subst (λ (x : Message). IsThere identity x) (header_whole identity bytes u h ring same found) there
+
+pub sector_size : (layout : Layout) → room_size layout WalHeaders ≡ 4096
+unfolding place_sectors
+sector_size layout = refl
+
+pub found_in : (kind kind2 : Kind) (identity : Identity) (bytes bytes2 : List ℕ) (h : Header) → kind ≡ kind2 → bytes ≡ bytes2 → FindsKind kind identity bytes (unit_with h bytes)
+    → FindsKind kind2 identity bytes2 (unit_with h bytes2)
+found_in kind kind2 identity bytes bytes2 h same here found =
+    subst (λ (x : List ℕ). FindsKind kind2 identity x (unit_with h x)) here (subst (λ (x : Kind). FindsKind x identity bytes (unit_with h bytes)) same found)
+
+pub there_in : (identity : Identity) (bytes bytes2 : List ℕ) (h : Header) → bytes ≡ bytes2 → IsThere identity (unit_with h bytes) → IsThere identity (unit_with h bytes2)
+there_in identity bytes bytes2 h here there = subst (λ (x : List ℕ). IsThere identity (unit_with h x)) here there

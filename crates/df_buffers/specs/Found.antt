@@ -1,0 +1,36 @@
+-- The unit that is wanted at a place, and the class of what is there in its stead.
+use Rattle.std.specs.Prelude.{◌≡◌, ℕ, List, Some}
+use Rattle.df_layout.specs.declared.damage.Class.{Class}
+use Rattle.df_format.specs.declared.kind.Kind.{Kind}
+use Rattle.df_format.specs.Message.{Message}
+use Rattle.df_format.specs.Shown.{unit_in, class_of}
+use Rattle.df_format.specs.Valid.{IsUnit}
+use Rattle.df_format.specs.Wanted.{IsWanted, Wanted as Words, Any as AnyOne, Op as WithOp, Checksum as WithChecksum, Answer as AnswerTo}
+use Rattle.df_buffers.specs.declared.identity.Identity.{Identity}
+use Rattle.df_buffers.specs.declared.identity.Wanted.{Wanted}
+use Rattle.df_buffers.specs.declared.identity.Wanted.TheVariants.{Any, Op, Checksum, Answer}
+
+-- what is wanted, in the words of the format
+abbrev pub words_of : Wanted → Words
+words_of Any = AnyOne
+words_of (Op op) = WithOp op
+words_of (Checksum checksum) = WithChecksum checksum
+words_of (Answer client request op) = AnswerTo client request op
+
+-- the bytes are valid at the place, and the unit wanted
+pub record Finds (identity : Identity) (bytes : List ℕ) (u : Message) : Type 0 where
+  pub valid : unit_in identity.layout identity.cluster identity.place bytes ≡ Some u
+  pub wanted : IsWanted (words_of identity.wanted) u
+
+-- and it is of this kind
+pub record FindsKind (kind : Kind) (identity : Identity) (bytes : List ℕ) (u : Message) : Type 0 where
+  pub found : Finds identity bytes u
+  pub of_kind : u.header.kind ≡ kind
+
+-- a unit is valid at the place
+abbrev pub IsThere : Identity → Message → Type 0
+IsThere identity u = IsUnit identity.layout identity.cluster identity.place u
+
+-- the class of bytes that aren't the unit wanted at the place
+abbrev pub class_for : Identity → List ℕ → Class
+class_for identity bytes = class_of identity.layout identity.cluster identity.place bytes

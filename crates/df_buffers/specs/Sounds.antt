@@ -1,0 +1,34 @@
+-- Sound rooms: rooms whose bytes are a unit that is valid at its own place.
+use Rattle.std.specs.Prelude.{◌≡◌, ◌-◌, ℕ, List, take, drop, Some}
+use Rattle.df_layout.specs.declared.layout.Layout.{Layout}
+use Rattle.df_layout.specs.declared.places.Place.{Place}
+use Rattle.df_layout.specs.declared.places.Zone.{Zone}
+use Rattle.df_format.specs.declared.header.Header.{Header}
+use Rattle.df_format.specs.declared.kind.Kind.{Kind}
+use Rattle.df_format.specs.Message.{Message}
+use Rattle.df_format.specs.Shown.{unit_in}
+use Rattle.df_format.specs.Valid.{IsUnit}
+use Rattle.df_buffers.specs.Rooms.{FillsRoom}
+
+-- what a sound room is seen as: the layout that it was reserved for, its unit, and its bytes
+pub record Holding : Type 0 where
+  pub layout : Layout
+  pub unit : Message
+  pub bytes : List ℕ
+
+-- the unit of a header, whose body follows the header's 256 bytes
+abbrev pub unit_with : Header → List ℕ → Message
+unit_with header bytes = record { header = header; body = take (header.size - 256) (drop 256 bytes) }
+
+-- the bytes of a room that hold the unit of a header
+abbrev pub holding_of : Layout → Header → List ℕ → Holding
+holding_of layout header bytes = record { layout = layout; unit = unit_with header bytes; bytes = bytes }
+
+-- the room has the length of its layout's, and its bytes are a unit of the kind that is valid at a place of the zone
+pub record IsSound (zone : Zone) (kind : Kind) (holding : Holding) : Type 0 where
+  pub fills : FillsRoom holding.layout zone holding.bytes
+  pub of_kind : holding.unit.header.kind ≡ kind
+  pub place : Place
+  pub in_zone : place.zone ≡ zone
+  pub is : IsUnit holding.layout holding.unit.header.cluster place holding.unit
+  pub valid : unit_in holding.layout holding.unit.header.cluster place holding.bytes ≡ Some holding.unit

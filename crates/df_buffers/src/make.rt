@@ -1,0 +1,41 @@
+// Units as they are made in a room.
+ghost use Rattle.std.specs.Prelude.{◌≡◌, ◌≤◌, ◌+◌, length, take, drop, IsSome};
+ghost use Rattle.df_format.specs.Spelling.{sealed};
+ghost use Rattle.df_format.specs.Rules.{ObeysRules};
+ghost use Rattle.df_format.specs.Message.{sectors_of, sectors_end};
+ghost use Rattle.df_format.specs.Own.{own_place};
+ghost use Rattle.df_format.specs.Whole.{greatest_size};
+ghost use Rattle.df_format.specs.Making.{for_body};
+ghost use Rattle.df_format.specs.UnitLaws.{MadeIsUnit};
+
+use crate::{Raw, Sound, UnitKind};
+use df_format::{Header, make_unit};
+
+impl<K: UnitKind> Raw<K> {
+    /// Makes a unit of a header and a body: it sets the header's size and checksums from the body, writes header, body
+    /// and zeros up to the last whole sector, and leaves the rest of the room.
+    pub fn make(self, header: Header, body: &[u8]) -> Sound<K>
+        requires rules { ObeysRules (for_body header body.now) }
+        requires kind { header.kind ≡ K.KIND }
+        requires own { IsSome (own_place self.layout K.ZONE header) }
+        requires fits { 256 + length body.now ≤ greatest_size self.layout K.ZONE }
+        ensures unit { result.unit ≡ record { header = sealed (for_body header body.now); body = body.now } }
+        ensures valid { MadeIsUnit result.unit }
+        ensures sectors { take (sectors_end (256 + length body.now)) result.bytes ≡ sectors_of result.unit }
+        ensures rest { drop (sectors_end (256 + length body.now)) result.bytes ≡ drop (sectors_end (256 + length body.now)) self.bytes }
+        ensures layout { result.layout ≡ self.layout }
+    {
+        let Raw {
+            layout,
+            mut bytes,
+            kind,
+        } = self;
+        let made = make_unit(header, body, &mut bytes);
+        Sound {
+            layout,
+            header: made.header,
+            bytes,
+            kind,
+        }
+    }
+}

@@ -1,0 +1,87 @@
+// Sound rooms: their bytes are a unit that is valid at its own place. They lend its parts without copying.
+ghost use Rattle.std.specs.Prelude.{◌≡◌, ◌≤◌, ◌-◌, length, take, drop};
+ghost use Rattle.df_format.specs.Message.{sectors_end};
+ghost use Rattle.df_buffers.specs.Sounds.{IsSound};
+
+use crate::{Raw, UnitKind};
+use df_base::{HEADER, SECTOR};
+use df_format::Header;
+use df_layout::Layout;
+use std::marker::{Model, PhantomData};
+
+/// A room whose bytes begin with a unit of the kind that is valid at its own place in the room's layout. Contracts see
+/// the layout, the unit and the bytes.
+#[derive(Drop)]
+pub struct Sound<K: UnitKind> {
+    pub(crate) layout: Layout,
+    pub(crate) header: Header,
+    pub(crate) bytes: Vec<u8>,
+    pub(crate) kind: PhantomData<K>,
+}
+
+impl<K: UnitKind> Model for Sound<K> {
+    ghost use Rattle.df_buffers.specs.Sounds.{Holding, holding_of, IsSound};
+
+    ghost Value = { Holding };
+
+    ghost view = { λ s. holding_of s.layout s.header s.bytes.items };
+
+    ghost invariant = { λ s. IsSound K.ZONE K.KIND (holding_of s.layout s.header s.bytes.items) };
+}
+
+// What follows the header in a unit of this size.
+fn body_in(bytes: &[u8], size: u32) -> &[u8]
+    requires { (256 ≤ size) × (size ≤ length bytes.now) }
+    ensures { result.now ≡ take (size - 256) (drop 256 bytes.now) }
+{
+    &bytes[HEADER..size as usize]
+}
+
+// The whole sectors that so many bytes cover.
+fn sectors_in(bytes: &[u8], size: u32) -> &[u8]
+    requires { sectors_end size ≤ length bytes.now }
+    ensures { result.now ≡ take (sectors_end size) bytes.now }
+{
+    &bytes[..SECTOR * ((size as usize + SECTOR - 1) / SECTOR)]
+}
+
+impl<K: UnitKind> Sound<K> {
+    /// The unit's header.
+    pub fn header(&self) -> &Header
+        ensures header { result.now ≡ self.now.unit.header }
+        ensures sound { IsSound K.ZONE K.KIND self.now }
+    {
+        &self.header
+    }
+
+    /// The unit's body.
+    pub fn body(&self) -> &[u8]
+        ensures { result.now ≡ self.now.unit.body }
+    {
+        body_in(&self.bytes, self.header.size)
+    }
+
+    /// The whole sectors that the unit covers.
+    pub fn sectors(&self) -> &[u8]
+        ensures { result.now ≡ take (sectors_end self.now.unit.header.size) self.now.bytes }
+    {
+        sectors_in(&self.bytes, self.header.size)
+    }
+
+    /// The room with its bytes as they are.
+    pub fn loosen(self) -> Raw<K>
+        ensures { result ≡ record { layout = self.layout; bytes = self.bytes } }
+    {
+        let Sound {
+            layout,
+            header: _,
+            bytes,
+            kind,
+        } = self;
+        Raw {
+            layout,
+            bytes,
+            kind,
+        }
+    }
+}

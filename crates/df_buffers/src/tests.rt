@@ -1,0 +1,76 @@
+// Each public call on its happy path, at each kind.
+ghost use Rattle.std.specs.Prelude.{◌≡◌, ◌+◌, ◌≤◌, length, IsSome};
+ghost use Rattle.df_format.specs.Rules.{ObeysRules};
+ghost use Rattle.df_format.specs.Own.{own_place};
+ghost use Rattle.df_format.specs.Whole.{greatest_size};
+ghost use Rattle.df_format.specs.Making.{for_body};
+
+use crate::examples::{block, prepare, reply, trailer};
+use crate::{Block, Identity, Prepare, Raw, Reply, Rooms, Trailer, UnitKind, Wanted};
+use df_format::Header;
+use df_layout::{Layout, Place};
+
+// Whether a sector holds the body behind a header, and zeros up to its end.
+fn is_padded(sectors: &[u8], body: &[u8]) -> bool {
+    let end = 256 + body.len();
+    sectors.len() == 4096
+        && end <= 4096
+        && &sectors[256..end] == body
+        && sectors[end..].iter().all(|b| *b == 0)
+}
+
+// Whether a unit that is made in a room has the header's fields and the body, and is valid at its place once its room
+// was loosened.
+fn is_made_at<K: UnitKind>(
+    room: Raw<K>,
+    layout: Layout,
+    header: Header,
+    body: &[u8],
+    index: u64,
+) -> bool
+    requires layout { room.layout ≡ layout }
+    requires rules { ObeysRules (for_body header body.now) }
+    requires kind { header.kind ≡ K.KIND }
+    requires own { IsSome (own_place layout K.ZONE header) }
+    requires fits { 256 + length body.now ≤ greatest_size layout K.ZONE }
+{
+    let unit = room.make(header, body);
+    let made = *unit.header();
+    let is_written = is_padded(unit.sectors(), body) && unit.body() == body;
+    let identity = Identity {
+        layout,
+        cluster: 7,
+        place: Place {
+            zone: K::ZONE,
+            index,
+        },
+        wanted: Wanted::Checksum(made.checksum),
+    };
+    let given = Header {
+        checksum: made.checksum,
+        size: made.size,
+        ..header
+    };
+    match unit.loosen().prove(&identity) {
+        Ok(again) => {
+            is_written && made == given && *again.header() == made && again.body() == body
+        }
+        Err(_) => false,
+    }
+}
+
+#[test]
+fn makes_and_proves_units_of_each_kind(rt: HostRuntime) {
+    let layout = Layout::small();
+    let alloc = rt.alloc();
+    let rooms = Rooms::reserve(alloc, &layout).expect(&rt, "memory of rooms");
+    assert_eq!(rt; rooms.layout(), layout);
+    let Rooms { prepare: room, .. } = rooms;
+    assert!(rt; is_made_at(room, layout, prepare(b"abc"), b"abc", 1));
+    let room = Raw::<Reply>::reserve(alloc, &layout).expect(&rt, "memory of a reply");
+    assert!(rt; is_made_at(room, layout, reply(b""), b"", 2));
+    let room = Raw::<Block>::reserve(alloc, &layout).expect(&rt, "memory of a block");
+    assert!(rt; is_made_at(room, layout, block(b"abcdef"), b"abcdef", 9));
+    let room = Raw::<Trailer>::reserve(alloc, &layout).expect(&rt, "memory of a trailer block");
+    assert!(rt; is_made_at(room, layout, trailer(b"a"), b"a", 9));
+}
