@@ -5,7 +5,7 @@ ghost use Rattle.df_base.specs.Causes.{HasCause, counted};
 ghost use Rattle.df_base.specs.Image.{blank};
 ghost use Rattle.df_base.specs.Log.{new_log, Write, Sync, AreEvents, IsLog};
 ghost use Rattle.df_base.specs.Plan.{new_plan, is_listed, after_call, FailsExactly};
-ghost use Rattle.df_disk.specs.Told.{AreSectors, Shows, after, did};
+ghost use Rattle.df_disk.specs.Told.{AreSectors, IsHonest, Shows, after, did};
 ghost use Rattle.df_memdisk.specs.State.{log_of, told_of, AddsEvent};
 
 use crate::history::Happened;
@@ -46,6 +46,7 @@ impl MemoryDisk {
     pub fn new(alloc: Global, failing: Vec<u64>) -> MemoryDisk
         ensures state { result ≡ record { events = []; strikes = []; plan = new_plan failing.items; refused = 0 } }
         ensures blank { told_of result ≡ record { log = new_log; shown = blank } }
+        ensures honest { IsHonest (told_of result) }
     {
         MemoryDisk {
             alloc,
@@ -81,6 +82,7 @@ impl MemoryDisk {
         ensures ok { OnOk result (self.new ≡ record self.old { events = event_of happened ∷ self.old.events }) }
         ensures told { OnOk result (told_of self.new ≡ did (event_of happened) (told_of self.old)) }
         ensures err { OnErr result (self.new ≡ self.old) }
+        ensures honest { IsHonest (told_of self.old) → IsHonest (told_of self.new) }
     {
         match self.past.push(happened) {
             Ok(()) => Ok(()),
@@ -94,6 +96,7 @@ impl MemoryDisk {
         ensures ok { OnOk result (self.new ≡ record self.old { events = Write at bytes.now ∷ self.old.events }) }
         ensures told { OnOk result (told_of self.new ≡ did (Write at bytes.now) (told_of self.old)) }
         ensures err { OnErr result (self.new ≡ self.old) }
+        ensures honest { IsHonest (told_of self.old) → IsHonest (told_of self.new) }
     {
         match Vec::from_slice(self.alloc, bytes) {
             Ok(bytes) => self.keep(Happened::Wrote(Written { at, bytes })),
@@ -124,6 +127,7 @@ impl Disk for MemoryDisk {
 
         ensures fails_exactly { is_err result ≡ is_listed self.old.plan }
         ensures state { self.new ≡ record self.old { plan = after_call self.old.plan result } }
+        ensures honest { IsHonest (told_of self.old) → IsHonest (told_of self.new) }
     {
         if self.plan.begin_call() {
             return Err(self.plan.fail());
@@ -140,6 +144,8 @@ impl Disk for MemoryDisk {
 
         ensures fails_exactly { FailsExactly self.old.plan self.old.refused self.new.refused result }
         ensures event { AddsEvent (Write at bytes.now) self.old self.new result }
+        ensures strikes { self.new.strikes ≡ self.old.strikes }
+        ensures honest { IsHonest (told_of self.old) → IsHonest (told_of self.new) }
         ensures plan { self.new.plan ≡ after_call self.old.plan result }
     {
         let listed = self.plan.begin_call();
@@ -160,6 +166,8 @@ impl Disk for MemoryDisk {
         ensures fails_exactly { FailsExactly self.old.plan self.old.refused self.new.refused result }
         ensures event { OnOk result (self.new.events ≡ Sync ∷ self.old.events) }
         ensures no_event { OnErr result (self.new.events ≡ self.old.events) }
+        ensures strikes { self.new.strikes ≡ self.old.strikes }
+        ensures honest { IsHonest (told_of self.old) → IsHonest (told_of self.new) }
         ensures listed_asks_for_nothing { is_listed self.old.plan ≡ true → self.new.refused ≡ self.old.refused }
         ensures plan { self.new.plan ≡ after_call self.old.plan result }
     {
