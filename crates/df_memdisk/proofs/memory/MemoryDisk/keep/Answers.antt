@@ -44,11 +44,11 @@ pub returns-clause-honest : goal.returns-clause-honest
 returns-clause-honest c =
     let told = returns-clause-told c in
     elim c.match-push.branch [
-      in-Ok w ↦
-        (let now-told = rw w.result-is at told in
-         λ honest. subst IsHonest (sym now-told) (honest-did (event_of c.args.happened) (told_of c.args.self.now) honest))
-    | in-Err w ↦
-        (let P : List Happened → Type 0 = λ hs. IsHonest (told_by (events_of hs) (reverse c.self.inside.strikes.items)) in
-         let Q : DiskState → Type 0 = λ d. IsHonest (told_of d) in
-         λ honest. subst P (sym w.in-Err.ensures.items) (subst Q (sym c.self.view_is) honest))
+      | in-Ok w ↦
+          (let now-told = rw w.result-is at told in
+          λ honest. subst IsHonest (sym now-told) (honest-did (event_of c.args.happened) (told_of c.args.self.now) honest))
+      | in-Err w ↦
+          (let P : List Happened → Type 0 = λ hs. IsHonest (told_by (events_of hs) (reverse c.self.inside.strikes.items)) in
+          let Q : DiskState → Type 0 = λ d. IsHonest (told_of d) in
+          λ honest. subst P (sym w.in-Err.ensures.items) (subst Q (sym c.self.view_is) honest))
     ]
