@@ -1,5 +1,5 @@
 -- What a disk shows when an event or a strike is added.
-use Rattle.std.proofs.Common.{◌≡◌, ℕ, ◌+◌, ◌≤◌, ◌==◌, Bool, true, false, cond, List, [], ◌∷◌, ◌++◌, length, take, drop, map, Option, Some, None, unwrap_or, refl, sym, ap, ◌∙◌, arith, eq-eqb}
+use Rattle.std.proofs.Common.{◌≡◌, ℕ, ◌≤◌, ◌==◌, Bool, true, false, cond, List, [], ◌∷◌, ◌++◌, length, take, drop, map, Option, Some, None, unwrap_or, refl, sym, ap, ◌∙◌, arith, eq-eqb}
 use Rattle.std.specs.Prelude.{reverse, IfSome, if◌then◌else◌}
 use Rattle.std.proofs.lemmas.List.{take-map, drop-map, reverse-append, reverse-reverse, drop-append-le, length-reverse, length-map, take_all}
 use Rattle.std.proofs.Math.Path.{fun_ext}

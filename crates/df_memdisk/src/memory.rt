@@ -61,6 +61,7 @@ impl MemoryDisk {
     pub fn events(&self) -> u64
         ensures count { result ≡ length self.now.events }
         ensures log { IsLog (log_of self.now) }
+        ensures unstruck_is_honest { self.now.strikes ≡ [] → IsHonest (told_of self.now) }
     {
         self.past.as_slice().len() as u64
     }

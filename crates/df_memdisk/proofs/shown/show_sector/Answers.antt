@@ -1,5 +1,5 @@
 -- What a sector shows is what the events since its newest strike left there.
-use Rattle.std.proofs.Common.{◌≡◌, ◌≤◌, ℕ, List, Option, Some, None, length, ap, sym, subst, ◌∙◌}
+use Rattle.std.proofs.Common.{◌≤◌, List, Option, length, ap, sym, subst, ◌∙◌}
 use Rattle.std.specs.Prelude.{reverse, IfSome}
 use Rattle.df_base.specs.Image.{blank}
 use Rattle.df_base.specs.Log.{Event, now_of}

@@ -1,5 +1,5 @@
 -- The back of the past has the events since.
-use Rattle.std.proofs.Common.{◌≡◌, List, ap, ◌∙◌}
+use Rattle.std.proofs.Common.{List, ap, ◌∙◌}
 use Rattle.std.proofs.lemmas.List.{take_rest}
 use Rattle.df_memdisk.specs.History.{events_of}
 use Rattle.df_memdisk.specs.declared.history.Happened.{Happened}

@@ -1,5 +1,5 @@
 -- Each kind of strike shows its bytes.
-use Rattle.std.proofs.Common.{◌≡◌, List, ap, ◌∙◌}
+use Rattle.std.proofs.Common.{List, ap, ◌∙◌}
 use Rattle.df_base.specs.Image.{blank}
 use Rattle.df_base.specs.Log.{Event, now_of}
 use Rattle.df_memdisk.specs.Strikes.{filled}

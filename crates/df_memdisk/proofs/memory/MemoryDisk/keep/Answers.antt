@@ -1,8 +1,8 @@
 -- The past is one event longer, and each strike was made before it.
-use Rattle.std.proofs.Common.{◌≡◌, ◌+◌, List, [], ◌∷◌, ◌++◌, length, sym, ap, subst, ◌∙◌, arith}
+use Rattle.std.proofs.Common.{◌≡◌, List, [], ◌∷◌, ◌++◌, length, sym, ap, subst, ◌∙◌, arith}
 use Rattle.std.specs.Prelude.{reverse}
 use Rattle.std.proofs.lemmas.List.{length-append}
-use Rattle.df_base.specs.Log.{Event, AreEvents}
+use Rattle.df_base.specs.Log.{AreEvents}
 use Rattle.df_disk.specs.Told.{IsHonest, did}
 use Rattle.df_memdisk.specs.History.{event_of, events_of}
 use Rattle.df_memdisk.specs.State.{DiskState, IsDisk, told_by, told_of}

@@ -1,5 +1,5 @@
 -- The newest strike is this one.
-use Rattle.std.proofs.Common.{◌≡◌, ℕ, List, [], ◌∷◌, ◌++◌, length, refl, sym, ap, ◌∙◌}
+use Rattle.std.proofs.Common.{◌≡◌, List, length, sym, ap, ◌∙◌}
 use Rattle.std.specs.Prelude.{reverse}
 use Rattle.df_base.specs.Log.{now}
 use Rattle.df_disk.specs.Told.{Told}
