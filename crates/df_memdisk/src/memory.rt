@@ -34,7 +34,12 @@ impl Model for MemoryDisk {
 
     ghost Value = { DiskState };
 
-    ghost view = { λ d. record { events = events_of d.past.items; strikes = reverse d.strikes.items; plan = d.plan; refused = d.refused } };
+    ghost view = { λ d. record {
+      events = events_of d.past.items;
+      strikes = reverse d.strikes.items;
+      plan = d.plan;
+      refused = d.refused;
+    } };
 
     ghost use Rattle.df_memdisk.specs.State.{IsDisk};
 
