@@ -1,5 +1,6 @@
 pub mod Covering
 pub mod Past
-pub mod Shown
+pub mod Now
+pub mod Struck
 pub mod Buffers
 pub mod Possible

@@ -1,4 +1,6 @@
 pub mod History
 pub mod Newest
+pub mod Struck
 pub mod State
 pub mod Refusals
+pub mod Strikes

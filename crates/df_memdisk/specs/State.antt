@@ -1,23 +1,31 @@
 -- What contracts see of a disk in memory.
-use Rattle.std.specs.Prelude.{◌≡◌, ◌⊎◌, ℕ, true, not, List, ◌∷◌, map, find, Option, Result, OnErr, OnOk}
+use Rattle.std.specs.Prelude.{◌≡◌, ◌⊎◌, ℕ, true, not, List, ◌∷◌, length, map, reverse, find, Option, Result, OnErr, OnOk}
 use Rattle.df_base.specs.Causes.{counted}
 use Rattle.df_base.specs.Image.{blank}
-use Rattle.df_base.specs.Log.{Event, Log, loose_of, now}
+use Rattle.df_base.specs.Log.{Event, Log, AreEvents, loose_of}
 use Rattle.df_base.specs.Plan.{Plan, is_listed}
 use Rattle.df_disk.specs.Told.{Told}
+use Rattle.df_memdisk.specs.Struck.{shown_after, AreBehind}
+use Rattle.df_memdisk.specs.declared.shown.Struck.{Struck}
+use Rattle.df_memdisk.specs.History.{events_of}
+use Rattle.df_memdisk.specs.declared.history.Happened.{Happened}
 
--- the events since the disk was blank, the newest first; which calls fail; how many growths were refused
+-- the events since the disk was blank, the newest first; the strikes, likewise; which calls fail; how many growths were refused
 pub record DiskState : Type 0 where
   pub events : List Event
+  pub strikes : List Struck
   pub plan : Plan
   pub refused : ℕ
 
 abbrev pub log_of : DiskState → Log
 log_of state = record { start = blank; events = state.events }
 
--- the disk tells its log, and shows what the log leaves
+-- the log of these events is told, and what they left is shown, but for sectors that were struck
+abbrev pub told_by : List Event → List Struck → Told
+told_by events strikes = record { log = record { start = blank; events = events }; shown = shown_after strikes events }
+
 abbrev pub told_of : DiskState → Told
-told_of state = record { log = log_of state; shown = now (log_of state) }
+told_of state = told_by state.events state.strikes
 
 -- A call adds this event. Where it fails, its number was listed and the event is there all the same,
 -- or memory for the event was refused and it isn't there.
@@ -28,3 +36,8 @@ pub record AddsEvent {T E : Type 0} (event : Event) (old new : DiskState) (resul
 -- the first of the named sectors that wasn't written since the last sync or stop
 abbrev pub first_firm : List Event → List (ℕ × List ℕ) → Option ℕ
 first_firm events changes = find (λ sector. not (loose_of events sector)) (map (λ (change : ℕ × List ℕ). change.0) changes)
+
+-- what a disk keeps is the past of a log that a disk can have, and strikes that were made in it
+pub record IsDisk (past : List Happened) (strikes : List Struck) : Type 0 where
+  pub possible : AreEvents (events_of past)
+  pub behind : AreBehind (reverse strikes) (length past)

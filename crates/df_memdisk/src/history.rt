@@ -1,14 +1,11 @@
 // The past of a disk, the oldest event first: what it left in a sector, and which sectors are loose.
-ghost use Rattle.std.specs.Prelude.{◌≡◌, ◌≤◌, ◌<◌, ◌+◌, ◌*◌, ◌/◌, length, option_copied, IfSome};
-ghost use Rattle.df_base.specs.Image.{blank, bytes_at};
+ghost use Rattle.std.specs.Prelude.{◌≡◌, length, option_copied, IfSome};
 ghost use Rattle.df_base.specs.Log.{loose_of, now_of};
-ghost use Rattle.df_disk.specs.Told.{AreSectors};
 ghost use Rattle.df_memdisk.specs.History.{changes_of, event_of, events_of};
 ghost use Rattle.df_memdisk.specs.Newest.{last_change, given_by, newest_of};
 
 use crate::change::Change;
 use crate::written::Written;
-use df_base::SECTOR;
 
 /// One event in the past of a disk.
 #[derive(Drop)]
@@ -56,16 +53,16 @@ fn newest_bytes(past: &[Happened], sector: u64) -> Option<&[u8]>
     None
 }
 
-/// Puts what the past left in a sector into a buffer of one sector.
-#[tactic(auto, unfolding(df_base::specs::Image::blank))]
-pub fn show_sector(past: &[Happened], sector: u64, into: &mut [u8])
-    requires { length into.old ≡ 4096 }
-    ensures bytes { into.new ≡ now_of blank (events_of past.now) sector }
+/// Puts what the past left in a sector that held the bytes `start` into a buffer of one sector.
+pub fn left_in_sector(past: &[Happened], start: &[u8], sector: u64, into: &mut [u8])
+    requires start { length start.now ≡ 4096 }
+    requires buffer { length into.old ≡ 4096 }
+    ensures bytes { into.new ≡ now_of (λ s. start.now) (events_of past.now) sector }
     ensures size { length into.new ≡ 4096 }
 {
     match newest_bytes(past, sector) {
         Some(bytes) => into.copy_from_slice(bytes),
-        None => into.copy_from_slice(&[0u8; SECTOR]),
+        None => into.copy_from_slice(start),
     }
 }
 
@@ -84,15 +81,4 @@ pub fn is_loose(past: &[Happened], sector: u64) -> bool
         }
     }
     false
-}
-
-/// Puts what the past left in the sectors from `at` on into a buffer of whole sectors.
-pub fn show_sectors(past: &[Happened], at: u64, into: &mut [u8])
-    requires { AreSectors at (length into.old) }
-    ensures { into.new ≡ bytes_at (now_of blank (events_of past.now)) at (length into.new / 4096) }
-{
-    for index in 0..into.len() / SECTOR {
-        let from = SECTOR * index;
-        show_sector(past, at + index as u64, &mut into[from..from + SECTOR]);
-    }
 }

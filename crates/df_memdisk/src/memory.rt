@@ -1,13 +1,15 @@
-// The disk itself: it keeps each event, so that its log is real, and shows what the log leaves.
+// The disk itself: it keeps each event, so that its log is real, and shows what the log leaves, but
+// for sectors that were struck.
 ghost use Rattle.std.specs.Prelude.{◌≡◌, ◌≤◌, ◌⊎◌, [], ◌∷◌, length, true, is_err, Some, OnOk, OnErr};
 ghost use Rattle.df_base.specs.Causes.{HasCause, counted};
 ghost use Rattle.df_base.specs.Image.{blank};
 ghost use Rattle.df_base.specs.Log.{new_log, Write, Sync, AreEvents, IsLog};
 ghost use Rattle.df_base.specs.Plan.{new_plan, is_listed, after_call, FailsExactly};
-ghost use Rattle.df_disk.specs.Told.{AreSectors, Shows, after};
+ghost use Rattle.df_disk.specs.Told.{AreSectors, IsHonest, Shows, after, did};
 ghost use Rattle.df_memdisk.specs.State.{log_of, told_of, AddsEvent};
 
-use crate::history::{Happened, show_sectors};
+use crate::history::Happened;
+use crate::shown::{Struck, show_sectors};
 use crate::written::Written;
 use df_base::{Failed, FaultPlan, OutOfMemory};
 use df_disk::Disk;
@@ -20,6 +22,7 @@ use std::marker::Model;
 pub struct MemoryDisk {
     alloc: Global,
     pub(crate) past: Vec<Happened>,
+    pub(crate) strikes: Vec<Struck>,
     plan: FaultPlan,
     refused: u64,
 }
@@ -27,25 +30,33 @@ pub struct MemoryDisk {
 impl Model for MemoryDisk {
     ghost use Rattle.df_memdisk.specs.State.{DiskState};
     ghost use Rattle.df_memdisk.specs.History.{events_of};
+    ghost use Rattle.std.specs.Prelude.{reverse};
 
     ghost Value = { DiskState };
 
-    ghost view = { λ d. record { events = events_of d.past.items; plan = d.plan; refused = d.refused } };
+    ghost view = { λ d. record {
+      events = events_of d.past.items;
+      strikes = reverse d.strikes.items;
+      plan = d.plan;
+      refused = d.refused;
+    } };
 
-    ghost use Rattle.df_base.specs.Log.{AreEvents};
+    ghost use Rattle.df_memdisk.specs.State.{IsDisk};
 
-    ghost invariant = { λ d. AreEvents (events_of d.past.items) };
+    ghost invariant = { λ d. IsDisk d.past.items d.strikes.items };
 }
 
 impl MemoryDisk {
     /// A blank disk whose device calls of these numbers, counted from 1, fail. It takes no memory.
     pub fn new(alloc: Global, failing: Vec<u64>) -> MemoryDisk
-        ensures state { result ≡ record { events = []; plan = new_plan failing.items; refused = 0 } }
+        ensures state { result ≡ record { events = []; strikes = []; plan = new_plan failing.items; refused = 0 } }
         ensures blank { told_of result ≡ record { log = new_log; shown = blank } }
+        ensures honest { IsHonest (told_of result) }
     {
         MemoryDisk {
             alloc,
             past: Vec::new(alloc),
+            strikes: Vec::new(alloc),
             plan: FaultPlan::new(failing),
             refused: 0,
         }
@@ -55,6 +66,7 @@ impl MemoryDisk {
     pub fn events(&self) -> u64
         ensures count { result ≡ length self.now.events }
         ensures log { IsLog (log_of self.now) }
+        ensures unstruck_is_honest { self.now.strikes ≡ [] → IsHonest (told_of self.now) }
     {
         self.past.as_slice().len() as u64
     }
@@ -74,7 +86,9 @@ impl MemoryDisk {
     pub(crate) fn keep(&mut self, happened: Happened) -> Result<(), OutOfMemory>
         requires { AreEvents (event_of happened ∷ self.old.events) }
         ensures ok { OnOk result (self.new ≡ record self.old { events = event_of happened ∷ self.old.events }) }
+        ensures told { OnOk result (told_of self.new ≡ did (event_of happened) (told_of self.old)) }
         ensures err { OnErr result (self.new ≡ self.old) }
+        ensures honest { IsHonest (told_of self.old) → IsHonest (told_of self.new) }
     {
         match self.past.push(happened) {
             Ok(()) => Ok(()),
@@ -86,7 +100,9 @@ impl MemoryDisk {
     fn keep_write(&mut self, at: u64, bytes: &[u8]) -> Result<(), OutOfMemory>
         requires { AreSectors at (length bytes.now) }
         ensures ok { OnOk result (self.new ≡ record self.old { events = Write at bytes.now ∷ self.old.events }) }
+        ensures told { OnOk result (told_of self.new ≡ did (Write at bytes.now) (told_of self.old)) }
         ensures err { OnErr result (self.new ≡ self.old) }
+        ensures honest { IsHonest (told_of self.old) → IsHonest (told_of self.new) }
     {
         match Vec::from_slice(self.alloc, bytes) {
             Ok(bytes) => self.keep(Happened::Wrote(Written { at, bytes })),
@@ -117,11 +133,12 @@ impl Disk for MemoryDisk {
 
         ensures fails_exactly { is_err result ≡ is_listed self.old.plan }
         ensures state { self.new ≡ record self.old { plan = after_call self.old.plan result } }
+        ensures honest { IsHonest (told_of self.old) → IsHonest (told_of self.new) }
     {
         if self.plan.begin_call() {
             return Err(self.plan.fail());
         }
-        show_sectors(&self.past, at, into);
+        show_sectors(&self.past, &self.strikes, at, into);
         Ok(())
     }
 
@@ -133,6 +150,8 @@ impl Disk for MemoryDisk {
 
         ensures fails_exactly { FailsExactly self.old.plan self.old.refused self.new.refused result }
         ensures event { AddsEvent (Write at bytes.now) self.old self.new result }
+        ensures strikes { self.new.strikes ≡ self.old.strikes }
+        ensures honest { IsHonest (told_of self.old) → IsHonest (told_of self.new) }
         ensures plan { self.new.plan ≡ after_call self.old.plan result }
     {
         let listed = self.plan.begin_call();
@@ -153,6 +172,8 @@ impl Disk for MemoryDisk {
         ensures fails_exactly { FailsExactly self.old.plan self.old.refused self.new.refused result }
         ensures event { OnOk result (self.new.events ≡ Sync ∷ self.old.events) }
         ensures no_event { OnErr result (self.new.events ≡ self.old.events) }
+        ensures strikes { self.new.strikes ≡ self.old.strikes }
+        ensures honest { IsHonest (told_of self.old) → IsHonest (told_of self.new) }
         ensures listed_asks_for_nothing { is_listed self.old.plan ≡ true → self.new.refused ≡ self.old.refused }
         ensures plan { self.new.plan ≡ after_call self.old.plan result }
     {

@@ -1,9 +1,10 @@
 // A stop: the power is cut, and sectors that were loose may hold any bytes afterwards.
 ghost use Rattle.std.specs.Prelude.{◌≡◌, ◌∷◌, None, Some, OnOk, IfOk, IfErr, IfNone};
 ghost use Rattle.df_base.specs.Log.{Stop, AreLoose};
+ghost use Rattle.df_disk.specs.Told.{IsHonest, did};
 ghost use Rattle.df_memdisk.specs.History.{changes_of, events_of};
 ghost use Rattle.df_memdisk.specs.Refusals.{IsFirstFirm};
-ghost use Rattle.df_memdisk.specs.State.{first_firm};
+ghost use Rattle.df_memdisk.specs.State.{first_firm, told_of};
 
 use crate::history::{Happened, is_loose};
 use crate::{Change, MemoryDisk, StopError};
@@ -28,6 +29,8 @@ impl MemoryDisk {
     /// written since the last sync or stop. After an error the disk comes back unchanged.
     pub fn stop(self, choice: Vec<Change>) -> Result<MemoryDisk, (MemoryDisk, StopError)>
         ensures stopped { IfOk result (λ disk. disk ≡ record self { events = Stop (changes_of choice.items) ∷ self.events }) }
+        ensures told { IfOk result (λ disk. told_of disk ≡ did (Stop (changes_of choice.items)) (told_of self)) }
+        ensures honest { IfOk result (λ disk. IsHonest (told_of self) → IsHonest (told_of disk)) }
         ensures loose { OnOk result (first_firm self.events (changes_of choice.items) ≡ None) }
         ensures unchanged { IfErr result (λ refused. refused.0 ≡ self) }
         ensures not_loose { IfErr result (λ refused. IsFirstFirm refused.1 (first_firm self.events (changes_of choice.items))) }

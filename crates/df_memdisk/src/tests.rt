@@ -1,6 +1,4 @@
 // Each call once, on rows whose outcome is known beforehand.
-ghost use Rattle.std.specs.Prelude.{◌<◌};
-
 use super::*;
 use df_base::{Failed, SECTOR};
 use df_disk::Disk;
@@ -18,11 +16,9 @@ fn change(alloc: Global, sector: u64, byte: u8) -> Result<Vec<Change>, Fail> {
 }
 
 // The sector holds this byte 4096 times.
-fn assert_holds(rt: &impl Abort, disk: &mut MemoryDisk, sector: u64, byte: u8)
-    requires { sector < 1000 }
-{
+fn assert_holds(rt: &impl Abort, disk: &mut MemoryDisk, sector: u16, byte: u8) {
     let mut shown = [!byte; SECTOR];
-    assert_eq!(rt; disk.read(sector, &mut shown), Ok(()));
+    assert_eq!(rt; disk.read(u64::from(sector), &mut shown), Ok(()));
     assert_eq!(rt; shown, [byte; SECTOR], "sector {sector}");
 }
 
@@ -91,5 +87,72 @@ fn listed_calls_fail_and_a_listed_write_is_in_the_log(rt: HostRuntime) -> Result
     }
     assert_holds(&rt, &mut disk, 1, 2);
     assert_eq!(rt; disk.refused(), 0);
+    Ok(())
+}
+
+#[test]
+fn a_strike_shows_its_bytes_in_one_sector_and_adds_no_event(rt: HostRuntime) {
+    let mut disk = MemoryDisk::new(rt.alloc(), Vec::new(rt.alloc()));
+    assert_eq!(rt; disk.write(3, &[1u8; SECTOR]), Ok(()));
+    assert_eq!(rt; disk.sync(), Ok(()));
+    assert_eq!(rt; disk.write(3, &[2u8; SECTOR]), Ok(()));
+    let table: [(u16, Strike, u8); 8] = [
+        (3, Strike::Fill { byte: 0xa5 }, 0xa5),
+        (3, Strike::Earlier { events: 0 }, 0),
+        (3, Strike::Earlier { events: 1 }, 1),
+        (3, Strike::Fill { byte: 0x5a }, 0x5a),
+        (5, Strike::Like { sector: 3 }, 0x5a),
+        (3, Strike::Earlier { events: 9 }, 2),
+        (3, Strike::Like { sector: 7 }, 0),
+        (5, Strike::Like { sector: 5 }, 0x5a),
+    ];
+    for (sector, strike, byte) in table {
+        assert_eq!(rt;
+            disk.strike(u64::from(sector), strike),
+            Ok(()),
+            "{strike:?}"
+        );
+        assert_holds(&rt, &mut disk, sector, byte);
+        assert_holds(&rt, &mut disk, 4, 0);
+        assert_eq!(rt; disk.events(), 3);
+    }
+    assert_eq!(rt; disk.refused(), 0);
+}
+
+#[test]
+fn a_struck_sector_is_shown_so_until_it_is_written_or_stopped(rt: HostRuntime) -> Result<(), Fail> {
+    let mut disk = MemoryDisk::new(rt.alloc(), Vec::new(rt.alloc()));
+    assert_eq!(rt; disk.write(0, &[1u8; 3 * SECTOR]), Ok(()));
+    for sector in 0..4 {
+        assert_eq!(rt; disk.strike(sector, Strike::Fill { byte: 0xa5 }), Ok(()));
+    }
+    assert_eq!(rt; disk.write(2, &[2u8; SECTOR]), Ok(()));
+    let Err((disk, error)) = disk.stop(change(rt.alloc(), 3, 9)?) else {
+        return Err("a sector that was struck and never written was changed".into());
+    };
+    assert_eq!(rt; error, StopError::NotLoose { sector: 3 });
+    let Ok(mut disk) = disk.stop(change(rt.alloc(), 0, 9)?) else {
+        return Err("a loose sector was refused".into());
+    };
+    for (sector, byte) in [(0, 9), (1, 0xa5), (2, 2), (3, 0xa5)] {
+        assert_holds(&rt, &mut disk, sector, byte);
+    }
+    assert_eq!(rt; disk.events(), 3);
+    Ok(())
+}
+
+#[test]
+fn a_synced_sector_is_not_loose_and_an_empty_stop_is_taken(rt: HostRuntime) -> Result<(), Fail> {
+    let mut disk = MemoryDisk::new(rt.alloc(), Vec::new(rt.alloc()));
+    assert_eq!(rt; disk.write(0, &[1u8; SECTOR]), Ok(()));
+    assert_eq!(rt; disk.sync(), Ok(()));
+    let Err((disk, error)) = disk.stop(change(rt.alloc(), 0, 0xa5)?) else {
+        return Err("a synced sector was changed".into());
+    };
+    assert_eq!(rt; error, StopError::NotLoose { sector: 0 });
+    let Ok(mut disk) = disk.stop(Vec::new(rt.alloc())) else {
+        return Err("a stop that changes nothing was refused".into());
+    };
+    assert_holds(&rt, &mut disk, 0, 1);
     Ok(())
 }

@@ -20,7 +20,7 @@ changed_is (c ∷ cs) image sector =
     ∙ ap (λ (rest : List ℕ). unwrap_or (last_change cs sector) rest) (unwrap-if (sector == c.0) c.1 (image sector))
     ∙ sym (unwrap-first (last_change cs sector) (if sector == c.0 then Some c.1 else None) (image sector))
 
-after_is : (e : Event) (image : Image) (sector : ℕ) → after_event e image sector ≡ unwrap_or (given_by e sector) (image sector)
+pub after_is : (e : Event) (image : Image) (sector : ℕ) → after_event e image sector ≡ unwrap_or (given_by e sector) (image sector)
 unfolding written
 after_is (Write at bytes) image sector = unwrap-if (covers at bytes sector) _ (image sector)
 after_is Sync image sector = refl
