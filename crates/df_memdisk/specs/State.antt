@@ -17,6 +17,7 @@ pub record DiskState : Type 0 where
   pub plan : Plan
   pub refused : ℕ
 
+-- the disk began blank
 abbrev pub log_of : DiskState → Log
 log_of state = record { start = blank; events = state.events }
 
@@ -24,6 +25,7 @@ log_of state = record { start = blank; events = state.events }
 abbrev pub told_by : List Event → List Struck → Told
 told_by events strikes = record { log = record { start = blank; events = events }; shown = shown_after strikes events }
 
+-- what the disk tells
 abbrev pub told_of : DiskState → Told
 told_of state = told_by state.events state.strikes
 
