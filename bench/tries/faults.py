@@ -96,6 +96,13 @@ def order(t: Try) -> None:
     t.counts["runs whose calls were in order"] += 1
 
 
+def with_one_failing(t: Try, plan: Plan, name: str, places: list) -> tuple:
+    """Runs the plan again with one of these calls failing, or all from it on. Gives which, and what came of it."""
+    number = t.random.randrange(len(places))
+    error, on = t.random.choice(ERRORS), t.random.choice(("", "+"))
+    return number, plan.again(t, [f"{name}:error={error}:when={places[number].number}{on}"])
+
+
 def disk(t: Try, plan: Optional[Plan] = None) -> Optional[bytes]:
     """One call on the file fails: status 5, and the text of what went before. A stop may tear the write that failed."""
     plan = plan or Plan(t)
@@ -103,9 +110,7 @@ def disk(t: Try, plan: Optional[Plan] = None) -> Optional[bytes]:
     places = named(plan.calls, name, None if name in ("openat", "fsync") else plan.fd)
     if not places:
         return plan.data
-    number = t.random.randrange(len(places))
-    error, on = t.random.choice(ERRORS), t.random.choice(("", "+"))
-    got = plan.again(t, [f"{name}:error={error}:when={places[number].number}{on}"])
+    number, got = with_one_failing(t, plan, name, places)
     kind = {"pwrite64": "write", "fdatasync": "sync"}.get(name)
     upto = event_of(plan, kind, number) if kind else 0
     data = plan.ends(t, f"faults of {name}", got, upto, DISK)
@@ -121,9 +126,7 @@ def output(t: Try, plan: Optional[Plan] = None) -> Optional[bytes]:
     places = named(plan.calls, "write", 1)
     if not places:
         return plan.data
-    number = t.random.randrange(len(places))
-    error = t.random.choice(ERRORS)
-    got = plan.again(t, [f"write:error={error}:when={places[number].number}{t.random.choice(('', '+'))}"])
+    number, got = with_one_failing(t, plan, "write", places)
     return plan.ends(t, "faults of write", got, event_of(plan, "answer", number), WRITE)
 
 
@@ -133,9 +136,7 @@ def script_read(t: Try, plan: Optional[Plan] = None) -> Optional[bytes]:
     places = named(plan.calls, "read", 0)
     if not places:
         return plan.data
-    number = t.random.randrange(len(places))
-    error, on = t.random.choice(ERRORS), t.random.choice(("", "+"))
-    got = plan.again(t, [f"read:error={error}:when={places[number].number}{on}"])
+    number, got = with_one_failing(t, plan, "read", places)
     given = plan.text[: sum(call.result for call in places[:number])]
     whole = given[: given.rfind(b"\n") + 1]
     upto = len(script.run(plan.data or b"", whole).events)
