@@ -18,6 +18,7 @@ mod pieces;
 mod places;
 mod reference;
 mod rules;
+mod superblock;
 #[cfg(test)]
 mod tests;
 mod unit;
@@ -35,6 +36,7 @@ pub use laws::{
 pub use make::{Made, make_unit};
 pub use own::own_place;
 pub use reference::Reference;
+pub use superblock::{SuperCopy, SuperFault, SuperFields};
 pub use unit::{decode_prepare, make_prepare};
 pub use unit_laws::{
     blank_shows_no_unit, classes_tell, header_sector_is_shown, left_is_old_or_new,
