@@ -1,5 +1,5 @@
 // Laws of every unit, place and image of a layout, each the clause of a function that does nothing.
-ghost use Rattle.df_format.specs.UnitLaws.{UnitsHaveOneSpelling, ShownBelongs, ShownIsUnit, ValidIsStale, ElsewhereIsOther, SameIsShown, WrittenIsShown, SectorsFitPlace, WrittenIsApart, LeftIsApart, LeftIsOldOrNew, SectorIsShown, HeadersFillSector, HeaderIsShown, BlankShowsNone, PreparesAreUnits};
+ghost use Rattle.df_format.specs.UnitLaws.{UnitsHaveOneSpelling, ShownBelongs, ShownIsUnit, ValidBelongs, BodyFollows, RingHasNoBody, ValidIsStale, ElsewhereIsOther, SameIsShown, WrittenIsShown, SectorsFitPlace, WrittenIsApart, LeftIsApart, LeftIsOldOrNew, SectorIsShown, HeadersFillSector, HeaderIsShown, BlankShowsNone, PreparesAreUnits, SlotsArePlaces, UnitsArePrepares};
 
 /// A place shows a unit exactly where its bytes begin with one that is valid there.
 pub fn units_have_one_spelling()
@@ -7,10 +7,17 @@ pub fn units_have_one_spelling()
 {}
 
 /// A place that shows a unit is one of the layout, and the unit says that it belongs there; on an image of whole
-/// sectors it is valid there.
+/// sectors it is valid there. So does each unit that is valid at a place.
 pub fn units_belong()
     ensures belongs { ShownBelongs }
     ensures unit { ShownIsUnit }
+    ensures valid { ValidBelongs }
+{}
+
+/// The body of a unit follows the 256 bytes of its header; in the header ring a unit has none.
+pub fn bodies_follow_headers()
+    ensures body { BodyFollows }
+    ensures ring { RingHasNoBody }
 {}
 
 /// A valid unit that isn't the one wanted is stale; what is elsewhere belongs at another place of the layout.
@@ -55,7 +62,10 @@ pub fn blank_shows_no_unit()
     ensures { BlankShowsNone }
 {}
 
-/// The slots of a layout's log show the units of the ring of prepares.
+/// The slots of a layout's log lie where the places of the ring of prepares lie, and show the units of those places; a
+/// unit that is valid in one is a prepare of the log with that slot.
 pub fn prepares_are_units()
-    ensures { PreparesAreUnits }
+    ensures shown { PreparesAreUnits }
+    ensures start { SlotsArePlaces }
+    ensures valid { UnitsArePrepares }
 {}
