@@ -21,7 +21,6 @@ mod rules;
 mod superblock;
 #[cfg(test)]
 mod tests;
-mod unit;
 mod unit_laws;
 mod wal;
 
@@ -37,10 +36,9 @@ pub use make::{Made, make_unit};
 pub use own::own_place;
 pub use reference::Reference;
 pub use superblock::{SuperCopy, SuperFault, SuperFields};
-pub use unit::{decode_prepare, make_prepare};
 pub use unit_laws::{
-    blank_shows_no_unit, classes_tell, header_sector_is_shown, left_is_old_or_new,
-    other_places_stay, places_show_their_sectors, prepares_are_units, units_belong,
-    units_have_one_spelling, written_unit_is_shown,
+    blank_shows_no_unit, bodies_follow_headers, classes_tell, header_sector_is_shown,
+    left_is_old_or_new, other_places_stay, places_show_their_sectors, prepares_are_units,
+    units_belong, units_have_one_spelling, written_unit_is_shown,
 };
 pub use wal::Wal;

@@ -1,4 +1,5 @@
 pub mod Ring
+pub mod Slots
 pub mod Found
 pub mod Steady
 pub mod Laws

@@ -1,4 +1,5 @@
 pub mod Heads
+pub mod Logs
 pub mod Script
 pub mod Appends
 pub mod Texts
