@@ -8,3 +8,4 @@ pub mod Steps
 pub mod Rests
 pub mod Finds
 pub mod Heads
+pub mod Apart

@@ -2,3 +2,4 @@ pub mod Ring
 pub mod Found
 pub mod Steady
 pub mod Laws
+pub mod Apart

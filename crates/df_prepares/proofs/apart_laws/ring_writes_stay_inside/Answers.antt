@@ -1,0 +1,6 @@
+-- ring_writes_stay_inside
+use Rattle.df_prepares.proofs.Apart.{ring_writes_stay_inside}
+use Rattle.df_prepares.proofs.apart_laws.ring_writes_stay_inside.Goals as goal
+
+pub returns : goal.returns
+returns c = ring_writes_stay_inside c.args.wal.now
