@@ -2,6 +2,8 @@
 #![tactic(auto)]
 
 mod apart_laws;
+#[cfg(test)]
+mod apart_tests;
 mod laws;
 mod ring;
 mod slot;

@@ -1,4 +1,4 @@
--- apart_keeps_rest
+-- A write apart from the ring leaves it at rest.
 use Rattle.df_prepares.proofs.Apart.{apart_keeps_rest}
 use Rattle.df_prepares.proofs.apart_laws.apart_keeps_rest.Goals as goal
 

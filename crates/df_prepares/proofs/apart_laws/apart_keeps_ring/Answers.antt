@@ -1,4 +1,4 @@
--- apart_keeps_ring
+-- A write apart from the ring leaves an image its ring.
 use Rattle.df_prepares.proofs.Apart.{apart_keeps_ring}
 use Rattle.df_prepares.proofs.apart_laws.apart_keeps_ring.Goals as goal
 

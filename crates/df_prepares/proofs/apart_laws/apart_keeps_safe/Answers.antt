@@ -1,4 +1,4 @@
--- apart_keeps_safe
+-- A write apart from the ring leaves a safe log safe.
 use Rattle.df_prepares.proofs.Apart.{apart_keeps_safe}
 use Rattle.df_prepares.proofs.apart_laws.apart_keeps_safe.Goals as goal
 

@@ -1,4 +1,4 @@
--- front_is_apart
+-- A sector in front of the ring is apart from it.
 use Rattle.df_prepares.proofs.Apart.{front_is_apart}
 use Rattle.df_prepares.proofs.apart_laws.front_is_apart.Goals as goal
 

@@ -1,4 +1,4 @@
--- ring_writes_stay_inside
+-- A prepare in its slot lies behind all that is in front of the ring.
 use Rattle.df_prepares.proofs.Apart.{ring_writes_stay_inside}
 use Rattle.df_prepares.proofs.apart_laws.ring_writes_stay_inside.Goals as goal
 

@@ -1,4 +1,4 @@
--- same_sectors_same_ring
+-- Images with the same sectors have the same ring.
 use Rattle.df_prepares.proofs.Apart.{same_sectors_same_ring}
 use Rattle.df_prepares.proofs.apart_laws.same_sectors_same_ring.Goals as goal
 

@@ -1,4 +1,4 @@
--- sync_keeps_rest
+-- A sync leaves a ring at rest.
 use Rattle.df_prepares.proofs.Apart.{sync_keeps_rest}
 use Rattle.df_prepares.proofs.apart_laws.sync_keeps_rest.Goals as goal
 

@@ -1,4 +1,4 @@
--- sync_keeps_safe
+-- A sync leaves a safe log safe.
 use Rattle.df_prepares.proofs.Apart.{sync_keeps_safe}
 use Rattle.df_prepares.proofs.apart_laws.sync_keeps_safe.Goals as goal
 
