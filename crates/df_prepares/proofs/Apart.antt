@@ -1,17 +1,16 @@
 -- Writes that touch no sector of the ring, and syncs, keep its promises.
-use Rattle.std.proofs.Common.{◌≡◌, inl, inr, ℕ, Bool, true, false, ◌||◌, ◌==◌, ◌+◌, ◌*◌, ◌<◌, ◌≤◌, if◌then◌else◌, List, [], ◌∷◌, length, Some, refl, sym, ◌∙◌, ap, subst, arith}
+use Rattle.std.proofs.Common.{◌≡◌, inl, inr, ℕ, Bool, true, false, ◌||◌, ◌==◌, ◌+◌, ◌<◌, if◌then◌else◌, List, [], ◌∷◌, refl, sym, ◌∙◌, ap, subst, arith}
 use Rattle.std.proofs.lemmas.Bool.{cases_eq}
 use Rattle.std.proofs.lemmas.Bool.Decides.{nat_tests}
 use Rattle.df_base.specs.Image.{Image, IsSector, IsPiece, blank, covers, written, changed}
-use Rattle.df_base.specs.Log.{Event, Write, Sync, Stop, Log, IsLog, AreLoose, add, new_log, now, now_of, loose, loose_of, settled}
+use Rattle.df_base.specs.Log.{Event, Write, Sync, Stop, Log, IsLog, AreLoose, add, now, loose_of, settled}
 use Rattle.df_format.specs.declared.wal.Wal.{Wal}
-use Rattle.df_format.specs.Unit.{Prepare, prepare_at, slot_start, slot_sectors}
-use Rattle.df_format.specs.Chance.{InImages, InWrites, InPool, NoChance}
+use Rattle.df_format.specs.Unit.{Prepare, prepare_at, slot_start}
+use Rattle.df_format.specs.Chance.{InPool, NoChance}
 use Rattle.df_format.proofs.Shown.{shown_same, blank_none, blank_image, uncovered_below, uncovered_above}
-use Rattle.df_prepares.specs.Ring.{IsRing, ShowsOnly}
-use Rattle.df_prepares.specs.Steady.{Grows, AllGrow, AllInside, IsSteady, IsSafe, IsAtRest}
+use Rattle.df_prepares.specs.Steady.{AllGrow, AllInside, IsSteady, IsSafe, IsAtRest}
 use Rattle.df_prepares.specs.Apart.{IsApart, AgreeOnRing, SameSectorsSameRing, ApartKeepsRing, ApartKeepsSafe, ApartKeepsRest, ApartKeepsLeft, SyncKeepsSafe, SyncKeepsRest, FrontIsApart, AreSyncs, SyncedBlankIsAtRest, RingWritesStayInside}
-use Rattle.df_prepares.proofs.Firm.{last_of, older_of, settled_is, written_other, all_grow_more, firm_safe}
+use Rattle.df_prepares.proofs.Firm.{written_other, firm_safe}
 use Rattle.df_prepares.proofs.Rings.{ShowSame, ring_same, show_same_turned}
 use Rattle.df_prepares.proofs.Rests.{new_rests, rest_kept, sync_rests}
 
@@ -112,8 +111,8 @@ module _ (wal : Wal) (log : Log) (at : ℕ) (bytes : List ℕ) (piece : IsPiece 
   -- what a stop leaves now shows what it could have left before the write
   stop_same : (cs : List (ℕ × List ℕ)) → AreLoose wrote.events cs → ShowSame wal (changed (of_loose log.events cs) (now log)) (changed cs (now wrote))
   stop_same cs are = agree_shows wal (changed (of_loose log.events cs) (now log)) (changed cs (now wrote)) (λ slot below k inside.
-    let out = apart slot k below inside in
-    of_loose_changes at bytes log.events cs (slot_start wal slot + k) are out (now log) (now wrote) (sym (written_agrees wal at bytes (now log) apart slot below k inside)))
+      let out = apart slot k below inside in
+      of_loose_changes at bytes log.events cs (slot_start wal slot + k) are out (now log) (now wrote) (sym (written_agrees wal at bytes (now log) apart slot below k inside)))
 
   stopped : (cs : List (ℕ × List ℕ)) → AreLoose wrote.events cs → NoChance wal wrote (changed cs (now wrote)) → IsSteady wal (add (Stop cs) wrote)
   stopped cs are fair =
