@@ -6,5 +6,8 @@ mod Steps
 mod Progress
 mod LineEnds
 mod Small
+pub mod Commas
+pub mod Commands
+pub mod Refusing
 mod Whole
 mod Follows

@@ -86,6 +86,7 @@ fn layout_of_numbers(name: &str) -> Option<Layout>
 // The number before the first comma and the text behind it, or None where no number below 2^32 stands before one.
 fn number_before_comma(text: &str) -> Option<(u32, &str)>
     ensures found { IfSome result (λ parts. text.now ≡ decimal parts.0 ++ (44 ∷ parts.1.now)) }
+    ensures fits { IfSome result (λ parts. parts.0 < 2 ^ 32) }
     ensures none { IfNone result ((n : ℕ) (rest : List ℕ) → n < 2 ^ 32
         → text.now ≡ decimal n ++ (44 ∷ rest) → ⊥) }
 {
