@@ -1,0 +1,7 @@
+//! The four copies of the superblock on disk: how they are read, written and mended, and what a stop may leave of them at
+//! every moment.
+#![tactic(auto)]
+
+mod laws;
+
+pub use laws::{equal_copies_begin, other_writes_keep, steady_copies_are_kept};
