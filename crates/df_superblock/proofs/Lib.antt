@@ -2,6 +2,6 @@ pub mod Sights
 pub mod Choices
 pub mod Ready
 pub mod Passing
-pub mod Updates
-pub mod Repairs
+pub mod Turns
+pub mod Mends
 pub mod Misleads

@@ -1,11 +1,12 @@
 -- The four copies of the superblock over a log: what a stop may leave of them, and histories that bear it.
 use Rattle.std.specs.Prelude.{◌≡◌, ◌≢◌, ◌⊎◌, ◌<◌, ◌≤◌, ℕ, true, false, List, [], ◌∷◌, Some}
 use Rattle.df_base.specs.Image.{Image, covers, changed}
-use Rattle.df_base.specs.Log.{Event, Write, Sync, Stop, Log, IsLog, IsLeft, AreLoose, add, loose, now, settled}
+use Rattle.df_base.specs.Log.{Event, Write, Sync, Stop, Log, IsLeft, AreLoose, add, loose, now, settled}
 use Rattle.df_base.specs.Moments.{Extends}
 use Rattle.df_format.specs.Copies.{Content, content_at, rank_of}
 use Rattle.df_format.specs.CopyPools.{AmongImages, NoChanceCopy, EachLeftCopies}
-use Rattle.df_quorum.specs.Quorum.{Copies, IsChosen}
+use Rattle.df_quorum.specs.declared.choice.Chosen.{Chosen}
+use Rattle.df_quorum.specs.Quorum.{Copies, IsChosen, AreMembers}
 
 -- no copy's sector was written since the last sync or stop: the four copies are sectors 0 to 3
 abbrev pub AreQuiet : Log → Type 0
@@ -73,7 +74,12 @@ pub record IsOldOrNew (entry : Log) (old new : Content) (log : Log) : Type 0 whe
 
 -- four equal copies that are to be updated to a content above theirs
 pub record MayUpdate (log : Log) (old new : Content) : Type 0 where
-  pub whole : IsLog log
   pub quiet : AreQuiet log
   pub equal : AreEqual (now log) old
   pub above : rank_of old < rank_of new
+
+-- the choice among these copies, with its members
+pub record IsChoice (copies : Copies) (chosen : Chosen) (c : Content) : Type 0 where
+  pub is : IsChosen copies c
+  pub fields : c.fields ≡ chosen.content
+  pub members : AreMembers copies c chosen.members
