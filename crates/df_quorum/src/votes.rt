@@ -8,7 +8,7 @@ use crate::Slot;
 use crate::slot::shown;
 use df_format::SuperCopy;
 
-// Two copies agree where all but their numbers is equal.
+// Two copies agree where all but their numbers are equal.
 fn agree(one: &SuperCopy, other: &SuperCopy) -> bool
     ensures { IsTrue result ↔ (content_of_copy one.now ≡ content_of_copy other.now) }
 {
