@@ -1,5 +1,5 @@
 -- The copy of the superblock that a sector is, and what the four sectors of an image say.
-use Rattle.std.specs.Prelude.{◌+◌, ◌==◌, ◌&&◌, ℕ, Bool, nat_lt, if◌then◌else◌, List, [], ◌∷◌, take, drop, replicate, Option, Some, None}
+use Rattle.std.specs.Prelude.{◌+◌, ◌==◌, ◌&&◌, ℕ, Bool, not, nat_lt, if◌then◌else◌, List, take, drop, replicate, position, option_map, Option, Some, None, Result, Ok, Err}
 use Rattle.std.specs.Str.{bytes_eq}
 use Rattle.df_base.specs.Fields.{field_at, check_of}
 use Rattle.df_base.specs.Image.{Image}
@@ -11,10 +11,9 @@ use Rattle.df_format.specs.Super.{covered_bytes}
 use Rattle.df_format.specs.declared.superblock.SuperFields.{SuperFields}
 use Rattle.df_format.specs.declared.superblock.SuperCopy.{SuperCopy}
 
--- the offset of the first byte that isn't zero, where the first of these bytes has this offset
-abbrev pub first_other : ℕ → List ℕ → Option ℕ
-first_other at [] = None
-first_other at (b ∷ bs) = if b == 0 then first_other (at + 1) bs else Some at
+-- the offset of the first byte behind the fields that isn't zero
+abbrev pub first_nonzero_of : List ℕ → Option ℕ
+first_nonzero_of bytes = option_map (λ i. 160 + i) (position (λ b. not (b == 0)) (drop 160 bytes))
 
 -- the fields as they stand at their offsets
 unfoldable pub super_fields_of : List ℕ → SuperFields
@@ -35,7 +34,7 @@ super_fields_of bytes = record {
   trailer_checksum = take 16 (drop 128 bytes);
   trailer_size = field_at 8 144 bytes;
   boot = field_at 8 152 bytes;
-  first_nonzero = first_other 160 (drop 160 bytes);
+  first_nonzero = first_nonzero_of bytes;
 }
 
 -- the checksum is right, the number is that of a copy, and the bytes behind it are zero
@@ -87,3 +86,12 @@ class_of_sound number (Some copy) = if copy.number == number then Stale else Els
 -- the class of a sector at a copy's place that isn't the copy wanted: the first that applies
 unfoldable pub class_of_copy : ℕ → List ℕ → Class
 class_of_copy number bytes = if is_blank_copy bytes then Blank else class_of_sound number (copy_in bytes)
+
+-- the copy that belongs at this place, or the class of what is there
+abbrev pub copy_or_class : Option SuperCopy → Class → Result SuperCopy Class
+copy_or_class None class = Err class
+copy_or_class (Some copy) class = Ok copy
+
+-- what the bytes of a sector show at a copy's place: the copy valid there, or the class of what is there
+abbrev pub own_copy : ℕ → List ℕ → Result SuperCopy Class
+own_copy number bytes = copy_or_class (if_here number (copy_in bytes)) (class_of_copy number bytes)

@@ -18,3 +18,4 @@ pub mod Super
 pub mod SuperRules
 pub mod Copies
 pub mod CopyPools
+pub mod CopyLaws

@@ -1,7 +1,27 @@
 -- The one spelling of a copy of the superblock, field by field.
-use Rattle.std.specs.Prelude.{ℕ, List, ◌++◌, replicate}
+use Rattle.std.specs.Prelude.{◌<◌, ◌^◌, ℕ, List, ◌++◌, replicate}
 use Rattle.df_base.specs.Fields.{spelled, check_of}
+use Rattle.df_format.specs.Spelling.{IsCheck}
 use Rattle.df_format.specs.declared.superblock.SuperFields.{SuperFields}
+
+-- each field fits its bytes
+pub record FitsSuper (f : SuperFields) : Type 0 where
+  pub version : f.version < 2 ^ 32
+  pub slots : f.slots < 2 ^ 32
+  pub message_size : f.message_size < 2 ^ 32
+  pub clients : f.clients < 2 ^ 32
+  pub block_size : f.block_size < 2 ^ 32
+  pub blocks : f.blocks < 2 ^ 32
+  pub cluster : f.cluster < 2 ^ 128
+  pub sequence : f.sequence < 2 ^ 64
+  pub op : f.op < 2 ^ 64
+  pub op_checksum : IsCheck f.op_checksum
+  pub head : f.head < 2 ^ 64
+  pub replies : f.replies < 2 ^ 64
+  pub trailer_address : f.trailer_address < 2 ^ 64
+  pub trailer_checksum : IsCheck f.trailer_checksum
+  pub trailer_size : f.trailer_size < 2 ^ 64
+  pub boot : f.boot < 2 ^ 64
 
 -- bytes 32 to 160, one piece for each field
 unfoldable pub fields_bytes : SuperFields → List ℕ

@@ -1,5 +1,5 @@
 -- The rules of a superblock's fields, and which of them is the first that is broken.
-use Rattle.std.specs.Prelude.{◌≡◌, ◌≢◌, ◌<◌, ◌≤◌, ◌+◌, ◌*◌, ◌/◌, ◌%◌, ◌^◌, ◌==◌, ◌&&◌, ◌||◌, ℕ, Bool, not, nat_le, nat_lt, is_none, if◌then◌else◌, List, [], ◌∷◌, Option, Some, None}
+use Rattle.std.specs.Prelude.{◌≡◌, ◌≢◌, ◌↔◌, ◌<◌, ◌≤◌, ◌+◌, ◌*◌, ◌/◌, ◌%◌, ◌^◌, ◌==◌, ◌&&◌, ◌||◌, ℕ, Bool, not, nat_le, nat_lt, is_none, if◌then◌else◌, List, [], ◌∷◌, ◌++◌, Option, Some, None}
 use Rattle.std.specs.Str.{bytes_eq}
 use Rattle.df_base.specs.Fields.{field_at}
 use Rattle.df_layout.specs.Limits.{AreWithin}
@@ -59,26 +59,46 @@ abbrev pub offset_of : Option ℕ → ℕ
 offset_of None = 0
 offset_of (Some offset) = offset
 
--- the tests of the fields, in their order
-abbrev pub field_tests : SuperFields → List Test
-field_tests f =
+-- the tests of the fields, in their order: the five numbers of the layout first
+abbrev pub size_tests : SuperFields → List Test
+size_tests f =
     test (is_whole_between 16 16 1024 f.slots) Slots f.slots
     ∷ test (is_whole_between 4096 4096 1048576 f.message_size) MessageSize f.message_size
     ∷ test (is_between 1 64 f.clients) Clients f.clients
     ∷ test (is_whole_between 4096 4096 524288 f.block_size) BlockSize f.block_size
     ∷ test (is_between 8 16384 f.blocks) Blocks f.blocks
-    ∷ test (nat_lt 0 f.cluster) Cluster f.cluster
+    ∷ []
+
+-- whose file it is, which update, and its checkpoint
+abbrev pub checkpoint_tests : SuperFields → List Test
+checkpoint_tests f =
+    test (nat_lt 0 f.cluster) Cluster f.cluster
     ∷ test (is_between 1 (2 ^ 62) f.sequence) Sequence f.sequence
     ∷ test (nat_le f.op (2 ^ 62)) Op f.op
     ∷ test (not (f.op == 0) || is_zero_check f.op_checksum) OpChecksum (field_at 16 0 f.op_checksum)
-    ∷ test (is_between f.op (f.op + f.slots) f.head && nat_le f.head (2 ^ 62)) Head f.head
+    ∷ []
+
+-- how far the file had come
+abbrev pub progress_tests : SuperFields → List Test
+progress_tests f =
+    test (is_between f.op (f.op + f.slots) f.head && nat_le f.head (2 ^ 62)) Head f.head
     ∷ test (nat_le f.replies f.head && nat_le f.head (f.replies + 8)) Replies f.replies
-    ∷ test (nat_le f.trailer_address f.blocks && ((f.op == 0) || not (f.trailer_address == 0))) TrailerAddress f.trailer_address
+    ∷ []
+
+-- the checkpoint's trailer
+abbrev pub trailer_tests : SuperFields → List Test
+trailer_tests f =
+    test (nat_le f.trailer_address f.blocks && ((f.op == 0) || not (f.trailer_address == 0))) TrailerAddress f.trailer_address
     ∷ test (not (f.trailer_address == 0) || is_zero_check f.trailer_checksum) TrailerChecksum (field_at 16 0 f.trailer_checksum)
     ∷ test (has_trailer_size f) TrailerSize f.trailer_size
-    ∷ test (f.boot == 0) Boot f.boot
-    ∷ test (is_none f.first_nonzero) Zero (offset_of f.first_nonzero)
     ∷ []
+
+-- what version 1 leaves empty
+abbrev pub zero_tests : SuperFields → List Test
+zero_tests f = test (f.boot == 0) Boot f.boot ∷ test (is_none f.first_nonzero) Zero (offset_of f.first_nonzero) ∷ []
+
+abbrev pub field_tests : SuperFields → List Test
+field_tests f = size_tests f ++ (checkpoint_tests f ++ (progress_tests f ++ (trailer_tests f ++ zero_tests f)))
 
 -- the first test that doesn't pass
 abbrev pub first_failing : List Test → Option SuperFault
@@ -88,3 +108,7 @@ first_failing (t ∷ ts) = if t.passes then first_failing ts else Some (BadField
 -- why a superblock can't be used: its version, or else the first field that is out of its range
 unfoldable pub fault_of : SuperFields → Option SuperFault
 fault_of f = if f.version == 1 then first_failing (field_tests f) else Some (Version f.version)
+
+-- for every superblock: it has no fault exactly where it obeys the rules
+abbrev pub FaultsAreBrokenRules : Type 0
+FaultsAreBrokenRules = (f : SuperFields) → (fault_of f ≡ None) ↔ IsSuper f

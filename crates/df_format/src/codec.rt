@@ -100,7 +100,7 @@ pub fn encode_header(header: &Header, into: &mut [u8])
     put_fields(into, header);
 }
 
-fn check_at(bytes: &[u8], at: usize) -> Check
+pub(crate) fn check_at(bytes: &[u8], at: usize) -> Check
     requires { at + 16 ≤ length bytes.now }
     ensures { result ≡ take 16 (drop at bytes.now) }
 {
