@@ -1,0 +1,3 @@
+pub mod OneContent
+pub mod TwoCopies
+pub mod Safe
