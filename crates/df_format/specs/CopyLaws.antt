@@ -4,7 +4,7 @@ use Rattle.df_base.specs.Fields.{check_of}
 use Rattle.df_base.specs.Image.{Image, IsSector, IsPiece, blank, written}
 use Rattle.df_layout.specs.declared.damage.Class.TheVariants.{Stale}
 use Rattle.df_format.specs.Super.{FitsSuper, covered_bytes, copy_bytes}
-use Rattle.df_format.specs.SuperRules.{IsSuper}
+use Rattle.df_format.specs.SuperRules.{IsUsable}
 use Rattle.df_format.specs.Copies.{copy_in, copy_at, content_at, content_with, class_of_copy}
 use Rattle.df_format.specs.declared.superblock.SuperFields.{SuperFields}
 use Rattle.df_format.specs.declared.superblock.SuperCopy.{SuperCopy}
@@ -21,15 +21,10 @@ CopiesHaveOneSpelling =
     (bytes : List ℕ) (copy : SuperCopy) → IsSector bytes → copy.fields.first_nonzero ≡ None
     → (copy_in bytes ≡ Some copy) ↔ (IsWritten copy × (bytes ≡ copy_bytes copy.number copy.fields))
 
--- the fields of a superblock that can be used, each of which fits its bytes
-pub record CanBeWritten (f : SuperFields) : Type 0 where
-  pub rules : IsSuper f
-  pub fits : FitsSuper f
-
 -- a copy that is written is shown at its own place, whatever was there before
 abbrev pub WrittenCopyIsShown : Type 0
 WrittenCopyIsShown =
-    (image : Image) (number : ℕ) (f : SuperFields) → number < 4 → CanBeWritten f → content_at (written number (copy_bytes number f) image) number ≡ Some (content_with f)
+    (image : Image) (number : ℕ) (f : SuperFields) → number < 4 → IsUsable f → content_at (written number (copy_bytes number f) image) number ≡ Some (content_with f)
 
 -- and what the other places show stays
 abbrev pub OtherCopiesStay : Type 0

@@ -6,6 +6,7 @@ use Rattle.df_layout.specs.Limits.{AreWithin}
 use Rattle.df_layout.specs.declared.fields.Field.{Field}
 use Rattle.df_layout.specs.declared.fields.Field.TheVariants.{Slots, MessageSize, Clients, BlockSize, Blocks, Cluster, Sequence, Op, OpChecksum, Head, Replies, TrailerAddress, TrailerChecksum, TrailerSize, Boot, Zero}
 use Rattle.df_format.specs.Spelling.{no_checksum}
+use Rattle.df_format.specs.Super.{FitsSuper}
 use Rattle.df_format.specs.declared.superblock.SuperFields.{SuperFields}
 use Rattle.df_format.specs.declared.superblock.SuperFault.{SuperFault}
 use Rattle.df_format.specs.declared.superblock.SuperFault.TheVariants.{Version, BadField}
@@ -31,6 +32,11 @@ pub record IsSuper (f : SuperFields) : Type 0 where
   pub trailer_size : f.trailer_address ≢ 0 → (0 < f.trailer_size) × (f.trailer_size ≤ greatest_trailer f)
   pub boot : f.boot ≡ 0
   pub zero : f.first_nonzero ≡ None
+
+-- such fields, each of which fits its bytes
+pub record IsUsable (f : SuperFields) : Type 0 where
+  pub rules : IsSuper f
+  pub fits : FitsSuper f
 
 -- a test of one field: whether it passes, and what is told where it doesn't
 pub record Test : Type 0 where

@@ -1,8 +1,8 @@
 // The sector of a copy of the superblock: how it is written, and how it is tested and read.
 ghost use Rattle.std.specs.Prelude.{◌≡◌, ◌<◌, ◌+◌, ◌++◌, ◌==◌, not, length, take, drop, replicate, position, IfSome, IsTrue};
 ghost use Rattle.df_base.specs.Fields.{field_at, spelled};
-ghost use Rattle.df_format.specs.Super.{FitsSuper, fields_bytes, covered_bytes, copy_bytes};
-ghost use Rattle.df_format.specs.SuperRules.{IsSuper};
+ghost use Rattle.df_format.specs.Super.{fields_bytes, covered_bytes, copy_bytes};
+ghost use Rattle.df_format.specs.SuperRules.{IsUsable};
 ghost use Rattle.df_format.specs.Own.{place_in};
 ghost use Rattle.df_format.specs.Copies.{first_nonzero_of, super_fields_of, is_copy, copy_in, is_blank_copy, own_copy};
 
@@ -74,8 +74,7 @@ pub fn encode_copy(content: &Super, number: u8, into: &mut [u8])
     requires number { number < 4 }
     requires room { length into.old ≡ 4096 }
     ensures bytes { into.new ≡ copy_bytes number content.now }
-    ensures rules { IsSuper content.now }
-    ensures fits { FitsSuper content.now }
+    ensures usable { IsUsable content.now }
 {
     put_covered(into, content.fields());
     let sum = check(&into[COVERED..]);

@@ -1,8 +1,7 @@
 // The rules of a superblock's fields: whether it can be used, or which field is the first that breaks its rule.
 ghost use Rattle.std.specs.Prelude.{◌≡◌, ◌≢◌, ◌<◌, [], ◌∷◌, IfOk, IfErr};
 ghost use Rattle.std.specs.Result.{result_err};
-ghost use Rattle.df_format.specs.Super.{FitsSuper};
-ghost use Rattle.df_format.specs.SuperRules.{IsSuper, FaultsAreBrokenRules, is_between, is_whole_between, is_zero_check, greatest_trailer, has_trailer_size, test, size_tests, checkpoint_tests, progress_tests, trailer_tests, zero_tests, field_tests, first_failing, fault_of};
+ghost use Rattle.df_format.specs.SuperRules.{IsSuper, IsUsable, FaultsAreBrokenRules, is_between, is_whole_between, is_zero_check, greatest_trailer, has_trailer_size, test, size_tests, checkpoint_tests, progress_tests, trailer_tests, zero_tests, field_tests, first_failing, fault_of};
 
 use crate::{SuperFault, SuperFields};
 use df_base::{Check, u128_at};
@@ -30,13 +29,13 @@ pub struct Super {
 
 impl Model for Super {
     ghost use Rattle.df_format.specs.declared.superblock.SuperFields.{SuperFields};
-    ghost use Rattle.df_format.specs.SuperRules.{IsSuper};
+    ghost use Rattle.df_format.specs.SuperRules.{IsUsable};
 
     ghost Value = { SuperFields };
 
     ghost view = { λ s. s.fields };
 
-    ghost invariant = { λ s. IsSuper s.fields };
+    ghost invariant = { λ s. IsUsable s.fields };
 
     ghost inverse = { λ f. record { fields = f } };
 }
@@ -45,8 +44,7 @@ impl Super {
     /// What its copies say.
     pub fn fields(&self) -> &SuperFields
         ensures value { result.now ≡ self.now }
-        ensures rules { IsSuper self.now }
-        ensures fits { FitsSuper self.now }
+        ensures usable { IsUsable self.now }
     {
         &self.fields
     }
@@ -88,6 +86,7 @@ fn is_whole_between(step: u32, low: u32, high: u32, n: u32) -> bool
     low <= n && n <= high && n % step == 0
 }
 
+#[tactic(auto, unfolding(crate::specs::Spelling::no_checksum))]
 fn is_zero_check(checksum: &Check) -> bool
     ensures { result ≡ is_zero_check checksum.now }
 {
@@ -236,16 +235,24 @@ fn test_version(version: u32) -> Result<(), SuperFault>
     }
 }
 
+// The superblock of fields that have passed their tests.
+fn usable(fields: SuperFields) -> Super
+    requires { IsSuper fields }
+    ensures { result ≡ fields }
+{
+    Super { fields }
+}
+
 /// The superblock of these fields, if it can be used. Else why not: the version, which is tested first, or the first
 /// field that is out of its range.
 pub fn test_fields(fields: &SuperFields) -> Result<Super, SuperFault>
-    ensures fields { IfOk result (λ usable. usable ≡ fields.now) }
+    ensures fields { IfOk result (λ content. content ≡ fields.now) }
     ensures usable { IfOk result (λ _. fault_of fields.now ≡ None) }
     ensures fault { IfErr result (λ fault. fault_of fields.now ≡ Some fault) }
 {
     test_version(fields.version)?;
     test_each(fields)?;
-    Ok(Super { fields: *fields })
+    Ok(usable(*fields))
 }
 
 /// Fields have no fault exactly where they obey the rules of a superblock.
