@@ -1,3 +1,4 @@
 pub mod OneContent
 pub mod TwoCopies
 pub mod Safe
+pub mod OneAnswer

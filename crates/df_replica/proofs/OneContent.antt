@@ -10,7 +10,8 @@ use Rattle.df_base.specs.Moments.{Extends, EachMoment}
 use Rattle.df_format.specs.Super.{copy_bytes}
 use Rattle.df_format.specs.Copies.{Content, copy_in, copy_at, content_at, content_with}
 use Rattle.df_format.specs.CopyPools.{AmongImages, AmongWrites, InCopyPool, NoChanceCopy}
-use Rattle.df_format.specs.CopyLaws.{CanBeWritten, WrittenCopyIsShown, CopyIsOneSector, BlankShowsNoCopy}
+use Rattle.df_format.specs.SuperRules.{IsUsable}
+use Rattle.df_format.specs.CopyLaws.{WrittenCopyIsShown, CopyIsOneSector, BlankShowsNoCopy}
 use Rattle.df_format.specs.declared.superblock.SuperFields.{SuperFields}
 use Rattle.df_format.proofs.Shown.{blank_image}
 use Rattle.df_replica.specs.OneContent.{ShowsOnly, AreFairCopies, IsSteadyOf, IsSafeOf, AreSyncs, IsUntouched, IsCopyOf, IsElsewhere, IsOfFile, AreOfFile}
@@ -142,7 +143,7 @@ written_own at bytes image size =
     let none : 4096 * (at - at) ≡ 0 = omega arith in
     rw here (ap (λ (n : ℕ). take 4096 (drop n bytes)) none ∙ take_all 4096 bytes (omega (arith, size)))
 
-module _ (is_shown : WrittenCopyIsShown) (one_sector : CopyIsOneSector) (f : SuperFields) (can : CanBeWritten f) where
+module _ (is_shown : WrittenCopyIsShown) (one_sector : CopyIsOneSector) (f : SuperFields) (can : IsUsable f) where
   -- an image that shows a copy of these fields
   bearer : ℕ → Image
   bearer n sector = copy_bytes n f

@@ -8,7 +8,8 @@ use Rattle.df_base.specs.Moments.{EachMoment}
 use Rattle.df_format.specs.Super.{copy_bytes}
 use Rattle.df_format.specs.Copies.{Content, content_at, content_with}
 use Rattle.df_format.specs.CopyPools.{EachLeftCopies}
-use Rattle.df_format.specs.CopyLaws.{CanBeWritten, WrittenCopyIsShown, CopyIsOneSector, BlankShowsNoCopy}
+use Rattle.df_format.specs.SuperRules.{IsUsable}
+use Rattle.df_format.specs.CopyLaws.{WrittenCopyIsShown, CopyIsOneSector, BlankShowsNoCopy}
 use Rattle.df_format.specs.declared.superblock.SuperFields.{SuperFields}
 use Rattle.df_quorum.specs.Quorum.{IsChosen}
 use Rattle.df_replica.specs.OneContent.{IsSafeOf}
@@ -38,7 +39,7 @@ module _ (blank_none : BlankShowsNoCopy) (is_shown : WrittenCopyIsShown) (one_se
   pub copies_are_apart : CopiesAreApart
   copies_are_apart f n m can other = covers_other n (copy_bytes n f) m (one_sector n f can.fits).sector.size other
 
-  module _ (f : SuperFields) (can : CanBeWritten f) where
+  module _ (f : SuperFields) (can : IsUsable f) where
     wrote : ℕ → Image → Image
     wrote n image = written n (copy_bytes n f) image
 

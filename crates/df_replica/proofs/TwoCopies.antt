@@ -7,7 +7,8 @@ use Rattle.df_base.specs.Log.{Event, Write, Sync, Stop, Log, IsLeft, add, now, l
 use Rattle.df_base.specs.Moments.{EachMoment}
 use Rattle.df_format.specs.Copies.{Content, content_at, content_with, rank_of}
 use Rattle.df_format.specs.CopyPools.{NoChanceCopy, EachLeftCopies}
-use Rattle.df_format.specs.CopyLaws.{CanBeWritten, WrittenCopyIsShown, CopyIsOneSector}
+use Rattle.df_format.specs.SuperRules.{IsUsable}
+use Rattle.df_format.specs.CopyLaws.{WrittenCopyIsShown, CopyIsOneSector}
 use Rattle.df_format.specs.declared.superblock.SuperFields.{SuperFields}
 use Rattle.df_quorum.specs.Quorum.{Copies, Agree, IsChosen}
 use Rattle.df_replica.specs.OneContent.{IsSafeOf, IsOfFile, AreOfFile, AreApartFrom}
@@ -45,7 +46,7 @@ two_chosen log c a b keeps image left fair =
     alone_is_chosen (content_at image) c (agree_on (content_at image) c a b keeps.two.first keeps.two.second keeps.two.apart at_first at_second)
         (λ n d inside shown. pool_is log c keeps.pure n d inside (fair.known n d inside shown))
 
-module _ (is_shown : WrittenCopyIsShown) (one_sector : CopyIsOneSector) (f : SuperFields) (can : CanBeWritten f) (a b : ℕ) where
+module _ (is_shown : WrittenCopyIsShown) (one_sector : CopyIsOneSector) (f : SuperFields) (can : IsUsable f) (a b : ℕ) where
   two_go_on : (log : Log) (e : Event) → KeepsTwo log (content_with f) a b → IsOfFile f e → AreApartFrom a (e ∷ []) → AreApartFrom b (e ∷ []) → KeepsTwo (add e log) (content_with f) a b
   two_go_on log (Write at bytes) keeps of_file first second = record {
     pure = pure_goes_on is_shown one_sector f can log (Write at bytes) keeps.pure of_file;

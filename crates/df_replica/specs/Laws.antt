@@ -6,7 +6,7 @@ use Rattle.df_base.specs.Moments.{EachMoment}
 use Rattle.df_format.specs.Super.{copy_bytes}
 use Rattle.df_format.specs.Copies.{Content, content_at, content_with}
 use Rattle.df_format.specs.CopyPools.{NoChanceCopy, EachLeftCopies}
-use Rattle.df_format.specs.CopyLaws.{CanBeWritten}
+use Rattle.df_format.specs.SuperRules.{IsUsable}
 use Rattle.df_format.specs.declared.superblock.SuperFields.{SuperFields}
 use Rattle.df_quorum.specs.Quorum.{IsChosen}
 use Rattle.df_replica.specs.Stand.{adds}
@@ -21,12 +21,12 @@ UntouchedIsSafe = (log : Log) (c : Content) → IsUntouched log → IsSafeOf log
 -- and stays safe for that of a file, at each moment of any events of that file
 abbrev pub UntouchedStaysSafe : Type 0
 UntouchedStaysSafe =
-    (f : SuperFields) (log : Log) (es : List Event) → CanBeWritten f → IsUntouched log → AreOfFile f es → EachMoment log (adds es log) (λ m. IsSafeOf m (content_with f))
+    (f : SuperFields) (log : Log) (es : List Event) → IsUsable f → IsUntouched log → AreOfFile f es → EachMoment log (adds es log) (λ m. IsSafeOf m (content_with f))
 
 -- a log that is safe for a file's content stays so, at each moment of a sync and any events of that file behind it
 abbrev pub SafeStaysSafe : Type 0
 SafeStaysSafe =
-    (f : SuperFields) (log : Log) (es : List Event) → CanBeWritten f → IsSafeOf log (content_with f) → AreOfFile f es → EachMoment log (adds (Sync ∷ es) log) (λ m. IsSafeOf m (content_with f))
+    (f : SuperFields) (log : Log) (es : List Event) → IsUsable f → IsSafeOf log (content_with f) → AreOfFile f es → EachMoment log (adds (Sync ∷ es) log) (λ m. IsSafeOf m (content_with f))
 
 -- so does a stop that leaves no copy by chance
 abbrev pub StopStaysSafe : Type 0
@@ -44,12 +44,12 @@ pub record TwoShow (image : Image) (c : Content) (a b : ℕ) : Type 0 where
 -- sync on.
 abbrev pub TwoCopiesStayChosen : Type 0
 TwoCopiesStayChosen =
-    (f : SuperFields) (log : Log) (es : List Event) (a b : ℕ) → CanBeWritten f → IsSafeOf log (content_with f) → TwoShow (now log) (content_with f) a b → AreOfFile f es → AreApartFrom a es → AreApartFrom b es
+    (f : SuperFields) (log : Log) (es : List Event) (a b : ℕ) → IsUsable f → IsSafeOf log (content_with f) → TwoShow (now log) (content_with f) a b → AreOfFile f es → AreApartFrom a es → AreApartFrom b es
     → EachMoment (add Sync log) (adds es (add Sync log)) (λ m. EachLeftCopies m (λ image. IsChosen (content_at image) (content_with f)))
 
 -- a copy that is written has no bytes for the sector of another one
 abbrev pub CopiesAreApart : Type 0
-CopiesAreApart = (f : SuperFields) (n m : ℕ) → CanBeWritten f → n ≢ m → covers n (copy_bytes n f) m ≡ false
+CopiesAreApart = (f : SuperFields) (n m : ℕ) → IsUsable f → n ≢ m → covers n (copy_bytes n f) m ≡ false
 
 -- the four copies show the content, and none of them is loose
 pub record IsFormatted (log : Log) (c : Content) : Type 0 where
@@ -58,4 +58,4 @@ pub record IsFormatted (log : Log) (c : Content) : Type 0 where
 
 -- so it is behind the writes of all four copies, whatever was there before
 abbrev pub CopiesFormat : Type 0
-CopiesFormat = (f : SuperFields) (log : Log) → CanBeWritten f → IsFormatted (adds (update_events f) log) (content_with f)
+CopiesFormat = (f : SuperFields) (log : Log) → IsUsable f → IsFormatted (adds (update_events f) log) (content_with f)

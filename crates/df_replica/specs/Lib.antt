@@ -3,3 +3,4 @@ pub mod Opening
 pub mod Stand
 pub mod OneContent
 pub mod Laws
+pub mod OpeningLaws
