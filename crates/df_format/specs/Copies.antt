@@ -37,9 +37,17 @@ super_fields_of bytes = record {
   first_nonzero = first_nonzero_of bytes;
 }
 
+-- the checksum is that of all behind the number and its zeros
+abbrev pub has_checksum : List ℕ → Bool
+has_checksum bytes = bytes_eq (take 16 bytes) (check_of (drop 32 bytes))
+
+-- the bytes behind the number are zero
+abbrev pub has_zeros : List ℕ → Bool
+has_zeros bytes = bytes_eq (take 12 (drop 20 bytes)) (replicate 12 0)
+
 -- the checksum is right, the number is that of a copy, and the bytes behind it are zero
 unfoldable pub is_copy : List ℕ → Bool
-is_copy bytes = bytes_eq (take 16 bytes) (check_of (drop 32 bytes)) && nat_lt (field_at 4 16 bytes) 4 && bytes_eq (take 12 (drop 20 bytes)) (replicate 12 0)
+is_copy bytes = has_checksum bytes && nat_lt (field_at 4 16 bytes) 4 && has_zeros bytes
 
 -- the copy that the bytes of a sector are, where they are one
 unfoldable pub copy_in : List ℕ → Option SuperCopy

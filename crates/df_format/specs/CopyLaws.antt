@@ -26,9 +26,14 @@ abbrev pub WrittenCopyIsShown : Type 0
 WrittenCopyIsShown =
     (image : Image) (number : ℕ) (f : SuperFields) → number < 4 → IsUsable f → content_at (written number (copy_bytes number f) image) number ≡ Some (content_with f)
 
--- and what the other places show stays
+-- its write changes no other sector
+abbrev pub OtherSectorsStay : Type 0
+OtherSectorsStay = (image : Image) (number other : ℕ) (f : SuperFields) → other ≢ number → FitsSuper f → written number (copy_bytes number f) image other ≡ image other
+
+-- and so what the other places show stays
 abbrev pub OtherCopiesStay : Type 0
-OtherCopiesStay = (image : Image) (number other : ℕ) (f : SuperFields) → other ≢ number → FitsSuper f → written number (copy_bytes number f) image other ≡ image other
+OtherCopiesStay =
+    (image : Image) (number other : ℕ) (f : SuperFields) → other ≢ number → FitsSuper f → content_at (written number (copy_bytes number f) image) other ≡ content_at image other
 
 -- the bytes of a copy are one sector, and so a write
 pub record AreOneSector (bytes : List ℕ) : Type 0 where

@@ -1,16 +1,17 @@
 // Laws of every copy of the superblock, sector and image, each the clause of a function that does nothing.
-ghost use Rattle.df_format.specs.CopyLaws.{CopiesHaveOneSpelling, WrittenCopyIsShown, OtherCopiesStay, CopyIsOneSector, SameSectorSameCopy, ValidCopyIsStale, BlankShowsNoCopy};
+ghost use Rattle.df_format.specs.CopyLaws.{CopiesHaveOneSpelling, WrittenCopyIsShown, OtherSectorsStay, OtherCopiesStay, CopyIsOneSector, SameSectorSameCopy, ValidCopyIsStale, BlankShowsNoCopy};
 
 /// A sector is read as a copy with zeros behind its fields exactly where it is that copy's spelling.
 pub fn copies_have_one_spelling()
     ensures { CopiesHaveOneSpelling }
 {}
 
-/// A copy that is written is shown at its own place, and is one sector, so that what the other places show stays.
+/// A copy that is written is shown at its own place; it is one sector, so that the others and what they show stay.
 pub fn written_copy_is_shown()
     ensures shown { WrittenCopyIsShown }
-    ensures stays { OtherCopiesStay }
     ensures fits { CopyIsOneSector }
+    ensures sectors { OtherSectorsStay }
+    ensures others { OtherCopiesStay }
 {}
 
 /// What a copy's place shows depends on its sector alone.

@@ -4,10 +4,10 @@ ghost use Rattle.df_base.specs.Fields.{field_at, spelled};
 ghost use Rattle.df_format.specs.Super.{fields_bytes, covered_bytes, copy_bytes};
 ghost use Rattle.df_format.specs.SuperRules.{IsUsable};
 ghost use Rattle.df_format.specs.Own.{place_in};
-ghost use Rattle.df_format.specs.Copies.{first_nonzero_of, super_fields_of, is_copy, copy_in, is_blank_copy, own_copy};
+ghost use Rattle.df_format.specs.Copies.{first_nonzero_of, super_fields_of, has_checksum, has_zeros, is_copy, copy_in, is_blank_copy, own_copy};
 
-use crate::codec::check_at;
-use crate::pieces::{put_bytes, put_zeros};
+use crate::codec::{check_at, put_check};
+use crate::pieces::put_zeros;
 use crate::{Super, SuperCopy, SuperFields};
 use df_base::{Check, SECTOR, check, put_u32, put_u64, put_u128, u32_at, u64_at, u128_at};
 use df_layout::{Class, Place, Zone};
@@ -43,8 +43,8 @@ fn put_fields(into: &mut [u8], fields: &SuperFields)
     put_u64(into, 88, fields.head);
     put_u64(into, 96, fields.replies);
     put_u64(into, 104, fields.trailer_address);
-    put_bytes(into, 112, &fields.op_checksum);
-    put_bytes(into, 128, &fields.trailer_checksum);
+    put_check(into, 112, &fields.op_checksum);
+    put_check(into, 128, &fields.trailer_checksum);
     put_u64(into, 144, fields.trailer_size);
     put_u64(into, 152, fields.boot);
 }
@@ -64,7 +64,7 @@ fn put_front(into: &mut [u8], sum: &Check, number: u8)
     ensures front { take 32 into.new ≡ sum.now ++ (spelled 4 number ++ replicate 12 0) }
     ensures rest { drop 32 into.new ≡ drop 32 into.old }
 {
-    put_bytes(into, 0, sum);
+    put_check(into, 0, sum);
     put_u32(into, NUMBER, u32::from(number));
     put_zeros(into, ZEROS, COVERED);
 }
@@ -123,6 +123,21 @@ fn fields_of(bytes: &[u8]) -> SuperFields
     }
 }
 
+fn has_checksum(bytes: &[u8]) -> bool
+    requires { length bytes.now ≡ 4096 }
+    ensures { result ≡ has_checksum bytes.now }
+{
+    &bytes[..NUMBER] == check(&bytes[COVERED..]).as_slice()
+}
+
+fn has_zeros(bytes: &[u8]) -> bool
+    requires { length bytes.now ≡ 4096 }
+    ensures { result ≡ has_zeros bytes.now }
+{
+    bytes[ZEROS..COVERED] == [0; 12]
+}
+
+// Whether the bytes are a copy's, with the number that stands in them.
 #[tactic(auto, unfolding(crate::specs::Copies::is_copy))]
 fn is_copy(number: u32, bytes: &[u8]) -> bool
     requires size { length bytes.now ≡ 4096 }
@@ -130,9 +145,7 @@ fn is_copy(number: u32, bytes: &[u8]) -> bool
     ensures copy { result ≡ is_copy bytes.now }
     ensures number { IsTrue result → number < 4 }
 {
-    &bytes[..NUMBER] == check(&bytes[COVERED..]).as_slice()
-        && number < COPIES
-        && bytes[ZEROS..COVERED] == [0; 12]
+    has_checksum(bytes) && number < COPIES && has_zeros(bytes)
 }
 
 /// The copy of the superblock that the 4,096 bytes of a sector are, wherever it belongs; None where the checksum is
