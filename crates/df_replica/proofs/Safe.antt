@@ -18,12 +18,12 @@ use Rattle.df_replica.specs.Stand.{adds, update_events}
 use Rattle.df_replica.proofs.OneContent.{IsPure, same_shown, written_other, covers_other, pure_safe, safe_synced, safe_stopped, untouched_pure, pure_moments, adds_extends}
 use Rattle.df_replica.proofs.TwoCopies.{KeepsTwo, two_chosen, two_moments, two_begin}
 
-module _ (blank_none : BlankShowsNoCopy) (is_shown : WrittenCopyIsShown) (one_sector : CopyIsOneSector) where
-  pub untouched_is_safe : UntouchedIsSafe
-  untouched_is_safe log c untouched = pure_safe log c (untouched_pure blank_none log c untouched)
+pub untouched_is_safe : BlankShowsNoCopy → UntouchedIsSafe
+untouched_is_safe blank_none log c untouched = pure_safe log c (untouched_pure blank_none log c untouched)
 
-  pub untouched_stays_safe : UntouchedStaysSafe
-  untouched_stays_safe f log es can untouched are =
+module _ (is_shown : WrittenCopyIsShown) (one_sector : CopyIsOneSector) where
+  pub untouched_stays_safe : BlankShowsNoCopy → UntouchedStaysSafe
+  untouched_stays_safe blank_none f log es can untouched are =
       weaker log (adds es log) (λ m. IsPure m (content_with f)) (λ m. IsSafeOf m (content_with f)) (λ m. pure_safe m (content_with f)) (pure_moments is_shown one_sector f can es log (untouched_pure blank_none log (content_with f) untouched) are)
 
   pub safe_stays_safe : SafeStaysSafe
