@@ -1,8 +1,7 @@
 -- What the superblock of an image says: whether the file can be opened, and if not, why.
-use Rattle.std.specs.Prelude.{◌≡◌, ◌<◌, ℕ, true, List, get_or, None, Some, Result, Ok, Err}
+use Rattle.std.specs.Prelude.{◌≡◌, ◌<◌, ℕ, true, List, [], ◌∷◌, None, Some}
 use Rattle.df_base.specs.Image.{Image}
 use Rattle.df_layout.specs.declared.damage.Class.{Class}
-use Rattle.df_layout.specs.declared.damage.Class.TheVariants.{Blank}
 use Rattle.df_layout.specs.declared.layout.Layout.{Layout}
 use Rattle.df_format.specs.Copies.{Content, content_at, class_of_copy, is_blank_copy}
 use Rattle.df_format.specs.SuperRules.{fault_of}
@@ -18,14 +17,14 @@ abbrev pub IsUnformatted : Image → Type 0
 IsUnformatted image = (n : ℕ) → n < 4 → is_blank_copy (image n) ≡ true
 
 -- the class of what each of the four sectors shows
-abbrev pub ShowClasses : Image → List Class → Type 0
-ShowClasses image classes = (n : ℕ) → n < 4 → get_or classes n Blank ≡ class_of_copy n (image n)
+abbrev pub shown_classes : Image → List Class
+shown_classes image = class_of_copy 0 (image 0) ∷ class_of_copy 1 (image 1) ∷ class_of_copy 2 (image 2) ∷ class_of_copy 3 (image 3) ∷ []
 
 -- a content is chosen, and this is why it can't be used
 pub record HasFault (image : Image) (fault : SuperFault) : Type 0 where
   pub content : Content
   pub chosen : IsChosen (content_at image) content
-  pub fault : fault_of content.fields ≡ Some fault
+  pub broken : fault_of content.fields ≡ Some fault
 
 -- a content with these fields is chosen, and it can be used
 pub record HasSuper (image : Image) (f : SuperFields) : Type 0 where
@@ -38,7 +37,7 @@ pub record HasSuper (image : Image) (f : SuperFields) : Type 0 where
 pub record HasNoQuorum (image : Image) (classes : List Class) : Type 0 where
   pub formatted : IsUnformatted image → ⊥
   pub split : IsSplit (content_at image)
-  pub classes : ShowClasses image classes
+  pub shown : classes ≡ shown_classes image
 
 -- why the superblock of an image can't be used
 abbrev pub Refuses : Image → OpenError → Type 0
