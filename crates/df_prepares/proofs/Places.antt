@@ -1,5 +1,5 @@
 -- Slots are places of the ring: their sectors lie on the disk, and what is read of one is the unit that it shows.
-use Rattle.std.proofs.Common.{◌≡◌, ℕ, ◌+◌, ◌*◌, ◌/◌, ◌%◌, ◌^◌, ◌<◌, ◌≤◌, List, length, Option, Some, sym, ◌∙◌, ap, subst, arith}
+use Rattle.std.proofs.Common.{◌≡◌, ℕ, ◌+◌, ◌/◌, ◌%◌, ◌^◌, ◌<◌, ◌≤◌, List, length, Some, sym, ◌∙◌, ap, subst, arith}
 use Rattle.df_base.specs.Image.{Image, bytes_at}
 use Rattle.df_disk.specs.Told.{AreSectors}
 use Rattle.df_layout.specs.declared.layout.Layout.{Layout}
@@ -12,13 +12,12 @@ use Rattle.df_layout.proofs.Zones.{zones_follow}
 use Rattle.df_format.specs.declared.kind.Kind.TheVariants.{Prepare as AsPrepare}
 use Rattle.df_format.specs.declared.wal.Wal.{Wal}
 use Rattle.df_format.specs.Message.{Message}
-use Rattle.df_format.specs.Shown.{unit_in, unit_at}
+use Rattle.df_format.specs.Shown.{unit_in}
 use Rattle.df_format.specs.Unit.{prepare_at}
 use Rattle.df_format.specs.UnitLaws.{IsWalOf}
 use Rattle.df_format.specs.Valid.{IsInSlot, IsUnit, Belongs}
 use Rattle.df_format.proofs.Ring.{prepares_are_units}
 use Rattle.df_format.proofs.Units.{read_belongs, read_shown, valid_belongs}
-use Rattle.df_buffers.specs.declared.identity.Identity.{Identity}
 use Rattle.df_buffers.specs.declared.identity.Wanted.TheVariants.{Op}
 use Rattle.df_buffers.specs.Found.{FindsKind}
 use Rattle.df_buffers.specs.Rooms.{room_size}

@@ -9,7 +9,7 @@ ghost use Rattle.df_format.specs.Making.{for_body};
 ghost use Rattle.df_format.specs.Spelling.{no_checksum};
 
 use super::*;
-use df_base::{Failed, SECTOR};
+use df_base::{Failed, SECTOR, check};
 use df_buffers::{Prepare, Raw};
 use df_disk::Disk;
 use df_format::{Header, Kind, Wal};
@@ -78,9 +78,9 @@ impl Disk for Board {
 
 // The child of a head, as its maker gives it.
 #[tactic(auto, unfolding(df_format::specs::Own::own_place))]
-fn child_of(head: &Head, body: &[u8]) -> Header
-    requires op { head.now.op ≤ 32 }
-    requires empty { head.now.op ≡ 0 → head.now.checksum ≡ no_checksum }
+fn child_of(head: Head, body: &[u8]) -> Header
+    requires op { head.op ≤ 32 }
+    requires empty { head.op ≡ 0 → head.checksum ≡ no_checksum }
     requires body { length body.now ≤ 7936 }
     ensures rules { ObeysRules (for_body result body.now) }
     ensures kind { result.kind ≡ Kind.Prepare }
@@ -89,7 +89,7 @@ fn child_of(head: &Head, body: &[u8]) -> Header
     let parent = head.checksum;
     Header {
         checksum: [0; 16],
-        checksum_body: [0; 16],
+        checksum_body: check(body),
         cluster: 7,
         parent,
         client: 5,
@@ -122,7 +122,7 @@ fn append(
     ensures op { IfOk result.1 (λ later. later.op ≡ head.now.op + 1) }
 {
     let bytes = [7u8; 7936];
-    let child = child_of(head, &bytes[..body]);
+    let child = child_of(*head, &bytes[..body]);
     let unit = room.make(child, &bytes[..body]);
     let checksum = unit.header().checksum;
     let written = write_prepare(board, layout, &unit);
@@ -143,15 +143,14 @@ fn append(
 fn each_prepare_that_is_written_is_found(rt: HostRuntime) -> Result<(), Fail> {
     let layout = Layout::small();
     let mut board = Board::blank(rt.alloc(), 0)?;
-    let mut room = Raw::reserve(rt.alloc(), &layout).expect(&rt, "memory of a room");
     for turn in 0..32usize {
+        let room = Raw::reserve(rt.alloc(), &layout).expect(&rt, "memory of a room");
         let (back, head) = find_ring(&mut board, &layout, 7, room);
         let head = head?;
         assert!(rt; head.op < 32);
         assert_eq!(rt; head.op, turn as u64);
         let (back, later) = append(&mut board, &layout, back, &head, 256 * turn);
-        let (back, found) = find_ring(&mut board, &layout, 7, back);
-        room = back;
+        let (_, found) = find_ring(&mut board, &layout, 7, back);
         assert_eq!(rt; found?, later?, "behind op {turn}");
     }
     Ok(())
@@ -184,8 +183,8 @@ fn a_prepare_with_another_parent_is_not_taken(rt: HostRuntime) -> Result<(), Fai
 #[tactic(auto, unfolding(df_format::specs::Spelling::no_checksum))]
 fn a_failed_call_is_answered_once(rt: HostRuntime) -> Result<(), Fail> {
     let layout = Layout::small();
-    let mut room = Raw::reserve(rt.alloc(), &layout).expect(&rt, "memory of a room");
     for failing in 1..5u64 {
+        let room = Raw::reserve(rt.alloc(), &layout).expect(&rt, "memory of a room");
         let mut board = Board::blank(rt.alloc(), failing)?;
         let empty = Head {
             op: 0,
@@ -195,8 +194,7 @@ fn a_failed_call_is_answered_once(rt: HostRuntime) -> Result<(), Fail> {
         assert_eq!(rt; written.is_err(), failing <= 2, "call {failing}");
         let (back, found) = find_ring(&mut board, &layout, 7, back);
         assert_eq!(rt; found.is_err(), 2 < failing, "call {failing}");
-        let (back, again) = find_ring(&mut board, &layout, 7, back);
-        room = back;
+        let (_, again) = find_ring(&mut board, &layout, 7, back);
         assert_eq!(rt; again?.op, if failing == 1 { 0 } else { 1 });
     }
     Ok(())

@@ -31,8 +31,8 @@ loop-head-preserved g c =
       same = c.read_next-back.ensures.same ∙ c.loop-head.invariant.same;
       faults = cause.same ∙ c.loop-head.invariant.faults;
       found = λ wal of.
-        let next : ShowsNext wal (g.D.Disk.told c.loop-head.disk) head (Some later) = subst (λ (r : Result (Option Head) Failed). IfOk r (λ o. ShowsNext wal (g.D.Disk.told c.loop-head.disk) head o)) result (c.read_next-back.ensures.next wal of) in
-        found_more wal told head later (omega (arith, c.loop-head-test.true, c.from.ensures, of.slots)) (c.loop-head.invariant.found wal of) (subst (λ (o : Option Told). ShowsNext wal o head (Some later)) c.loop-head.invariant.same next);
+          let next : ShowsNext wal (g.D.Disk.told c.loop-head.disk) head (Some later) = subst (λ (r : Result (Option Head) Failed). IfOk r (λ o. ShowsNext wal (g.D.Disk.told c.loop-head.disk) head o)) result (c.read_next-back.ensures.next wal of) in
+          found_more wal told head later (omega (arith, c.loop-head-test.true, c.from.ensures, of.slots)) (c.loop-head.invariant.found wal of) (subst (λ (o : Option Told). ShowsNext wal o head (Some later)) c.loop-head.invariant.same next);
     }
 
 pub returns-in-None-clause-head : goal.returns-in-None-clause-head

@@ -1,5 +1,5 @@
 -- What is written is the append's prepare.
-use Rattle.std.proofs.Common.{◌≡◌, List, ◌∙◌, ap, subst}
+use Rattle.std.proofs.Common.{◌≡◌, List, subst}
 use Rattle.df_base.specs.Log.{Event}
 use Rattle.df_disk.specs.Adds.{AddsPart, after_all}
 use Rattle.df_top.proofs.Made.{made_events, made_prepare}

@@ -1,8 +1,5 @@
 -- The session begins behind the barrier; where the opening failed there is none.
-use Rattle.std.proofs.Common.{refl, subst}
-use Rattle.df_format.specs.declared.wal.Wal.{Wal}
-use Rattle.df_top.specs.Ending.{Ended}
-use Rattle.df_top.specs.Run.{line_bound}
+use Rattle.std.proofs.Common.{refl}
 use Rattle.df_top.specs.Serving.{state}
 use Rattle.df_prepares.proofs.Rests.{next_written, rest_kept, sync_rests}
 use Rattle.df_top.proofs.Whole.{prints_nothing, prints_whole, runs_failed, runs_whole}

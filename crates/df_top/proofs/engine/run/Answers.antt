@@ -1,5 +1,5 @@
 -- Where memory is wanted nothing was done.
-use Rattle.std.proofs.Common.{inr, refl, sym, subst, rules}
+use Rattle.std.proofs.Common.{inr, refl, sym, subst}
 use Rattle.df_top.specs.declared.session.DataFile.{DataFile}
 use Rattle.df_top.specs.Logs.{IsLogOf}
 use Rattle.df_top.specs.declared.status.Status.TheVariants.{Memory}

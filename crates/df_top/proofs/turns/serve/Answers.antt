@@ -1,8 +1,6 @@
 -- Each turn goes on with one append more, or ends the session.
-use Rattle.std.proofs.Common.{[], ◌∷◌, ◌++◌, refl, ◌∙◌, subst, arith}
-use Rattle.df_format.specs.declared.wal.Wal.{Wal}
+use Rattle.std.proofs.Common.{[], ◌∷◌, ◌++◌, refl, ◌∙◌, arith}
 use Rattle.df_top.specs.Session.{State}
-use Rattle.df_top.specs.Step.{GoesOn, Ends}
 use Rattle.df_top.specs.Run.{line_bound}
 use Rattle.df_top.specs.Serving.{state}
 use Rattle.df_top.proofs.Progress.{executed_none}
