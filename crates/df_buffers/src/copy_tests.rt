@@ -92,6 +92,9 @@ fn reserves_a_room_for_each_copy(rt: HostRuntime) {
         let copy = room.sector(number).copy(place(index));
         assert_eq!(rt; copy.map(|copy| copy.number), Ok(number));
     }
-    let one = Raw::<SuperSector>::reserve(rt.alloc(), &Layout::large()).expect(&rt, "memory of a sector");
+    let one = Raw::<SuperSector>::reserve(rt.alloc(), &Layout::large()).expect(
+        &rt,
+        "memory of a sector",
+    );
     assert_eq!(rt; one.copy(place(0)), Err(Class::Blank));
 }
