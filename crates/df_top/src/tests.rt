@@ -253,54 +253,60 @@ fn the_longest_line_is_whole(rt: HostRuntime) {
 }
 
 #[test]
-fn zones_and_fields_have_their_names(rt: HostRuntime) {
-    let zones = [
-        (Zone::Superblock, "Superblock"),
-        (Zone::WalHeaders, "WalHeaders"),
-        (Zone::WalPrepares, "WalPrepares"),
-        (Zone::ClientReplies, "ClientReplies"),
-        (Zone::Grid, "Grid"),
+fn zones_have_their_names(rt: HostRuntime) {
+    let rows = [
+        (Zone::Superblock, "refused Damaged Superblock 1 Garbled\n"),
+        (Zone::WalHeaders, "refused Damaged WalHeaders 1 Garbled\n"),
+        (Zone::WalPrepares, "refused Damaged WalPrepares 1 Garbled\n"),
+        (
+            Zone::ClientReplies,
+            "refused Damaged ClientReplies 1 Garbled\n",
+        ),
+        (Zone::Grid, "refused Damaged Grid 1 Garbled\n"),
     ];
-    for (zone, name) in zones {
+    for (zone, text) in rows {
         let error = OpenError::Damaged {
             place: Place { zone, index: 1 },
             class: Class::Garbled,
         };
-        let line = open_refusal(&error);
-        let words = line.as_slice().strip_prefix(b"refused Damaged ".as_slice());
-        let words = words.and_then(|words| words.strip_suffix(b" 1 Garbled\n".as_slice()));
-        assert_eq!(rt; words, Some(name.as_bytes()), "{name}");
+        assert_eq!(rt; open_refusal(&error).as_slice(), text.as_bytes(), "{text}");
     }
-    let fields = [
-        (Field::Slots, "Slots"),
-        (Field::MessageSize, "MessageSize"),
-        (Field::Clients, "Clients"),
-        (Field::BlockSize, "BlockSize"),
-        (Field::Blocks, "Blocks"),
-        (Field::Cluster, "Cluster"),
-        (Field::Sequence, "Sequence"),
-        (Field::Op, "Op"),
-        (Field::OpChecksum, "OpChecksum"),
-        (Field::Head, "Head"),
-        (Field::Replies, "Replies"),
-        (Field::TrailerAddress, "TrailerAddress"),
-        (Field::TrailerChecksum, "TrailerChecksum"),
-        (Field::TrailerSize, "TrailerSize"),
-        (Field::Boot, "Boot"),
-        (Field::Zero, "Zero"),
-        (Field::TrailerChain, "TrailerChain"),
-        (Field::TrailerRoot, "TrailerRoot"),
-        (Field::TrailerSessions, "TrailerSessions"),
-        (Field::TrailerBits, "TrailerBits"),
-        (Field::TrailerEnd, "TrailerEnd"),
-        (Field::Pending, "Pending"),
+}
+
+#[test]
+fn fields_have_their_names(rt: HostRuntime) {
+    let rows = [
+        (Field::Slots, "refused BadField Slots 0\n"),
+        (Field::MessageSize, "refused BadField MessageSize 0\n"),
+        (Field::Clients, "refused BadField Clients 0\n"),
+        (Field::BlockSize, "refused BadField BlockSize 0\n"),
+        (Field::Blocks, "refused BadField Blocks 0\n"),
+        (Field::Cluster, "refused BadField Cluster 0\n"),
+        (Field::Sequence, "refused BadField Sequence 0\n"),
+        (Field::Op, "refused BadField Op 0\n"),
+        (Field::OpChecksum, "refused BadField OpChecksum 0\n"),
+        (Field::Head, "refused BadField Head 0\n"),
+        (Field::Replies, "refused BadField Replies 0\n"),
+        (Field::TrailerAddress, "refused BadField TrailerAddress 0\n"),
+        (
+            Field::TrailerChecksum,
+            "refused BadField TrailerChecksum 0\n",
+        ),
+        (Field::TrailerSize, "refused BadField TrailerSize 0\n"),
+        (Field::Boot, "refused BadField Boot 0\n"),
+        (Field::Zero, "refused BadField Zero 0\n"),
+        (Field::TrailerChain, "refused BadField TrailerChain 0\n"),
+        (Field::TrailerRoot, "refused BadField TrailerRoot 0\n"),
+        (
+            Field::TrailerSessions,
+            "refused BadField TrailerSessions 0\n",
+        ),
+        (Field::TrailerBits, "refused BadField TrailerBits 0\n"),
+        (Field::TrailerEnd, "refused BadField TrailerEnd 0\n"),
+        (Field::Pending, "refused BadField Pending 0\n"),
     ];
-    for (field, name) in fields {
-        let line = open_refusal(&OpenError::BadField { field, value: 0 });
-        let words = line
-            .as_slice()
-            .strip_prefix(b"refused BadField ".as_slice());
-        let words = words.and_then(|words| words.strip_suffix(b" 0\n".as_slice()));
-        assert_eq!(rt; words, Some(name.as_bytes()), "{name}");
+    for (field, text) in rows {
+        let error = OpenError::BadField { field, value: 0 };
+        assert_eq!(rt; open_refusal(&error).as_slice(), text.as_bytes(), "{text}");
     }
 }
