@@ -8,4 +8,4 @@ pub mod Misleads
 pub mod Puts
 pub mod Written
 pub mod Mended
-pub mod Reads
+pub mod Verdicts
