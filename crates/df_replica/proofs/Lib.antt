@@ -3,3 +3,4 @@ pub mod TwoCopies
 pub mod Safe
 pub mod OneAnswer
 pub mod Written
+pub mod Places

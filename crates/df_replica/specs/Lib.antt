@@ -1,6 +1,7 @@
 pub mod First
-pub mod Opening
 pub mod Stand
+pub mod Opening
+pub mod Found
 pub mod OneContent
 pub mod Laws
 pub mod OpeningLaws
