@@ -261,13 +261,13 @@ module _ (bytes : List ℕ) (is : IsSector bytes) (sum : take 16 bytes ≡ check
   }
 
 -- what the parts of a copy's test say
-record IsRead (bytes : List ℕ) (copy : SuperCopy) : Type 0 where
-  sum : take 16 bytes ≡ check_of (drop 32 bytes)
-  number : field_at 4 16 bytes < 4
-  rest : take 12 (drop 20 bytes) ≡ replicate 12 0
-  is : record { number = field_at 4 16 bytes; checksum = take 16 bytes; fields = super_fields_of bytes } ≡ copy
+pub record IsRead (bytes : List ℕ) (copy : SuperCopy) : Type 0 where
+  pub sum : take 16 bytes ≡ check_of (drop 32 bytes)
+  pub number : field_at 4 16 bytes < 4
+  pub rest : take 12 (drop 20 bytes) ≡ replicate 12 0
+  pub is : record { number = field_at 4 16 bytes; checksum = take 16 bytes; fields = super_fields_of bytes } ≡ copy
 
-read_as : (bytes : List ℕ) (copy : SuperCopy) → copy_in bytes ≡ Some copy → IsRead bytes copy
+pub read_as : (bytes : List ℕ) (copy : SuperCopy) → copy_in bytes ≡ Some copy → IsRead bytes copy
 unfolding copy_in is_copy
 read_as bytes copy is =
     let parts = guard_is _ _ copy is in

@@ -87,6 +87,10 @@ rank_of c = c.fields.sequence
 unfoldable pub is_blank_copy : List ℕ → Bool
 is_blank_copy bytes = bytes_eq bytes (replicate 4096 0)
 
+-- the class of a sector that is no copy
+abbrev pub class_of_no_copy : List ℕ → Class
+class_of_no_copy bytes = if is_blank_copy bytes then Blank else Garbled
+
 abbrev pub class_of_sound : ℕ → Option SuperCopy → Class
 class_of_sound number None = Garbled
 class_of_sound number (Some copy) = if copy.number == number then Stale else Elsewhere (place_in Superblock copy.number)

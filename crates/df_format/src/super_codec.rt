@@ -4,7 +4,7 @@ ghost use Rattle.df_base.specs.Fields.{field_at, spelled};
 ghost use Rattle.df_format.specs.Super.{fields_bytes, covered_bytes, copy_bytes};
 ghost use Rattle.df_format.specs.SuperRules.{IsUsable};
 ghost use Rattle.df_format.specs.Own.{place_in};
-ghost use Rattle.df_format.specs.Copies.{first_nonzero_of, super_fields_of, has_checksum, has_zeros, is_copy, copy_in, is_blank_copy, own_copy};
+ghost use Rattle.df_format.specs.Copies.{first_nonzero_of, super_fields_of, has_checksum, has_zeros, is_copy, copy_in, is_blank_copy, class_of_no_copy, own_copy};
 
 use crate::codec::{check_at, put_check};
 use crate::pieces::put_zeros;
@@ -175,6 +175,18 @@ fn is_blank(bytes: &[u8]) -> bool
     bytes.iter().all(|b| *b == 0)
 }
 
+// The class of a sector that is no copy.
+fn class_of_none(bytes: &[u8]) -> Class
+    requires { length bytes.now ≡ 4096 }
+    ensures { result ≡ class_of_no_copy bytes.now }
+{
+    if is_blank(bytes) {
+        Class::Blank
+    } else {
+        Class::Garbled
+    }
+}
+
 fn elsewhere(copy: &SuperCopy) -> Class
     ensures { result ≡ Class.Elsewhere (place_in Zone.Superblock copy.now.number) }
 {
@@ -192,8 +204,7 @@ pub fn decode_own_copy(number: u8, bytes: &[u8]) -> Result<SuperCopy, Class>
 {
     match decode_copy(bytes) {
         Some(copy) if copy.number == number => Ok(copy),
-        _ if is_blank(bytes) => Err(Class::Blank),
         Some(copy) => Err(elsewhere(&copy)),
-        None => Err(Class::Garbled),
+        None => Err(class_of_none(bytes)),
     }
 }
