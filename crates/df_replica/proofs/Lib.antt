@@ -4,3 +4,4 @@ pub mod Safe
 pub mod OneAnswer
 pub mod Written
 pub mod Places
+pub mod Usable

@@ -1,5 +1,5 @@
 // What four copies of the superblock say, once they are read.
-ghost use Rattle.std.specs.Prelude.{◌≡◌, ◌<◌, ◌↔◌, Option, IsTrue, get_or, IfSome, IfNone, IfOk, IfErr, None};
+ghost use Rattle.std.specs.Prelude.{◌≡◌, ◌<◌, ◌↔◌, Option, IsTrue, get_or, IfSome, IfNone, IfOk, IfErr, Ok, None};
 ghost use Rattle.df_disk.specs.Told.{Told};
 ghost use Rattle.df_format.specs.SuperRules.{fault_of};
 ghost use Rattle.df_quorum.specs.Quorum.{nothing};
@@ -44,12 +44,12 @@ pub(crate) fn first_written(copies: &[Slot; 4]) -> Option<u8>
 fn chosen(copies: &[Slot; 4]) -> Result<Chosen, OpenError>
     ensures { (told : Option Told) → ShowsSlots told copies.now → ShowsCopies told copies.now → TellsChoice told result }
 {
-    if first_written(copies).is_none() {
-        return Err(OpenError::NotFormatted);
-    }
-    match choose(copies) {
-        Ok(chosen) => Ok(chosen),
-        Err(classes) => Err(OpenError::NoQuorum { classes }),
+    match first_written(copies) {
+        None => Err(OpenError::NotFormatted),
+        Some(_) => match choose(copies) {
+            Ok(chosen) => Ok(chosen),
+            Err(classes) => Err(OpenError::NoQuorum { classes }),
+        },
     }
 }
 
@@ -69,6 +69,7 @@ fn usable(chosen: Chosen) -> Result<Found, OpenError>
     ensures content { IfOk result (λ found. found.content ≡ chosen.content) }
     ensures usable { IfOk result (λ _. fault_of chosen.content ≡ None) }
     ensures fault { IfErr result (HasFaultOf chosen.content) }
+    ensures told { (told : Option Told) → TellsChoice told (Ok chosen) → TellsFound told result }
 {
     match test_fields(&chosen.content) {
         Ok(content) => Ok(Found { chosen, content }),
@@ -80,5 +81,8 @@ fn usable(chosen: Chosen) -> Result<Found, OpenError>
 pub(crate) fn superblock_of(copies: &[Slot; 4]) -> Result<Found, OpenError>
     ensures { (told : Option Told) → ShowsSlots told copies.now → ShowsCopies told copies.now → TellsFound told result }
 {
-    usable(chosen(copies)?)
+    match chosen(copies) {
+        Ok(choice) => usable(choice),
+        Err(refusal) => Err(refusal),
+    }
 }
