@@ -5,3 +5,4 @@ pub mod OneAnswer
 pub mod Written
 pub mod Places
 pub mod Usable
+pub mod FirstSuper

@@ -2,6 +2,7 @@
 #![tactic(auto)]
 
 mod errors;
+mod first;
 mod laws;
 mod superblock;
 
