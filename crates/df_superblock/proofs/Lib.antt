@@ -1,0 +1,11 @@
+pub mod Sights
+pub mod Choices
+pub mod Ready
+pub mod Passing
+pub mod Turns
+pub mod Mends
+pub mod Misleads
+pub mod Puts
+pub mod Written
+pub mod Mended
+pub mod Verdicts

@@ -1,0 +1,2 @@
+-- todo
+use Rattle.std.proofs.Common.{◌≡◌}
