@@ -16,7 +16,7 @@ use Rattle.df_format.proofs.Shown.{blank_image}
 use Rattle.df_format.proofs.CopyShown.{same_copy, one_sector, written_copy}
 use Rattle.df_format.proofs.CopyClasses.{blank_copy_none}
 use Rattle.df_replica.specs.OneContent.{ShowsOnly, AreFairCopies, IsSteadyOf, IsSafeOf, AreSyncs, IsUntouched, IsCopyOf, IsElsewhere, IsOfFile, AreOfFile}
-use Rattle.df_replica.specs.Stand.{adds}
+use Rattle.df_superblock.specs.Moments.{adds}
 
 pub written_other : (at : ℕ) (bytes : List ℕ) (image : Image) (sector : ℕ) → covers at bytes sector ≡ false → written at bytes image sector ≡ image sector
 unfolding written

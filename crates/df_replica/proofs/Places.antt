@@ -20,7 +20,7 @@ use Rattle.df_disk.specs.Told.{Told}
 use Rattle.df_replica.specs.Opening.{IsUnformatted, shown_classes, Refuses}
 use Rattle.df_replica.specs.Found.{AreBlank, IsFirstWrittenOf, IsChoiceOf, TellsChoice}
 use Rattle.df_replica.specs.declared.errors.OpenError.TheVariants.{NotFormatted, NoQuorum}
-use Rattle.df_replica.specs.Stand.{slot_of, slot_at, ShowsSlots, ShowsCopies}
+use Rattle.df_superblock.specs.Calls.{slot_of, slot_at, ShowsSlots, ShowsCopies}
 
 -- a slot that isn't used has the class of its sector
 class_of_slot : (n : ℕ) (bytes : List ℕ) (o : Option SuperCopy) → if_here n (copy_in bytes) ≡ o → class_in n (slot_of (copy_or_class o (class_of_copy n bytes))) ≡ class_of_copy n bytes

@@ -14,7 +14,8 @@ use Rattle.df_format.proofs.CopyShown.{same_copy, one_sector, written_copy}
 use Rattle.df_quorum.specs.Quorum.{IsChosen}
 use Rattle.df_replica.specs.OneContent.{IsSafeOf}
 use Rattle.df_replica.specs.Laws.{UntouchedIsSafe, UntouchedStaysSafe, SafeStaysSafe, StopStaysSafe, TwoCopiesStayChosen, CopiesAreApart, IsFormatted, CopiesFormat}
-use Rattle.df_replica.specs.Stand.{adds, update_events}
+use Rattle.df_superblock.specs.Moments.{adds}
+use Rattle.df_superblock.specs.Events.{update_events}
 use Rattle.df_replica.proofs.OneContent.{IsPure, written_other, covers_other, pure_safe, safe_synced, safe_stopped, untouched_pure, pure_moments, adds_extends}
 use Rattle.df_replica.proofs.TwoCopies.{KeepsTwo, two_chosen, two_moments, two_begin}
 

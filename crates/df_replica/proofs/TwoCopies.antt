@@ -13,7 +13,7 @@ use Rattle.df_format.proofs.CopyShown.{same_copy}
 use Rattle.df_quorum.specs.Quorum.{Copies, Agree, IsChosen}
 use Rattle.df_replica.specs.OneContent.{IsSafeOf, IsOfFile, AreOfFile, AreApartFrom}
 use Rattle.df_replica.specs.Laws.{TwoShow}
-use Rattle.df_replica.specs.Stand.{adds}
+use Rattle.df_superblock.specs.Moments.{adds}
 use Rattle.df_replica.proofs.OneContent.{IsPure, written_other, pool_is, safe_synced, pure_goes_on, adds_extends}
 
 agree_on : (copies : Copies) (c : Content) (a b : ℕ) → a < 4 → b < 4 → a ≢ b → copies a ≡ Some c → copies b ≡ Some c → Agree copies c

@@ -1,7 +1,10 @@
 -- What the calls that look for a superblock answer.
-use Rattle.std.specs.Prelude.{◌≡◌, ◌<◌, ℕ, List, get_or, Option, Some, None, Result, Ok, Err}
+use Rattle.std.specs.Prelude.{◌≡◌, ◌<◌, ◌≤◌, ℕ, List, [], ◌∷◌, get_or, Option, Some, None, Result, Ok, Err}
+use Rattle.df_base.specs.Causes.{Rose}
 use Rattle.df_base.specs.Image.{Image}
-use Rattle.df_disk.specs.Told.{Told}
+use Rattle.df_base.specs.Log.{Sync}
+use Rattle.df_disk.specs.Told.{Told, after}
+use Rattle.df_disk.specs.Adds.{AddsPart}
 use Rattle.df_layout.specs.declared.damage.Class.TheVariants.{Blank}
 use Rattle.df_layout.specs.declared.layout.Layout.{Layout}
 use Rattle.df_format.specs.Copies.{Content, content_at}
@@ -83,3 +86,29 @@ fault_error (BrokenField field value) = BadField field value
 
 abbrev pub HasFaultOf : SuperFields → OpenError → Type 0
 HasFaultOf f e = (fault : SuperFault) × (fault_of f ≡ Some fault) × (e ≡ fault_error fault)
+
+-- a refusal by what the copies say, and nothing else
+abbrev pub IsRefusal : OpenError → Type 0
+IsRefusal NotFormatted = Unit {0}
+IsRefusal (NoQuorum classes) = Unit {0}
+IsRefusal (Version found) = Unit {0}
+IsRefusal (BadField field value) = Unit {0}
+IsRefusal (LayoutDiffers reserved there) = ⊥
+IsRefusal (Damaged place class) = ⊥
+IsRefusal DiskFault = ⊥
+
+-- the disk failed, and its count of faults rose; or it stayed, and any refusal is by what the copies say
+abbrev pub OpensBy : {T : Type 0} → ℕ → ℕ → Result T OpenError → Type 0
+OpensBy before now (Ok x) = now ≡ before
+OpensBy before now (Err DiskFault) = (before ≤ now) × Rose before now
+OpensBy before now (Err NotFormatted) = now ≡ before
+OpensBy before now (Err (NoQuorum classes)) = now ≡ before
+OpensBy before now (Err (Version found)) = now ≡ before
+OpensBy before now (Err (BadField field value)) = now ≡ before
+OpensBy before now (Err (LayoutDiffers reserved there)) = ⊥
+OpensBy before now (Err (Damaged place class)) = ⊥
+
+-- one sync was added; where the disk failed, it or nothing
+abbrev pub Syncs : {T : Type 0} → Option Told → Option Told → Result T OpenError → Type 0
+Syncs old new (Err DiskFault) = AddsPart (Sync ∷ []) old new
+Syncs old new result = new ≡ after Sync old

@@ -1,5 +1,5 @@
 pub mod First
-pub mod Stand
+pub mod Formatting
 pub mod Opening
 pub mod Found
 pub mod OneContent

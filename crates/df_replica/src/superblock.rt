@@ -3,8 +3,8 @@ ghost use Rattle.std.specs.Prelude.{◌≡◌, ◌<◌, ◌↔◌, Option, IsTru
 ghost use Rattle.df_disk.specs.Told.{Told};
 ghost use Rattle.df_format.specs.SuperRules.{fault_of};
 ghost use Rattle.df_quorum.specs.Quorum.{nothing};
-ghost use Rattle.df_replica.specs.Found.{AreBlank, IsFirstWrittenOf, TellsChoice, TellsFound, HasFaultOf, fault_error};
-ghost use Rattle.df_replica.specs.Stand.{ShowsSlots, ShowsCopies};
+ghost use Rattle.df_replica.specs.Found.{AreBlank, IsFirstWrittenOf, TellsChoice, TellsFound, HasFaultOf, IsRefusal, fault_error};
+ghost use Rattle.df_superblock.specs.Calls.{ShowsSlots, ShowsCopies};
 
 use crate::OpenError;
 use df_format::{Super, SuperFault, test_fields};
@@ -42,7 +42,8 @@ pub(crate) fn first_written(copies: &[Slot; 4]) -> Option<u8>
 
 // The choice, or why there is none.
 fn chosen(copies: &[Slot; 4]) -> Result<Chosen, OpenError>
-    ensures { (told : Option Told) → ShowsSlots told copies.now → ShowsCopies told copies.now → TellsChoice told result }
+    ensures told { (told : Option Told) → ShowsSlots told copies.now → ShowsCopies told copies.now → TellsChoice told result }
+    ensures refusal { IfErr result IsRefusal }
 {
     match first_written(copies) {
         None => Err(OpenError::NotFormatted),
@@ -55,7 +56,8 @@ fn chosen(copies: &[Slot; 4]) -> Result<Chosen, OpenError>
 
 // Why the file isn't opened, where its superblock can't be used.
 fn refusal(fault: SuperFault) -> OpenError
-    ensures { result ≡ fault_error fault }
+    ensures value { result ≡ fault_error fault }
+    ensures refusal { IsRefusal result }
 {
     match fault {
         SuperFault::Version { found } => OpenError::Version { found },
@@ -70,6 +72,7 @@ fn usable(chosen: Chosen) -> Result<Found, OpenError>
     ensures usable { IfOk result (λ _. fault_of chosen.content ≡ None) }
     ensures fault { IfErr result (HasFaultOf chosen.content) }
     ensures told { (told : Option Told) → TellsChoice told (Ok chosen) → TellsFound told result }
+    ensures refusal { IfErr result IsRefusal }
 {
     match test_fields(&chosen.content) {
         Ok(content) => Ok(Found { chosen, content }),
@@ -79,7 +82,8 @@ fn usable(chosen: Chosen) -> Result<Found, OpenError>
 
 /// The superblock that the four places say, or the first reason why the file can't be opened.
 pub(crate) fn superblock_of(copies: &[Slot; 4]) -> Result<Found, OpenError>
-    ensures { (told : Option Told) → ShowsSlots told copies.now → ShowsCopies told copies.now → TellsFound told result }
+    ensures told { (told : Option Told) → ShowsSlots told copies.now → ShowsCopies told copies.now → TellsFound told result }
+    ensures refusal { IfErr result IsRefusal }
 {
     match chosen(copies) {
         Ok(choice) => usable(choice),
