@@ -1,6 +1,7 @@
 -- What an update's events make of the copies, where the disk tells its log.
 use Rattle.std.proofs.Common.{◌≡◌, ◌⊎◌, inl, inr, ◌<◌, ◌+◌, ℕ, zero, suc, Bool, true, false, List, [], ◌∷◌, length, get_or, Option, Some, None, refl, sym, ◌∙◌, ap, subst, arith, Result, Ok, Err, OnOk}
-use Rattle.df_base.specs.Log.{Event, Write, Sync, Log, add, now}
+use Rattle.df_base.specs.Image.{Image}
+use Rattle.df_base.specs.Log.{Event, Write, Sync, Log, add, after_event, now}
 use Rattle.df_disk.specs.Told.{Told, did}
 use Rattle.df_disk.specs.Adds.{Adds, after_all}
 use Rattle.df_format.specs.Super.{copy_bytes}
@@ -10,7 +11,7 @@ use Rattle.df_format.specs.Copies.{Content, content_at, content_with, rank_of}
 use Rattle.df_superblock.specs.Copies.{AreQuiet, AreEqual, AreSteady, IsBounded, IsEither, IsOldOrNew, MayUpdate}
 use Rattle.df_superblock.specs.Events.{update_events, repair_events}
 use Rattle.df_superblock.specs.Moments.{PassedTo, adds}
-use Rattle.df_superblock.specs.Calls.{UpdatesSafely, UpdatesSteadily, TellsLog, EndsEqual, EndsSteady}
+use Rattle.df_superblock.specs.Calls.{UpdatesSafely, UpdatesSteadily, TellsLog, ShowsEqual, EndsEqual, EndsSteady}
 use Rattle.df_superblock.proofs.Choices.{same_copy}
 use Rattle.df_superblock.proofs.Sights.{PutsCopy}
 use Rattle.df_superblock.proofs.Ready.{IsLow, Knows, bounded_sync, quiet_low, quiet_knows, low_wrote, knows_wrote, equal_chosen}
@@ -22,35 +23,35 @@ use Rattle.df_superblock.proofs.Puts.{copy_put}
 -- ---- moments
 
 module _ (f : SuperFields) (usable : IsUsable f) (entry : Log) (old : Content) (may : MayUpdate entry old (content_with f)) where
-  abbrev new : Content
-  new = content_with f
+  abbrev later : Content
+  later = content_with f
 
-  begins : IsAt entry old new 0
+  begins : IsAt entry old later 0
   begins = record { before = λ n less below. absurd (omega arith); behind = λ n more below. may.equal n below; quiet = may.quiet }
 
-  safe_each : AtEach (IsOldOrNew entry old new) entry (update_events f)
-  safe_each = each_turn (IsOldOrNew entry old new) (λ log i. IsAt log old new i) (λ n. copy_bytes n f)
-      (λ log i at. turn_moment entry log old new i may.above may.quiet may.equal (at_turn log old new i at))
-      (λ log i below at. turn_moment entry (add (Write i (copy_bytes i f)) log) old new i may.above may.quiet may.equal (wrote_turn log old new i (copy_bytes i f) (copy_put f usable i below) at))
-      (λ log i below at. synced_at log old new i (copy_bytes i f) (copy_put f usable i below) at)
+  safe_each : AtEach (IsOldOrNew entry old later) entry (update_events f)
+  safe_each = each_turn (IsOldOrNew entry old later) (λ log i. IsAt log old later i) (λ n. copy_bytes n f)
+      (λ log i at. turn_moment entry log old later i may.above may.quiet may.equal (at_turn log old later i at))
+      (λ log i below at. turn_moment entry (add (Write i (copy_bytes i f)) log) old later i may.above may.quiet may.equal (wrote_turn log old later i (copy_bytes i f) (copy_put f usable i below) at))
+      (λ log i below at. synced_at log old later i (copy_bytes i f) (copy_put f usable i below) at)
       entry begins
 
   abbrev Stands : Log → ℕ → Type 0
-  Stands log i = IsAt log old new i × IsWithin log old new i
+  Stands log i = IsAt log old later i × IsWithin log old later i
 
-  steady_each : AreSteady entry old → AtEach (λ log. IsEither log old new) entry (update_events f)
-  steady_each steady = each_turn (λ log. IsEither log old new) Stands (λ n. copy_bytes n f)
-      (λ log i at. turn_either log old new i may.above (at_turn log old new i at.0) (at_past log old new i at.0 at.1))
-      (λ log i below at. turn_either (add (Write i (copy_bytes i f)) log) old new i may.above
-          (wrote_turn log old new i (copy_bytes i f) (copy_put f usable i below) at.0)
-          (wrote_past log old new i (copy_bytes i f) may.above (copy_put f usable i below) at.0 at.1))
+  steady_each : AreSteady entry old → AtEach (λ log. IsEither log old later) entry (update_events f)
+  steady_each steady = each_turn (λ log. IsEither log old later) Stands (λ n. copy_bytes n f)
+      (λ log i at. turn_either log old later i may.above (at_turn log old later i at.0) (at_past log old later i at.0 at.1))
+      (λ log i below at. turn_either (add (Write i (copy_bytes i f)) log) old later i may.above
+          (wrote_turn log old later i (copy_bytes i f) (copy_put f usable i below) at.0)
+          (wrote_past log old later i (copy_bytes i f) may.above (copy_put f usable i below) at.0 at.1))
       (λ log i below at. (
-        synced_at log old new i (copy_bytes i f) (copy_put f usable i below) at.0,
-        synced_within log old new i (copy_bytes i f) may.above (copy_put f usable i below) at.0 at.1,
+        synced_at log old later i (copy_bytes i f) (copy_put f usable i below) at.0,
+        synced_within log old later i (copy_bytes i f) may.above (copy_put f usable i below) at.0 at.1,
       ))
       entry (begins, record { high = λ n d above below is. higher d (steady.bounded n d above below is); low = λ soon. steady.bounded })
     where
-      higher : (d : Content) → (d ≡ old) ⊎ (rank_of d < rank_of old) → (d ≡ new) ⊎ (rank_of d < rank_of new)
+      higher : (d : Content) → (d ≡ old) ⊎ (rank_of d < rank_of old) → (d ≡ later) ⊎ (rank_of d < rank_of later)
       higher d (inl same) = inr (omega (arith, may.above, ap rank_of same))
       higher d (inr lower) = inr (omega (arith, may.above))
 
@@ -92,6 +93,19 @@ module _ (f : SuperFields) (usable : IsUsable f) (log : Log) where
   all_equal n below =
       let place : 0 + n ≡ n = omega arith in
       written_shows f (content_with f) (copy_put f usable) n 0 all log (omega arith) (subst (λ (k : ℕ). Writes k 0 all) place (other_written 0 n all below (all_false n below)))
+
+-- what a disk shows then, whether that is what its log leaves or not
+told_shown : (es : List Event) (t : Told) (log : Log) → t.shown ≡ now log → (u : Told) × (after_all es (Some t) ≡ Some u) × (u.shown ≡ now (adds es log))
+told_shown [] t log same = (t, refl, same)
+told_shown (e ∷ es) t log same = told_shown es (did e t) (add e log) (ap (λ (image : Image). after_event e image) same)
+
+pub ends_shown : {T E : Type 0} → (f : SuperFields) (old new : Option Told) (result : Result T E) → IsUsable f → Adds (update_events f) old new result → OnOk result (ShowsEqual f new)
+ends_shown f None new (Ok x) usable is = subst (λ (o : Option Told). ShowsEqual f o) (sym (is ∙ none_after (update_events f))) tt
+ends_shown f (Some t) new (Ok x) usable is =
+    let log : Log = record { start = t.shown; events = [] } in
+    let u = told_shown (update_events f) t log refl in
+    subst (λ (o : Option Told). ShowsEqual f o) (sym (is ∙ u.1)) (subst (λ (image : Image). AreEqual image (content_with f)) (sym u.2) (all_equal f usable log))
+ends_shown f old new (Err e) usable is = tt
 
 -- what may be pending or durable stays low while copies of one content are written
 record IsPast (log : Log) (c : Content) : Type 0 where
