@@ -1,6 +1,5 @@
 -- Each turn goes on with one append more, or ends the session.
 use Rattle.std.proofs.Common.{[], ◌∷◌, ◌++◌, refl, ◌∙◌, arith}
-use Rattle.df_top.specs.Session.{State}
 use Rattle.df_top.specs.Run.{line_bound}
 use Rattle.df_top.specs.Serving.{state}
 use Rattle.df_top.proofs.Progress.{executed_none}
@@ -22,9 +21,7 @@ loop-status-init g c = record {
 
 pub loop-status-preserved : goal.loop-status-preserved
 loop-status-preserved g c =
-    let before : State = state (g.D.Disk.told c.loop-status.disk) (g.S.Source.left c.loop-status.source) (g.W.Sink.written c.loop-status.sink) c.loop-status.session in
-    let after : State = state (g.D.Disk.told c.turn.new.disk) (g.S.Source.left c.turn.new.source) (g.W.Sink.written c.turn.new.sink) c.turn.new.session in
-    let more = c.in-Ok.ensures.goes_on _ c.loop-status.invariant.so_far.0 c.loop-status.invariant.so_far.1 in
+    let more = c.in-Ok.ensures.goes_on (state (g.D.Disk.told c.args.disk.now) (g.S.Source.left c.args.source.now) (g.W.Sink.written c.args.sink.now) c.args.session.now) c.loop-status.invariant.so_far.0 c.loop-status.invariant.so_far.1 in
     record {
       so_far = (c.loop-status.invariant.so_far.0 ++ more.0 ∷ [], more.1);
       writes = writes_both g.wal (g.D.Disk.told c.args.disk.now) (g.D.Disk.told c.loop-status.disk) (g.D.Disk.told c.turn.new.disk) c.loop-status.invariant.writes c.turn.ensures.writes;
@@ -39,9 +36,7 @@ loop-status-preserved g c =
 
 pub returns-in-Err-clause-session : goal.returns-in-Err-clause-session
 returns-in-Err-clause-session g c =
-    let before : State = state (g.D.Disk.told c.loop-status.disk) (g.S.Source.left c.loop-status.source) (g.W.Sink.written c.loop-status.sink) c.loop-status.session in
-    let after : State = state (g.D.Disk.told c.turn.new.disk) (g.S.Source.left c.turn.new.source) (g.W.Sink.written c.turn.new.sink) c.turn.new.session in
-    c.in-Err.ensures.ends _ c.loop-status.invariant.so_far.0 c.loop-status.invariant.so_far.1
+    c.in-Err.ensures.ends (state (g.D.Disk.told c.args.disk.now) (g.S.Source.left c.args.source.now) (g.W.Sink.written c.args.sink.now) c.args.session.now) c.loop-status.invariant.so_far.0 c.loop-status.invariant.so_far.1
 
 pub returns-in-Err-clause-writes : goal.returns-in-Err-clause-writes
 returns-in-Err-clause-writes g c =
