@@ -1,5 +1,5 @@
 -- What the calls on the copies answer, and what they say of the log that a disk tells.
-use Rattle.std.specs.Prelude.{◌≡◌, ◌≢◌, ◌<◌, ◌≤◌, ℕ, true, false, Bool, IsTrue, List, [], ◌∷◌, get_or, Option, Some, None, Result, Ok, Err}
+use Rattle.std.specs.Prelude.{◌≡◌, ◌≢◌, ◌<◌, ◌≤◌, ℕ, false, Bool, IsTrue, List, get_or, Option, Some, None, Result, Ok, Err}
 use Rattle.df_base.specs.Causes.{Rose}
 use Rattle.df_base.specs.Image.{Image}
 use Rattle.df_base.specs.Log.{Event, Log, IsLog, IsLeft, now}
@@ -19,7 +19,6 @@ use Rattle.df_quorum.specs.declared.choice.Chosen.{Chosen}
 use Rattle.df_quorum.specs.Quorum.{IsChosen, copies_of, copy_of, nothing}
 use Rattle.df_superblock.specs.Copies.{AreQuiet, AreSteady, AreEqual, IsBounded, IsKept, IsEither, IsMisled, IsOldOrNew, MayUpdate, IsChoice}
 use Rattle.df_superblock.specs.Moments.{PassedTo}
-use Rattle.df_superblock.specs.Events.{update_events}
 use Rattle.df_superblock.specs.declared.updates.UpdateError.{UpdateError}
 use Rattle.df_superblock.specs.declared.updates.UpdateError.TheVariants.{Damaged, DiskFault}
 
