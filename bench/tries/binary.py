@@ -58,6 +58,8 @@ class Binary:
 
     def __init__(self, program: str, folder: str):
         self.program = os.path.abspath(program)
+        # Of an interpreter nothing can be said about memory, nor about the files that it opens for itself.
+        self.interpreted = program.endswith(".py")
         self.folder = folder
         self.path = os.path.join(folder, "file")
         self.log = os.path.join(folder, "calls")

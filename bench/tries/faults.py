@@ -26,7 +26,7 @@ def order(t: Try) -> None:
     expect("calls of no other kind", set(), {call.name for call in plan.calls} - allowed)
     order_of_reads(plan)
     first = next((at for at, call in enumerate(plan.calls) if call.name in ("read", "pwrite64")), len(plan.calls))
-    late = [call for call in plan.calls[first:] if call.name in ("brk", "mmap")]
+    late = [call for call in plan.calls[first:] if call.name in ("brk", "mmap") and not t.binary.interpreted]
     expect("no call takes memory after the first read of the script or the first write", [], late)
     if plan.words != ["run"] or plan.wanted.status == script.REFUSED:
         expect("no read of a script that isn't executed", [], named(plan.calls, "read", 0))
@@ -178,6 +178,8 @@ def ended_early(t: Try) -> None:
 
 def unaffected(t: Try) -> None:
     """Closes that fail change nothing."""
+    if t.binary.interpreted:
+        return
     plan = Plan(t)
     rule = f"close:error=EIO:when={1 + len(named(loading(plan), 'close'))}+"
     plan.ends(t, "faults without effect", plan.again(t, [rule]), len(plan.wanted.events), plan.wanted.status)
@@ -192,6 +194,8 @@ def loading(plan: Plan) -> list:
 
 def memory(t: Try) -> None:
     """Want of memory, from the start or from one later take on: status 8, nothing written, nothing of the script read."""
+    if t.binary.interpreted:
+        return
     plan = Plan(t)
     takes = [call for call in plan.all if call.name == "mmap" or (call.name == "brk" and call.args[0] != "NULL")]
     first = [call for call in takes if call.name == "brk"][:1]

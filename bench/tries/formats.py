@@ -18,6 +18,8 @@ def layout_word(t: Try) -> str:
     """A word for a layout: right, over an edge, or misspelled."""
     random = t.random
     if random.random() < 0.3:
+        return random.choice(("small", "large", generate.layout(random).word()))
+    if random.random() < 0.3:
         return random.choice(("small", "large", "Small", "small ", "", "-", "smal", "small,", "run", "format", "7"))
     numbers = list(map(str, generate.layout(random)))
     for _ in range(random.choice((0, 1, 1, 2))):
@@ -35,7 +37,7 @@ def layout_word(t: Try) -> str:
 
 def cluster_word(t: Try) -> str:
     """A word for a cluster: right, over an edge, or misspelled."""
-    if t.random.random() < 0.5:
+    if t.random.random() < 0.6:
         return str(generate.cluster(t.random))
     return t.random.choice((
         "0", "1", "7", str(2**64), str(2**127), str(2**128 - 1), str(2**128), str(2**128 + 7), str(10**39), "9" * 60, "00",

@@ -17,6 +17,8 @@ def streams(t: Try) -> None:
     text = generate.any_script(t.random, generate.home_of(data).layout)
     what = t.random.choice(("closed input", "directory input", "unreadable input", "closed output", "full output",
                             "unwritable output", "broken output", "all closed"))
+    if what == "directory input" and t.binary.interpreted:
+        return
     if what in ("closed input", "directory input", "unreadable input", "all closed"):
         got = run_without_input(t, what)
         # The open comes first, and what it refuses is printed.
