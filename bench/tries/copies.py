@@ -19,13 +19,17 @@ def damaged(random: Random, data: bytes, place: int) -> tuple:
     """What damage leaves in a copy's sector, with the name of the damage."""
     old = form.sector(data, place)
     name = random.choice(("random bytes", "equal bytes", "zeros", "another copy", "bit of the fields", "bit anywhere",
-                          "checksum", "number", "bytes behind the number", "half", "another content"))
+                          "checksum", "number", "bytes behind the number", "half", "another content",
+                          "zeros but a byte"))
     if name == "random bytes":
         return name, random.randbytes(SECTOR)
     if name == "equal bytes":
         return name, random.choice((b"\xa5", b"\xff", b"\1")) * SECTOR
     if name == "zeros":
         return name, bytes(SECTOR)
+    if name == "zeros but a byte":
+        at = random.choice((0, 255, 256, SECTOR - 1, random.randrange(SECTOR)))
+        return name, bytes(at) + bytes([random.randint(1, 255)]) + bytes(SECTOR - 1 - at)
     if name == "another copy":
         return name, form.sector(data, (place + random.randint(1, 3)) % COPIES)
     if name in ("half", "another content"):

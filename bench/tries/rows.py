@@ -44,6 +44,7 @@ ROWS = (
     (file_of(BLANK, BLANK, BLANK, bytes(4095) + b"\1"), "format small 7", "", "refused NotBlank copy 3\n", 4),
     (None, "run", "append 5 1 -", "refused NotFormatted\n", 4),
     (bytes(4 * SECTOR) + b"\1", "run", "", "refused NotFormatted\n", 4),
+    (bytes(4 * SECTOR - 1) + b"\1", "run", "", "refused NoQuorum Blank Blank Blank Garbled\n", 4),
     (None, "format small 0", "", "refused ClusterZero\n", 4),
     (NEW, "format small 0", "", "refused ClusterZero\n", 4),
     (None, "format small", "", USAGE, 2),
