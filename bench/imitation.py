@@ -113,11 +113,10 @@ def choose(copies: list):
         return max((c for c in copies if not isinstance(c, str)), key=lambda c: c.sequence, default=None)
     if BUG == "the last of equals is chosen":
         copies = copies[::-1]
+    if BUG == "the sequence isn't looked at":
+        return next((c for c in copies if not isinstance(c, str) and copies.count(c) >= 2), None)
     if BUG == "three votes are needed":
         return next((c for c in copies if not isinstance(c, str) and copies.count(c) >= 3), None)
-    if BUG == "the most votes win":
-        agreed = [c for c in copies if not isinstance(c, str) and copies.count(c) >= 2]
-        return max(agreed, key=lambda c: (copies.count(c), c.sequence), default=None)
     return superblock.choose(copies)
 
 

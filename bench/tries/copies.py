@@ -93,9 +93,9 @@ def edges(random: Random, c: Content) -> dict:
 
 
 def odd(random: Random, c: Content) -> Content:
-    """A content like this one, with up to three fields at or over an edge."""
+    """A content like this one, with up to four fields at or over an edge."""
     c = lawful(random, c) if random.random() < 0.6 else c
-    for _ in range(random.choice((0, 1, 1, 1, 2, 3))):
+    for _ in range(random.choice((0, 1, 1, 1, 2, 3, 4))):
         field, values = random.choice(list(edges(random, c).items()))
         value = random.choice(values)
         if isinstance(value, int):

@@ -38,7 +38,7 @@ def layout_word(t: Try) -> str:
 def cluster_word(t: Try) -> str:
     """A word for a cluster: right, over an edge, or misspelled."""
     if t.random.random() < 0.6:
-        return str(generate.cluster(t.random))
+        return str(generate.cluster(t.random) if t.random.random() < 0.85 else 0)
     return t.random.choice((
         "0", "1", "7", str(2**64), str(2**127), str(2**128 - 1), str(2**128), str(2**128 + 7), str(10**39), "9" * 60, "00",
         "07", "007", "+7", "-7", "-0", " 7", "7 ", "7\n", "", "-", "x", "0x7", "7.0", "7e1", "7_0", "\u0667", "\u00b2", "\uff17",

@@ -2,7 +2,7 @@
 
 from typing import Optional
 
-from . import form, generate, script, superblock
+from . import copies, form, generate, script, superblock
 from .binary import Call, expect
 from .common import Try, named, on_file, reopen, same_bytes, same_run
 from .form import COPIES, SECTOR
@@ -24,7 +24,11 @@ def file_for(t: Try, words: list, most: int) -> Optional[bytes]:
     random = t.random
     usual = random.random() < 0.9
     if (words == ["run"]) == usual:
-        return generate.image(random, most, hurt=0.4)
+        data = generate.image(random, most, hurt=0.4)
+        if random.random() < 0.9:
+            return data
+        content = copies.odd(random, superblock.first(generate.home_of(data)))
+        return copies.forged(random, data, [content])
     blank = (None, None, b"", bytes(SECTOR * COPIES), bytes(100000))
     other = script.fresh(generate.home(random))[: random.randrange(SECTOR * COPIES)]
     return random.choice(blank) if random.random() < 0.9 else other
