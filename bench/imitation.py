@@ -128,10 +128,17 @@ def tested(file: File) -> tuple:
         refuse("NotFormatted")
     if content is None:
         refuse("NoQuorum " + " ".join("Stale" if isinstance(copy, superblock.Content) else copy for copy in copies))
-    fault = superblock.fault(content)
-    if fault and not (BUG == "a field isn't tested: " + fault.split()[1] or BUG == f"{fault.split()[0]} isn't tested"):
-        refuse(fault)
+    test_fields(content)
     return copies, content
+
+
+def test_fields(content: superblock.Content) -> None:
+    """The field tests; a refusal ends the run."""
+    if content.version != 1 and BUG != "Version isn't tested":
+        refuse(f"Version found {content.version}")
+    for field, value, fails in superblock.tests(content):
+        if fails and BUG != f"a field isn't tested: {field}":
+            refuse(f"BadField {field} {value}")
 
 
 def repair(file: File, copies: list, content) -> None:
