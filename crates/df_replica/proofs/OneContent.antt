@@ -197,4 +197,3 @@ module _ (f : SuperFields) (can : IsUsable f) where
   pure_moments [] log pure are = started log (λ m. IsPure m (content_with f)) pure
   pure_moments (e ∷ es) log pure are =
       from_before e log (adds es (add e log)) (λ m. IsPure m (content_with f)) pure (adds_extends es (add e log)) (pure_moments es (add e log) (pure_goes_on log e pure are.0) are.1)
-
