@@ -1,12 +1,12 @@
 -- Two copies that are shown and not written: their content is chosen in whatever a stop leaves.
-use Rattle.std.proofs.Common.{◌≡◌, ◌≢◌, ◌⊎◌, inl, inr, ℕ, ◌<◌, ◌≤◌, ◌||◌, false, List, [], ◌∷◌, Some, refl, sym, ◌∙◌, ap, subst, arith}
+use Rattle.std.proofs.Common.{◌≡◌, ◌≢◌, inl, inr, ℕ, ◌<◌, ◌||◌, false, List, [], ◌∷◌, Some, refl, ◌∙◌, ap, arith}
 use Rattle.std.proofs.lemmas.Bool.{cases_lt}
 use Rattle.df_base.proofs.Goes.{started, from_before}
-use Rattle.df_base.specs.Image.{Image, covers, written}
-use Rattle.df_base.specs.Log.{Event, Write, Sync, Stop, Log, IsLeft, add, now, loose}
+use Rattle.df_base.specs.Image.{written}
+use Rattle.df_base.specs.Log.{Event, Write, Sync, Stop, Log, add, now, loose}
 use Rattle.df_base.specs.Moments.{EachMoment}
 use Rattle.df_format.specs.Copies.{Content, content_at, content_with, rank_of}
-use Rattle.df_format.specs.CopyPools.{NoChanceCopy, EachLeftCopies}
+use Rattle.df_format.specs.CopyPools.{EachLeftCopies}
 use Rattle.df_format.specs.SuperRules.{IsUsable}
 use Rattle.df_format.specs.declared.superblock.SuperFields.{SuperFields}
 use Rattle.df_format.proofs.CopyShown.{same_copy}
