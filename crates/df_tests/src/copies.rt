@@ -127,9 +127,15 @@ fn a_repair_writes_the_copies_that_are_no_members(rt: HostRuntime) -> Result<(),
         put(&mut disk, sector, &[0xa5; SECTOR])?;
     }
     let hurt = chosen(&mut disk, &mut room)?;
-    assert_eq!(rt; (hurt.content, hurt.members), (FIRST, [true, false, true, false]));
+    assert_eq!(rt;
+        (hurt.content, hurt.members),
+        (FIRST, [true, false, true, false])
+    );
     assert_eq!(rt; disk.events(), 10);
-    assert_eq!(rt; repair(&mut disk, &mut room, &hurt, &usable(&hurt.content)?), Ok(()));
+    assert_eq!(rt;
+        repair(&mut disk, &mut room, &hurt, &usable(&hurt.content)?),
+        Ok(())
+    );
     let whole = chosen(&mut disk, &mut room)?;
     assert_eq!(rt; (whole.content, whole.members), (FIRST, [true; 4]));
     // Two writes and two syncs.
@@ -161,7 +167,11 @@ fn an_update_whose_copies_are_lost_is_damaged(rt: HostRuntime) -> Result<(), Fai
             }),
             None => Ok(()),
         };
-        assert_eq!(rt; update(&mut disk, &mut room, &usable(&SECOND)?), wanted, "{lost:?}");
+        assert_eq!(rt;
+            update(&mut disk, &mut room, &usable(&SECOND)?),
+            wanted,
+            "{lost:?}"
+        );
     }
     Ok(())
 }
