@@ -13,3 +13,5 @@ mod runs;
 mod stops;
 #[cfg(test)]
 mod strikes;
+#[cfg(test)]
+mod superblocks;
