@@ -21,6 +21,11 @@ use Rattle.df_superblock.proofs.Mends.{Writes, other_written, written_shows}
 use Rattle.df_format.proofs.CopyClasses.{blank_copy_none}
 use Rattle.df_superblock.proofs.Puts.{copy_put}
 
+-- what is no higher than a content is below a higher one
+higher : (c e : Content) → rank_of c < rank_of e → (d : Content) → (d ≡ c) ⊎ (rank_of d < rank_of c) → (d ≡ e) ⊎ (rank_of d < rank_of e)
+higher c e less d (inl same) = inr (omega (arith, less, ap rank_of same))
+higher c e less d (inr lower) = inr (omega (arith, less))
+
 -- ---- moments
 
 module _ (f : SuperFields) (usable : IsUsable f) (entry : Log) (old : Content) (may : MayUpdate entry old (content_with f)) where
@@ -50,11 +55,7 @@ module _ (f : SuperFields) (usable : IsUsable f) (entry : Log) (old : Content) (
         synced_at log old later i (copy_bytes i f) (copy_put f usable i below) at.0,
         synced_within log old later i (copy_bytes i f) may.above (copy_put f usable i below) at.0 at.1,
       ))
-      entry (begins, record { high = λ n d above below is. higher d (steady.bounded n d above below is); low = λ soon. steady.bounded })
-    where
-      higher : (d : Content) → (d ≡ old) ⊎ (rank_of d < rank_of old) → (d ≡ later) ⊎ (rank_of d < rank_of later)
-      higher d (inl same) = inr (omega (arith, may.above, ap rank_of same))
-      higher d (inr lower) = inr (omega (arith, may.above))
+      entry (begins, record { high = λ n d above below is. higher old later may.above d (steady.bounded n d above below is); low = λ soon. steady.bounded })
 
 pub updates_safely : {T E : Type 0} → (f : SuperFields) (old new : Option Told) (result : Result T E) → IsUsable f → Adds (update_events f) old new result → UpdatesSafely f old new
 updates_safely f None new result usable is = tt
@@ -150,5 +151,6 @@ ends_equal f old new (Err e) usable is = tt
 
 pub ends_steady : {T E : Type 0} → (f : SuperFields) (old new : Option Told) (result : Result T E) → IsUsable f → Adds (update_events f) old new result → OnOk result (EndsSteady f old new)
 ends_steady f None new (Ok x) usable is = tt
-ends_steady f (Some t) new (Ok x) usable is = λ quiet bounded. tells_after (update_events f) t new (λ log. AreSteady log (content_with f)) is (all_steady f usable t.log quiet bounded)
+ends_steady f (Some t) new (Ok x) usable is = λ before steady less.
+    tells_after (update_events f) t new (λ log. AreSteady log (content_with f)) is (all_steady f usable t.log steady.quiet (λ n d above below stood. higher before (content_with f) less d (steady.bounded n d above below stood)))
 ends_steady f old new (Err e) usable is = tt
