@@ -111,10 +111,16 @@ fn tests_the_body_and_not_what_follows_it(rt: HostRuntime) {
 
 #[test]
 fn has_the_log_of_a_layout(rt: HostRuntime) {
-    let cases = [(Layout::small(), 32, 8192, 6), (Layout::large(), 1024, 1_048_576, 68)];
+    let cases = [
+        (Layout::small(), 32, 8192, 6),
+        (Layout::large(), 1024, 1_048_576, 68),
+    ];
     for (layout, slots, message_size, first_sector) in cases {
         let wal = Wal::of(&layout, 7);
-        assert_eq!(rt; (wal.cluster, wal.slots, wal.message_size), (7, slots, message_size));
+        assert_eq!(rt;
+            (wal.cluster, wal.slots, wal.message_size),
+            (7, slots, message_size)
+        );
         assert_eq!(rt; wal.first_sector, first_sector);
     }
 }
