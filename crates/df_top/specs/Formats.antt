@@ -17,7 +17,7 @@ use Rattle.df_superblock.specs.Copies.{AreEqual, AreQuiet}
 use Rattle.df_superblock.specs.Events.{update_events}
 use Rattle.df_top.specs.Files.{IsSafeFile, content_of_file}
 use Rattle.df_top.specs.Logs.{IsLogOf}
-use Rattle.df_top.specs.Refusals.{format_refusal_of, formatted_text}
+use Rattle.df_top.specs.Refusals.{format_refusal_of, formatted_of}
 use Rattle.df_top.specs.declared.session.DataFile.{DataFile}
 use Rattle.df_top.specs.declared.status.Status.{Status}
 use Rattle.df_top.specs.declared.status.Status.TheVariants.{Done, Refused, DiskFault, WriteFault, Memory}
@@ -46,11 +46,11 @@ format_events file = update_events (first_super file.layout file.cluster)
 -- What the word does, by how it ends: the file is made, whole, or in part where the disk failed; or it is refused and nothing
 -- is written. Its line is written, or a front of it where the sink failed.
 abbrev pub Formats : DataFile → Option Told → Option Told → Option (List ℕ) → Option (List ℕ) → Status → Type 0
-Formats file told later old new Done = MayFormat file told × (later ≡ after_all (format_events file) told) × Appends old new (formatted_text (file_sectors file.layout))
+Formats file told later old new Done = MayFormat file told × (later ≡ after_all (format_events file) told) × Appends old new (formatted_of (file_sectors file.layout))
 Formats file told later old new Refused = (error : FormatError) × RefusesFormat file told error × (later ≡ told) × Appends old new (format_refusal_of error)
 Formats file told later old new DiskFault = AddsPart (format_events file) told later × (new ≡ old)
 Formats file told later old new WriteFault =
-    (MayFormat file told × (later ≡ after_all (format_events file) told) × AppendsPart old new (formatted_text (file_sectors file.layout)))
+    (MayFormat file told × (later ≡ after_all (format_events file) told) × AppendsPart old new (formatted_of (file_sectors file.layout)))
     ⊎ ((error : FormatError) × RefusesFormat file told error × (later ≡ told) × AppendsPart old new (format_refusal_of error))
 Formats file told later old new Memory = (later ≡ told) × (new ≡ old)
 Formats file told later old new status = ⊥

@@ -4,15 +4,15 @@ use Rattle.df_base.specs.Log.{Sync}
 use Rattle.df_base.specs.Streams.{Appends, AppendsPart}
 use Rattle.df_disk.specs.Told.{Told, after}
 use Rattle.df_replica.specs.declared.errors.OpenError.{OpenError}
-use Rattle.df_top.specs.Refusals.{refusal_of}
+use Rattle.df_top.specs.Refusals.{open_refusal_of}
 use Rattle.df_top.specs.declared.status.Status.{Status}
 use Rattle.df_top.specs.declared.status.Status.TheVariants.{Refused, DiskFault, WriteFault, Memory}
 
 -- the refusal's line is all that is written, or a front of it where the sink failed; nothing where the disk failed before it
 -- or memory was wanted
 abbrev pub PrintsRefusal : OpenError → Option (List ℕ) → Option (List ℕ) → Status → Type 0
-PrintsRefusal error old new Refused = Appends old new (refusal_of error)
-PrintsRefusal error old new WriteFault = AppendsPart old new (refusal_of error)
+PrintsRefusal error old new Refused = Appends old new (open_refusal_of error)
+PrintsRefusal error old new WriteFault = AppendsPart old new (open_refusal_of error)
 PrintsRefusal error old new DiskFault = new ≡ old
 PrintsRefusal error old new Memory = new ≡ old
 PrintsRefusal error old new status = ⊥
