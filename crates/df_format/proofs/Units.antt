@@ -20,7 +20,7 @@ use Rattle.df_format.specs.Message.{Message, unit_of, sectors_of}
 use Rattle.df_format.specs.Own.{place_in, own_place}
 use Rattle.df_format.specs.Shown.{part_in, bytes_of, unit_in, class_of, unit_at, class_at}
 use Rattle.df_format.specs.Valid.{IsBodyOf, HasBody, IsUnit}
-use Rattle.df_format.specs.UnitLaws.{place_size, IsAtPlace, ShownBelongs, ValidBelongs, ShownIsUnit, AgreeAt, SameIsShown, WrittenIsShown, SectorsFitPlace, IsOther, WrittenIsApart, SectorIsShown, headers_bytes, HeadersFillSector, HeaderIsShown, BlankShowsNone, LeftIsApart}
+use Rattle.df_format.specs.UnitLaws.{place_size, IsAtPlace, ShownBelongs, ReadBelongs, ValidBelongs, ShownIsUnit, AgreeAt, SameIsShown, ReadIsShown, WrittenIsShown, SectorsFitPlace, IsOther, WrittenIsApart, SectorIsShown, headers_bytes, HeadersFillSector, HeaderIsShown, BlankShowsNone, LeftIsApart}
 use Rattle.df_format.proofs.Messages.{length-sectors, AreBytes-sectors, AreBytes-spelling}
 use Rattle.df_format.proofs.Owned.{own_is, belongs}
 use Rattle.df_format.proofs.Parts.{bytes-take, bytes-drop, bytes-append}
@@ -37,6 +37,9 @@ at_place layout place u own =
 pub shown_belongs : ShownBelongs
 unfolding unit_at
 shown_belongs layout cluster image place u is = at_place layout place u (unit_found layout cluster place _ u is).belongs
+
+pub read_belongs : ReadBelongs
+read_belongs layout cluster place bytes u is = at_place layout place u (unit_found layout cluster place bytes u is).belongs
 
 pub valid_belongs : ValidBelongs
 valid_belongs layout cluster place u is = at_place layout place u is.own
@@ -93,6 +96,11 @@ unfolding unit_at class_at
 same_shown layout cluster place one two same =
     let bytes = same_bytes_of layout place one two same in
     record { unit = ap (λ (l : List ℕ). unit_in layout cluster place l) bytes; class = ap (λ (l : List ℕ). class_of layout cluster place l) bytes }
+
+pub read_shown : ReadIsShown
+unfolding unit_at bytes_of
+read_shown layout cluster image place other =
+    ap (λ (l : List ℕ). unit_in layout cluster place l) (sym (part_whole place.zone place.index (bytes_at image (span_of layout place).first (span_of layout place).count) other))
 
 -- a unit that isn't a header alone has its body
 body_of : (zone : Zone) (h : Header) (body : List ℕ) → zone ≢ WalHeaders → HasBody zone h body → IsBodyOf h body

@@ -1,7 +1,7 @@
 -- What holds of every unit, place and image of a layout: what the layers above rest on.
 use Rattle.std.specs.Prelude.{◌≡◌, ◌≢◌, ◌⊎◌, ◌↔◌, ◌<◌, ◌≤◌, ◌+◌, ◌-◌, ◌*◌, ◌/◌, ◌%◌, ℕ, false, List, [], ◌∷◌, ◌++◌, length, take, drop, slice_get, Some, None}
 use Rattle.df_base.specs.Fields.{AreBytes}
-use Rattle.df_base.specs.Image.{Image, IsImage, IsPiece, blank, written}
+use Rattle.df_base.specs.Image.{Image, IsImage, IsPiece, blank, bytes_at, written}
 use Rattle.df_base.specs.Log.{Log, Write, IsLeft, add, loose, now, settled}
 use Rattle.df_layout.specs.declared.damage.Class.TheVariants.{Blank, Elsewhere, Stale}
 use Rattle.df_layout.specs.declared.layout.Layout.{Layout}
@@ -47,7 +47,11 @@ ShownBelongs = (layout : Layout) (cluster : ℕ) (image : Image) (place : Place)
 abbrev pub ShownIsUnit : Type 0
 ShownIsUnit = (layout : Layout) (cluster : ℕ) (image : Image) (place : Place) (u : Message) → IsImage image → unit_at layout cluster image place ≡ Some u → IsUnit layout cluster place u
 
--- so is each place at which a unit is valid
+-- so is each place whose bytes are a unit that is valid there
+abbrev pub ReadBelongs : Type 0
+ReadBelongs = (layout : Layout) (cluster : ℕ) (place : Place) (bytes : List ℕ) (u : Message) → unit_in layout cluster place bytes ≡ Some u → IsAtPlace layout place u
+
+-- and each place at which a unit is valid
 abbrev pub ValidBelongs : Type 0
 ValidBelongs = (layout : Layout) (cluster : ℕ) (place : Place) (u : Message) → IsUnit layout cluster place u → IsAtPlace layout place u
 
@@ -81,6 +85,12 @@ pub record ShowSame (layout : Layout) (cluster : ℕ) (place : Place) (one two :
 -- what a place shows depends on its own sectors alone
 abbrev pub SameIsShown : Type 0
 SameIsShown = (layout : Layout) (cluster : ℕ) (place : Place) (one two : Image) → AgreeAt layout place one two → ShowSame layout cluster place one two
+
+-- elsewhere than in the header ring the sectors of a place, as they are read, are what it shows
+abbrev pub ReadIsShown : Type 0
+ReadIsShown =
+    (layout : Layout) (cluster : ℕ) (image : Image) (place : Place) → place.zone ≢ WalHeaders
+    → unit_in layout cluster place (bytes_at image (span_of layout place).first (span_of layout place).count) ≡ unit_at layout cluster image place
 
 -- the image after a write from the first sector of a place on
 abbrev pub put : Layout → Place → List ℕ → Image → Image

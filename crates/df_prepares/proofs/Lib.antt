@@ -1,4 +1,5 @@
 pub mod Slots
+pub mod Places
 pub mod Chains
 pub mod Rings
 pub mod Images

@@ -122,8 +122,10 @@ pub fn find_ring<D: Disk>(
         let (back, next) = read_next(disk, layout, cluster, &head, room);
         room = back;
         match next {
-            Ok(Some(later)) => head = later,
-            Ok(None) => return (room, Ok(head)),
+            Ok(child) => match child {
+                Some(later) => head = later,
+                None => return (room, Ok(head)),
+            },
             Err(failed) => return (room, Err(failed)),
         }
     }

@@ -3,6 +3,7 @@ ghost use Rattle.std.specs.Prelude.{◌≡◌, ◌<◌, ◌^◌, OnOk};
 ghost use Rattle.df_base.specs.Causes.{HasCause};
 ghost use Rattle.df_disk.specs.Told.{Shows};
 ghost use Rattle.df_disk.specs.Adds.{Adds};
+ghost use Rattle.df_buffers.specs.Rooms.{FillsRoom};
 ghost use Rattle.df_prepares.specs.Slots.{slot_place, slot_first, IsInOwnSlot, write_events};
 
 use df_base::Failed;
@@ -57,6 +58,7 @@ pub fn read_slot<D: Disk>(
     requires room { room.old.layout ≡ layout.now }
     ensures bytes { OnOk result (Shows (D.told disk.old) (slot_first layout.now slot) room.new.bytes) }
     ensures room { room.new.layout ≡ layout.now }
+    ensures fills { FillsRoom layout.now Zone.WalPrepares room.new.bytes }
     ensures same { D.told disk.new ≡ D.told disk.old }
     ensures cause { HasCause (D.faults disk.old) (D.faults disk.new) result }
 {

@@ -3,6 +3,7 @@ mod Writes
 mod Lines
 mod Rounds
 mod Steps
+mod Made
 mod Progress
 mod LineEnds
 mod Small

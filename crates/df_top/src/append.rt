@@ -1,5 +1,5 @@
 // An append: its prepare is made, written into its slot and synced, unless the ring is full.
-ghost use Rattle.std.specs.Prelude.{◌≡◌, ◌<◌, ◌≤◌, ◌+◌, length, take, IsSome, OnOk, OnErr};
+ghost use Rattle.std.specs.Prelude.{◌≡◌, ◌<◌, ◌≤◌, ◌+◌, ◌^◌, length, take, IsSome, OnOk, OnErr};
 ghost use Rattle.df_base.specs.Causes.{HasCause};
 ghost use Rattle.df_disk.specs.Adds.{Adds};
 ghost use Rattle.df_layout.specs.declared.places.Zone.TheVariants.{WalPrepares};
@@ -8,11 +8,11 @@ ghost use Rattle.df_format.specs.Making.{for_body};
 ghost use Rattle.df_format.specs.Message.{sectors_end};
 ghost use Rattle.df_format.specs.Own.{own_place};
 ghost use Rattle.df_format.specs.Rules.{ObeysRules};
-ghost use Rattle.df_format.specs.Spelling.{no_checksum, sealed};
+ghost use Rattle.df_format.specs.Spelling.{no_checksum};
 ghost use Rattle.df_format.specs.Unit.{IsPrepare, sectors_of};
 ghost use Rattle.df_script.specs.Grammar.{Append};
 ghost use Rattle.df_top.specs.Heads.{IsEnd};
-ghost use Rattle.df_top.specs.Logs.{IsLogOf};
+ghost use Rattle.df_top.specs.Logs.{IsLogOf, header_given};
 ghost use Rattle.df_top.specs.Script.{IsTaken};
 ghost use Rattle.df_top.specs.Step.{behind, append_events, IsNextHead, Steps};
 ghost use Rattle.df_top.specs.Texts.{count_after};
@@ -31,18 +31,31 @@ const NO_CHECKSUM: [u8; 16] = [0; 16];
 // The sequence of the first superblock, which each prepare has as its checkpoint.
 const FIRST_SEQUENCE: u64 = 1;
 
-// The header of an append behind a head. Its size and its checksums follow from the body when the prepare is made.
-#[tactic(auto, unfolding(df_format::specs::Own::own_place))]
-fn header_behind(file: &DataFile, head: &Head, client: u128, request: u64) -> Header
-    requires free { head.now.op < file.now.layout.slots }
-    ensures kind { result.kind ≡ Kind.Prepare }
+// What the maker of an append's prepare says of it. What follows from the body is set when the prepare is made.
+#[tactic(auto, unfolding(df_format::specs::Own::own_place, df_format::specs::Spelling::no_checksum))]
+fn header_given(
+    file: &DataFile,
+    head: Head,
+    client: u128,
+    request: u64,
+    body: &[u8],
+) -> Header
+    requires cluster { (0 < file.now.cluster) × (file.now.cluster < 2 ^ 128) }
+    requires free { head.op < file.now.layout.slots }
+    requires first { head.op ≡ 0 → head.checksum ≡ no_checksum }
+    requires client { 0 < client }
+    requires request { (0 < request) × (request ≤ 2 ^ 62) }
+    requires body { 256 + length body.now ≤ file.now.layout.message_size }
+    ensures value { result ≡ header_given file.now head client request }
+    ensures rules { ObeysRules (for_body result body.now) }
     ensures own { IsSome (own_place file.now.layout WalPrepares result) }
 {
+    let parent = head.checksum;
     Header {
         checksum: NO_CHECKSUM,
         checksum_body: NO_CHECKSUM,
         cluster: file.cluster,
-        parent: head.checksum,
+        parent,
         client,
         op: head.op + 1,
         request,
@@ -74,7 +87,7 @@ fn make_behind(
     ensures sectors { take (sectors_end result.unit.header.size) result.bytes ≡ sectors_of result.unit }
     ensures layout { result.layout ≡ file.now.layout }
 {
-    let header = header_behind(file, head, client, request);
+    let header = header_given(file, *head, client, request, body);
     room.make(header, body)
 }
 
