@@ -31,7 +31,8 @@ pub first_sector : (image : Image) (at n : ℕ) → 0 < n → (rest : List ℕ) 
 first_sector image at zero some = absurd (omega arith)
 first_sector image at (suc n) some = (bytes_at image (at + 1) n, refl)
 
-covered : (at : ℕ) (bytes : List ℕ) (image : Image) (k : ℕ) → 4096 * k < length bytes → written at bytes image (at + k) ≡ take 4096 (drop (4096 * k) bytes)
+-- a sector of a write holds its part of the bytes
+pub covered : (at : ℕ) (bytes : List ℕ) (image : Image) (k : ℕ) → 4096 * k < length bytes → written at bytes image (at + k) ≡ take 4096 (drop (4096 * k) bytes)
 unfolding written covers
 covered at bytes image k inside =
     let same : at + k - at ≡ k = omega arith in

@@ -14,3 +14,8 @@ pub mod Pools
 pub mod Laws
 pub mod UnitLaws
 pub mod Making
+pub mod Super
+pub mod SuperRules
+pub mod Copies
+pub mod CopyPools
+pub mod CopyLaws

@@ -29,9 +29,10 @@ const VERSION_BYTES: [u8; 134] = [
 ];
 
 // Writes a checksum over 16 bytes.
-fn put_check(into: &mut [u8], at: usize, value: &Check)
+pub(crate) fn put_check(into: &mut [u8], at: usize, value: &Check)
     requires { at + 16 ≤ length into.old }
-    ensures { take (at + 16) into.new ≡ take at into.old ++ value.now }
+    ensures front { take (at + 16) into.new ≡ take at into.old ++ value.now }
+    ensures rest { drop (at + 16) into.new ≡ drop (at + 16) into.old }
 {
     put_bytes(into, at, value);
 }
@@ -100,7 +101,7 @@ pub fn encode_header(header: &Header, into: &mut [u8])
     put_fields(into, header);
 }
 
-fn check_at(bytes: &[u8], at: usize) -> Check
+pub(crate) fn check_at(bytes: &[u8], at: usize) -> Check
     requires { at + 16 ≤ length bytes.now }
     ensures { result ≡ take 16 (drop at bytes.now) }
 {

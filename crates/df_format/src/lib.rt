@@ -4,6 +4,7 @@
 #[cfg(test)]
 mod class_tests;
 mod codec;
+mod copy_laws;
 mod decode;
 #[cfg(test)]
 mod examples;
@@ -18,12 +19,21 @@ mod pieces;
 mod places;
 mod reference;
 mod rules;
+mod super_codec;
+mod super_rules;
+#[cfg(test)]
+mod super_tests;
+mod superblock;
 #[cfg(test)]
 mod tests;
 mod unit_laws;
 mod wal;
 
 pub use codec::{decode_header, encode_header, seal_header};
+pub use copy_laws::{
+    blank_shows_no_copy, copies_have_one_spelling, same_sector_same_copy, valid_copy_is_stale,
+    written_copy_is_shown,
+};
 pub use decode::decode_unit;
 pub use header::Header;
 pub use kind::Kind;
@@ -34,6 +44,9 @@ pub use laws::{
 pub use make::{Made, make_unit};
 pub use own::own_place;
 pub use reference::Reference;
+pub use super_codec::{decode_copy, decode_own_copy, encode_copy};
+pub use super_rules::{Super, faults_are_broken_rules, test_fields};
+pub use superblock::{SuperCopy, SuperFault, SuperFields};
 pub use unit_laws::{
     blank_shows_no_unit, bodies_follow_headers, classes_tell, header_sector_is_shown,
     left_is_old_or_new, other_places_stay, places_show_their_sectors, prepares_are_units,

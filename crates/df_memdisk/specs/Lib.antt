@@ -4,3 +4,4 @@ pub mod Struck
 pub mod State
 pub mod Refusals
 pub mod Strikes
+pub mod Dropping

@@ -4,6 +4,9 @@
 #![tactic(auto)]
 
 mod change;
+mod dropping;
+#[cfg(test)]
+mod dropping_tests;
 mod history;
 mod memory;
 mod shown;
@@ -14,5 +17,6 @@ mod tests;
 mod written;
 
 pub use change::{Change, StopError};
+pub use dropping::DroppingDisk;
 pub use memory::MemoryDisk;
 pub use strike::Strike;

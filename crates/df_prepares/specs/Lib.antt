@@ -3,3 +3,4 @@ pub mod Slots
 pub mod Found
 pub mod Steady
 pub mod Laws
+pub mod Apart

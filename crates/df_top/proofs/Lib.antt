@@ -7,5 +7,8 @@ mod Made
 mod Progress
 mod LineEnds
 mod Small
+pub mod Commas
+pub mod Commands
+pub mod Refusing
 mod Whole
 mod Follows

@@ -11,3 +11,5 @@ pub mod Serving
 pub mod Laws
 pub mod Statuses
 pub mod Writes
+pub mod Command
+pub mod Refusals

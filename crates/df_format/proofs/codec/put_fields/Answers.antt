@@ -7,9 +7,9 @@ pub returns : goal.returns
 unfolding spelling_rest
 returns c =
     let h = c.args.header.now in
-    let s1 = bytes_behind 16 16 h.checksum_body c.args.into.now c.put_check.new.into _ c.put_check.ensures refl in
+    let s1 = bytes_behind 16 16 h.checksum_body c.args.into.now c.put_check.new.into _ c.put_check.ensures.front refl in
     let s2 = number_behind 32 16 h.cluster c.put_check.new.into c.put_u128.new.bytes _ (omega arith) c.put_u128.ensures s1 in
-    let s3 = bytes_behind 48 16 h.parent c.put_u128.new.bytes c.put_check-2.new.into _ c.put_check-2.ensures s2 in
+    let s3 = bytes_behind 48 16 h.parent c.put_u128.new.bytes c.put_check-2.new.into _ c.put_check-2.ensures.front s2 in
     let s4 = number_behind 64 16 h.client c.put_check-2.new.into c.put_u128-2.new.bytes _ (omega arith) c.put_u128-2.ensures s3 in
     let s5 = number_behind 80 8 h.op c.put_u128-2.new.bytes c.put_u64.new.bytes _ (omega arith) c.put_u64.ensures s4 in
     let s6 = number_behind 88 8 h.request c.put_u64.new.bytes c.put_u64-2.new.bytes _ (omega arith) c.put_u64-2.ensures s5 in

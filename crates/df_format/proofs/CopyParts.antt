@@ -1,0 +1,83 @@
+-- Parts of a copy's sector: what a write of a number leaves behind it, and which bytes are all zero.
+use Rattle.std.proofs.Common.{inl, inr, ◌≡◌, ◌≤◌, ◌+◌, ◌==◌, ◌&&◌, ℕ, zero, suc, Bool, not, List, [], ◌∷◌, ◌++◌, length, take, drop, replicate, Option, Some, None, cond, refl, sym, ◌∙◌, ap, arith, append_assoc, length-append}
+use Rattle.std.specs.Prelude.{nat_lt, position, option_map}
+use Rattle.std.specs.List.{list_all, prefix_len}
+use Rattle.std.proofs.lemmas.Bool.{cond-true, cond-false, le-ltb, ltb-false, eq-eqb, ne_eqb, not_from_true, not_from_false, cases_eq, cases_Bool}
+use Rattle.std.specs.Str.{bytes_eq}
+use Rattle.std.proofs.lemmas.List.{take-append-drop, drop-drop, drop_at, take_all, length-take-le, length-replicate}
+use Rattle.df_base.specs.Fields.{spelled, put_at}
+use Rattle.df_base.proofs.FieldBytes.{length-spelled}
+
+-- all bytes are zero where they are as many zeros
+pub all_zero : (bytes : List ℕ) (n : ℕ) → length bytes ≡ n → list_all (λ b. b == 0) bytes ≡ bytes_eq bytes (replicate n 0)
+all_zero [] zero size = refl
+all_zero [] (suc n) size = absurd (omega arith)
+all_zero (x ∷ xs) zero size = absurd (omega arith)
+all_zero (x ∷ xs) (suc n) size = ap (λ (b : Bool). (x == 0) && b) (all_zero xs n (omega arith))
+
+-- what stands further behind is the same too
+pub further : (at n : ℕ) (one two : List ℕ) → drop at one ≡ drop at two → drop (at + n) one ≡ drop (at + n) two
+further at n one two same = sym (drop-drop n at one) ∙ ap (λ (l : List ℕ). drop n l) same ∙ drop-drop n at two
+
+-- a number that is written leaves what stands behind it
+pub number_rest : (at n x : ℕ) (old new : List ℕ) → at + n ≤ length old → new ≡ put_at n at x old → drop (at + n) new ≡ drop (at + n) old
+number_rest at n x old new fits is =
+    let size : length (take at old ++ spelled n x) ≡ at + n = length-append (take at old) (spelled n x) ∙ (λ i. length-take-le at old (omega arith) i + length-spelled n x i) in
+    ap (λ (l : List ℕ). drop (at + n) l) (is ∙ sym (append_assoc (take at old) (spelled n x) (drop (at + n) old)))
+    ∙ drop_at (take at old ++ spelled n x) (drop (at + n) old) (at + n) size
+
+-- a list is its front and what stands behind it
+pub joined : (at : ℕ) (bytes front rest : List ℕ) → take at bytes ≡ front → drop at bytes ≡ rest → bytes ≡ front ++ rest
+joined at bytes front rest before behind = sym (take-append-drop at bytes) ∙ (λ i. before i ++ behind i)
+
+-- what stands behind the first bytes, where a piece and a rest fill the list
+pub behind_front : (at end : ℕ) (old new piece rest : List ℕ) → at ≤ length old → length new ≡ end → take end new ≡ (take at old ++ piece) ++ rest → drop at new ≡ piece ++ rest
+behind_front at end old new piece rest fits size is =
+    ap (λ (l : List ℕ). drop at l) (sym (take_all end new (omega arith)) ∙ is ∙ append_assoc (take at old) piece rest)
+    ∙ drop_at (take at old) (piece ++ rest) at (length-take-le at old fits)
+
+-- how many zeros stand in front
+abbrev zeros_in : List ℕ → ℕ
+zeros_in bytes = prefix_len (λ b. not (not (b == 0))) bytes
+
+zeros_in-zeros : (n : ℕ) → zeros_in (replicate n 0) ≡ n
+zeros_in-zeros zero = refl
+zeros_in-zeros (suc n) = ap (λ (k : ℕ). 1 + k) (zeros_in-zeros n) ∙ omega arith
+
+-- among zeros there is none that isn't
+pub no_other : (n : ℕ) → position (λ b. not (b == 0)) (replicate n 0) ≡ None
+no_other n =
+    let zeros : List ℕ = replicate n 0 in
+    let size : length zeros ≡ n = length-replicate {A = ℕ} n 0 in
+    cond-false (nat_lt (zeros_in zeros) (length zeros)) (Some (zeros_in zeros)) None (le-ltb (zeros_in zeros) (length zeros) (omega (arith, zeros_in-zeros n, size)))
+
+-- one byte: zero, and so are those behind it
+zeros_behind : (x : ℕ) (xs : List ℕ) → length (x ∷ xs) ≤ zeros_in (x ∷ xs) → (x ≡ 0) × (length xs ≤ zeros_in xs)
+zeros_behind x xs is = elim (cases_eq x 0) [
+  | inl none ↦
+      let more : zeros_in (x ∷ xs) ≡ 1 + zeros_in xs = cond-true (not (not (x == 0))) _ _ (not_from_false _ (not_from_true _ (eq-eqb x 0 none))) in
+      (none, omega (arith, more, is))
+  | inr some ↦
+      let end : zeros_in (x ∷ xs) ≡ 0 = cond-false (not (not (x == 0))) (1 + zeros_in xs) 0 (not_from_true _ (not_from_false _ (ne_eqb x 0 some))) in
+      absurd (omega (arith, end, is))
+]
+
+no_place : (o : Option ℕ) (n : ℕ) → option_map (λ i. n + i) o ≡ None → o ≡ None
+no_place None n is = refl
+no_place (Some i) n is = absurd (cc)
+
+zeros_by : (n : ℕ) (bytes : List ℕ) → length bytes ≡ n → length bytes ≤ zeros_in bytes → bytes ≡ replicate n 0
+zeros_by zero [] size is = refl
+zeros_by zero (x ∷ xs) size is = absurd (omega arith)
+zeros_by (suc n) [] size is = absurd (omega arith)
+zeros_by (suc n) (x ∷ xs) size is = let both = zeros_behind x xs is in λ i. both.0 i ∷ zeros_by n xs (omega arith) both.1 i
+
+unplaced : (n m : ℕ) → cond (nat_lt n m) (Some n) None ≡ None → m ≤ n
+unplaced n m is = elim (cases_Bool (nat_lt n m)) [
+  | inl less ↦ absurd (let found = sym (cond-true (nat_lt n m) (Some n) None less) ∙ is in cc)
+  | inr more ↦ ltb-false n m more
+]
+
+-- so many bytes among which there is none that isn't zero
+pub all_zeros : (n : ℕ) (bytes : List ℕ) → length bytes ≡ n → option_map (λ i. 160 + i) (position (λ b. not (b == 0)) bytes) ≡ None → bytes ≡ replicate n 0
+all_zeros n bytes size none = zeros_by n bytes size (unplaced _ _ (no_place _ 160 none))

@@ -1,0 +1,64 @@
+-- What an image shows at the copies' places: the laws that the superblock rests on.
+use Rattle.std.proofs.Common.{◌≡◌, ◌≢◌, inl, inr, ◌<◌, ◌≤◌, ◌+◌, ◌*◌, ◌==◌, ℕ, false, List, length, take, drop, Option, Some, None, refl, sym, ◌∙◌, ap, subst, arith}
+use Rattle.std.proofs.lemmas.Bool.{cond-true, cond-false, cases_order, eq-eqb}
+use Rattle.std.proofs.lemmas.List.{take_all}
+use Rattle.df_base.specs.Fields.{check_of}
+use Rattle.df_base.specs.Image.{Image, IsSector, IsPiece, covers, written}
+use Rattle.df_format.specs.declared.superblock.SuperCopy.{SuperCopy}
+use Rattle.df_format.specs.declared.superblock.SuperFields.{SuperFields}
+use Rattle.df_format.specs.Super.{FitsSuper, covered_bytes, copy_bytes}
+use Rattle.df_format.specs.SuperRules.{IsUsable}
+use Rattle.df_format.specs.Copies.{copy_in, if_here, copy_at, content_of, content_at, content_with}
+use Rattle.df_format.specs.CopyLaws.{WrittenCopyIsShown, OtherSectorsStay, OtherCopiesStay, CopyIsOneSector, SameSectorSameCopy}
+use Rattle.df_format.proofs.Sectors.{covered}
+use Rattle.df_format.proofs.Shown.{uncovered_below, uncovered_above}
+use Rattle.df_format.proofs.CopySpelled.{length-copy, copy_is_sector, copy_is_read}
+
+-- one sector that is written
+written_here : (at : ℕ) (bytes : List ℕ) (image : Image) → length bytes ≡ 4096 → written at bytes image at ≡ bytes
+written_here at bytes image size =
+    let here : at + 0 ≡ at = omega arith in
+    let all : take 4096 (drop 0 bytes) ≡ bytes = take_all 4096 bytes (omega arith) in
+    subst (λ (s : ℕ). written at bytes image s ≡ bytes) here (covered at bytes image 0 (omega arith) ∙ all)
+
+not_written : (at : ℕ) (bytes : List ℕ) (image : Image) (sector : ℕ) → covers at bytes sector ≡ false → written at bytes image sector ≡ image sector
+unfolding written
+not_written at bytes image sector is = cond-false (covers at bytes sector) _ _ is
+
+-- and no other sector
+pub written_beside : (at : ℕ) (bytes : List ℕ) (image : Image) (sector : ℕ) → length bytes ≡ 4096 → sector ≢ at → written at bytes image sector ≡ image sector
+written_beside at bytes image sector size other = elim (cases_order sector at) [
+  | inl same ↦ absurd (other same)
+  | inr differ ↦ elim differ [
+    | inl before ↦ not_written at bytes image sector (uncovered_below at bytes sector before)
+    | inr behind ↦ not_written at bytes image sector (uncovered_above at bytes sector 1 (omega arith) (omega arith))
+  ]
+]
+
+pub same_copy : SameSectorSameCopy
+unfolding copy_at
+same_copy one two number same = ap (λ (bytes : List ℕ). content_of (if_here number (copy_in bytes))) same
+
+pub one_sector : CopyIsOneSector
+one_sector number f fits =
+    let sector = copy_is_sector number f fits in
+    record { sector = sector; piece = record { some = omega (arith, sector.size); whole = omega (arith, sector.size); each = sector.each } }
+
+pub other_sectors : OtherSectorsStay
+other_sectors image number other f differs fits = written_beside number (copy_bytes number f) image other (length-copy number f fits) differs
+
+pub other_copies : OtherCopiesStay
+other_copies image number other f differs fits = same_copy _ image other (other_sectors image number other f differs fits)
+
+-- a sector that is a copy's shows its content at the copy's place
+shown_by : (number : ℕ) (copy : SuperCopy) → copy.number ≡ number → content_of (if_here number (Some copy)) ≡ Some (record { checksum = copy.checksum; fields = copy.fields })
+shown_by number copy here = ap content_of (cond-true (copy.number == number) (Some copy) None (eq-eqb copy.number number here))
+
+pub written_copy : WrittenCopyIsShown
+unfolding copy_at
+written_copy image number f small is =
+    let here = written_here number (copy_bytes number f) image (length-copy number f is.fits) in
+    let read = copy_is_read number f small is.fits is.rules.zero in
+    ap (λ (bytes : List ℕ). content_of (if_here number (copy_in bytes))) here
+    ∙ ap (λ (o : Option SuperCopy). content_of (if_here number o)) read
+    ∙ shown_by number (record { number = number; checksum = check_of (covered_bytes f); fields = f }) refl

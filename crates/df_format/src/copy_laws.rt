@@ -1,0 +1,30 @@
+// Laws of every copy of the superblock, sector and image, each the clause of a function that does nothing.
+ghost use Rattle.df_format.specs.CopyLaws.{CopiesHaveOneSpelling, WrittenCopyIsShown, OtherSectorsStay, OtherCopiesStay, CopyIsOneSector, SameSectorSameCopy, ValidCopyIsStale, BlankShowsNoCopy};
+
+/// A sector is read as a copy with zeros behind its fields exactly where it is that copy's spelling.
+pub fn copies_have_one_spelling()
+    ensures { CopiesHaveOneSpelling }
+{}
+
+/// A copy that is written is shown at its own place; it is one sector, so that the others and what they show stay.
+pub fn written_copy_is_shown()
+    ensures shown { WrittenCopyIsShown }
+    ensures fits { CopyIsOneSector }
+    ensures sectors { OtherSectorsStay }
+    ensures others { OtherCopiesStay }
+{}
+
+/// What a copy's place shows depends on its sector alone.
+pub fn same_sector_same_copy()
+    ensures { SameSectorSameCopy }
+{}
+
+/// A copy that is valid at its place is neither blank nor elsewhere.
+pub fn valid_copy_is_stale()
+    ensures { ValidCopyIsStale }
+{}
+
+/// A blank image shows no copy.
+pub fn blank_shows_no_copy()
+    ensures { BlankShowsNoCopy }
+{}

@@ -1,0 +1,210 @@
+// The sector of a copy of the superblock: how it is written, and how it is tested and read.
+ghost use Rattle.std.specs.Prelude.{◌≡◌, ◌<◌, ◌+◌, ◌++◌, ◌==◌, not, length, take, drop, replicate, position, IfSome, IsTrue};
+ghost use Rattle.df_base.specs.Fields.{field_at, spelled};
+ghost use Rattle.df_format.specs.Super.{fields_bytes, covered_bytes, copy_bytes};
+ghost use Rattle.df_format.specs.SuperRules.{IsUsable};
+ghost use Rattle.df_format.specs.Own.{place_in};
+ghost use Rattle.df_format.specs.Copies.{first_nonzero_of, super_fields_of, has_checksum, has_zeros, is_copy, copy_in, is_blank_copy, class_of_no_copy, own_copy};
+
+use crate::codec::{check_at, put_check};
+use crate::pieces::put_zeros;
+use crate::{Super, SuperCopy, SuperFields};
+use df_base::{Check, SECTOR, check, put_u32, put_u64, put_u128, u32_at, u64_at, u128_at};
+use df_layout::{Class, Place, Zone};
+
+// Copies of the superblock.
+const COPIES: u32 = 4;
+
+// Where the number of the copy stands, behind the checksum, and where zeros follow it.
+const NUMBER: usize = 16;
+
+const ZEROS: usize = 20;
+
+// Where the part begins that the checksum covers.
+const COVERED: usize = 32;
+
+// The end of the fields; zeros follow up to the end of the sector.
+const END: usize = 160;
+
+// Writes the fields, each at its offset.
+fn put_fields(into: &mut [u8], fields: &SuperFields)
+    requires { length into.old ≡ 4096 }
+    ensures { take 160 into.new ≡ take 32 into.old ++ fields_bytes fields.now }
+{
+    put_u32(into, 32, fields.version);
+    put_u32(into, 36, fields.slots);
+    put_u32(into, 40, fields.message_size);
+    put_u32(into, 44, fields.clients);
+    put_u128(into, 48, fields.cluster);
+    put_u32(into, 64, fields.block_size);
+    put_u32(into, 68, fields.blocks);
+    put_u64(into, 72, fields.sequence);
+    put_u64(into, 80, fields.op);
+    put_u64(into, 88, fields.head);
+    put_u64(into, 96, fields.replies);
+    put_u64(into, 104, fields.trailer_address);
+    put_check(into, 112, &fields.op_checksum);
+    put_check(into, 128, &fields.trailer_checksum);
+    put_u64(into, 144, fields.trailer_size);
+    put_u64(into, 152, fields.boot);
+}
+
+// Writes all that the checksum covers.
+fn put_covered(into: &mut [u8], fields: &SuperFields)
+    requires { length into.old ≡ 4096 }
+    ensures { drop 32 into.new ≡ covered_bytes fields.now }
+{
+    put_fields(into, fields);
+    put_zeros(into, END, SECTOR);
+}
+
+// Writes what the checksum doesn't cover: itself, the number and the zeros behind it.
+fn put_front(into: &mut [u8], sum: &Check, number: u8)
+    requires { length into.old ≡ 4096 }
+    ensures front { take 32 into.new ≡ sum.now ++ (spelled 4 number ++ replicate 12 0) }
+    ensures rest { drop 32 into.new ≡ drop 32 into.old }
+{
+    put_check(into, 0, sum);
+    put_u32(into, NUMBER, u32::from(number));
+    put_zeros(into, ZEROS, COVERED);
+}
+
+/// Writes the sector of the copy with this number, 0 to 3, over `into`.
+pub fn encode_copy(content: &Super, number: u8, into: &mut [u8])
+    requires number { number < 4 }
+    requires room { length into.old ≡ 4096 }
+    ensures bytes { into.new ≡ copy_bytes number content.now }
+    ensures usable { IsUsable content.now }
+{
+    put_covered(into, content.fields());
+    let sum = check(&into[COVERED..]);
+    put_front(into, &sum, number);
+}
+
+fn first_other(bytes: &[u8]) -> Option<usize>
+    ensures value { result ≡ position (λ b. not (b == 0)) bytes.now }
+    ensures bound { IfSome result (λ i. i < length bytes.now) }
+{
+    bytes.iter().position(|b| *b != 0)
+}
+
+// The offset of the first byte behind the fields that isn't zero.
+fn first_nonzero(bytes: &[u8]) -> Option<u64>
+    requires { length bytes.now ≡ 4096 }
+    ensures { result ≡ first_nonzero_of bytes.now }
+{
+    let behind = first_other(&bytes[END..])?;
+    Some((END + behind) as u64)
+}
+
+#[tactic(auto, unfolding(crate::specs::Copies::super_fields_of))]
+fn fields_of(bytes: &[u8]) -> SuperFields
+    requires { length bytes.now ≡ 4096 }
+    ensures { result ≡ super_fields_of bytes.now }
+{
+    SuperFields {
+        version: u32_at(bytes, 32),
+        slots: u32_at(bytes, 36),
+        message_size: u32_at(bytes, 40),
+        clients: u32_at(bytes, 44),
+        block_size: u32_at(bytes, 64),
+        blocks: u32_at(bytes, 68),
+        cluster: u128_at(bytes, 48),
+        sequence: u64_at(bytes, 72),
+        op: u64_at(bytes, 80),
+        op_checksum: check_at(bytes, 112),
+        head: u64_at(bytes, 88),
+        replies: u64_at(bytes, 96),
+        trailer_address: u64_at(bytes, 104),
+        trailer_checksum: check_at(bytes, 128),
+        trailer_size: u64_at(bytes, 144),
+        boot: u64_at(bytes, 152),
+        first_nonzero: first_nonzero(bytes),
+    }
+}
+
+fn has_checksum(bytes: &[u8]) -> bool
+    requires { length bytes.now ≡ 4096 }
+    ensures { result ≡ has_checksum bytes.now }
+{
+    &bytes[..NUMBER] == check(&bytes[COVERED..]).as_slice()
+}
+
+fn has_zeros(bytes: &[u8]) -> bool
+    requires { length bytes.now ≡ 4096 }
+    ensures { result ≡ has_zeros bytes.now }
+{
+    bytes[ZEROS..COVERED] == [0; 12]
+}
+
+// Whether the bytes are a copy's, with the number that stands in them.
+#[tactic(auto, unfolding(crate::specs::Copies::is_copy))]
+fn is_copy(number: u32, bytes: &[u8]) -> bool
+    requires size { length bytes.now ≡ 4096 }
+    requires number { number ≡ field_at 4 16 bytes.now }
+    ensures copy { result ≡ is_copy bytes.now }
+    ensures number { IsTrue result → number < 4 }
+{
+    has_checksum(bytes) && number < COPIES && has_zeros(bytes)
+}
+
+/// The copy of the superblock that the 4,096 bytes of a sector are, wherever it belongs; None where the checksum is
+/// wrong, the number isn't that of a copy, or a byte behind the number isn't zero. What the fields say isn't tested.
+#[tactic(auto, unfolding(crate::specs::Copies::copy_in))]
+pub fn decode_copy(bytes: &[u8]) -> Option<SuperCopy>
+    requires { length bytes.now ≡ 4096 }
+    ensures { result ≡ copy_in bytes.now }
+{
+    let number = u32_at(bytes, NUMBER);
+    if is_copy(number, bytes) {
+        Some(SuperCopy {
+            number: number as u8,
+            checksum: check_at(bytes, 0),
+            fields: fields_of(bytes),
+        })
+    } else {
+        None
+    }
+}
+
+#[tactic(auto, unfolding(crate::specs::Copies::is_blank_copy))]
+fn is_blank(bytes: &[u8]) -> bool
+    requires { length bytes.now ≡ 4096 }
+    ensures { result ≡ is_blank_copy bytes.now }
+{
+    bytes.iter().all(|b| *b == 0)
+}
+
+// The class of a sector that is no copy.
+fn class_of_none(bytes: &[u8]) -> Class
+    requires { length bytes.now ≡ 4096 }
+    ensures { result ≡ class_of_no_copy bytes.now }
+{
+    if is_blank(bytes) {
+        Class::Blank
+    } else {
+        Class::Garbled
+    }
+}
+
+fn elsewhere(copy: &SuperCopy) -> Class
+    ensures { result ≡ Class.Elsewhere (place_in Zone.Superblock copy.now.number) }
+{
+    Class::Elsewhere(Place {
+        zone: Zone::Superblock,
+        index: u64::from(copy.number),
+    })
+}
+
+/// The copy with this number, 0 to 3, where the 4,096 bytes of its sector are that copy; else the class of what they are.
+#[tactic(auto, unfolding(crate::specs::Copies::class_of_copy))]
+pub fn decode_own_copy(number: u8, bytes: &[u8]) -> Result<SuperCopy, Class>
+    requires { length bytes.now ≡ 4096 }
+    ensures { result ≡ own_copy number bytes.now }
+{
+    match decode_copy(bytes) {
+        Some(copy) if copy.number == number => Ok(copy),
+        Some(copy) => Err(elsewhere(&copy)),
+        None => Err(class_of_none(bytes)),
+    }
+}

@@ -1,0 +1,261 @@
+// The rules of a superblock's fields: whether it can be used, or which field is the first that breaks its rule.
+ghost use Rattle.std.specs.Prelude.{◌≡◌, ◌≢◌, ◌<◌, [], ◌∷◌, IfOk, IfErr};
+ghost use Rattle.std.specs.Result.{result_err};
+ghost use Rattle.df_format.specs.SuperRules.{IsSuper, IsUsable, FaultsAreBrokenRules, is_between, is_whole_between, is_zero_check, greatest_trailer, has_trailer_size, test, size_tests, checkpoint_tests, progress_tests, trailer_tests, zero_tests, field_tests, first_failing, fault_of};
+
+use crate::{SuperFault, SuperFields};
+use df_base::{Check, u128_at};
+use df_layout::{Field, Layout};
+use std::marker::Model;
+
+// The version whose rules these are.
+const VERSION: u32 = 1;
+
+// The greatest op and the greatest sequence.
+const GREATEST: u64 = 1 << 62;
+
+// How many more ops than replies there may be.
+const PIPELINE: u64 = 8;
+
+// Where a checksum would stand.
+const NO_CHECKSUM: Check = [0; 16];
+
+/// A superblock that can be used: version 1, and every field within its range. `test_fields` alone makes one. Contracts
+/// see its fields.
+#[derive(Clone, Copy, Debug, PartialEq, Eq)]
+pub struct Super {
+    fields: SuperFields,
+}
+
+impl Model for Super {
+    ghost use Rattle.df_format.specs.declared.superblock.SuperFields.{SuperFields};
+    ghost use Rattle.df_format.specs.SuperRules.{IsUsable};
+
+    ghost Value = { SuperFields };
+
+    ghost view = { λ s. s.fields };
+
+    ghost invariant = { λ s. IsUsable s.fields };
+
+    ghost inverse = { λ f. record { fields = f } };
+}
+
+impl Super {
+    /// What its copies say.
+    pub fn fields(&self) -> &SuperFields
+        ensures value { result.now ≡ self.now }
+        ensures usable { IsUsable self.now }
+    {
+        &self.fields
+    }
+
+    /// The layout of its file.
+    pub fn layout(&self) -> Layout
+        ensures slots { result.slots ≡ self.now.slots }
+        ensures message_size { result.message_size ≡ self.now.message_size }
+        ensures clients { result.clients ≡ self.now.clients }
+        ensures block_size { result.block_size ≡ self.now.block_size }
+        ensures blocks { result.blocks ≡ self.now.blocks }
+    {
+        let fields = &self.fields;
+        Layout {
+            slots: fields.slots,
+            message_size: fields.message_size,
+            clients: fields.clients,
+            block_size: fields.block_size,
+            blocks: fields.blocks,
+        }
+    }
+}
+
+// The answer of one test: the field and its value where it failed.
+fn test(passes: bool, field: Field, value: u128) -> Result<(), SuperFault>
+    ensures { result_err result ≡ first_failing (test passes field value ∷ []) }
+{
+    if passes {
+        Ok(())
+    } else {
+        Err(SuperFault::BadField { field, value })
+    }
+}
+
+fn is_whole_between(step: u32, low: u32, high: u32, n: u32) -> bool
+    requires { 0 < step }
+    ensures { result ≡ is_whole_between step low high n }
+{
+    low <= n && n <= high && n % step == 0
+}
+
+#[tactic(auto, unfolding(crate::specs::Spelling::no_checksum))]
+fn is_zero_check(checksum: &Check) -> bool
+    ensures { result ≡ is_zero_check checksum.now }
+{
+    *checksum == NO_CHECKSUM
+}
+
+// The five numbers of the layout.
+fn test_sizes(fields: &SuperFields) -> Result<(), SuperFault>
+    ensures { result_err result ≡ first_failing (size_tests fields.now) }
+{
+    test(
+        is_whole_between(16, 16, 1024, fields.slots),
+        Field::Slots,
+        u128::from(fields.slots),
+    )?;
+    test(
+        is_whole_between(4096, 4096, 1_048_576, fields.message_size),
+        Field::MessageSize,
+        u128::from(fields.message_size),
+    )?;
+    test(
+        1 <= fields.clients && fields.clients <= 64,
+        Field::Clients,
+        u128::from(fields.clients),
+    )?;
+    test(
+        is_whole_between(4096, 4096, 524_288, fields.block_size),
+        Field::BlockSize,
+        u128::from(fields.block_size),
+    )?;
+    test(
+        8 <= fields.blocks && fields.blocks <= 16_384,
+        Field::Blocks,
+        u128::from(fields.blocks),
+    )
+}
+
+// Whose file it is, which update, and its checkpoint.
+fn test_checkpoint(fields: &SuperFields) -> Result<(), SuperFault>
+    ensures { result_err result ≡ first_failing (checkpoint_tests fields.now) }
+{
+    test(0 < fields.cluster, Field::Cluster, fields.cluster)?;
+    test(
+        1 <= fields.sequence && fields.sequence <= GREATEST,
+        Field::Sequence,
+        u128::from(fields.sequence),
+    )?;
+    test(fields.op <= GREATEST, Field::Op, u128::from(fields.op))?;
+    test(
+        fields.op != 0 || is_zero_check(&fields.op_checksum),
+        Field::OpChecksum,
+        u128_at(&fields.op_checksum, 0),
+    )
+}
+
+// How far the file had come; no sum is taken, since its numbers may be any.
+fn test_progress(fields: &SuperFields) -> Result<(), SuperFault>
+    ensures { result_err result ≡ first_failing (progress_tests fields.now) }
+{
+    test(
+        fields.op <= fields.head
+            && fields.head - fields.op <= u64::from(fields.slots)
+            && fields.head <= GREATEST,
+        Field::Head,
+        u128::from(fields.head),
+    )?;
+    test(
+        fields.replies <= fields.head && fields.head - fields.replies <= PIPELINE,
+        Field::Replies,
+        u128::from(fields.replies),
+    )
+}
+
+// Bytes of the longest text that a trailer can have: the root with its length, the sessions with their number, a bit for
+// each block, and a checksum for each.
+fn greatest_trailer(fields: &SuperFields) -> u64
+    ensures { result ≡ greatest_trailer fields.now }
+{
+    let blocks = u64::from(fields.blocks);
+    4 + 1024 + 4 + 32 * u64::from(fields.clients) + (blocks + 7) / 8 + 16 * blocks
+}
+
+fn has_trailer_size(fields: &SuperFields) -> bool
+    ensures { result ≡ has_trailer_size fields.now }
+{
+    if fields.trailer_address == 0 {
+        fields.trailer_size == 0
+    } else {
+        1 <= fields.trailer_size && fields.trailer_size <= greatest_trailer(fields)
+    }
+}
+
+// The checkpoint's trailer.
+fn test_trailer(fields: &SuperFields) -> Result<(), SuperFault>
+    ensures { result_err result ≡ first_failing (trailer_tests fields.now) }
+{
+    test(
+        fields.trailer_address <= u64::from(fields.blocks)
+            && (fields.op == 0 || fields.trailer_address != 0),
+        Field::TrailerAddress,
+        u128::from(fields.trailer_address),
+    )?;
+    test(
+        fields.trailer_address != 0 || is_zero_check(&fields.trailer_checksum),
+        Field::TrailerChecksum,
+        u128_at(&fields.trailer_checksum, 0),
+    )?;
+    test(
+        has_trailer_size(fields),
+        Field::TrailerSize,
+        u128::from(fields.trailer_size),
+    )
+}
+
+// What version 1 leaves empty.
+fn test_zeros(fields: &SuperFields) -> Result<(), SuperFault>
+    ensures { result_err result ≡ first_failing (zero_tests fields.now) }
+{
+    test(fields.boot == 0, Field::Boot, u128::from(fields.boot))?;
+    test(
+        fields.first_nonzero.is_none(),
+        Field::Zero,
+        u128::from(fields.first_nonzero.unwrap_or(0)),
+    )
+}
+
+// All fields, in the order of their tests.
+fn test_each(fields: &SuperFields) -> Result<(), SuperFault>
+    ensures { result_err result ≡ first_failing (field_tests fields.now) }
+{
+    test_sizes(fields)?;
+    test_checkpoint(fields)?;
+    test_progress(fields)?;
+    test_trailer(fields)?;
+    test_zeros(fields)
+}
+
+fn test_version(version: u32) -> Result<(), SuperFault>
+    ensures passed { IfOk result (λ _. version ≡ 1) }
+    ensures failed { IfErr result (λ fault. (version ≢ 1) × (fault ≡ SuperFault.Version version)) }
+{
+    if version == VERSION {
+        Ok(())
+    } else {
+        Err(SuperFault::Version { found: version })
+    }
+}
+
+// The superblock of fields that have passed their tests.
+fn usable(fields: SuperFields) -> Super
+    requires { IsSuper fields }
+    ensures { result ≡ fields }
+{
+    Super { fields }
+}
+
+/// The superblock of these fields, if it can be used. Else why not: the version, which is tested first, or the first
+/// field that is out of its range.
+pub fn test_fields(fields: &SuperFields) -> Result<Super, SuperFault>
+    ensures fields { IfOk result (λ content. content ≡ fields.now) }
+    ensures usable { IfOk result (λ _. fault_of fields.now ≡ None) }
+    ensures fault { IfErr result (λ fault. fault_of fields.now ≡ Some fault) }
+{
+    test_version(fields.version)?;
+    test_each(fields)?;
+    Ok(usable(*fields))
+}
+
+/// Fields have no fault exactly where they obey the rules of a superblock.
+pub fn faults_are_broken_rules()
+    ensures { FaultsAreBrokenRules }
+{}

@@ -1,0 +1,59 @@
+// The superblock: what its copies say, and which of their numbers are within their limits.
+
+use df_base::Check;
+use df_layout::Field;
+
+/// What a copy of the superblock says, its number aside.
+#[derive(Clone, Copy, Debug, PartialEq, Eq)]
+pub struct SuperFields {
+    pub version: u32,
+    /// Slots of each ring.
+    pub slots: u32,
+    /// Bytes of a prepare slot and of a reply slot.
+    pub message_size: u32,
+    /// Sessions.
+    pub clients: u32,
+    /// Bytes of a block.
+    pub block_size: u32,
+    /// Blocks of the grid.
+    pub blocks: u32,
+    pub cluster: u128,
+    /// One more with each update; 1 in a new file.
+    pub sequence: u64,
+    /// The op of the checkpoint.
+    pub op: u64,
+    /// The checksum of the prepare with that op, zeros for op 0.
+    pub op_checksum: Check,
+    /// The greatest op at the update.
+    pub head: u64,
+    /// How many replies were stored at the update.
+    pub replies: u64,
+    /// The address of the last block of the checkpoint's trailer, 0 where there is none.
+    pub trailer_address: u64,
+    /// The checksum of that block's header.
+    pub trailer_checksum: Check,
+    /// Bytes of the trailer's text.
+    pub trailer_size: u64,
+    pub boot: u64,
+    /// The offset in the sector of the first byte behind these fields that isn't zero.
+    pub first_nonzero: Option<u64>,
+}
+
+/// A sound copy of the superblock: its checksum covers all but itself and the number.
+#[derive(Clone, Copy, Debug, PartialEq, Eq)]
+pub struct SuperCopy {
+    /// Which of the four copies it is, from 0.
+    pub number: u8,
+    pub checksum: Check,
+    pub fields: SuperFields,
+}
+
+/// Why a superblock that two copies agree on can't be used.
+#[derive(Clone, Copy, Debug, PartialEq, Eq)]
+pub enum SuperFault {
+    /// A version that this program doesn't know.
+    Version { found: u32 },
+    /// The first field that is out of its range, and its value; a checksum's is its bytes as a little-endian number, and that
+    /// of bytes that have to be zero is the offset of the first that isn't.
+    BadField { field: Field, value: u128 },
+}

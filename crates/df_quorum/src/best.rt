@@ -1,0 +1,42 @@
+// The best of the copies that another one agrees with.
+ghost use Rattle.std.specs.Prelude.{◌≡◌, IsTrue, nat_lt, option_copied};
+ghost use Rattle.df_format.specs.Copies.{content_of, rank_of};
+ghost use Rattle.df_quorum.specs.Quorum.{copies_of, content_of_copy, IfChosen};
+ghost use Rattle.df_quorum.specs.Best.{better_of};
+
+use crate::Slot;
+use crate::votes::candidate;
+use df_format::SuperCopy;
+
+// Whether a content comes after another one.
+fn outranks(one: &SuperCopy, other: &SuperCopy) -> bool
+    ensures { result ≡ nat_lt (rank_of (content_of_copy other.now)) (rank_of (content_of_copy one.now)) }
+{
+    other.fields.sequence < one.fields.sequence
+}
+
+// The greater of two, and the first one where they tie.
+fn better<'a>(best: Option<&'a SuperCopy>, next: Option<&'a SuperCopy>) -> Option<&'a SuperCopy>
+    ensures { content_of (option_copied result) ≡ better_of (content_of (option_copied best.entry)) (content_of (option_copied next.entry)) }
+{
+    match (best, next) {
+        (Some(one), Some(other)) => if outranks(other, one) {
+            Some(other)
+        } else {
+            Some(one)
+        },
+        (None, other) => other,
+        (one, None) => one,
+    }
+}
+
+/// A copy of the content that is chosen. None where no two copies agree.
+pub fn best_of(copies: &[Slot; 4]) -> Option<&SuperCopy>
+    ensures { IfChosen (copies_of copies.now) (content_of (option_copied result)) }
+{
+    let mut best: Option<&SuperCopy> = None;
+    for number in 0..4 {
+        best = better(best, candidate(copies, number));
+    }
+    best
+}

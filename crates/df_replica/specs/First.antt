@@ -1,0 +1,32 @@
+-- The first superblock of a file, which every copy of a new file says.
+use Rattle.std.specs.Prelude.{ℕ, None}
+use Rattle.df_layout.specs.declared.layout.Layout.{Layout}
+use Rattle.df_format.specs.Spelling.{no_checksum}
+use Rattle.df_format.specs.Copies.{Content, content_with}
+use Rattle.df_format.specs.declared.superblock.SuperFields.{SuperFields}
+
+-- the fields of a new file: sequence 1, and no checkpoint
+unfoldable pub first_super : Layout → ℕ → SuperFields
+first_super layout cluster = record {
+  version = 1;
+  slots = layout.slots;
+  message_size = layout.message_size;
+  clients = layout.clients;
+  block_size = layout.block_size;
+  blocks = layout.blocks;
+  cluster = cluster;
+  sequence = 1;
+  op = 0;
+  op_checksum = no_checksum;
+  head = 0;
+  replies = 0;
+  trailer_address = 0;
+  trailer_checksum = no_checksum;
+  trailer_size = 0;
+  boot = 0;
+  first_nonzero = None;
+}
+
+-- what its copies agree on
+abbrev pub first_content : Layout → ℕ → Content
+first_content layout cluster = content_with (first_super layout cluster)

@@ -1,0 +1,11 @@
+//! The replica's file as a whole: how it is made and how it is opened.
+#![tactic(auto)]
+
+mod errors;
+mod laws;
+
+pub use errors::{FormatError, OpenError};
+pub use laws::{
+    copies_are_apart, copies_format, one_answer, safe_stays_safe, stop_stays_safe, super_is_written,
+    two_copies_stay_chosen, untouched_is_safe,
+};

@@ -1,0 +1,172 @@
+-- What the calls on the copies answer, and what they say of the log that a disk tells.
+use Rattle.std.specs.Prelude.{◌≡◌, ◌≢◌, ◌<◌, ◌≤◌, ℕ, true, false, Bool, IsTrue, List, [], ◌∷◌, get_or, Option, Some, None, Result, Ok, Err}
+use Rattle.df_base.specs.Causes.{Rose}
+use Rattle.df_base.specs.Image.{Image}
+use Rattle.df_base.specs.Log.{Event, Log, IsLog, IsLeft, now}
+use Rattle.df_disk.specs.Told.{Told}
+use Rattle.df_disk.specs.Adds.{AddsPart, after_all}
+use Rattle.df_layout.specs.declared.damage.Class.{Class}
+use Rattle.df_layout.specs.declared.damage.Class.TheVariants.{Stale}
+use Rattle.df_layout.specs.declared.places.Place.{Place}
+use Rattle.df_layout.specs.declared.places.Zone.TheVariants.{Superblock}
+use Rattle.df_format.specs.Own.{place_in}
+use Rattle.df_format.specs.declared.superblock.SuperCopy.{SuperCopy}
+use Rattle.df_format.specs.declared.superblock.SuperFields.{SuperFields}
+use Rattle.df_format.specs.Copies.{Content, content_at, content_with, own_copy}
+use Rattle.df_quorum.specs.declared.slot.Slot.{Slot}
+use Rattle.df_quorum.specs.declared.slot.Slot.TheVariants.{Sound, Bad}
+use Rattle.df_quorum.specs.declared.choice.Chosen.{Chosen}
+use Rattle.df_quorum.specs.Quorum.{IsChosen, copies_of, nothing}
+use Rattle.df_superblock.specs.Copies.{AreQuiet, AreSteady, AreEqual, IsBounded, IsKept, IsEither, IsMisled, IsOldOrNew, MayUpdate, IsChoice}
+use Rattle.df_superblock.specs.Moments.{PassedTo}
+use Rattle.df_superblock.specs.Events.{update_events}
+use Rattle.df_superblock.specs.declared.updates.UpdateError.{UpdateError}
+use Rattle.df_superblock.specs.declared.updates.UpdateError.TheVariants.{Damaged, DiskFault}
+
+-- ---- reads
+
+-- a slot with the sound copy that belongs there, or else with the class of what is there
+abbrev pub slot_of : Result SuperCopy Class → Slot
+slot_of (Ok copy) = Sound copy
+slot_of (Err class) = Bad class
+
+-- what an image shows at a copy's place
+abbrev pub slot_at : Image → ℕ → Slot
+slot_at image number = slot_of (own_copy number (image number))
+
+-- the slot is what is shown at this place, where the disk tells it
+abbrev pub ShowsSlot : Option Told → ℕ → Slot → Type 0
+ShowsSlot None number slot = Unit {0}
+ShowsSlot (Some t) number slot = slot ≡ slot_at t.shown number
+
+-- these four are what is shown at the four places
+abbrev pub ShowsSlots : Option Told → List Slot → Type 0
+ShowsSlots told slots = (n : ℕ) → n < 4 → ShowsSlot told n (get_or slots n nothing)
+
+-- so they say what the places say
+abbrev pub ShowsCopies : Option Told → List Slot → Type 0
+ShowsCopies None slots = Unit {0}
+ShowsCopies (Some t) slots = (n : ℕ) → n < 4 → copies_of slots n ≡ content_at t.shown n
+
+-- ---- updates
+
+-- a copy with these fields was read at its own place
+abbrev pub IsRead : List Slot → SuperFields → ℕ → Type 0
+IsRead slots f number = (c : Content) × (copies_of slots number ≡ Some c) × (c.fields ≡ f)
+
+-- three or four copies were read as they were written
+abbrev pub AreEnough : List Slot → SuperFields → Type 0
+AreEnough slots f = (odd : ℕ) × ((n : ℕ) → n < 4 → n ≢ odd → IsRead slots f n)
+
+-- the class of a copy that isn't as it was written: a sound one is an older one
+abbrev pub class_of_slot : Slot → Class
+class_of_slot (Sound copy) = Stale
+class_of_slot (Bad class) = class
+
+-- the first of the copies from this number on that wasn't read as it was written
+pub record IsFirstMissing (slots : List Slot) (f : SuperFields) (from first : ℕ) : Type 0 where
+  pub behind : from ≤ first
+  pub inside : first < 4
+  pub missing : ¬ IsRead slots f first
+  pub read : (n : ℕ) → from ≤ n → n < first → IsRead slots f n
+
+-- two copies or more weren't, and the first of them has this place and this class
+pub record IsDamaged (slots : List Slot) (f : SuperFields) (place : Place) (class : Class) : Type 0 where
+  pub first : ℕ
+  pub second : ℕ
+  pub is : IsFirstMissing slots f 0 first
+  pub apart : first < second
+  pub inside : second < 4
+  pub other : ¬ IsRead slots f second
+  pub place_is : place ≡ place_in Superblock first
+  pub class_is : class ≡ class_of_slot (get_or slots first nothing)
+
+-- what an update answers of the copies that it read back
+abbrev pub IsVerdict : {T : Type 0} → List Slot → SuperFields → Result T UpdateError → Type 0
+IsVerdict slots f (Ok x) = AreEnough slots f
+IsVerdict slots f (Err (Damaged place class)) = IsDamaged slots f place class
+IsVerdict slots f (Err DiskFault) = ⊥
+
+-- it read four copies back, and this is what they are; over a disk that tells what it shows they are those shown there
+pub record ReadsBack {T : Type 0} (told : Option Told) (f : SuperFields) (result : Result T UpdateError) : Type 0 where
+  pub slots : List Slot
+  pub shown : ShowsSlots told slots
+  pub verdict : IsVerdict slots f result
+
+-- an update adds all its events, or a part of them, from the first on, where the disk failed
+abbrev pub AddsUpdate : {T : Type 0} → List Event → Option Told → Option Told → Result T UpdateError → Type 0
+AddsUpdate events old new (Ok x) = new ≡ after_all events old
+AddsUpdate events old new (Err (Damaged place class)) = new ≡ after_all events old
+AddsUpdate events old new (Err DiskFault) = AddsPart events old new
+
+-- a fault is answered only where the count of faults rose, and each other answer leaves the count
+abbrev pub IsCausedBy : {T : Type 0} → ℕ → ℕ → Result T UpdateError → Type 0
+IsCausedBy before now (Ok x) = now ≡ before
+IsCausedBy before now (Err (Damaged place class)) = now ≡ before
+IsCausedBy before now (Err DiskFault) = (before ≤ now) × Rose before now
+
+-- each answer but a fault comes from the copies that were read back
+abbrev pub IsJudged : {T : Type 0} → Option Told → SuperFields → Result T UpdateError → Type 0
+IsJudged {T = T} told f (Ok x) = ReadsBack {T = T} told f (Ok x)
+IsJudged {T = T} told f (Err (Damaged place class)) = ReadsBack {T = T} told f (Err (Damaged place class))
+IsJudged {T = T} told f (Err DiskFault) = Unit {0}
+
+-- a disk that tells what it shows shows all that was written: nothing is damaged
+abbrev pub IsUndamaged : {T : Type 0} → Option Told → Result T UpdateError → Type 0
+IsUndamaged (Some t) (Err (Damaged place class)) = ⊥
+IsUndamaged told result = Unit {0}
+
+-- at each moment of an update of four equal copies whatever a stop leaves has the old content chosen or the new one
+abbrev pub UpdatesSafely : SuperFields → Option Told → Option Told → Type 0
+UpdatesSafely f None new = Unit {0}
+UpdatesSafely f (Some t) new = (old : Content) → MayUpdate t.log old (content_with f) → PassedTo t new (IsOldOrNew t.log old (content_with f))
+
+-- and where they are steady they go on so, on the one or on the other, wherever a stop falls
+abbrev pub UpdatesSteadily : SuperFields → Option Told → Option Told → Type 0
+UpdatesSteadily f None new = Unit {0}
+UpdatesSteadily f (Some t) new = (old : Content) → MayUpdate t.log old (content_with f) → AreSteady t.log old → PassedTo t new (λ log. IsEither log old (content_with f))
+
+-- the log that is told has this
+abbrev pub TellsLog : Option Told → (Log → Type 0) → Type 0
+TellsLog None P = Unit {0}
+TellsLog (Some t) P = P t.log
+
+-- at its end the four copies are equal
+abbrev pub EndsEqual : SuperFields → Option Told → Type 0
+EndsEqual f told = TellsLog told (λ log. AreEqual (now log) (content_with f))
+
+-- and steady, where copies 1 to 3 never had anything above the new content
+abbrev pub EndsSteady : SuperFields → Option Told → Option Told → Type 0
+EndsSteady f None new = Unit {0}
+EndsSteady f (Some t) new = AreQuiet t.log → IsBounded t.log (content_with f) → TellsLog new (λ log. AreSteady log (content_with f))
+
+-- ---- repairs
+
+-- what is shown at the members' places stays
+abbrev pub KeepsMembers : List Bool → Option Told → Option Told → Type 0
+KeepsMembers members None new = Unit {0}
+KeepsMembers members (Some t) None = ⊥
+KeepsMembers members (Some t) (Some u) = (n : ℕ) → n < 4 → IsTrue (get_or members n false) → u.shown n ≡ t.shown n
+
+-- from steady copies on, the choice is kept at each moment, wherever a stop falls
+abbrev pub RepairsSteadily : Chosen → Option Told → Option Told → Type 0
+RepairsSteadily chosen None new = Unit {0}
+RepairsSteadily chosen (Some t) new = (c : Content) → IsLog t.log → IsChoice (content_at (now t.log)) chosen c → AreSteady t.log c → PassedTo t new (λ log. IsKept log c)
+
+-- at this moment whatever a stop leaves has the content chosen, unless it is misled
+abbrev pub KeepsUnlessMisled : Log → Content → Log → Type 0
+KeepsUnlessMisled entry c log = (image : Image) → IsLeft log image → ¬ IsMisled (content_at (now entry)) log c image → IsChosen (content_at image) c
+
+-- with no word on the history: so it is at each moment, where none of the copies was being written
+abbrev pub RepairsUnlessMisled : Chosen → Option Told → Option Told → Type 0
+RepairsUnlessMisled chosen None new = Unit {0}
+RepairsUnlessMisled chosen (Some t) new = (c : Content) → IsLog t.log → IsChoice (content_at (now t.log)) chosen c → AreQuiet t.log → PassedTo t new (KeepsUnlessMisled t.log c)
+
+-- at its end the four copies are equal on the choice, and steady if they were
+pub record IsRepaired (before after : Log) (c : Content) : Type 0 where
+  pub equal : AreEqual (now after) c
+  pub steady : AreSteady before c → AreSteady after c
+
+abbrev pub EndsRepaired : Chosen → Option Told → Option Told → Type 0
+EndsRepaired chosen None new = Unit {0}
+EndsRepaired chosen (Some t) new = (c : Content) → IsLog t.log → IsChoice (content_at (now t.log)) chosen c → TellsLog new (λ log. IsRepaired t.log log c)

@@ -1,0 +1,85 @@
+-- The four copies of the superblock over a log: what a stop may leave of them, and histories that bear it.
+use Rattle.std.specs.Prelude.{◌≡◌, ◌≢◌, ◌⊎◌, ◌<◌, ◌≤◌, ℕ, true, false, List, [], ◌∷◌, Some}
+use Rattle.df_base.specs.Image.{Image, covers, changed}
+use Rattle.df_base.specs.Log.{Event, Write, Sync, Stop, Log, IsLeft, AreLoose, add, loose, now, settled}
+use Rattle.df_base.specs.Moments.{Extends}
+use Rattle.df_format.specs.Copies.{Content, content_at, rank_of}
+use Rattle.df_format.specs.CopyPools.{AmongImages, NoChanceCopy, EachLeftCopies}
+use Rattle.df_quorum.specs.declared.choice.Chosen.{Chosen}
+use Rattle.df_quorum.specs.Quorum.{Copies, IsChosen, AreMembers}
+
+-- no copy's sector was written since the last sync or stop: the four copies are sectors 0 to 3
+abbrev pub AreQuiet : Log → Type 0
+AreQuiet log = (n : ℕ) → n < 4 → loose log n ≡ false
+
+-- copies 1 to 3 never had anything durable but this content and lower ones; copy 0 may have had any
+abbrev pub IsBounded : Log → Content → Type 0
+IsBounded log c = (n : ℕ) (d : Content) → 0 < n → n < 4 → AmongImages (settled log) n d → (d ≡ c) ⊎ (rank_of d < rank_of c)
+
+-- The copies are steady on a content: none is being written, it is chosen, and no history that they had brings another
+-- one back.
+pub record AreSteady (log : Log) (c : Content) : Type 0 where
+  pub quiet : AreQuiet log
+  pub chosen : IsChosen (content_at (now log)) c
+  pub bounded : IsBounded log c
+
+-- the four copies show this content
+abbrev pub AreEqual : Image → Content → Type 0
+AreEqual image c = (n : ℕ) → n < 4 → content_at image n ≡ Some c
+
+-- wherever a stop falls now this content is chosen, and the copies go on from there
+pub record IsKept (log : Log) (c : Content) : Type 0 where
+  pub left : EachLeftCopies log (λ image. IsChosen (content_at image) c)
+  pub stopped : (cs : List (ℕ × List ℕ)) → AreLoose log.events cs → NoChanceCopy log (changed cs (now log)) → AreSteady (add (Stop cs) log) c
+  pub synced : AreSteady (add Sync log) c
+
+-- a fact of the new content where copy 1 shows it, and of the old one where it doesn't
+abbrev pub OfEither : Image → Content → Content → (Content → Type 0) → Type 0
+OfEither image old new P = ((content_at image 1 ≡ Some new) × P new) ⊎ ((content_at image 1 ≢ Some new) × P old)
+
+-- wherever a stop falls now the new content is chosen if copy 1 shows it, and else the old one, and the copies go on from there
+pub record IsEither (log : Log) (old new : Content) : Type 0 where
+  pub left : EachLeftCopies log (λ image. OfEither image old new (IsChosen (content_at image)))
+  pub stopped : (cs : List (ℕ × List ℕ)) → AreLoose log.events cs → NoChanceCopy log (changed cs (now log)) → OfEither (changed cs (now log)) old new (AreSteady (add (Stop cs) log))
+  pub synced : OfEither (now log) old new (AreSteady (add Sync log))
+
+-- The copy that is being written agrees with another one on another content, not below the chosen one, and before the
+-- call the two did not.
+pub record IsMisled (before : Copies) (log : Log) (c : Content) (image : Image) : Type 0 where
+  pub place : ℕ
+  pub other : ℕ
+  pub content : Content
+  pub inside : place < 4
+  pub other_inside : other < 4
+  pub apart : place ≢ other
+  pub loose : loose log place ≡ true
+  pub at_place : content_at image place ≡ Some content
+  pub at_other : content_at image other ≡ Some content
+  pub differs : content ≢ c
+  pub not_below : rank_of c ≤ rank_of content
+  pub new : before place ≡ Some content → before other ≢ Some content
+
+-- none of these events writes the sector, and none is a stop
+abbrev pub Spare : List Event → ℕ → Type 0
+Spare [] sector = Unit {0}
+Spare ((Write at bytes) ∷ es) sector = (covers at bytes sector ≡ false) × Spare es sector
+Spare (Sync ∷ es) sector = Spare es sector
+Spare ((Stop cs) ∷ es) sector = ⊥
+
+-- At a moment of an update, with no word on the history: whatever a stop leaves has the new content chosen if copy 1
+-- shows it, and else the old one; and the old one as long as copy 1 wasn't written.
+pub record IsOldOrNew (entry : Log) (old new : Content) (log : Log) : Type 0 where
+  pub left : (image : Image) → IsLeft log image → OfEither image old new (IsChosen (content_at image))
+  pub first : (since : Extends log entry) → Spare since.0 1 → (image : Image) → IsLeft log image → IsChosen (content_at image) old
+
+-- four equal copies that are to be updated to a content above theirs
+pub record MayUpdate (log : Log) (old new : Content) : Type 0 where
+  pub quiet : AreQuiet log
+  pub equal : AreEqual (now log) old
+  pub above : rank_of old < rank_of new
+
+-- the choice among these copies, with its members
+pub record IsChoice (copies : Copies) (chosen : Chosen) (c : Content) : Type 0 where
+  pub is : IsChosen copies c
+  pub fields : c.fields ≡ chosen.content
+  pub members : AreMembers copies c chosen.members

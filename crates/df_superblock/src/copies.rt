@@ -1,0 +1,68 @@
+// Reads and writes of single copies. A copy is durable before its writer answers.
+ghost use Rattle.std.specs.Prelude.{◌≡◌, ◌<◌, [], ◌∷◌, IfOk};
+ghost use Rattle.df_base.specs.Causes.{HasCause};
+ghost use Rattle.df_base.specs.Log.{Sync};
+ghost use Rattle.df_disk.specs.Adds.{Adds};
+ghost use Rattle.df_superblock.specs.Calls.{ShowsSlot, ShowsSlots, ShowsCopies};
+ghost use Rattle.df_superblock.specs.Events.{copy_written};
+
+use df_base::Failed;
+use df_buffers::{ProbeRoom, Raw, SuperSector};
+use df_disk::Disk;
+use df_format::{Super, encode_copy};
+use df_layout::{Place, Zone};
+use df_quorum::Slot;
+
+// Reads the place of one copy.
+fn read_copy<D: Disk>(
+    disk: &mut D,
+    room: &mut Raw<SuperSector>,
+    number: u8,
+) -> Result<Slot, Failed>
+    requires { number < 4 }
+    ensures shown { IfOk result (ShowsSlot (D.told disk.old) number) }
+    ensures same { D.told disk.new ≡ D.told disk.old }
+    ensures cause { HasCause (D.faults disk.old) (D.faults disk.new) result }
+{
+    disk.read(u64::from(number), room.bytes_mut())?;
+    let place = Place {
+        zone: Zone::Superblock,
+        index: u64::from(number),
+    };
+    match room.copy(place) {
+        Ok(copy) => Ok(Slot::Sound(copy)),
+        Err(class) => Ok(Slot::Bad(class)),
+    }
+}
+
+/// Reads the four copies: each slot is the sound copy that belongs at its place, or the class of what is there.
+pub fn read_all<D: Disk>(disk: &mut D, room: &mut ProbeRoom) -> Result<[Slot; 4], Failed>
+    ensures shown { IfOk result (ShowsSlots (D.told disk.old)) }
+    ensures copies { IfOk result (ShowsCopies (D.told disk.old)) }
+    ensures same { D.told disk.new ≡ D.told disk.old }
+    ensures cause { HasCause (D.faults disk.old) (D.faults disk.new) result }
+{
+    let first = read_copy(disk, room.sector_mut(0), 0)?;
+    let second = read_copy(disk, room.sector_mut(1), 1)?;
+    let third = read_copy(disk, room.sector_mut(2), 2)?;
+    let fourth = read_copy(disk, room.sector_mut(3), 3)?;
+    Ok([first, second, third, fourth])
+}
+
+/// Writes the copy with this number, 0 to 3, into its own place, and makes it durable. After an error the place may show
+/// anything once the machine stops.
+pub fn write_copy<D: Disk>(
+    disk: &mut D,
+    room: &mut ProbeRoom,
+    content: &Super,
+    number: u8,
+) -> Result<(), Failed>
+    requires { number < 4 }
+    ensures events { Adds (copy_written number content.now ∷ Sync ∷ []) (D.told disk.old) (D.told disk.new) result }
+    ensures cause { HasCause (D.faults disk.old) (D.faults disk.new) result }
+{
+    let bytes = room.sector_mut(number).bytes_mut();
+    encode_copy(content, number, bytes);
+    disk.write(u64::from(number), bytes)?;
+    disk.sync()
+}

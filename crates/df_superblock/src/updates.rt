@@ -1,0 +1,126 @@
+// Updates: the four copies in order, each durable before the next one is written, and a look at what became of them.
+ghost use Rattle.std.specs.Prelude.{◌≡◌, ◌<◌, ◌≤◌, ℕ, IsTrue, ◌↔◌, IfSome, IfNone, OnOk};
+ghost use Rattle.df_base.specs.Causes.{HasCause};
+ghost use Rattle.df_disk.specs.Adds.{Adds};
+ghost use Rattle.df_superblock.specs.Calls.{IsRead, IsFirstMissing, IsVerdict, IsJudged, IsUndamaged, AddsUpdate, IsCausedBy, UpdatesSafely, UpdatesSteadily, EndsEqual, EndsSteady, class_of_slot};
+ghost use Rattle.df_superblock.specs.Events.{update_events};
+
+use crate::copies::{read_all, write_copy};
+use df_base::Failed;
+use df_buffers::ProbeRoom;
+use df_disk::Disk;
+use df_format::Super;
+use df_layout::{Class, Place, Zone};
+use df_quorum::Slot;
+
+/// Why an update isn't known to be done.
+#[derive(Clone, Copy, Debug, PartialEq, Eq)]
+pub enum UpdateError {
+    /// Fewer than three copies were read back as they were written: the place of the first that wasn't, and the class of
+    /// what is there, `Stale` for a sound copy of other content. All four were written and synced.
+    Damaged { place: Place, class: Class },
+    /// A call of the disk failed. Some of the copies, from copy 0 on, may have been written.
+    DiskFault,
+}
+
+// Writes the four copies.
+fn write_each<D: Disk>(disk: &mut D, room: &mut ProbeRoom, content: &Super) -> Result<(), Failed>
+    ensures events { Adds (update_events content.now) (D.told disk.old) (D.told disk.new) result }
+    ensures cause { HasCause (D.faults disk.old) (D.faults disk.new) result }
+{
+    write_copy(disk, room, content, 0)?;
+    write_copy(disk, room, content, 1)?;
+    write_copy(disk, room, content, 2)?;
+    write_copy(disk, room, content, 3)
+}
+
+// The same, and what that means for the copies.
+fn write_all<D: Disk>(disk: &mut D, room: &mut ProbeRoom, content: &Super) -> Result<(), Failed>
+    ensures events { Adds (update_events content.now) (D.told disk.old) (D.told disk.new) result }
+    ensures moments { UpdatesSafely content.now (D.told disk.old) (D.told disk.new) }
+    ensures history { UpdatesSteadily content.now (D.told disk.old) (D.told disk.new) }
+    ensures equal { OnOk result (EndsEqual content.now (D.told disk.new)) }
+    ensures steady { OnOk result (EndsSteady content.now (D.told disk.old) (D.told disk.new)) }
+    ensures cause { HasCause (D.faults disk.old) (D.faults disk.new) result }
+{
+    write_each(disk, room, content)
+}
+
+fn class_of(slot: &Slot) -> Class
+    ensures { result ≡ class_of_slot slot.now }
+{
+    match slot {
+        Slot::Sound(_) => Class::Stale,
+        Slot::Bad(class) => *class,
+    }
+}
+
+// Whether the place of this number was read as it was written.
+fn is_read(slots: &[Slot; 4], content: &Super, number: u8) -> bool
+    requires { number < 4 }
+    ensures { IsTrue result ↔ IsRead slots.now content.now number }
+{
+    match &slots[usize::from(number)] {
+        Slot::Sound(copy) => copy.number == number && &copy.fields == content.fields(),
+        Slot::Bad(_) => false,
+    }
+}
+
+// The first place from a number on that wasn't.
+fn first_missing(slots: &[Slot; 4], content: &Super, from: u8) -> Option<u8>
+    ensures some { IfSome result (λ first. IsFirstMissing slots.now content.now from first) }
+    ensures none { IfNone result ((n : ℕ) → from ≤ n → n < 4 → IsRead slots.now content.now n) }
+{
+    for number in from..4 {
+        if !is_read(slots, content, number) {
+            return Some(number);
+        }
+    }
+    None
+}
+
+// Whether enough copies were read as they were written; else the first that wasn't.
+fn judge(slots: &[Slot; 4], content: &Super) -> Result<(), UpdateError>
+    ensures { IsVerdict slots.now content.now result }
+{
+    match first_missing(slots, content, 0) {
+        None => Ok(()),
+        Some(first) => match first_missing(slots, content, first + 1) {
+            None => Ok(()),
+            Some(_) => Err(UpdateError::Damaged {
+                place: Place {
+                    zone: Zone::Superblock,
+                    index: u64::from(first),
+                },
+                class: class_of(&slots[usize::from(first)]),
+            }),
+        },
+    }
+}
+
+/// Writes the copies 0, 1, 2 and 3, each durable before the next one is written, and reads all four back. From four equal
+/// copies on, whatever a stop leaves at any moment has the old content chosen or the new one, and the old one as long as
+/// copy 1 isn't written.
+pub fn update<D: Disk>(
+    disk: &mut D,
+    room: &mut ProbeRoom,
+    content: &Super,
+) -> Result<(), UpdateError>
+    ensures events { AddsUpdate (update_events content.now) (D.told disk.old) (D.told disk.new) result }
+    ensures read_back { IsJudged (D.told disk.new) content.now result }
+    ensures undamaged { IsUndamaged (D.told disk.new) result }
+    ensures moments { UpdatesSafely content.now (D.told disk.old) (D.told disk.new) }
+    ensures history { UpdatesSteadily content.now (D.told disk.old) (D.told disk.new) }
+    ensures equal { OnOk result (EndsEqual content.now (D.told disk.new)) }
+    ensures steady { OnOk result (EndsSteady content.now (D.told disk.old) (D.told disk.new)) }
+    ensures cause { IsCausedBy (D.faults disk.old) (D.faults disk.new) result }
+{
+    match write_all(disk, room, content) {
+        Ok(()) => {}
+        Err(_) => return Err(UpdateError::DiskFault),
+    }
+    match read_all(disk, room) {
+        Ok(slots) => judge(&slots, content),
+        Err(_) => Err(UpdateError::DiskFault),
+    }
+}
