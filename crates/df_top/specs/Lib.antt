@@ -13,3 +13,6 @@ pub mod Statuses
 pub mod Writes
 pub mod Command
 pub mod Refusals
+pub mod Files
+pub mod Refused
+pub mod Formats
