@@ -18,9 +18,6 @@ use Rattle.df_top.specs.declared.session.DataFile.{DataFile}
 use Rattle.df_top.specs.declared.status.Status.{Status}
 use Rattle.df_top.specs.declared.status.Status.TheVariants.{Words, DiskFault, WriteFault, Memory}
 
--- the words are the one word `run`
-abbrev pub AreRun : List (List ℕ) → Type 0
-AreRun words = words ≡ codes "run" ∷ []
 
 -- all that other words do: the usage line is printed, or a front of it where the sink fails
 abbrev pub PrintsUsage : Option (List ℕ) → Option (List ℕ) → Status → Type 0

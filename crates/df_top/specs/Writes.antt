@@ -53,9 +53,9 @@ AreOfFile file wal image [] = Unit {0}
 AreOfFile file wal image (e ∷ es) = IsOfFile file wal image e × AreOfFile file wal image es
 
 -- no event was added, or the barrier and such events behind it, in order; and what the disk tells changed by them alone
-pub record WritesFile (file : DataFile) (wal : Wal) (image : Image) (old new : Option Told) : Type 0 where
+pub record WritesFile (file : DataFile) (wal : Wal) (old new : Option Told) : Type 0 where
   pub events : List Event
   pub behind : List Event
   pub barrier : (events ≡ []) ⊎ (events ≡ Sync ∷ behind)
-  pub each : AreOfFile file wal image behind
+  pub each : (t : Told) → old ≡ Some t → AreOfFile file wal t.shown behind
   pub added : new ≡ after_all events old
