@@ -10,6 +10,7 @@ use Rattle.df_prepares.specs.Steady.{IsSafe}
 use Rattle.df_script.specs.Grammar.{Said}
 use Rattle.df_top.specs.Run.{Ran}
 use Rattle.df_top.specs.Script.{IsScript}
+use Rattle.df_top.specs.declared.session.DataFile.{DataFile}
 use Rattle.df_top.specs.declared.status.Status.{Status}
 
 -- a disk that was never written is one over which a run may begin
@@ -23,7 +24,7 @@ pub record MayFollow (wal : Wal) (after : Told) : Type 0 where
   pub stopped : (cs : List (ℕ × List ℕ)) → AreLoose after.log.events cs → NoChance wal after.log (changed cs (now after.log)) → IsSafe wal (add (Stop cs) after.log)
 
 abbrev pub RunsFollow : Type 0
-RunsFollow = (wal : Wal) (before : Told) (told : Option Told) (opening : List Prepare) (text old new : Option (List ℕ)) (status : Status) (run : Ran wal before told opening text old new status) → MayFollow wal run.after
+RunsFollow = (file : DataFile) (wal : Wal) (before : Told) (told : Option Told) (opening : List Prepare) (text old new : Option (List ℕ)) (status : Status) (run : Ran file wal before told opening text old new status) → MayFollow wal run.after
 
 -- a text has one script at most
 abbrev pub OneScript : Type 0

@@ -1,11 +1,11 @@
 // The program: its words, the memory that it takes, the opening of the ring, and the session behind it.
-ghost use Rattle.std.specs.Prelude.{◌≡◌, ◌⊎◌, map, string_bytes, IfOk, OnOk, OnErr};
+ghost use Rattle.std.specs.Prelude.{◌≡◌, ◌⊎◌, ◌≤◌, ◌^◌, map, string_bytes, IfOk, OnOk, OnErr};
 ghost use Rattle.df_base.specs.Causes.{HasCause};
 ghost use Rattle.df_base.specs.Log.{Sync};
 ghost use Rattle.df_disk.specs.Told.{after};
 ghost use Rattle.df_format.specs.declared.wal.Wal.{Wal};
 ghost use Rattle.df_prepares.specs.Found.{IsHeadOf};
-ghost use Rattle.df_top.specs.Logs.{IsLogOf};
+ghost use Rattle.df_top.specs.Logs.{IsLogOf, line_bound};
 ghost use Rattle.df_top.specs.Run.{AreRun, IsSmall, IsUntouched, OnSmall, Prints, PrintsUsage, Runs};
 ghost use Rattle.df_top.specs.Serving.{Blames, IsFreshSession, IsOpened};
 ghost use Rattle.df_top.specs.Writes.{WritesRing};
@@ -23,9 +23,6 @@ use df_prepares::{Head, find_ring};
 use df_script::LineRoom;
 use std::alloc::Global;
 
-// Bytes of the longest line of a script, its byte 10 aside.
-const LINE_BOUND: u64 = 32_832;
-
 // The cluster of every file, until a superblock says it.
 const CLUSTER: u128 = 7;
 
@@ -40,12 +37,22 @@ fn small_file() -> DataFile
     }
 }
 
+// Bytes of the longest line of a script, its byte 10 aside: two digits for each byte of a message or a block, and the
+// words beside them.
+fn line_bound(file: &DataFile) -> u64
+    ensures bound { result ≡ line_bound file.now }
+    ensures some { 64 ≤ result }
+    ensures sensible { result ≤ 2 ^ 22 }
+{
+    2 * u64::from(file.layout.message_size.max(file.layout.block_size)) + 64
+}
+
 // Takes all the memory of a session over a file.
 fn reserve(alloc: Global, file: &DataFile) -> Result<Session, OutOfMemory>
     ensures fresh { IfOk result IsFreshSession }
     ensures file { IfOk result (λ session. session.file ≡ file.now) }
 {
-    let lines = LineRoom::reserve(alloc, LINE_BOUND)?;
+    let lines = LineRoom::reserve(alloc, line_bound(file))?;
     let Rooms { prepare, .. } = Rooms::reserve(alloc, &file.layout)?;
     Ok(Session {
         file: *file,
@@ -92,8 +99,8 @@ fn execute<D: Disk, S: Source, W: Sink>(
     ghost wal: { Wal }
     requires log { IsLogOf session.old.file wal }
     requires fresh { IsFreshSession session.old }
-    ensures prints { Prints wal (D.told disk.old) (S.left source.old) (S.left source.new) (W.written sink.old) (W.written sink.new) result }
-    ensures runs { Runs wal (D.told disk.old) (D.told disk.new) (S.left source.old) (W.written sink.old) (W.written sink.new) result }
+    ensures prints { Prints session.old.file wal (D.told disk.old) (S.left source.old) (S.left source.new) (W.written sink.old) (W.written sink.new) result }
+    ensures runs { Runs session.old.file wal (D.told disk.old) (D.told disk.new) (S.left source.old) (W.written sink.old) (W.written sink.new) result }
     ensures writes { WritesRing wal (D.told disk.old) (D.told disk.new) }
     ensures disk { Blames Status.DiskFault (D.faults disk.old) (D.faults disk.new) result }
     ensures source { Blames Status.ReadFault (S.faults source.old) (S.faults source.new) result }
@@ -133,15 +140,15 @@ pub fn run<D: Disk, S: Source, W: Sink>(
     ensures words { result ≡ Status.Words → AreRun (map string_bytes words.now) → ⊥ }
 
     // What is answered, and what is read of the script.
-    ensures prints { AreRun (map string_bytes words.now) → OnSmall (λ wal. Prints wal
+    ensures prints { AreRun (map string_bytes words.now) → OnSmall (λ file wal. Prints file wal
         (D.told disk.old) (S.left source.old) (S.left source.new) (W.written sink.old) (W.written sink.new) result) }
 
     // At every moment the log is safe, and whatever a stop leaves has the ring after the first of the appends.
-    ensures runs { AreRun (map string_bytes words.now) → OnSmall (λ wal. Runs wal
+    ensures runs { AreRun (map string_bytes words.now) → OnSmall (λ file wal. Runs file wal
         (D.told disk.old) (D.told disk.new) (S.left source.old) (W.written sink.old) (W.written sink.new) result) }
 
     // The disk gets prepares, each in its own slot, and syncs; nothing else is written.
-    ensures writes { OnSmall (λ wal. WritesRing wal (D.told disk.old) (D.told disk.new)) }
+    ensures writes { OnSmall (λ _ wal. WritesRing wal (D.told disk.old) (D.told disk.new)) }
 
     // Each fault has its cause; want of memory comes before anything was read or written.
     ensures disk_fault { Blames Status.DiskFault (D.faults disk.old) (D.faults disk.new) result }
