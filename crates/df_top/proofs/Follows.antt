@@ -18,7 +18,7 @@ pub new_is_safe : NewIsSafe
 new_is_safe wal = (new_rests wal).safe
 
 pub runs_follow : RunsFollow
-runs_follow wal before told opening text old new status run =
+runs_follow file wal before told opening text old new status run =
     let safe : IsSafe wal run.after.log = run.safe run.after.log (record { since = run.grown; until = extends_self run.after.log }) in
     record {
       safe = safe;

@@ -21,7 +21,9 @@ use Rattle.df_top.specs.Serving.{IsFreshSession, IsOpened, state}
 use Rattle.df_top.specs.declared.session.Session.{Session}
 use Rattle.df_top.specs.Session.{State, Rests, Since}
 use Rattle.df_top.specs.Ending.{IsAnswered, Ended}
-use Rattle.df_top.specs.Run.{line_bound, script_budget, Prints, Ran, Runs}
+use Rattle.df_top.specs.Logs.{line_bound}
+use Rattle.df_top.specs.declared.session.DataFile.{DataFile}
+use Rattle.df_top.specs.Run.{script_budget, Prints, Ran, Runs}
 use Rattle.df_top.specs.declared.status.Status.{Status}
 use Rattle.df_top.specs.declared.status.Status.TheVariants.{DiskFault, Memory}
 use Rattle.df_top.proofs.Written.{appends_none}
@@ -65,9 +67,9 @@ head_of_told wal told later head synced is t ps is_t ring =
 
 -- ---- what is printed
 
-pub prints_ended : (wal : Wal) (told : Option Told) (text written : Option (List ℕ)) (head : Head) (new : State) (status : Status) → HeadIsOf wal told head → Ended wal line_bound (begun told text written head) new status
-    → Prints wal told text new.left written new.written status
-prints_ended wal told text written head new status head_of ended t opening bytes is ring is_bytes real =
+pub prints_ended : (file : DataFile) (wal : Wal) (told : Option Told) (text written : Option (List ℕ)) (head : Head) (new : State) (status : Status) → HeadIsOf wal told head → Ended wal (line_bound file) (begun told text written head) new status
+    → Prints file wal told text new.left written new.written status
+prints_ended file wal told text written head new status head_of ended t opening bytes is ring is_bytes real =
     let ends = ended.text bytes is_bytes in
     record {
       asked = ended.asked;
@@ -82,8 +84,8 @@ prints_ended wal told text written head new status head_of ended t opening bytes
     }
 
 -- where the disk failed before the session
-pub prints_nothing : (wal : Wal) (told : Option Told) (text left old new : Option (List ℕ)) → new ≡ old → Prints wal told text left old new DiskFault
-prints_nothing wal told text left old new same t opening bytes is ring is_bytes real = record {
+pub prints_nothing : (file : DataFile) (wal : Wal) (told : Option Told) (text left old new : Option (List ℕ)) → new ≡ old → Prints file wal told text left old new DiskFault
+prints_nothing file wal told text left old new same t opening bytes is ring is_bytes real = record {
   asked = [];
   done = 0;
   cut = false;
@@ -95,8 +97,8 @@ prints_nothing wal told text left old new same t opening bytes is ring is_bytes 
   written = (refl, subst (λ (o : Option (List ℕ)). Appends old o []) (sym same) (appends_none old));
 }
 
-pub prints_memory : (wal : Wal) (told : Option Told) (text left old new : Option (List ℕ)) → Prints wal told text left old new Memory
-prints_memory wal told text left old new t opening bytes is ring is_bytes real = absurd (real refl)
+pub prints_memory : (file : DataFile) (wal : Wal) (told : Option Told) (text left old new : Option (List ℕ)) → Prints file wal told text left old new Memory
+prints_memory file wal told text left old new t opening bytes is ring is_bytes real = absurd (real refl)
 
 -- ---- what is left at each moment
 
@@ -105,8 +107,8 @@ shown_ring : (wal : Wal) (t : Told) (ps : List Prepare) → IsHonest t → IsRin
 shown_ring wal t ps honest ring = ring_same wal t.shown (now t.log) ps (λ slot below. shown_same wal t.shown (now t.log) slot (λ k inside. honest.shows (slot_start wal slot + k))) ring
 
 -- no barrier returned
-pub runs_nothing : (wal : Wal) (told later : Option Told) (text old new : Option (List ℕ)) (status : Status) → later ≡ told → new ≡ old → (status ≡ DiskFault) ⊎ (status ≡ Memory) → Runs wal told later text old new status
-runs_nothing wal told later text old new status same silent cause before opening is honest safe ring = record {
+pub runs_nothing : (file : DataFile) (wal : Wal) (told later : Option Told) (text old new : Option (List ℕ)) (status : Status) → later ≡ told → new ≡ old → (status ≡ DiskFault) ⊎ (status ≡ Memory) → Runs file wal told later text old new status
+runs_nothing file wal told later text old new status same silent cause before opening is honest safe ring = record {
   after = before;
   is = same ∙ is;
   honest = honest;
@@ -119,7 +121,7 @@ runs_nothing wal told later text old new status same silent cause before opening
   course = inl (record { same = refl; silent = silent; cause = cause });
 }
 
-module _ (wal : Wal) (may_be_written : NextMayBeWritten wal) (is_kept : RestIsKept wal) (syncs : SyncRests wal) where
+module _ (file : DataFile) (wal : Wal) (may_be_written : NextMayBeWritten wal) (is_kept : RestIsKept wal) (syncs : SyncRests wal) where
   module _ (before : Told) (opening : List Prepare) (honest : IsHonest before) (safe : IsSafe wal before.log) (ring : IsRing wal (now before.log) opening) where
     abbrev barrier : Log
     barrier = add Sync before.log
@@ -137,7 +139,7 @@ module _ (wal : Wal) (may_be_written : NextMayBeWritten wal) (is_kept : RestIsKe
     rests head head_is = record { disk = did Sync before; is = refl; honest = honest_sync before honest; rest = at_rest; head_is = head_is }
 
     -- the disk failed while the ring was read
-    pub ran_opening : (later : Option Told) (text old new : Option (List ℕ)) → later ≡ Some (did Sync before) → new ≡ old → Ran wal before later opening text old new DiskFault
+    pub ran_opening : (later : Option Told) (text old new : Option (List ℕ)) → later ≡ Some (did Sync before) → new ≡ old → Ran file wal before later opening text old new DiskFault
     ran_opening later text old new is same = record {
       after = did Sync before;
       is = is;
@@ -158,7 +160,7 @@ module _ (wal : Wal) (may_be_written : NextMayBeWritten wal) (is_kept : RestIsKe
     }
 
     -- the session was executed to its end
-    pub ran_session : (text old : Option (List ℕ)) (head : Head) (new : State) (status : Status) → IsHead opening head → Ended wal line_bound (begun (Some before) text old head) new status → Ran wal before new.told opening text old new.written status
+    pub ran_session : (text old : Option (List ℕ)) (head : Head) (new : State) (status : Status) → IsHead opening head → Ended wal (line_bound file) (begun (Some before) text old head) new status → Ran file wal before new.told opening text old new.written status
     ran_session text old head new status head_is ended =
         let left = ended.ring barrier opening (rests head head_is) good_since in
         record {
@@ -182,24 +184,24 @@ module _ (wal : Wal) (may_be_written : NextMayBeWritten wal) (is_kept : RestIsKe
 
 -- ---- over what the opening and the session say
 
-module _ (wal : Wal) (told mid later : Option Told) (left written : Option (List ℕ)) (fresh opened : Session) (new : State) (status : Status) (is_fresh : IsFreshSession fresh) (is_opened : IsOpened wal fresh opened) (synced : mid ≡ after Sync told)
-    (head_of : IsHeadOf wal mid opened.head) (ended : Ended wal line_bound (state mid left written opened) new status) where
-  from_begun : Ended wal line_bound (begun told left written opened.head) new status
-  from_begun = subst (λ (s : State). Ended wal line_bound s new status) (begun_is wal told mid left written fresh opened synced is_fresh is_opened) ended
+module _ (file : DataFile) (wal : Wal) (told mid later : Option Told) (left written : Option (List ℕ)) (fresh opened : Session) (new : State) (status : Status) (is_fresh : IsFreshSession fresh) (is_opened : IsOpened wal fresh opened) (synced : mid ≡ after Sync told)
+    (head_of : IsHeadOf wal mid opened.head) (ended : Ended wal (line_bound file) (state mid left written opened) new status) where
+  from_begun : Ended wal (line_bound file) (begun told left written opened.head) new status
+  from_begun = subst (λ (s : State). Ended wal (line_bound file) s new status) (begun_is wal told mid left written fresh opened synced is_fresh is_opened) ended
 
-  pub prints_whole : Prints wal told left new.left written new.written status
-  prints_whole = prints_ended wal told left written opened.head new status (head_of_told wal told mid opened.head synced head_of) from_begun
+  pub prints_whole : Prints file wal told left new.left written new.written status
+  prints_whole = prints_ended file wal told left written opened.head new status (head_of_told wal told mid opened.head synced head_of) from_begun
 
-  pub runs_whole : NextMayBeWritten wal → RestIsKept wal → SyncRests wal → Runs wal told new.told left written new.written status
+  pub runs_whole : NextMayBeWritten wal → RestIsKept wal → SyncRests wal → Runs file wal told new.told left written new.written status
   runs_whole may_be_written is_kept syncs before opening is honest safe ring =
       let shown : IsRing wal before.shown opening = shown_ring wal before opening honest ring in
-      ran_session wal may_be_written is_kept syncs before opening honest safe ring left written opened.head new status
+      ran_session file wal may_be_written is_kept syncs before opening honest safe ring left written opened.head new status
       (head_of_told wal told mid opened.head synced head_of before opening is shown)
-      (subst (λ (o : Option Told). Ended wal line_bound (begun o left written opened.head) new status) is from_begun)
+      (subst (λ (o : Option Told). Ended wal (line_bound file) (begun o left written opened.head) new status) is from_begun)
 
 -- the disk failed before the session
-pub runs_failed : (wal : Wal) (told later : Option Told) (left written : Option (List ℕ)) → NextMayBeWritten wal → RestIsKept wal → SyncRests wal → (later ≡ told) ⊎ (later ≡ after Sync told) → Runs wal told later left written written DiskFault
-runs_failed wal told later left written may_be_written is_kept syncs (inl none) before opening is honest safe ring =
-    runs_nothing wal told later left written written DiskFault none refl (inl refl) before opening is honest safe ring
-runs_failed wal told later left written may_be_written is_kept syncs (inr synced) before opening is honest safe ring =
-    ran_opening wal may_be_written is_kept syncs before opening honest safe ring later left written written (synced ∙ ap (after Sync) is) refl
+pub runs_failed : (file : DataFile) (wal : Wal) (told later : Option Told) (left written : Option (List ℕ)) → NextMayBeWritten wal → RestIsKept wal → SyncRests wal → (later ≡ told) ⊎ (later ≡ after Sync told) → Runs file wal told later left written written DiskFault
+runs_failed file wal told later left written may_be_written is_kept syncs (inl none) before opening is honest safe ring =
+    runs_nothing file wal told later left written written DiskFault none refl (inl refl) before opening is honest safe ring
+runs_failed file wal told later left written may_be_written is_kept syncs (inr synced) before opening is honest safe ring =
+    ran_opening file wal may_be_written is_kept syncs before opening honest safe ring later left written written (synced ∙ ap (after Sync) is) refl

@@ -33,10 +33,6 @@ pub record IsFile (file : DataFile) (wal : Wal) (image : Image) : Type 0 where
 abbrev pub OnFile : Option Told → (DataFile → Wal → Type 0) → Type 0
 OnFile told P = (t : Told) (file : DataFile) (wal : Wal) → told ≡ Some t → IsFile file wal t.shown → P file wal
 
--- how many bytes a line of a script may have: two digits for each byte of a slot or a block, and the words beside them
-abbrev pub line_bound : DataFile → ℕ
-line_bound file = 2 * max file.layout.message_size file.layout.block_size + 64
-
 -- A safe log of the file: its ring is safe, and no copy of the superblock but those of the first one was ever durable.
 pub record IsSafeFile (file : DataFile) (wal : Wal) (log : Log) : Type 0 where
   pub ring : IsSafe wal log

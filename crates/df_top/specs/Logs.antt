@@ -2,6 +2,7 @@
 use Rattle.std.specs.Prelude.{◌+◌, ◌%◌, ℕ}
 use Rattle.df_format.specs.declared.header.Header.{Header}
 use Rattle.df_format.specs.declared.kind.Kind.TheVariants.{Prepare as AsPrepare}
+use Rattle.std.specs.Prelude.{◌+◌, ◌*◌, max, ℕ}
 use Rattle.df_format.specs.declared.wal.Wal.{Wal}
 use Rattle.df_format.specs.Spelling.{no_checksum}
 use Rattle.df_format.specs.UnitLaws.{IsWalOf}
@@ -29,3 +30,7 @@ header_given file head client request = record {
   kind = AsPrepare;
   block_kind = 0;
 }
+
+-- how many bytes a line of a script may have: two digits for each byte of a message or a block, and the words beside them
+abbrev pub line_bound : DataFile → ℕ
+line_bound file = 2 * max file.layout.message_size file.layout.block_size + 64

@@ -13,7 +13,8 @@ use Rattle.df_top.specs.Script.{Begins}
 use Rattle.df_top.specs.Appends.{LeavesSome}
 use Rattle.df_top.specs.Texts.{usage}
 use Rattle.df_top.specs.Ending.{EndsText, IsAnswered, IsAfter}
-use Rattle.df_top.specs.Files.{IsSafeFile, LeavesChosen, line_bound}
+use Rattle.df_top.specs.Files.{IsSafeFile, LeavesChosen}
+use Rattle.df_top.specs.Logs.{line_bound}
 use Rattle.df_top.specs.declared.session.DataFile.{DataFile}
 use Rattle.df_top.specs.declared.status.Status.{Status}
 use Rattle.df_top.specs.declared.status.Status.TheVariants.{Words, DiskFault, WriteFault, Memory}

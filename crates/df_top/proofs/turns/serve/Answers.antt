@@ -3,7 +3,8 @@ use Rattle.std.proofs.Common.{[], ◌∷◌, ◌++◌, refl, ◌∙◌, subst, a
 use Rattle.df_format.specs.declared.wal.Wal.{Wal}
 use Rattle.df_top.specs.Session.{State}
 use Rattle.df_top.specs.Step.{GoesOn, Ends}
-use Rattle.df_top.specs.Run.{line_bound}
+use Rattle.df_top.specs.Logs.{line_bound}
+use Rattle.df_top.specs.declared.session.DataFile.{DataFile}
 use Rattle.df_top.specs.Serving.{state}
 use Rattle.df_top.proofs.Progress.{executed_none}
 use Rattle.df_top.proofs.Writes.{writes_none, writes_both}
@@ -11,7 +12,7 @@ use Rattle.df_top.proofs.turns.serve.Goals as goal
 
 pub loop-status-init : goal.loop-status-init
 loop-status-init g c = record {
-  so_far = ([], executed_none g.wal line_bound (state (g.D.Disk.told c.args.disk.now) (g.S.Source.left c.args.source.now) (g.W.Sink.written c.args.sink.now) c.args.session.now));
+  so_far = ([], executed_none g.wal (line_bound c.args.session.now.file) (state (g.D.Disk.told c.args.disk.now) (g.S.Source.left c.args.source.now) (g.W.Sink.written c.args.sink.now) c.args.session.now));
   writes = writes_none g.wal (g.D.Disk.told c.args.disk.now) (g.D.Disk.told c.args.disk.now) refl;
   ready = c.requires.1.1.1.1.0;
   file = refl;
@@ -26,7 +27,8 @@ pub loop-status-preserved : goal.loop-status-preserved
 loop-status-preserved g c =
     let before : State = state (g.D.Disk.told c.loop-status.disk) (g.S.Source.left c.loop-status.source) (g.W.Sink.written c.loop-status.sink) c.loop-status.session in
     let after : State = state (g.D.Disk.told c.turn.new.disk) (g.S.Source.left c.turn.new.source) (g.W.Sink.written c.turn.new.sink) c.turn.new.session in
-    let more = c.in-Ok.ensures.goes_on _ c.loop-status.invariant.so_far.0 c.loop-status.invariant.so_far.1 in
+    let on = subst (λ (f : DataFile). GoesOn g.wal (line_bound f) before after) c.loop-status.invariant.file c.in-Ok.ensures.goes_on in
+    let more = on _ c.loop-status.invariant.so_far.0 c.loop-status.invariant.so_far.1 in
     record {
       so_far = (c.loop-status.invariant.so_far.0 ++ more.0 ∷ [], more.1);
       writes = writes_both g.wal (g.D.Disk.told c.args.disk.now) (g.D.Disk.told c.loop-status.disk) (g.D.Disk.told c.turn.new.disk) c.loop-status.invariant.writes c.turn.ensures.writes;
@@ -43,7 +45,7 @@ pub returns-in-Err-clause-session : goal.returns-in-Err-clause-session
 returns-in-Err-clause-session g c =
     let before : State = state (g.D.Disk.told c.loop-status.disk) (g.S.Source.left c.loop-status.source) (g.W.Sink.written c.loop-status.sink) c.loop-status.session in
     let after : State = state (g.D.Disk.told c.turn.new.disk) (g.S.Source.left c.turn.new.source) (g.W.Sink.written c.turn.new.sink) c.turn.new.session in
-    c.in-Err.ensures.ends _ c.loop-status.invariant.so_far.0 c.loop-status.invariant.so_far.1
+    subst (λ (f : DataFile). Ends g.wal (line_bound f) before after c.in-Err.status) c.loop-status.invariant.file c.in-Err.ensures.ends _ c.loop-status.invariant.so_far.0 c.loop-status.invariant.so_far.1
 
 pub returns-in-Err-clause-writes : goal.returns-in-Err-clause-writes
 returns-in-Err-clause-writes g c =
