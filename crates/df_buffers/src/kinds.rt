@@ -1,6 +1,7 @@
-// The kinds of rooms, as empty types: one for each kind of unit that has slots of its own, and the header sector.
+// The kinds of rooms, as empty types: one for each kind of unit that has slots of its own, the header
+// sector, and the sector of a copy of the superblock.
 ghost use Rattle.df_layout.specs.declared.places.Zone.{Zone};
-ghost use Rattle.df_layout.specs.declared.places.Zone.TheVariants.{WalHeaders, WalPrepares, ClientReplies, Grid};
+ghost use Rattle.df_layout.specs.declared.places.Zone.TheVariants.{Superblock, WalHeaders, WalPrepares, ClientReplies, Grid};
 ghost use Rattle.df_format.specs.declared.kind.Kind.{Kind};
 ghost use Rattle.df_format.specs.declared.kind.Kind.TheVariants.{Prepare as AsPrepare, Reply as AsReply, Block as AsBlock, Trailer as AsTrailer};
 ghost use Rattle.df_buffers.specs.Rooms.{StandsIn};
@@ -43,6 +44,10 @@ pub struct Trailer;
 /// A sector of sixteen headers of the header ring.
 #[derive(Drop)]
 pub struct HeaderSector;
+
+/// The sector of a copy of the superblock.
+#[derive(Drop)]
+pub struct SuperSector;
 
 impl RoomKind for Prepare {
     ghost ZONE = { WalPrepares };
@@ -104,4 +109,10 @@ impl RoomKind for HeaderSector {
     ghost ZONE = { WalHeaders };
 
     const ZONE: Zone = Zone::WalHeaders;
+}
+
+impl RoomKind for SuperSector {
+    ghost ZONE = { Superblock };
+
+    const ZONE: Zone = Zone::Superblock;
 }

@@ -3,6 +3,9 @@
 
 #[cfg(test)]
 mod class_tests;
+mod copies;
+#[cfg(test)]
+mod copy_tests;
 #[cfg(test)]
 mod examples;
 mod find;
@@ -10,6 +13,7 @@ mod headers;
 mod identity;
 mod kinds;
 mod make;
+mod probe;
 mod prove;
 mod raw;
 mod rooms;
@@ -18,7 +22,8 @@ mod sound;
 mod tests;
 
 pub use identity::{Identity, Wanted};
-pub use kinds::{Block, HeaderSector, Prepare, Reply, RoomKind, Trailer, UnitKind};
+pub use kinds::{Block, HeaderSector, Prepare, Reply, RoomKind, SuperSector, Trailer, UnitKind};
+pub use probe::ProbeRoom;
 pub use raw::Raw;
 pub use rooms::Rooms;
 pub use sound::Sound;

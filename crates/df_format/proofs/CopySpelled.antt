@@ -35,9 +35,9 @@ AreBytes-fields : (f : SuperFields) → FitsSuper f → AreBytes (fields_bytes f
 unfolding fields_bytes
 AreBytes-fields f fits =
     bytes-append _ _ (AreBytes-spelled 4 f.version) (bytes-append _ _ (AreBytes-spelled 4 f.slots) (bytes-append _ _ (AreBytes-spelled 4 f.message_size) (bytes-append _ _ (AreBytes-spelled 4 f.clients)
-        (bytes-append _ _ (AreBytes-spelled 16 f.cluster) (bytes-append _ _ (AreBytes-spelled 4 f.block_size) (bytes-append _ _ (AreBytes-spelled 4 f.blocks) (bytes-append _ _ (AreBytes-spelled 8 f.sequence)
-            (bytes-append _ _ (AreBytes-spelled 8 f.op) (bytes-append _ _ (AreBytes-spelled 8 f.head) (bytes-append _ _ (AreBytes-spelled 8 f.replies) (bytes-append _ _ (AreBytes-spelled 8 f.trailer_address)
-                (bytes-append _ _ fits.op_checksum.each (bytes-append _ _ fits.trailer_checksum.each (bytes-append _ _ (AreBytes-spelled 8 f.trailer_size) (AreBytes-spelled 8 f.boot)))))))))))))))
+    (bytes-append _ _ (AreBytes-spelled 16 f.cluster) (bytes-append _ _ (AreBytes-spelled 4 f.block_size) (bytes-append _ _ (AreBytes-spelled 4 f.blocks) (bytes-append _ _ (AreBytes-spelled 8 f.sequence)
+    (bytes-append _ _ (AreBytes-spelled 8 f.op) (bytes-append _ _ (AreBytes-spelled 8 f.head) (bytes-append _ _ (AreBytes-spelled 8 f.replies) (bytes-append _ _ (AreBytes-spelled 8 f.trailer_address)
+    (bytes-append _ _ fits.op_checksum.each (bytes-append _ _ fits.trailer_checksum.each (bytes-append _ _ (AreBytes-spelled 8 f.trailer_size) (AreBytes-spelled 8 f.boot)))))))))))))))
 
 AreBytes-copy : (number : ℕ) (f : SuperFields) → FitsSuper f → AreBytes (copy_bytes number f)
 unfolding copy_bytes covered_bytes

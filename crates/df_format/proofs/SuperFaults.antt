@@ -169,12 +169,3 @@ module _ (f : SuperFields) where
 -- fields have no fault exactly where they obey the rules
 pub faults : FaultsAreBrokenRules
 faults f = (obeys f, no_fault f)
-
--- what the tests tell, where the version is known
-pub of_version : (f : SuperFields) → f.version ≡ 1 → fault_of f ≡ first_failing (field_tests f)
-unfolding fault_of
-of_version f is = cond-true (f.version == 1) _ _ (eq-eqb f.version 1 is)
-
-pub of_another : (f : SuperFields) → f.version ≢ 1 → fault_of f ≡ Some (Version f.version)
-unfolding fault_of
-of_another f is = cond-false (f.version == 1) _ _ (ne_eqb f.version 1 is)

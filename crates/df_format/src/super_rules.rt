@@ -1,5 +1,5 @@
 // The rules of a superblock's fields: whether it can be used, or which field is the first that breaks its rule.
-ghost use Rattle.std.specs.Prelude.{◌≡◌, ◌≢◌, ◌<◌, [], ◌∷◌, IfOk, IfErr};
+ghost use Rattle.std.specs.Prelude.{◌≡◌, ◌==◌, ◌<◌, [], ◌∷◌, if◌then◌else◌, IfOk, IfErr};
 ghost use Rattle.std.specs.Result.{result_err};
 ghost use Rattle.df_format.specs.SuperRules.{IsSuper, IsUsable, FaultsAreBrokenRules, is_between, is_whole_between, is_zero_check, greatest_trailer, has_trailer_size, test, size_tests, checkpoint_tests, progress_tests, trailer_tests, zero_tests, field_tests, first_failing, fault_of};
 
@@ -225,14 +225,22 @@ fn test_each(fields: &SuperFields) -> Result<(), SuperFault>
 }
 
 fn test_version(version: u32) -> Result<(), SuperFault>
-    ensures passed { IfOk result (λ _. version ≡ 1) }
-    ensures failed { IfErr result (λ fault. (version ≢ 1) × (fault ≡ SuperFault.Version version)) }
+    ensures { result_err result ≡ (if version == 1 then None else Some (SuperFault.Version version)) }
 {
     if version == VERSION {
         Ok(())
     } else {
         Err(SuperFault::Version { found: version })
     }
+}
+
+// The version first, and then the fields.
+#[tactic(auto, unfolding(crate::specs::SuperRules::fault_of))]
+fn test_all(fields: &SuperFields) -> Result<(), SuperFault>
+    ensures { result_err result ≡ fault_of fields.now }
+{
+    test_version(fields.version)?;
+    test_each(fields)
 }
 
 // The superblock of fields that have passed their tests.
@@ -250,8 +258,7 @@ pub fn test_fields(fields: &SuperFields) -> Result<Super, SuperFault>
     ensures usable { IfOk result (λ _. fault_of fields.now ≡ None) }
     ensures fault { IfErr result (λ fault. fault_of fields.now ≡ Some fault) }
 {
-    test_version(fields.version)?;
-    test_each(fields)?;
+    test_all(fields)?;
     Ok(usable(*fields))
 }
 

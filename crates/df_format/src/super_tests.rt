@@ -99,6 +99,10 @@ fn writes_and_reads_the_first_superblock(rt: HostRuntime) {
     assert_eq!(rt; usable, Ok((FIRST, Layout::small())));
 }
 
+fn has_at(bytes: &[u8], at: usize, field: &[u8]) -> bool {
+    at <= bytes.len() && bytes[at..].starts_with(field)
+}
+
 #[test]
 fn writes_each_field_at_its_offset(rt: HostRuntime) {
     let greatest = SuperFields {
@@ -122,7 +126,7 @@ fn writes_each_field_at_its_offset(rt: HostRuntime) {
         (160, [0; 8]),
     ];
     for (at, field) in fields {
-        assert!(rt; bytes[at..].starts_with(&field), "at {at}");
+        assert!(rt; has_at(&bytes, at, &field), "at {at}");
     }
     assert_eq!(rt; decode_copy(&bytes).map(|copy| copy.fields), Some(greatest));
 }

@@ -7,4 +7,4 @@ pub returns : goal.returns
 unfolding covered_bytes
 returns c =
     behind_front 32 4096 c.args.into.now c.put_zeros.new.into (fields_bytes c.args.fields.now) (replicate 3936 0) (omega (arith, c.requires)) (omega (arith, c.requires, c.put_fields.auto.into, c.put_zeros.auto.into))
-        (c.put_zeros.ensures.front ∙ ap (λ (l : List ℕ). l ++ replicate 3936 0) c.put_fields.ensures)
+    (c.put_zeros.ensures.front ∙ ap (λ (l : List ℕ). l ++ replicate 3936 0) c.put_fields.ensures)

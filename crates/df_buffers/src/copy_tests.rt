@@ -1,0 +1,100 @@
+// What the rooms of the superblock's copies answer to given bytes.
+use crate::{ProbeRoom, Raw, SuperSector};
+use df_format::{SuperCopy, SuperFields, decode_copy, encode_copy, test_fields};
+use df_layout::{Class, Layout, Place, Zone};
+use std::alloc::Global;
+
+// What the first superblock of layout small and cluster 7 says.
+const FIRST: SuperFields = SuperFields {
+    version: 1,
+    slots: 32,
+    message_size: 8192,
+    clients: 4,
+    block_size: 16_384,
+    blocks: 64,
+    cluster: 7,
+    sequence: 1,
+    op: 0,
+    op_checksum: [0; 16],
+    head: 0,
+    replies: 0,
+    trailer_address: 0,
+    trailer_checksum: [0; 16],
+    trailer_size: 0,
+    boot: 0,
+    first_nonzero: None,
+};
+
+fn place(index: u64) -> Place
+    ensures zone { result.zone ≡ Zone.Superblock }
+    ensures index { result.index ≡ index }
+{
+    Place {
+        zone: Zone::Superblock,
+        index,
+    }
+}
+
+// The sector of a copy of these fields.
+fn written(number: u8) -> [u8; 4096] {
+    let mut bytes = [9; 4096];
+    if let Ok(content) = test_fields(&FIRST)
+        && number < 4
+    {
+        encode_copy(&content, number, &mut bytes);
+    }
+    bytes
+}
+
+// What the room of copy 1 answers with these bytes; None where memory was refused.
+fn answer(alloc: Global, bytes: &[u8; 4096]) -> Option<Result<SuperCopy, Class>> {
+    let Ok(mut room) = ProbeRoom::reserve(alloc) else {
+        return None;
+    };
+    let sector = room.sector_mut(1);
+    sector.bytes_mut().copy_from_slice(bytes);
+    Some(sector.copy(place(1)))
+}
+
+#[test]
+fn tells_the_class_of_a_copy(rt: HostRuntime) {
+    let copy = decode_copy(&written(1));
+    assert!(rt; copy.is_some());
+    let elsewhere = Class::Elsewhere(Place {
+        zone: Zone::Superblock,
+        index: 2,
+    });
+    let mut almost_blank = [0; 4096];
+    almost_blank[4095] = 1;
+    let mut other_number = written(1);
+    other_number[16] = 4;
+    let cases = [
+        ([0; 4096], Some(Err(Class::Blank))),
+        (almost_blank, Some(Err(Class::Garbled))),
+        (other_number, Some(Err(Class::Garbled))),
+        (written(2), Some(Err(elsewhere))),
+    ];
+    for (bytes, class) in cases {
+        assert_eq!(rt; answer(rt.alloc(), &bytes), class);
+    }
+    assert_eq!(rt; answer(rt.alloc(), &written(1)), copy.map(|copy| Ok(copy)));
+}
+
+#[test]
+fn reserves_a_room_for_each_copy(rt: HostRuntime) {
+    let mut room = ProbeRoom::reserve(rt.alloc()).expect(&rt, "memory of the copies' rooms");
+    for number in 0..4 {
+        let sector = room.sector_mut(number);
+        sector.bytes_mut().copy_from_slice(&written(number));
+    }
+    for number in 0..4 {
+        let index = u64::from(number);
+        let copy = room.sector(number).copy(place(index));
+        assert_eq!(rt; copy.map(|copy| copy.number), Ok(number));
+    }
+    let one = Raw::<SuperSector>::reserve(rt.alloc(), &Layout::large()).expect(
+        &rt,
+        "memory of a sector",
+    );
+    assert_eq!(rt; one.copy(place(0)), Err(Class::Blank));
+}

@@ -1,0 +1,62 @@
+// The rooms that the superblock is read into before the layout of its file is known.
+ghost use Rattle.std.specs.Prelude.{◌≡◌, ◌<◌, Some, length, replicate, slice_get, All, IfOk};
+
+use crate::{Raw, SuperSector};
+use df_base::OutOfMemory;
+use df_layout::Layout;
+use std::alloc::Global;
+use std::marker::Model;
+
+/// A room for each of the four copies of the superblock; contracts see the list of them.
+#[derive(Drop)]
+pub struct ProbeRoom {
+    copies: Vec<Raw<SuperSector>>,
+}
+
+impl Model for ProbeRoom {
+    ghost use Rattle.std.specs.Prelude.{◌≡◌, List, length};
+    ghost use Rattle.df_buffers.specs.Rooms.{Room};
+
+    ghost Value = { List Room };
+
+    ghost view = { λ s. s.copies.items };
+
+    ghost invariant = { λ s. length s.copies.items ≡ 4 };
+}
+
+impl ProbeRoom {
+    /// Four sectors of zeros, or the refusal of their memory. A sector has the same length in every layout.
+    pub fn reserve(alloc: Global) -> Result<ProbeRoom, OutOfMemory>
+        ensures { IfOk result (All (λ room. room.bytes ≡ replicate 4096 0)) }
+    {
+        let layout = Layout::small();
+        let copies = [
+            Raw::reserve(alloc, &layout)?,
+            Raw::reserve(alloc, &layout)?,
+            Raw::reserve(alloc, &layout)?,
+            Raw::reserve(alloc, &layout)?,
+        ];
+        match Vec::from_array(alloc, copies) {
+            Ok(copies) => Ok(ProbeRoom { copies }),
+            Err(_) => Err(OutOfMemory),
+        }
+    }
+
+    /// The room of the copy with this number, 0 to 3.
+    pub fn sector(&self, number: u8) -> &Raw<SuperSector>
+        requires { number < 4 }
+        ensures value { slice_get self.now number ≡ Some result.now }
+        ensures size { length result.now.bytes ≡ 4096 }
+    {
+        &self.copies[usize::from(number)]
+    }
+
+    /// The room of the copy with this number, 0 to 3, to be read into or written in.
+    pub fn sector_mut(&mut self, number: u8) -> &mut Raw<SuperSector>
+        requires { number < 4 }
+        ensures value { slice_get self.old number ≡ Some result.now }
+        ensures size { length result.now.bytes ≡ 4096 }
+    {
+        &mut self.copies[usize::from(number)]
+    }
+}
