@@ -5,3 +5,7 @@ pub mod Passing
 pub mod Turns
 pub mod Mends
 pub mod Misleads
+pub mod Puts
+pub mod Written
+pub mod Mended
+pub mod Verdicts

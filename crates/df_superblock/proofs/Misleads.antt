@@ -121,7 +121,7 @@ AreOutside before c number (true ∷ members) = AreOutside before c (number + 1)
 AreOutside before c number (false ∷ members) = (before number ≡ Some c → ⊥) × AreOutside before c (number + 1) members
 
 module _ (f : SuperFields) (c : Content) (puts : (n : ℕ) → n < 4 → PutsCopy n (copy_bytes n f) c) (before : Copies) (chosen : IsChosen before c) where
-  each_stays : (number : ℕ) (members : List Bool) (log : Log) → number + length members ≤ 4 → IsUnder before log c → AreOutside before c number members → AtEach (KeepsChoice before c) log (repair_events f number members)
+  pub each_stays : (number : ℕ) (members : List Bool) (log : Log) → number + length members ≤ 4 → IsUnder before log c → AreOutside before c number members → AtEach (KeepsChoice before c) log (repair_events f number members)
   each_stays number [] log fits u outside = λ image keeps not. stays before log c image u keeps not chosen
   each_stays number (true ∷ members) log fits u outside = each_stays (number + 1) members log (omega arith) u outside
   each_stays number (false ∷ members) log fits u outside =

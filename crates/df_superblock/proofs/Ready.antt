@@ -167,11 +167,15 @@ ready_synced log c p q ready = record {
 
 -- ---- beginnings, and other writes
 
+pub equal_chosen : (image : Image) (c : Content) → AreEqual image c → IsChosen (content_at image) c
+equal_chosen image c equal =
+    chosen_above (content_at image) c (record { first = 0; second = 1; apart = omega arith; inside = omega arith; at_first = equal 0 (omega arith); at_second = equal 1 (omega arith) })
+    (λ d a. inl (same_copy (content_at image) a.second d c a.at_second (equal a.second a.inside)))
+
 pub begins_law : BeginsLaw
 begins_law start c equal = record {
   quiet = λ n below. refl;
-  chosen = chosen_above (content_at start) c (record { first = 0; second = 1; apart = omega arith; inside = omega arith; at_first = equal 0 (omega arith); at_second = equal 1 (omega arith) })
-      (λ d a. inl (same_copy (content_at start) a.second d c a.at_second (equal a.second a.inside)));
+  chosen = equal_chosen start c equal;
   bounded = λ n d above below is. elim is [ inl here ↦ inl (same_copy (content_at start) n d c here (equal n below)) | inr none ↦ absurd none ];
 }
 

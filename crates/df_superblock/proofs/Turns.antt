@@ -106,7 +106,7 @@ spared entry log since n image spare firm keeps =
     ∙ ap (λ (start : Image). content_at (now_of start (since.0 ++ entry.events)) n) since.2
     ∙ spare_shows entry.start since.0 entry.events n spare
 
-turn_moment : (entry log : Log) (old new : Content) (i : ℕ) → rank_of old < rank_of new → AreQuiet entry → AreEqual (now entry) old → IsTurn log old new i → IsOldOrNew entry old new log
+pub turn_moment : (entry log : Log) (old new : Content) (i : ℕ) → rank_of old < rank_of new → AreQuiet entry → AreEqual (now entry) old → IsTurn log old new i → IsOldOrNew entry old new log
 turn_moment entry log old new i less quiet equal turn = record {
   left = λ image left. either_chosen log old new i image less turn left.kept;
   first = λ since spare image left.

@@ -116,6 +116,11 @@ abbrev pub IsUndamaged : {T : Type 0} → Option Told → Result T UpdateError �
 IsUndamaged (Some t) (Err (Damaged place class)) = ⊥
 IsUndamaged told result = Unit {0}
 
+-- the four copies are shown as they were written
+abbrev pub ShowsEqual : SuperFields → Option Told → Type 0
+ShowsEqual f None = Unit {0}
+ShowsEqual f (Some t) = AreEqual t.shown (content_with f)
+
 -- at each moment of an update of four equal copies whatever a stop leaves has the old content chosen or the new one
 abbrev pub UpdatesSafely : SuperFields → Option Told → Option Told → Type 0
 UpdatesSafely f None new = Unit {0}

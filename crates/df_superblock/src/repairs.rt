@@ -1,5 +1,5 @@
 // Repairs: the copies that don't show the chosen content are written anew, one after the other, and no other one.
-ghost use Rattle.std.specs.Prelude.{◌≡◌, ◌<◌, OnOk};
+ghost use Rattle.std.specs.Prelude.{◌≡◌, ◌<◌, length, OnOk};
 ghost use Rattle.df_base.specs.Causes.{HasCause};
 ghost use Rattle.df_disk.specs.Adds.{Adds};
 ghost use Rattle.df_superblock.specs.Calls.{KeepsMembers, RepairsSteadily, RepairsUnlessMisled, EndsRepaired};
@@ -39,6 +39,7 @@ fn mend_each<D: Disk>(
     members: &[bool; 4],
 ) -> Result<(), Failed>
     ensures events { Adds (repair_events content.now 0 members.now) (D.told disk.old) (D.told disk.new) result }
+    ensures size { length members.now ≡ 4 }
     ensures cause { HasCause (D.faults disk.old) (D.faults disk.new) result }
 {
     mend(disk, room, content, 0, members[0])?;
@@ -64,5 +65,6 @@ pub fn repair<D: Disk>(
     ensures repaired { OnOk result (EndsRepaired chosen.now (D.told disk.old) (D.told disk.new)) }
     ensures cause { HasCause (D.faults disk.old) (D.faults disk.new) result }
 {
+    let _fields = content.fields();
     mend_each(disk, room, content, &chosen.members)
 }

@@ -2,7 +2,7 @@
 ghost use Rattle.std.specs.Prelude.{◌≡◌, ◌<◌, ◌≤◌, ℕ, IsTrue, ◌↔◌, IfSome, IfNone, OnOk};
 ghost use Rattle.df_base.specs.Causes.{HasCause};
 ghost use Rattle.df_disk.specs.Adds.{Adds};
-ghost use Rattle.df_superblock.specs.Calls.{IsRead, IsFirstMissing, IsVerdict, IsJudged, IsUndamaged, AddsUpdate, IsCausedBy, UpdatesSafely, UpdatesSteadily, EndsEqual, EndsSteady, class_of_slot};
+ghost use Rattle.df_superblock.specs.Calls.{IsRead, IsFirstMissing, IsVerdict, IsJudged, IsUndamaged, AddsUpdate, IsCausedBy, UpdatesSafely, UpdatesSteadily, ShowsEqual, EndsEqual, EndsSteady, class_of_slot};
 ghost use Rattle.df_superblock.specs.Events.{update_events};
 
 use crate::copies::{read_all, write_copy};
@@ -39,10 +39,12 @@ fn write_all<D: Disk>(disk: &mut D, room: &mut ProbeRoom, content: &Super) -> Re
     ensures events { Adds (update_events content.now) (D.told disk.old) (D.told disk.new) result }
     ensures moments { UpdatesSafely content.now (D.told disk.old) (D.told disk.new) }
     ensures history { UpdatesSteadily content.now (D.told disk.old) (D.told disk.new) }
+    ensures shown { OnOk result (ShowsEqual content.now (D.told disk.new)) }
     ensures equal { OnOk result (EndsEqual content.now (D.told disk.new)) }
     ensures steady { OnOk result (EndsSteady content.now (D.told disk.old) (D.told disk.new)) }
     ensures cause { HasCause (D.faults disk.old) (D.faults disk.new) result }
 {
+    let _fields = content.fields();
     write_each(disk, room, content)
 }
 
@@ -111,6 +113,7 @@ pub fn update<D: Disk>(
     ensures undamaged { IsUndamaged (D.told disk.new) result }
     ensures moments { UpdatesSafely content.now (D.told disk.old) (D.told disk.new) }
     ensures history { UpdatesSteadily content.now (D.told disk.old) (D.told disk.new) }
+    ensures shown { OnOk result (ShowsEqual content.now (D.told disk.new)) }
     ensures equal { OnOk result (EndsEqual content.now (D.told disk.new)) }
     ensures steady { OnOk result (EndsSteady content.now (D.told disk.old) (D.told disk.new)) }
     ensures cause { IsCausedBy (D.faults disk.old) (D.faults disk.new) result }

@@ -1,0 +1,161 @@
+-- What a repair's events make of the copies, where the disk tells its log.
+use Rattle.std.proofs.Common.{◌≡◌, ◌⊎◌, inl, inr, ◌<◌, ◌≤◌, ◌+◌, ◌↔◌, ℕ, zero, suc, Bool, true, false, IsTrue, List, [], ◌∷◌, ◌++◌, length, get_or, Option, Some, None, refl, sym, ◌∙◌, ap, subst, arith, Result, Ok, Err, OnOk}
+use Rattle.df_base.specs.Image.{Image, IsImage, covers, written}
+use Rattle.df_base.specs.Log.{Event, Write, Sync, Stop, Log, IsLog, add, now}
+use Rattle.df_theory.proofs.Sectors.{now_is_image}
+use Rattle.df_disk.specs.Told.{Told, did}
+use Rattle.df_disk.specs.Adds.{Adds, AddsPart}
+use Rattle.df_format.specs.Super.{copy_bytes}
+use Rattle.df_format.specs.SuperRules.{IsUsable}
+use Rattle.df_format.specs.declared.superblock.SuperFields.{SuperFields}
+use Rattle.df_format.specs.Copies.{Content, content_at, content_with}
+use Rattle.df_quorum.specs.declared.choice.Chosen.{Chosen}
+use Rattle.df_quorum.specs.Quorum.{Copies, Agree, IsChosen, AreMembers}
+use Rattle.df_superblock.specs.Copies.{AreQuiet, AreEqual, AreSteady, IsKept, IsChoice, Spare}
+use Rattle.df_superblock.specs.Events.{repair_events}
+use Rattle.df_superblock.specs.Moments.{PassedTo, adds}
+use Rattle.df_superblock.specs.Calls.{KeepsMembers, RepairsSteadily, KeepsUnlessMisled, RepairsUnlessMisled, TellsLog, IsRepaired, EndsRepaired}
+use Rattle.df_superblock.proofs.Sights.{PutsCopy, written_other}
+use Rattle.df_superblock.proofs.Ready.{IsReady, steady_ready}
+use Rattle.df_superblock.proofs.Passing.{AtEach, adds_part, passes, at_weaker}
+use Rattle.df_superblock.proofs.Mends.{Spares, Writes, member_spared, other_written, repair_keeps, repair_steady, shown_stays, written_shows}
+use Rattle.df_superblock.proofs.Misleads.{AreOutside, IsUnder, KeepsChoice, each_stays}
+use Rattle.df_superblock.proofs.Puts.{copy_put, one_content}
+use Rattle.df_superblock.proofs.Written.{tells_after}
+
+cases_bool : (b : Bool) → (b ≡ true) ⊎ (b ≡ false)
+cases_bool true = inl refl
+cases_bool false = inr refl
+
+-- ---- members
+
+-- a copy that isn't among those that are written is spared by each write
+spared : (f : SuperFields) (puts : (m : ℕ) → m < 4 → PutsCopy m (copy_bytes m f) (content_with f)) (n number : ℕ) (members : List Bool) → number + length members ≤ 4 → Spares n number members → Spare (repair_events f number members) n
+spared f puts n number [] fits spares = tt
+spared f puts n number (true ∷ members) fits spares = spared f puts n (number + 1) members (omega arith) spares
+spared f puts n number (false ∷ members) fits spares = ((puts number (omega arith)).alone n spares.0, spared f puts n (number + 1) members (omega arith) spares.1)
+
+-- what is shown in this sector stays
+abbrev ShowsStill : ℕ → Told → Option Told → Type 0
+ShowsStill n t None = ⊥
+ShowsStill n t (Some u) = u.shown n ≡ t.shown n
+
+still_from : (e : Event) (t : Told) (new : Option Told) (n : ℕ) → (did e t).shown n ≡ t.shown n → ShowsStill n (did e t) new → ShowsStill n t new
+still_from e t None n same still = absurd still
+still_from e t (Some u) n same still = still ∙ same
+
+still_shown : (es : List Event) (t : Told) (new : Option Told) (n : ℕ) → Spare es n → AddsPart es (Some t) new → ShowsStill n t new
+still_shown [] t new n spare is = subst (λ (o : Option Told). ShowsStill n t o) (sym is) refl
+still_shown (e ∷ es) t new n spare (inl is) = subst (λ (o : Option Told). ShowsStill n t o) (sym is) refl
+still_shown ((Write at bytes) ∷ es) t new n spare (inr is) = still_from (Write at bytes) t new n (written_other at bytes t.shown n spare.0) (still_shown es (did (Write at bytes) t) new n spare.1 is)
+still_shown (Sync ∷ es) t new n spare (inr is) = still_from Sync t new n refl (still_shown es (did Sync t) new n spare is)
+still_shown ((Stop cs) ∷ es) t new n spare (inr is) = absurd spare
+
+tells_still : (es : List Event) (t : Told) → AddsPart es (Some t) None → ⊥
+tells_still [] t is = let no : None ≡ Some t = is in cc
+tells_still (e ∷ es) t (inl is) = let no : None ≡ Some t = is in cc
+tells_still (e ∷ es) t (inr is) = tells_still es (did e t) is
+
+member_stays : (f : SuperFields) (members : List Bool) (t u : Told) (n : ℕ) → IsUsable f → length members ≡ 4 → AddsPart (repair_events f 0 members) (Some t) (Some u) → IsTrue (get_or members n false) → u.shown n ≡ t.shown n
+member_stays f members t u n usable size is member =
+    let place : 0 + n ≡ n = omega arith in
+    let spares : Spares n 0 members = subst (λ (k : ℕ). Spares k 0 members) place (member_spared 0 n members member) in
+    still_shown (repair_events f 0 members) t (Some u) n (spared f (copy_put f usable) n 0 members (omega arith) spares) is
+
+pub keeps_members : {T E : Type 0} → (f : SuperFields) (members : List Bool) (old new : Option Told) (result : Result T E) → IsUsable f → length members ≡ 4 → Adds (repair_events f 0 members) old new result → KeepsMembers members old new
+keeps_members f members None new result usable size is = tt
+keeps_members f members (Some t) None result usable size is = absurd (tells_still (repair_events f 0 members) t (adds_part (repair_events f 0 members) (Some t) None result is))
+keeps_members f members (Some t) (Some u) result usable size is = λ n below member. member_stays f members t u n usable size (adds_part (repair_events f 0 members) (Some t) (Some u) result is) member
+
+-- ---- moments, and the end
+
+-- the fields that are written are those of the choice
+pub record IsFor (f : SuperFields) (chosen : Chosen) : Type 0 where
+  pub usable : IsUsable f
+  pub fields : f ≡ chosen.content
+  pub size : length chosen.members ≡ 4
+
+module _ (f : SuperFields) (chosen : Chosen) (for : IsFor f chosen) (log : Log) (c : Content) (whole : IsLog log) (choice : IsChoice (content_at (now log)) chosen c) where
+  abbrev members : List Bool
+  members = chosen.members
+
+  fits : 0 + length members ≤ 4
+  fits = omega (arith, for.size)
+
+  agreed : Agree (content_at (now log)) c
+  agreed = choice.is.agreed
+
+  same : content_with f ≡ c
+  same =
+      let image : IsImage (now log) = now_is_image log.start log.events whole.start whole.events in
+      one_content (now log) agreed.first c f (image.sectors agreed.first) for.usable agreed.at_first (choice.fields ∙ sym for.fields)
+
+  puts : (n : ℕ) → n < 4 → PutsCopy n (copy_bytes n f) c
+  puts n below = subst (λ (x : Content). PutsCopy n (copy_bytes n f) x) same (copy_put f for.usable n below)
+
+  spares : (n : ℕ) → n < 4 → content_at (now log) n ≡ Some c → Spares n 0 members
+  spares n below shown =
+      let place : 0 + n ≡ n = omega arith in
+      subst (λ (k : ℕ). Spares k 0 members) place (member_spared 0 n members ((choice.members n below).1 shown))
+
+  first_spared : Spares agreed.first 0 members
+  first_spared = spares agreed.first (omega (arith, agreed.apart, agreed.inside)) agreed.at_first
+
+  second_spared : Spares agreed.second 0 members
+  second_spared = spares agreed.second agreed.inside agreed.at_second
+
+  ready : AreSteady log c → IsReady log c agreed.first agreed.second
+  ready steady = steady_ready log c agreed steady.quiet steady.bounded
+
+  pub kept_each : AreSteady log c → AtEach (λ l. IsKept l c) log (repair_events f 0 members)
+  kept_each steady = repair_keeps f c puts agreed.first agreed.second 0 members log fits first_spared second_spared (ready steady)
+
+  equal : AreEqual (now (adds (repair_events f 0 members) log)) c
+  equal n below = elim (cases_bool (get_or members n false)) [
+    | inl member ↦ shown_stays f c puts n 0 members log fits ((choice.members n below).0 member)
+    | inr other ↦
+        let place : 0 + n ≡ n = omega arith in
+        written_shows f c puts n 0 members log fits (subst (λ (k : ℕ). Writes k 0 members) place (other_written 0 n members (omega (arith, for.size)) other))
+  ]
+
+  pub repaired : IsRepaired log (adds (repair_events f 0 members) log) c
+  repaired = record {
+    equal = equal;
+    steady = λ steady. repair_steady f c puts agreed.first agreed.second 0 members log fits first_spared second_spared (ready steady) steady;
+  }
+
+  further : (m k : ℕ) → (content_at (now log) (m + suc k) ≡ Some c → ⊥) → content_at (now log) ((m + 1) + k) ≡ Some c → ⊥
+  further m k away = let place : m + suc k ≡ (m + 1) + k = omega arith in subst (λ (j : ℕ). content_at (now log) j ≡ Some c → ⊥) place away
+
+  -- those that are written didn't show the choice
+  outside_from : (number : ℕ) (others : List Bool) → ((k : ℕ) → k < length others → get_or others k false ≡ false → content_at (now log) (number + k) ≡ Some c → ⊥) → AreOutside (content_at (now log)) c number others
+  outside_from number [] away = tt
+  outside_from number (true ∷ others) away = outside_from (number + 1) others (λ k inside is. further number k (away (suc k) (omega arith) is))
+  outside_from number (false ∷ others) away = (
+    let place : number + 0 ≡ number = omega arith in subst (λ (j : ℕ). content_at (now log) j ≡ Some c → ⊥) place (away 0 (omega arith) refl),
+    outside_from (number + 1) others (λ k inside is. further number k (away (suc k) (omega arith) is)),
+  )
+
+  outside : AreOutside (content_at (now log)) c 0 members
+  outside = outside_from 0 members (λ k inside is shown.
+      let place : 0 + k ≡ k = omega arith in
+      let member : get_or members k false ≡ true = (choice.members k (omega (arith, for.size))).1 (subst (λ (j : ℕ). content_at (now log) j ≡ Some c) place shown) in
+      let both : false ≡ true = sym is ∙ member in cc)
+
+  pub unless_misled : AreQuiet log → AtEach (KeepsUnlessMisled log c) log (repair_events f 0 members)
+  unless_misled quiet =
+      at_weaker (KeepsChoice (content_at (now log)) c) (KeepsUnlessMisled log c) (λ l keeps image left not. keeps image left.kept not) (repair_events f 0 members) log
+      (each_stays f c puts (content_at (now log)) choice.is 0 members log fits (record { shown = λ n below. inr refl; firm = λ n below is. quiet n below }) outside)
+
+pub repairs_steadily : {T E : Type 0} → (f : SuperFields) (chosen : Chosen) (old new : Option Told) (result : Result T E) → IsFor f chosen → Adds (repair_events f 0 chosen.members) old new result → RepairsSteadily chosen old new
+repairs_steadily f chosen None new result for is = tt
+repairs_steadily f chosen (Some t) new result for is = λ c whole choice steady. passes (λ l. IsKept l c) (repair_events f 0 chosen.members) t new result (kept_each f chosen for t.log c whole choice steady) is
+
+pub repairs_unless_misled : {T E : Type 0} → (f : SuperFields) (chosen : Chosen) (old new : Option Told) (result : Result T E) → IsFor f chosen → Adds (repair_events f 0 chosen.members) old new result → RepairsUnlessMisled chosen old new
+repairs_unless_misled f chosen None new result for is = tt
+repairs_unless_misled f chosen (Some t) new result for is = λ c whole choice quiet. passes (KeepsUnlessMisled t.log c) (repair_events f 0 chosen.members) t new result (unless_misled f chosen for t.log c whole choice quiet) is
+
+pub ends_repaired : {T E : Type 0} → (f : SuperFields) (chosen : Chosen) (old new : Option Told) (result : Result T E) → IsFor f chosen → Adds (repair_events f 0 chosen.members) old new result → OnOk result (EndsRepaired chosen old new)
+ends_repaired f chosen None new (Ok x) for is = tt
+ends_repaired f chosen (Some t) new (Ok x) for is = λ c whole choice. tells_after (repair_events f 0 chosen.members) t new (λ log. IsRepaired t.log log c) is (repaired f chosen for t.log c whole choice)
+ends_repaired f chosen old new (Err e) for is = tt

@@ -1,0 +1,147 @@
+-- What an update's events make of the copies, where the disk tells its log.
+use Rattle.std.proofs.Common.{◌≡◌, ◌⊎◌, inl, inr, ◌<◌, ◌+◌, ℕ, zero, suc, Bool, true, false, List, [], ◌∷◌, length, get_or, Option, Some, None, refl, sym, ◌∙◌, ap, subst, arith, Result, Ok, Err, OnOk}
+use Rattle.df_base.specs.Image.{Image}
+use Rattle.df_base.specs.Log.{Event, Write, Sync, Log, add, after_event, now}
+use Rattle.df_disk.specs.Told.{Told, did}
+use Rattle.df_disk.specs.Adds.{Adds, after_all}
+use Rattle.df_format.specs.Super.{copy_bytes}
+use Rattle.df_format.specs.SuperRules.{IsUsable}
+use Rattle.df_format.specs.declared.superblock.SuperFields.{SuperFields}
+use Rattle.df_format.specs.Copies.{Content, content_at, content_with, rank_of}
+use Rattle.df_superblock.specs.Copies.{AreQuiet, AreEqual, AreSteady, IsBounded, IsEither, IsOldOrNew, MayUpdate}
+use Rattle.df_superblock.specs.Events.{update_events, repair_events}
+use Rattle.df_superblock.specs.Moments.{PassedTo, adds}
+use Rattle.df_superblock.specs.Calls.{UpdatesSafely, UpdatesSteadily, TellsLog, ShowsEqual, EndsEqual, EndsSteady}
+use Rattle.df_superblock.proofs.Choices.{same_copy}
+use Rattle.df_superblock.proofs.Sights.{PutsCopy}
+use Rattle.df_superblock.proofs.Ready.{IsLow, Knows, bounded_sync, quiet_low, quiet_knows, low_wrote, knows_wrote, equal_chosen}
+use Rattle.df_superblock.proofs.Passing.{AtEach, passes, told_log}
+use Rattle.df_superblock.proofs.Turns.{IsAt, IsWithin, at_turn, at_past, wrote_turn, wrote_past, synced_at, synced_within, turn_moment, turn_either, each_turn}
+use Rattle.df_superblock.proofs.Mends.{Writes, other_written, written_shows}
+use Rattle.df_superblock.proofs.Puts.{copy_put}
+
+-- ---- moments
+
+module _ (f : SuperFields) (usable : IsUsable f) (entry : Log) (old : Content) (may : MayUpdate entry old (content_with f)) where
+  abbrev later : Content
+  later = content_with f
+
+  begins : IsAt entry old later 0
+  begins = record { before = λ n less below. absurd (omega arith); behind = λ n more below. may.equal n below; quiet = may.quiet }
+
+  safe_each : AtEach (IsOldOrNew entry old later) entry (update_events f)
+  safe_each = each_turn (IsOldOrNew entry old later) (λ log i. IsAt log old later i) (λ n. copy_bytes n f)
+      (λ log i at. turn_moment entry log old later i may.above may.quiet may.equal (at_turn log old later i at))
+      (λ log i below at. turn_moment entry (add (Write i (copy_bytes i f)) log) old later i may.above may.quiet may.equal (wrote_turn log old later i (copy_bytes i f) (copy_put f usable i below) at))
+      (λ log i below at. synced_at log old later i (copy_bytes i f) (copy_put f usable i below) at)
+      entry begins
+
+  abbrev Stands : Log → ℕ → Type 0
+  Stands log i = IsAt log old later i × IsWithin log old later i
+
+  steady_each : AreSteady entry old → AtEach (λ log. IsEither log old later) entry (update_events f)
+  steady_each steady = each_turn (λ log. IsEither log old later) Stands (λ n. copy_bytes n f)
+      (λ log i at. turn_either log old later i may.above (at_turn log old later i at.0) (at_past log old later i at.0 at.1))
+      (λ log i below at. turn_either (add (Write i (copy_bytes i f)) log) old later i may.above
+          (wrote_turn log old later i (copy_bytes i f) (copy_put f usable i below) at.0)
+          (wrote_past log old later i (copy_bytes i f) may.above (copy_put f usable i below) at.0 at.1))
+      (λ log i below at. (
+        synced_at log old later i (copy_bytes i f) (copy_put f usable i below) at.0,
+        synced_within log old later i (copy_bytes i f) may.above (copy_put f usable i below) at.0 at.1,
+      ))
+      entry (begins, record { high = λ n d above below is. higher d (steady.bounded n d above below is); low = λ soon. steady.bounded })
+    where
+      higher : (d : Content) → (d ≡ old) ⊎ (rank_of d < rank_of old) → (d ≡ later) ⊎ (rank_of d < rank_of later)
+      higher d (inl same) = inr (omega (arith, may.above, ap rank_of same))
+      higher d (inr lower) = inr (omega (arith, may.above))
+
+pub updates_safely : {T E : Type 0} → (f : SuperFields) (old new : Option Told) (result : Result T E) → IsUsable f → Adds (update_events f) old new result → UpdatesSafely f old new
+updates_safely f None new result usable is = tt
+updates_safely f (Some t) new result usable is = λ before may. passes (IsOldOrNew t.log before (content_with f)) (update_events f) t new result (safe_each f usable t.log before may) is
+
+pub updates_steadily : {T E : Type 0} → (f : SuperFields) (old new : Option Told) (result : Result T E) → IsUsable f → Adds (update_events f) old new result → UpdatesSteadily f old new
+updates_steadily f None new result usable is = tt
+updates_steadily f (Some t) new result usable is = λ before may steady. passes (λ log. IsEither log before (content_with f)) (update_events f) t new result (steady_each f usable t.log before may steady) is
+
+-- ---- the end
+
+none_after : (es : List Event) → after_all es None ≡ None
+none_after [] = refl
+none_after (e ∷ es) = none_after es
+
+-- what is told after all events
+pub tells_after : (es : List Event) (t : Told) (new : Option Told) (P : Log → Type 0) → new ≡ after_all es (Some t) → P (adds es t.log) → TellsLog new P
+tells_after es t new P is here =
+    let u = told_log es t in
+    subst (λ (o : Option Told). TellsLog o P) (sym (is ∙ u.1)) (subst P (sym u.2) here)
+
+pub tells_none : (es : List Event) (new : Option Told) (P : Log → Type 0) → new ≡ after_all es None → TellsLog new P
+tells_none es new P is = subst (λ (o : Option Told). TellsLog o P) (sym (is ∙ none_after es)) tt
+
+abbrev all : List Bool
+all = false ∷ false ∷ false ∷ false ∷ []
+
+all_false : (n : ℕ) → n < 4 → get_or all n false ≡ false
+all_false zero below = refl
+all_false (suc zero) below = refl
+all_false (suc (suc zero)) below = refl
+all_false (suc (suc (suc zero))) below = refl
+all_false (suc (suc (suc (suc n)))) below = absurd (omega arith)
+
+module _ (f : SuperFields) (usable : IsUsable f) (log : Log) where
+  pub all_equal : AreEqual (now (adds (update_events f) log)) (content_with f)
+  all_equal n below =
+      let place : 0 + n ≡ n = omega arith in
+      written_shows f (content_with f) (copy_put f usable) n 0 all log (omega arith) (subst (λ (k : ℕ). Writes k 0 all) place (other_written 0 n all below (all_false n below)))
+
+-- what a disk shows then, whether that is what its log leaves or not
+told_shown : (es : List Event) (t : Told) (log : Log) → t.shown ≡ now log → (u : Told) × (after_all es (Some t) ≡ Some u) × (u.shown ≡ now (adds es log))
+told_shown [] t log same = (t, refl, same)
+told_shown (e ∷ es) t log same = told_shown es (did e t) (add e log) (ap (λ (image : Image). after_event e image) same)
+
+pub ends_shown : {T E : Type 0} → (f : SuperFields) (old new : Option Told) (result : Result T E) → IsUsable f → Adds (update_events f) old new result → OnOk result (ShowsEqual f new)
+ends_shown f None new (Ok x) usable is = subst (λ (o : Option Told). ShowsEqual f o) (sym (is ∙ none_after (update_events f))) tt
+ends_shown f (Some t) new (Ok x) usable is =
+    let log : Log = record { start = t.shown; events = [] } in
+    let u = told_shown (update_events f) t log refl in
+    subst (λ (o : Option Told). ShowsEqual f o) (sym (is ∙ u.1)) (subst (λ (image : Image). AreEqual image (content_with f)) (sym u.2) (all_equal f usable log))
+ends_shown f old new (Err e) usable is = tt
+
+-- what may be pending or durable stays low while copies of one content are written
+record IsPast (log : Log) (c : Content) : Type 0 where
+  low : IsLow log c
+  knows : Knows log (now log)
+
+past_wrote : (log : Log) (c : Content) (n : ℕ) (bytes : List ℕ) → PutsCopy n bytes c → IsPast log c → IsPast (add Sync (add (Write n bytes) log)) c
+past_wrote log c n bytes put past =
+    let low : IsLow (add (Write n bytes) log) c = low_wrote log c c n bytes put past.low (λ above. inl refl) in
+    let knows : Knows (add (Write n bytes) log) (now (add (Write n bytes) log)) = knows_wrote log n bytes c put past.knows in
+    record {
+      low = record { bounded = bounded_sync (add (Write n bytes) log) c low knows; pending = λ m d above below none. absurd none };
+      knows = λ m d below is. inl (inl is);
+    }
+
+pub all_steady : (f : SuperFields) → IsUsable f → (log : Log) → AreQuiet log → IsBounded log (content_with f) → AreSteady (adds (update_events f) log) (content_with f)
+all_steady f usable log quiet bounded =
+    let c : Content = content_with f in
+    let past : IsPast log c = record { low = quiet_low log c quiet bounded; knows = quiet_knows log quiet } in
+    let past1 = past_wrote log c 0 (copy_bytes 0 f) (copy_put f usable 0 (omega arith)) past in
+    let past2 = past_wrote _ c 1 (copy_bytes 1 f) (copy_put f usable 1 (omega arith)) past1 in
+    let past3 = past_wrote _ c 2 (copy_bytes 2 f) (copy_put f usable 2 (omega arith)) past2 in
+    let past4 = past_wrote _ c 3 (copy_bytes 3 f) (copy_put f usable 3 (omega arith)) past3 in
+    let equal = all_equal f usable log in
+    record {
+      quiet = λ n below. refl;
+      chosen = equal_chosen (now (adds (update_events f) log)) c equal;
+      bounded = past4.low.bounded;
+    }
+
+pub ends_equal : {T E : Type 0} → (f : SuperFields) (old new : Option Told) (result : Result T E) → IsUsable f → Adds (update_events f) old new result → OnOk result (EndsEqual f new)
+ends_equal f None new (Ok x) usable is = tells_none (update_events f) new _ is
+ends_equal f (Some t) new (Ok x) usable is = tells_after (update_events f) t new (λ log. AreEqual (now log) (content_with f)) is (all_equal f usable t.log)
+ends_equal f old new (Err e) usable is = tt
+
+pub ends_steady : {T E : Type 0} → (f : SuperFields) (old new : Option Told) (result : Result T E) → IsUsable f → Adds (update_events f) old new result → OnOk result (EndsSteady f old new)
+ends_steady f None new (Ok x) usable is = tt
+ends_steady f (Some t) new (Ok x) usable is = λ quiet bounded. tells_after (update_events f) t new (λ log. AreSteady log (content_with f)) is (all_steady f usable t.log quiet bounded)
+ends_steady f old new (Err e) usable is = tt

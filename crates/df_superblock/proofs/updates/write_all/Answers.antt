@@ -1,0 +1,17 @@
+use Rattle.df_superblock.proofs.Written.{updates_safely, updates_steadily, ends_shown, ends_equal, ends_steady}
+use Rattle.df_superblock.proofs.updates.write_all.Goals as goal
+
+pub returns-clause-moments : goal.returns-clause-moments
+returns-clause-moments g c = updates_safely c.args.content.now _ _ c.write_each.result c.fields-fields.ensures.usable c.write_each.ensures.events
+
+pub returns-clause-history : goal.returns-clause-history
+returns-clause-history g c = updates_steadily c.args.content.now _ _ c.write_each.result c.fields-fields.ensures.usable c.write_each.ensures.events
+
+pub returns-clause-shown : goal.returns-clause-shown
+returns-clause-shown g c = ends_shown c.args.content.now _ _ c.write_each.result c.fields-fields.ensures.usable c.write_each.ensures.events
+
+pub returns-clause-equal : goal.returns-clause-equal
+returns-clause-equal g c = ends_equal c.args.content.now _ _ c.write_each.result c.fields-fields.ensures.usable c.write_each.ensures.events
+
+pub returns-clause-steady : goal.returns-clause-steady
+returns-clause-steady g c = ends_steady c.args.content.now _ _ c.write_each.result c.fields-fields.ensures.usable c.write_each.ensures.events
