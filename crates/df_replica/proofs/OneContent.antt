@@ -8,19 +8,15 @@ use Rattle.df_base.specs.Image.{Image, IsImage, blank, covers, written, changed}
 use Rattle.df_base.specs.Log.{Event, Write, Sync, Stop, Log, AreLoose, add, now, now_of, settled_of}
 use Rattle.df_base.specs.Moments.{Extends, EachMoment}
 use Rattle.df_format.specs.Super.{copy_bytes}
-use Rattle.df_format.specs.Copies.{Content, copy_in, copy_at, content_at, content_with}
+use Rattle.df_format.specs.Copies.{Content, content_at, content_with}
 use Rattle.df_format.specs.CopyPools.{AmongImages, AmongWrites, InCopyPool, NoChanceCopy}
 use Rattle.df_format.specs.SuperRules.{IsUsable}
-use Rattle.df_format.specs.CopyLaws.{WrittenCopyIsShown, CopyIsOneSector, BlankShowsNoCopy}
 use Rattle.df_format.specs.declared.superblock.SuperFields.{SuperFields}
 use Rattle.df_format.proofs.Shown.{blank_image}
+use Rattle.df_format.proofs.CopyShown.{same_copy, one_sector, written_copy}
+use Rattle.df_format.proofs.CopyClasses.{blank_copy_none}
 use Rattle.df_replica.specs.OneContent.{ShowsOnly, AreFairCopies, IsSteadyOf, IsSafeOf, AreSyncs, IsUntouched, IsCopyOf, IsElsewhere, IsOfFile, AreOfFile}
-use Rattle.df_replica.specs.Stand.{adds}
-
--- what a copy's place shows depends on its sector alone
-pub same_shown : (one two : Image) (n : ℕ) → one n ≡ two n → content_at one n ≡ content_at two n
-unfolding copy_at
-same_shown one two n same = ap (λ (bytes : List ℕ). content_at (λ _. bytes) n) same
+use Rattle.df_superblock.specs.Moments.{adds}
 
 pub written_other : (at : ℕ) (bytes : List ℕ) (image : Image) (sector : ℕ) → covers at bytes sector ≡ false → written at bytes image sector ≡ image sector
 unfolding written
@@ -106,8 +102,8 @@ fair_synced start ((Write at bytes) ∷ es) syncs = absurd syncs
 fair_synced start ((Stop cs) ∷ es) syncs = absurd syncs
 
 -- a disk that was never written shows no copy at all
-pub untouched_pure : BlankShowsNoCopy → (log : Log) (c : Content) → IsUntouched log → IsPure log c
-untouched_pure blank_none log c untouched = record {
+pub untouched_pure : (log : Log) (c : Content) → IsUntouched log → IsPure log c
+untouched_pure log c untouched = record {
   fair = fair_synced log.start log.events untouched.syncs;
   only = λ n d inside among. absurd (none n d (settled_synced log.start log.events n d untouched.syncs among));
   pending = λ n d inside among. absurd (none_pending log.events n d untouched.syncs among);
@@ -116,8 +112,8 @@ untouched_pure blank_none log c untouched = record {
   where
     none : (n : ℕ) (d : Content) → content_at log.start n ≡ Some d → ⊥
     none n d here =
-        let start : content_at log.start n ≡ content_at blank n = same_shown log.start blank n (untouched.begins n) in
-        let no : content_at blank n ≡ None = blank_none n in
+        let start : content_at log.start n ≡ content_at blank n = same_copy log.start blank n (untouched.begins n) in
+        let no : content_at blank n ≡ None = blank_copy_none n in
         cc
 
 pub adds_extends : (es : List Event) (log : Log) → Extends (adds es log) log
@@ -143,7 +139,7 @@ written_own at bytes image size =
     let none : 4096 * (at - at) ≡ 0 = omega arith in
     rw here (ap (λ (n : ℕ). take 4096 (drop n bytes)) none ∙ take_all 4096 bytes (omega (arith, size)))
 
-module _ (is_shown : WrittenCopyIsShown) (one_sector : CopyIsOneSector) (f : SuperFields) (can : IsUsable f) where
+module _ (f : SuperFields) (can : IsUsable f) where
   -- an image that shows a copy of these fields
   bearer : ℕ → Image
   bearer n sector = copy_bytes n f
@@ -154,12 +150,12 @@ module _ (is_shown : WrittenCopyIsShown) (one_sector : CopyIsOneSector) (f : Sup
 
   bears : (n : ℕ) → n < 4 → content_at (bearer n) n ≡ Some (content_with f)
   unfolding bearer
-  bears n inside = sym (same_shown (written n (copy_bytes n f) (bearer n)) (bearer n) n (written_own n (copy_bytes n f) (bearer n) (one_sector n f can.fits).sector.size)) ∙ is_shown (bearer n) n f inside can
+  bears n inside = sym (same_copy (written n (copy_bytes n f) (bearer n)) (bearer n) n (written_own n (copy_bytes n f) (bearer n) (one_sector n f can.fits).sector.size)) ∙ written_copy (bearer n) n f inside can
 
   -- what a write that doesn't reach the place shows there is no content of its own
   apart_shows : (at : ℕ) (bytes : List ℕ) (n : ℕ) (d : Content) → n < 4 → covers at bytes n ≡ false → ((image : Image) → IsImage image → content_at (written at bytes image) n ≡ Some d) → d ≡ content_with f
   apart_shows at bytes n d inside out shows =
-      let same : content_at (written at bytes (bearer n)) n ≡ content_at (bearer n) n = same_shown (written at bytes (bearer n)) (bearer n) n (written_other at bytes (bearer n) n out) in
+      let same : content_at (written at bytes (bearer n)) n ≡ content_at (bearer n) n = same_copy (written at bytes (bearer n)) (bearer n) n (written_other at bytes (bearer n) n out) in
       let whole : content_at (written at bytes (bearer n)) n ≡ Some d = shows (bearer n) (bearer_image n) in
       let own : content_at (bearer n) n ≡ Some (content_with f) = bears n inside in
       cc
@@ -169,7 +165,7 @@ module _ (is_shown : WrittenCopyIsShown) (one_sector : CopyIsOneSector) (f : Sup
   leaves at bytes n inside (inr elsewhere) = inl (elsewhere n inside)
   leaves at bytes n inside (inl copy) = elim (cases_eq at n) [
     | inl here ↦ inr (λ image.
-        let own : content_at (written n (copy_bytes n f) image) n ≡ Some (content_with f) = is_shown image n f inside can in
+        let own : content_at (written n (copy_bytes n f) image) n ≡ Some (content_with f) = written_copy image n f inside can in
         let same : bytes ≡ copy_bytes n f = copy.copy ∙ ap (λ (m : ℕ). copy_bytes m f) here in
         subst (λ (m : ℕ). content_at (written m bytes image) n ≡ Some (content_with f)) (sym here) (subst (λ (b : List ℕ). content_at (written n b image) n ≡ Some (content_with f)) (sym same) own))
     | inr other ↦ inl (covers_other at bytes n (ap length copy.copy ∙ (one_sector at f can.fits).sector.size) other)
@@ -187,7 +183,7 @@ module _ (is_shown : WrittenCopyIsShown) (one_sector : CopyIsOneSector) (f : Sup
 
       shown : (n : ℕ) (d : Content) → n < 4 → content_at (written at bytes (now log)) n ≡ Some d → d ≡ content_with f
       shown n d inside here = elim (leaves at bytes n inside of_file) [
-        | inl out ↦ pure.shown n d inside (sym (same_shown (written at bytes (now log)) (now log) n (written_other at bytes (now log) n out)) ∙ here)
+        | inl out ↦ pure.shown n d inside (sym (same_copy (written at bytes (now log)) (now log) n (written_other at bytes (now log) n out)) ∙ here)
         | inr own ↦ (let two : content_at (written at bytes (now log)) n ≡ Some (content_with f) = own (now log) in cc)
       ]
 

@@ -8,13 +8,13 @@ use Rattle.df_base.specs.Moments.{EachMoment}
 use Rattle.df_format.specs.Copies.{Content, content_at, content_with, rank_of}
 use Rattle.df_format.specs.CopyPools.{NoChanceCopy, EachLeftCopies}
 use Rattle.df_format.specs.SuperRules.{IsUsable}
-use Rattle.df_format.specs.CopyLaws.{WrittenCopyIsShown, CopyIsOneSector}
 use Rattle.df_format.specs.declared.superblock.SuperFields.{SuperFields}
+use Rattle.df_format.proofs.CopyShown.{same_copy}
 use Rattle.df_quorum.specs.Quorum.{Copies, Agree, IsChosen}
 use Rattle.df_replica.specs.OneContent.{IsSafeOf, IsOfFile, AreOfFile, AreApartFrom}
 use Rattle.df_replica.specs.Laws.{TwoShow}
-use Rattle.df_replica.specs.Stand.{adds}
-use Rattle.df_replica.proofs.OneContent.{IsPure, same_shown, written_other, pool_is, safe_synced, pure_goes_on, adds_extends}
+use Rattle.df_superblock.specs.Moments.{adds}
+use Rattle.df_replica.proofs.OneContent.{IsPure, written_other, pool_is, safe_synced, pure_goes_on, adds_extends}
 
 agree_on : (copies : Copies) (c : Content) (a b : ℕ) → a < 4 → b < 4 → a ≢ b → copies a ≡ Some c → copies b ≡ Some c → Agree copies c
 agree_on copies c a b first second apart at_first at_second = elim (cases_lt a b) [
@@ -41,27 +41,27 @@ pub record KeepsTwo (log : Log) (c : Content) (a b : ℕ) : Type 0 where
 
 pub two_chosen : (log : Log) (c : Content) (a b : ℕ) → KeepsTwo log c a b → EachLeftCopies log (λ image. IsChosen (content_at image) c)
 two_chosen log c a b keeps image left fair =
-    let at_first : content_at image a ≡ Some c = same_shown image (now log) a (left.kept a keeps.first_firm) ∙ keeps.two.at_first in
-    let at_second : content_at image b ≡ Some c = same_shown image (now log) b (left.kept b keeps.second_firm) ∙ keeps.two.at_second in
+    let at_first : content_at image a ≡ Some c = same_copy image (now log) a (left.kept a keeps.first_firm) ∙ keeps.two.at_first in
+    let at_second : content_at image b ≡ Some c = same_copy image (now log) b (left.kept b keeps.second_firm) ∙ keeps.two.at_second in
     alone_is_chosen (content_at image) c (agree_on (content_at image) c a b keeps.two.first keeps.two.second keeps.two.apart at_first at_second)
         (λ n d inside shown. pool_is log c keeps.pure n d inside (fair.known n d inside shown))
 
-module _ (is_shown : WrittenCopyIsShown) (one_sector : CopyIsOneSector) (f : SuperFields) (can : IsUsable f) (a b : ℕ) where
+module _ (f : SuperFields) (can : IsUsable f) (a b : ℕ) where
   two_go_on : (log : Log) (e : Event) → KeepsTwo log (content_with f) a b → IsOfFile f e → AreApartFrom a (e ∷ []) → AreApartFrom b (e ∷ []) → KeepsTwo (add e log) (content_with f) a b
   two_go_on log (Write at bytes) keeps of_file first second = record {
-    pure = pure_goes_on is_shown one_sector f can log (Write at bytes) keeps.pure of_file;
+    pure = pure_goes_on f can log (Write at bytes) keeps.pure of_file;
     two = record {
       first = keeps.two.first;
       second = keeps.two.second;
       apart = keeps.two.apart;
-      at_first = same_shown (written at bytes (now log)) (now log) a (written_other at bytes (now log) a first.0) ∙ keeps.two.at_first;
-      at_second = same_shown (written at bytes (now log)) (now log) b (written_other at bytes (now log) b second.0) ∙ keeps.two.at_second;
+      at_first = same_copy (written at bytes (now log)) (now log) a (written_other at bytes (now log) a first.0) ∙ keeps.two.at_first;
+      at_second = same_copy (written at bytes (now log)) (now log) b (written_other at bytes (now log) b second.0) ∙ keeps.two.at_second;
     };
     first_firm = λ i. first.0 i || keeps.first_firm i;
     second_firm = λ i. second.0 i || keeps.second_firm i;
   }
   two_go_on log Sync keeps of_file first second = record {
-    pure = pure_goes_on is_shown one_sector f can log Sync keeps.pure of_file;
+    pure = pure_goes_on f can log Sync keeps.pure of_file;
     two = keeps.two;
     first_firm = refl;
     second_firm = refl;

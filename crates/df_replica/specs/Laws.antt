@@ -9,9 +9,9 @@ use Rattle.df_format.specs.CopyPools.{NoChanceCopy, EachLeftCopies}
 use Rattle.df_format.specs.SuperRules.{IsUsable}
 use Rattle.df_format.specs.declared.superblock.SuperFields.{SuperFields}
 use Rattle.df_quorum.specs.Quorum.{IsChosen}
-use Rattle.df_replica.specs.Stand.{adds}
-use Rattle.df_replica.specs.Stand.{AreQuiet, AreEqual}
-use Rattle.df_replica.specs.Stand.{update_events}
+use Rattle.df_superblock.specs.Moments.{adds}
+use Rattle.df_superblock.specs.Copies.{AreQuiet, AreEqual}
+use Rattle.df_superblock.specs.Events.{update_events}
 use Rattle.df_replica.specs.OneContent.{IsSafeOf, IsUntouched, AreOfFile, AreApartFrom}
 
 -- a disk that was never written is safe for each content

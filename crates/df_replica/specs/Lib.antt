@@ -1,6 +1,7 @@
 pub mod First
+pub mod Formatting
 pub mod Opening
-pub mod Stand
+pub mod Found
 pub mod OneContent
 pub mod Laws
 pub mod OpeningLaws

@@ -11,3 +11,5 @@ mod runs;
 mod stops;
 #[cfg(test)]
 mod strikes;
+#[cfg(test)]
+mod superblocks;

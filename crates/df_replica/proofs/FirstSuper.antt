@@ -1,0 +1,35 @@
+-- The superblock of a new file can be used.
+use Rattle.std.proofs.Common.{◌≡◌, ◌≢◌, ℕ, ◌<◌, ◌≤◌, ◌+◌, None, refl, arith}
+use Rattle.df_layout.specs.declared.layout.Layout.{Layout}
+use Rattle.df_layout.specs.Limits.{AreWithin}
+use Rattle.df_format.specs.SuperRules.{IsSuper, fault_of}
+use Rattle.df_format.proofs.SuperFaults.{faults}
+use Rattle.df_replica.specs.First.{first_super}
+
+first_is_super : (layout : Layout) (cluster : ℕ) → 0 < cluster → IsSuper (first_super layout cluster)
+unfolding first_super
+first_is_super layout cluster some = record {
+  version = refl;
+  layout = record {
+    slots_within = layout.slots_within;
+    message_size_within = layout.message_size_within;
+    clients_within = layout.clients_within;
+    block_size_within = layout.block_size_within;
+    blocks_within = layout.blocks_within;
+  };
+  cluster = some;
+  sequence = (omega arith, omega arith);
+  op = omega arith;
+  op_checksum = λ _. refl;
+  head = (omega arith, omega arith, omega arith);
+  replies = (omega arith, omega arith);
+  trailer = (omega arith, λ other. absurd (other refl));
+  trailer_checksum = λ _. refl;
+  no_trailer = λ _. refl;
+  trailer_size = λ other. absurd (other refl);
+  boot = refl;
+  zero = refl;
+}
+
+pub no_fault : (layout : Layout) (cluster : ℕ) → 0 < cluster → fault_of (first_super layout cluster) ≡ None
+no_fault layout cluster some = (faults (first_super layout cluster)).1 (first_is_super layout cluster some)

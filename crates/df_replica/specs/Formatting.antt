@@ -1,0 +1,46 @@
+-- What the making of a file answers, and what it does to the disk.
+use Rattle.std.specs.Prelude.{◌≡◌, ◌<◌, ◌≤◌, ℕ, true, false, List, Option, Some, None, Result, Ok, Err}
+use Rattle.df_base.specs.Causes.{Rose}
+use Rattle.df_base.specs.Image.{Image}
+use Rattle.df_base.specs.Log.{Event}
+use Rattle.df_disk.specs.Told.{Told}
+use Rattle.df_disk.specs.Adds.{AddsPart, after_all}
+use Rattle.df_format.specs.Copies.{is_blank_copy}
+use Rattle.df_replica.specs.Opening.{IsUnformatted}
+use Rattle.df_replica.specs.declared.errors.FormatError.{FormatError}
+use Rattle.df_replica.specs.declared.errors.FormatError.TheVariants.{ClusterZero, NotBlank, DiskFault}
+
+-- the first copy whose sector holds a byte other than zero
+pub record IsFirstWritten (image : Image) (copy : ℕ) : Type 0 where
+  pub inside : copy < 4
+  pub written : is_blank_copy (image copy) ≡ false
+  pub before : (n : ℕ) → n < copy → is_blank_copy (image n) ≡ true
+
+-- what the sectors of the copies show, where the disk tells that: zeros alone, or which is the first that holds another byte
+abbrev pub TellsBlank : {T : Type 0} → Option Told → Result T FormatError → Type 0
+TellsBlank None result = Unit {0}
+TellsBlank (Some t) (Ok x) = IsUnformatted t.shown
+TellsBlank (Some t) (Err (NotBlank copy)) = IsFirstWritten t.shown copy
+TellsBlank (Some t) (Err ClusterZero) = Unit {0}
+TellsBlank (Some t) (Err DiskFault) = Unit {0}
+
+-- the cluster is refused exactly where it is 0
+abbrev pub RefusesCluster : {T : Type 0} → ℕ → Result T FormatError → Type 0
+RefusesCluster cluster (Ok x) = 0 < cluster
+RefusesCluster cluster (Err ClusterZero) = cluster ≡ 0
+RefusesCluster cluster (Err (NotBlank copy)) = 0 < cluster
+RefusesCluster cluster (Err DiskFault) = 0 < cluster
+
+-- all these events are added, a part of them, from the first on, where the disk failed, and none at a refusal
+abbrev pub AddsFormat : {T : Type 0} → List Event → Option Told → Option Told → Result T FormatError → Type 0
+AddsFormat events old new (Ok x) = new ≡ after_all events old
+AddsFormat events old new (Err DiskFault) = AddsPart events old new
+AddsFormat events old new (Err ClusterZero) = new ≡ old
+AddsFormat events old new (Err (NotBlank copy)) = new ≡ old
+
+-- a fault is answered only where the disk's count of faults rose, and each other answer leaves the count
+abbrev pub FormatsBy : {T : Type 0} → ℕ → ℕ → Result T FormatError → Type 0
+FormatsBy before now (Ok x) = now ≡ before
+FormatsBy before now (Err DiskFault) = (before ≤ now) × Rose before now
+FormatsBy before now (Err ClusterZero) = now ≡ before
+FormatsBy before now (Err (NotBlank copy)) = now ≡ before
