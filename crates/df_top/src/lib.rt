@@ -19,3 +19,6 @@ pub use engine::run;
 pub use laws::{new_disk_is_safe, one_script, runs_follow};
 pub use refusals::{Refusal, format_refusal, formatted_line, open_refusal};
 pub use status::Status;
+
+#[cfg(test)]
+mod tests;

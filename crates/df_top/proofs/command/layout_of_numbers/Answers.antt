@@ -1,5 +1,5 @@
 -- Where a number of the five is missing the name has no layout; where they are there it has the one that is made.
-use Rattle.std.proofs.Common.{arith}
+use Rattle.std.proofs.Common.{arith, rules}
 use Rattle.df_top.specs.Command.{numbers_of}
 use Rattle.df_top.proofs.Commas.{fit, from_message_size, from_clients, from_block_size, from_blocks, no_blocks, past_slots, past_message_size, past_clients, past_block_size, five, made, unmade}
 use Rattle.df_top.proofs.command.layout_of_numbers.Goals as goal
@@ -48,7 +48,7 @@ returns-clause-found c =
     (record { is = c.in_ok-clients.ensures.found; fits = c.in_ok-clients.ensures.fits })
     (record { is = c.in_ok-block_size.ensures.found; fits = c.in_ok-block_size.ensures.fits })
     c.as_bytes.ensures.value c.in_ok-blocks.ensures.found (omega arith))
-    c.ok.ensures.value c.new.ensures.slots c.new.ensures.message_size c.new.ensures.clients c.new.ensures.block_size c.new.ensures.blocks
+    c.ok.ensures.value c.new.ensures.slots c.new.ensures.message_size c.new.ensures.clients c.new.ensures.block_size (search rules)
 
 pub returns-clause-none : goal.returns-clause-none
 returns-clause-none c =
