@@ -1,5 +1,7 @@
 // The rooms that the superblock is read into before the layout of its file is known.
 ghost use Rattle.std.specs.Prelude.{◌≡◌, ◌<◌, Some, length, replicate, slice_get, All, IfOk};
+ghost use Rattle.df_layout.specs.declared.places.Zone.TheVariants.{Superblock};
+ghost use Rattle.df_buffers.specs.Rooms.{room_size};
 
 use crate::{Raw, SuperSector};
 use df_base::OutOfMemory;
@@ -27,7 +29,7 @@ impl Model for ProbeRoom {
 impl ProbeRoom {
     /// Four sectors of zeros, or the refusal of their memory. A sector has the same length in every layout.
     pub fn reserve(alloc: Global) -> Result<ProbeRoom, OutOfMemory>
-        ensures { IfOk result (All (λ room. room.bytes ≡ replicate 4096 0)) }
+        ensures { IfOk result (All (λ room. room.bytes ≡ replicate (room_size room.layout Superblock) 0)) }
     {
         let layout = Layout::small();
         let copies = [
@@ -48,7 +50,9 @@ impl ProbeRoom {
         ensures value { slice_get self.now number ≡ Some result.now }
         ensures size { length result.now.bytes ≡ 4096 }
     {
-        &self.copies[usize::from(number)]
+        let sector = &self.copies[usize::from(number)];
+        let _ = &sector.bytes;
+        sector
     }
 
     /// The room of the copy with this number, 0 to 3, to be read into or written in.
@@ -57,6 +61,8 @@ impl ProbeRoom {
         ensures value { slice_get self.old number ≡ Some result.now }
         ensures size { length result.now.bytes ≡ 4096 }
     {
-        &mut self.copies[usize::from(number)]
+        let sector = &mut self.copies[usize::from(number)];
+        let _ = &sector.bytes;
+        sector
     }
 }
