@@ -3,7 +3,7 @@ ghost use Rattle.std.specs.Prelude.{◌≡◌, replicate, IfOk};
 ghost use Rattle.df_layout.specs.declared.places.Zone.TheVariants.{WalPrepares};
 ghost use Rattle.df_buffers.specs.Rooms.{room_size};
 
-use crate::{Prepare, Raw};
+use crate::{Prepare, ProbeRoom, Raw};
 use df_base::OutOfMemory;
 use df_layout::Layout;
 use std::alloc::Global;
@@ -12,6 +12,8 @@ use std::alloc::Global;
 #[derive(Drop)]
 pub struct Rooms {
     pub layout: Layout,
+    /// The rooms that copies of the superblock are read into and made in.
+    pub superblock: ProbeRoom,
     /// The room that prepares are read into and made in.
     pub prepare: Raw<Prepare>,
     pub ghost prepare_fits: { prepare.layout ≡ layout },
@@ -23,9 +25,11 @@ impl Rooms {
         ensures layout { IfOk result (λ rooms. rooms.layout ≡ layout.now) }
         ensures blank { IfOk result (λ rooms. rooms.prepare.bytes ≡ replicate (room_size layout.now WalPrepares) 0) }
     {
+        let superblock = ProbeRoom::reserve(alloc)?;
         let prepare = Raw::reserve(alloc, layout)?;
         Ok(Rooms {
             layout: *layout,
+            superblock,
             prepare,
         })
     }
