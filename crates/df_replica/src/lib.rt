@@ -3,16 +3,16 @@
 
 mod errors;
 mod first;
-mod format;
 mod laws;
+mod making;
 mod opening;
 mod superblock;
 
 pub use errors::{FormatError, OpenError};
-pub use format::format;
 pub use laws::{
     copies_are_apart, copies_format, one_answer, safe_stays_safe, stop_stays_safe, super_is_written,
     two_copies_stay_chosen, untouched_is_safe,
 };
+pub use making::format;
 pub use opening::{probe, read_superblock, survey_superblock};
 pub use superblock::Found;

@@ -3,10 +3,10 @@ mod Writes
 mod Lines
 mod Rounds
 mod Steps
+mod Wals
 mod Made
 mod Progress
 mod LineEnds
-mod Small
 pub mod Commas
 pub mod Commands
 pub mod Refusing

@@ -6,7 +6,7 @@ use Rattle.df_layout.specs.declared.fields.Field.TheVariants.{Sequence, Op, Head
 use Rattle.df_disk.specs.Told.{Told}
 use Rattle.df_format.specs.declared.wal.Wal.{Wal}
 use Rattle.df_format.specs.declared.superblock.SuperFields.{SuperFields}
-use Rattle.df_format.specs.declared.superblock.SuperFault.TheVariants.{BadField as BrokenField}
+use Rattle.df_format.specs.declared.superblock.SuperFault.{SuperFault}
 use Rattle.df_format.specs.Copies.{Content, content_at}
 use Rattle.df_format.specs.CopyPools.{EachLeftCopies}
 use Rattle.df_format.specs.SuperRules.{Test, test, first_failing}
@@ -16,7 +16,7 @@ use Rattle.df_replica.specs.First.{first_content}
 use Rattle.df_replica.specs.Opening.{HasSuper, Refuses}
 use Rattle.df_replica.specs.OneContent.{IsSafeOf}
 use Rattle.df_replica.specs.declared.errors.OpenError.{OpenError}
-use Rattle.df_replica.specs.declared.errors.OpenError.TheVariants.{BadField}
+use Rattle.df_replica.specs.Found.{fault_error}
 use Rattle.df_top.specs.Logs.{IsLogOf}
 use Rattle.df_top.specs.declared.session.DataFile.{DataFile}
 
@@ -52,13 +52,13 @@ first_tests f =
     ∷ test (f.trailer_address == 0) TrailerAddress f.trailer_address
     ∷ []
 
--- the image has a superblock that is no first one, by this field
+-- the image has a superblock that is no first one, and this is the first field that says so
 pub record IsLater (image : Image) (error : OpenError) : Type 0 where
   pub fields : SuperFields
   pub usable : HasSuper image fields
-  pub test : Test
-  pub failing : first_failing (first_tests fields) ≡ Some (BrokenField test.field test.value)
-  pub error_is : error ≡ BadField test.field test.value
+  pub fault : SuperFault
+  pub failing : first_failing (first_tests fields) ≡ Some fault
+  pub error_is : error ≡ fault_error fault
 
 -- why a run doesn't open the image
 abbrev pub RefusesRun : Image → OpenError → Type 0

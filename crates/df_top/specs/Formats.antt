@@ -9,10 +9,13 @@ use Rattle.df_disk.specs.Adds.{after_all, AddsPart}
 use Rattle.df_layout.specs.Zones.{file_sectors}
 use Rattle.df_format.specs.declared.wal.Wal.{Wal}
 use Rattle.df_format.specs.Copies.{is_blank_copy}
+use Rattle.df_prepares.specs.Apart.{AreSyncs}
 use Rattle.df_prepares.specs.Steady.{IsAtRest}
 use Rattle.df_replica.specs.First.{first_super}
+use Rattle.df_replica.specs.Formatting.{IsFirstWritten}
 use Rattle.df_replica.specs.declared.errors.FormatError.{FormatError}
 use Rattle.df_replica.specs.declared.errors.FormatError.TheVariants.{ClusterZero, NotBlank}
+use Rattle.df_replica.specs.declared.errors.FormatError.TheVariants as formats
 use Rattle.df_superblock.specs.Copies.{AreEqual, AreQuiet}
 use Rattle.df_superblock.specs.Events.{update_events}
 use Rattle.df_top.specs.Files.{IsSafeFile, content_of_file}
@@ -22,16 +25,10 @@ use Rattle.df_top.specs.declared.session.DataFile.{DataFile}
 use Rattle.df_top.specs.declared.status.Status.{Status}
 use Rattle.df_top.specs.declared.status.Status.TheVariants.{Done, Refused, DiskFault, WriteFault, Memory}
 
--- the first sector of the superblock that holds a byte other than zero
-pub record IsFirstUsed (image : Image) (copy : ℕ) : Type 0 where
-  pub inside : copy < 4
-  pub used : is_blank_copy (image copy) ≡ false
-  pub before : (n : ℕ) → n < copy → is_blank_copy (image n) ≡ true
-
 -- why no file is made over what the disk shows
 abbrev pub RefusesFormat : DataFile → Option Told → FormatError → Type 0
 RefusesFormat file told ClusterZero = file.cluster ≡ 0
-RefusesFormat file told (NotBlank copy) = (file.cluster ≢ 0) × ((t : Told) → told ≡ Some t → IsFirstUsed t.shown copy)
+RefusesFormat file told (NotBlank copy) = (file.cluster ≢ 0) × ((t : Told) → told ≡ Some t → IsFirstWritten t.shown copy)
 RefusesFormat file told _ = ⊥
 
 -- a file may be made: its cluster isn't 0, and the four sectors of the superblock are zeros
@@ -55,12 +52,6 @@ Formats file told later old new WriteFault =
 Formats file told later old new Memory = (later ≡ told) × (new ≡ old)
 Formats file told later old new status = ⊥
 
--- nothing but syncs
-abbrev pub AreSyncs : List Event → Type 0
-AreSyncs [] = Unit {0}
-AreSyncs (Sync ∷ es) = AreSyncs es
-AreSyncs (e ∷ es) = ⊥
-
 -- a disk on which nothing was ever written
 pub record IsNew (t : Told) : Type 0 where
   pub honest : IsHonest t
@@ -79,3 +70,13 @@ abbrev pub MakesFile : DataFile → Option Told → Option Told → Status → T
 MakesFile file told later status =
     (before : Told) (wal : Wal) → told ≡ Some before → IsNew before → IsLogOf file wal
     → (t : Told) × (later ≡ Some t) × IsHonest t × EachMoment before.log t.log (IsSafeFile file wal) × (status ≡ Done → IsMade file wal t.log)
+
+-- a line is printed and the call ends with this status, or a front of the line is where the sink failed
+abbrev pub PrintsLine : List ℕ → Status → Option (List ℕ) → Option (List ℕ) → Status → Type 0
+PrintsLine line given old new status = ((status ≡ given) × Appends old new line) ⊎ ((status ≡ WriteFault) × AppendsPart old new line)
+
+-- the refusal's line is printed; a failing disk has none
+abbrev pub PrintsFormatRefusal : FormatError → Option (List ℕ) → Option (List ℕ) → Status → Type 0
+PrintsFormatRefusal formats.DiskFault old new status = (status ≡ DiskFault) × (new ≡ old)
+PrintsFormatRefusal ClusterZero old new status = PrintsLine (format_refusal_of ClusterZero) Refused old new status
+PrintsFormatRefusal (NotBlank copy) old new status = PrintsLine (format_refusal_of (NotBlank copy)) Refused old new status

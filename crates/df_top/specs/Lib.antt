@@ -16,3 +16,4 @@ pub mod Refusals
 pub mod Files
 pub mod Refused
 pub mod Formats
+pub mod Opening

@@ -84,11 +84,3 @@ pub record IsFreshSession (s : Session) : Type 0 where
   pub lines : IsFresh (line_bound s.file) s.lines
   pub room : HasRoom s
   pub count : s.count ≡ 0
-
--- the session is as it was, but for its room's bytes and its head, which is one of the log's ring
-pub record IsOpened (wal : Wal) (old new : Session) : Type 0 where
-  pub file : new.file ≡ old.file
-  pub lines : new.lines ≡ old.lines
-  pub count : new.count ≡ old.count
-  pub room : HasRoom new
-  pub head : IsEnd wal new.head

@@ -42,6 +42,16 @@ pub record IsRepairAt (file : DataFile) (image : Image) (at : ℕ) (bytes : List
   pub sector : bytes ≡ copy_bytes at (first_super file.layout file.cluster)
   pub outside : content_at image at ≢ Some (content_of_file file)
 
+-- a sync, or such a copy
+abbrev pub IsRepair : DataFile → Image → Event → Type 0
+IsRepair file image (Write at bytes) = IsRepairAt file image at bytes
+IsRepair file image Sync = Unit {0}
+IsRepair file image (Stop cs) = ⊥
+
+abbrev pub AreRepairs : DataFile → Image → List Event → Type 0
+AreRepairs file image [] = Unit {0}
+AreRepairs file image (e ∷ es) = IsRepair file image e × AreRepairs file image es
+
 -- an event that a run adds behind its barrier, where the disk showed this image
 abbrev pub IsOfFile : DataFile → Wal → Image → Event → Type 0
 IsOfFile file wal image (Write at bytes) = IsRepairAt file image at bytes ⊎ IsPrepareAt wal at bytes

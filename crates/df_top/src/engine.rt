@@ -1,11 +1,14 @@
 // The program: its words, the memory that it takes, and the session that it opens.
-ghost use Rattle.std.specs.Prelude.{◌≡◌, ◌⊎◌, ℕ, map, string_bytes, IfOk, OnOk, OnErr};
+ghost use Rattle.std.specs.Prelude.{◌≡◌, ◌↔◌, ℕ, map, string_bytes, Ok, IfOk};
 ghost use Rattle.df_layout.specs.declared.layout.Layout.{Layout};
+ghost use Rattle.df_replica.specs.Found.{TellsLayout};
+ghost use Rattle.df_script.specs.Room.{IsFresh};
 ghost use Rattle.df_top.specs.declared.command.Command.{Command};
 ghost use Rattle.df_top.specs.Command.{Means, MeansNothing};
 ghost use Rattle.df_top.specs.Files.{OnFile};
 ghost use Rattle.df_top.specs.Formats.{Formats, MakesFile};
-ghost use Rattle.df_top.specs.Refused.{RefusesFile};
+ghost use Rattle.df_top.specs.Logs.{layout_bound};
+ghost use Rattle.df_top.specs.Refused.{PrintsRefusal, RefusesFile};
 ghost use Rattle.df_top.specs.Run.{IsUntouched, Prints, PrintsUsage, Runs};
 ghost use Rattle.df_top.specs.Serving.{Blames};
 ghost use Rattle.df_top.specs.Writes.{WritesFile};
@@ -25,20 +28,32 @@ use df_replica::{OpenError, probe};
 use df_script::LineRoom;
 use std::alloc::Global;
 
-// The greatest of the bytes that a line's body may stand for: those of a message or of a block.
-fn line_bound(layout: &Layout) -> u64 {
+// How many bytes a line of a script may have, in a file of a layout.
+fn line_bound(layout: &Layout) -> u64
+    ensures { result ≡ layout_bound layout.now }
+{
     2 * u64::from(layout.message_size.max(layout.block_size)) + 64
 }
 
 // Takes all the memory of a session over a file of a layout.
-fn reserve(alloc: Global, layout: &Layout) -> Result<Reserved, OutOfMemory> {
+fn reserve(alloc: Global, layout: &Layout) -> Result<Reserved, OutOfMemory>
+    ensures layout { IfOk result (λ reserved. reserved.rooms.layout ≡ layout.now) }
+    ensures lines { IfOk result (λ reserved. IsFresh (layout_bound layout.now) reserved.lines) }
+{
     let lines = LineRoom::reserve(alloc, line_bound(layout))?;
     let rooms = Rooms::reserve(alloc, layout)?;
     Ok(Reserved { lines, rooms })
 }
 
 // Prints why a file isn't opened; a failing disk has no line.
-fn refuse_file<W: Sink>(sink: &mut W, error: &OpenError) -> Status {
+fn refuse_file<W: Sink>(sink: &mut W, error: &OpenError) -> Status
+    ensures prints { PrintsRefusal error.now (W.written sink.old) (W.written sink.new) result }
+    ensures disk { result ≡ Status.DiskFault ↔ error.now ≡ OpenError.DiskFault }
+    ensures sink { Blames Status.WriteFault (W.faults sink.old) (W.faults sink.new) result }
+    ensures memory { result ≡ Status.Memory → ⊥ }
+    ensures words { result ≡ Status.Words → ⊥ }
+    ensures source { result ≡ Status.ReadFault → ⊥ }
+{
     if *error == OpenError::DiskFault {
         return Status::DiskFault;
     }
@@ -54,7 +69,21 @@ fn execute<D: Disk, S: Source, W: Sink>(
     source: &mut S,
     sink: &mut W,
     reserved: Reserved,
-) -> Status {
+) -> Status
+    requires probed { TellsLayout (D.told disk.old) (Ok reserved.rooms.layout) }
+    requires lines { IsFresh (layout_bound reserved.rooms.layout) reserved.lines }
+    ensures refuses { RefusesFile (D.told disk.old) (D.told disk.new) (S.left source.old) (S.left source.new) (W.written sink.old) (W.written sink.new) result }
+    ensures prints { OnFile (D.told disk.old) (λ file wal. Prints file wal
+        (D.told disk.old) (S.left source.old) (S.left source.new) (W.written sink.old) (W.written sink.new) result) }
+    ensures runs { OnFile (D.told disk.old) (λ file wal. Runs file wal
+        (D.told disk.old) (D.told disk.new) (S.left source.old) (W.written sink.old) (W.written sink.new) result) }
+    ensures writes { OnFile (D.told disk.old) (λ file wal. WritesFile file wal (D.told disk.old) (D.told disk.new)) }
+    ensures disk { Blames Status.DiskFault (D.faults disk.old) (D.faults disk.new) result }
+    ensures source { Blames Status.ReadFault (S.faults source.old) (S.faults source.new) result }
+    ensures sink { Blames Status.WriteFault (W.faults sink.old) (W.faults sink.new) result }
+    ensures memory { result ≡ Status.Memory → ⊥ }
+    ensures words { result ≡ Status.Words → ⊥ }
+{
     match open(disk, reserved) {
         Ok(mut session) => serve(disk, source, sink, &mut session),
         Err(error) => refuse_file(sink, &error),
@@ -67,17 +96,29 @@ fn run_script<D: Disk, S: Source, W: Sink>(
     source: &mut S,
     sink: &mut W,
     disk: &mut D,
-) -> Status {
+) -> Status
+    ensures refuses { RefusesFile (D.told disk.old) (D.told disk.new) (S.left source.old) (S.left source.new) (W.written sink.old) (W.written sink.new) result }
+    ensures prints { OnFile (D.told disk.old) (λ file wal. Prints file wal
+        (D.told disk.old) (S.left source.old) (S.left source.new) (W.written sink.old) (W.written sink.new) result) }
+    ensures runs { OnFile (D.told disk.old) (λ file wal. Runs file wal
+        (D.told disk.old) (D.told disk.new) (S.left source.old) (W.written sink.old) (W.written sink.new) result) }
+    ensures writes { OnFile (D.told disk.old) (λ file wal. WritesFile file wal (D.told disk.old) (D.told disk.new)) }
+    ensures disk { Blames Status.DiskFault (D.faults disk.old) (D.faults disk.new) result }
+    ensures source { Blames Status.ReadFault (S.faults source.old) (S.faults source.new) result }
+    ensures sink { Blames Status.WriteFault (W.faults sink.old) (W.faults sink.new) result }
+    ensures memory { result ≡ Status.Memory → IsUntouched (D.told disk.old) (D.told disk.new)
+        (S.left source.old) (S.left source.new) (W.written sink.old) (W.written sink.new) }
+    ensures words { result ≡ Status.Words → ⊥ }
+{
     let Ok(mut room) = ProbeRoom::reserve(alloc) else {
         return Status::Memory;
     };
-    let layout = match probe(disk, &mut room) {
-        Ok(layout) => layout,
-        Err(error) => return refuse_file(sink, &error),
-    };
-    match reserve(alloc, &layout) {
-        Ok(reserved) => execute(disk, source, sink, reserved),
-        Err(_) => Status::Memory,
+    match probe(disk, &mut room) {
+        Ok(layout) => match reserve(alloc, &layout) {
+            Ok(reserved) => execute(disk, source, sink, reserved),
+            Err(_) => Status::Memory,
+        },
+        Err(error) => refuse_file(sink, &error),
     }
 }
 
@@ -85,6 +126,9 @@ fn run_script<D: Disk, S: Source, W: Sink>(
 fn print_usage<W: Sink>(sink: &mut W) -> Status
     ensures usage { PrintsUsage (W.written sink.old) (W.written sink.new) result }
     ensures sink { Blames Status.WriteFault (W.faults sink.old) (W.faults sink.new) result }
+    ensures memory { result ≡ Status.Memory → ⊥ }
+    ensures disk { result ≡ Status.DiskFault → ⊥ }
+    ensures source { result ≡ Status.ReadFault → ⊥ }
 {
     match sink.write(USAGE) {
         Ok(()) => Status::Words,
