@@ -1,10 +1,10 @@
 -- What a repair's events make of the copies, where the disk tells its log.
-use Rattle.std.proofs.Common.{◌≡◌, ◌⊎◌, inl, inr, ◌<◌, ◌≤◌, ◌+◌, ◌↔◌, ℕ, zero, suc, Bool, true, false, IsTrue, List, [], ◌∷◌, ◌++◌, length, get_or, Option, Some, None, refl, sym, ◌∙◌, ap, subst, arith, Result, Ok, Err, OnOk}
+use Rattle.std.proofs.Common.{◌≡◌, ◌⊎◌, inl, inr, ◌<◌, ◌≤◌, ◌+◌, ◌↔◌, ℕ, zero, suc, Bool, true, false, IsTrue, List, [], ◌∷◌, ◌++◌, length, get_or, Option, Some, None, refl, sym, ◌∙◌, ap, subst, arith, Result, Ok, Err, IsErr, OnOk}
 use Rattle.df_base.specs.Image.{Image, IsImage, covers, written}
 use Rattle.df_base.specs.Log.{Event, Write, Sync, Stop, Log, IsLog, add, now}
 use Rattle.df_theory.proofs.Sectors.{now_is_image}
 use Rattle.df_disk.specs.Told.{Told, did}
-use Rattle.df_disk.specs.Adds.{Adds, AddsPart}
+use Rattle.df_disk.specs.Adds.{Adds, AddsPart, after_all}
 use Rattle.df_format.specs.Super.{copy_bytes}
 use Rattle.df_format.specs.SuperRules.{IsUsable}
 use Rattle.df_format.specs.declared.superblock.SuperFields.{SuperFields}
@@ -12,12 +12,12 @@ use Rattle.df_format.specs.Copies.{Content, content_at, content_with}
 use Rattle.df_quorum.specs.declared.choice.Chosen.{Chosen}
 use Rattle.df_quorum.specs.Quorum.{Copies, Agree, IsChosen, AreMembers}
 use Rattle.df_superblock.specs.Copies.{AreQuiet, AreEqual, AreSteady, IsKept, IsChoice, Spare}
-use Rattle.df_superblock.specs.Events.{repair_events}
+use Rattle.df_superblock.specs.Events.{mend_events, repair_events}
 use Rattle.df_superblock.specs.Moments.{PassedTo, adds}
 use Rattle.df_superblock.specs.Calls.{KeepsMembers, RepairsSteadily, KeepsUnlessMisled, RepairsUnlessMisled, TellsLog, IsRepaired, EndsRepaired}
 use Rattle.df_superblock.proofs.Sights.{PutsCopy, written_other}
 use Rattle.df_superblock.proofs.Ready.{IsReady, steady_ready}
-use Rattle.df_superblock.proofs.Passing.{AtEach, adds_part, passes, at_weaker}
+use Rattle.df_superblock.proofs.Passing.{AtEach, adds_part, part_then, all_then, passes, at_weaker}
 use Rattle.df_superblock.proofs.Mends.{Spares, Writes, member_spared, other_written, repair_keeps, repair_steady, shown_stays, written_shows}
 use Rattle.df_superblock.proofs.Misleads.{AreOutside, IsUnder, KeepsChoice, each_stays}
 use Rattle.df_superblock.proofs.Puts.{copy_put, one_content}
@@ -66,6 +66,44 @@ pub keeps_members : {T E : Type 0} → (f : SuperFields) (members : List Bool) (
 keeps_members f members None new result usable size is = tt
 keeps_members f members (Some t) None result usable size is = absurd (tells_still (repair_events f 0 members) t (adds_part (repair_events f 0 members) (Some t) None result is))
 keeps_members f members (Some t) (Some u) result usable size is = λ n below member. member_stays f members t u n usable size (adds_part (repair_events f 0 members) (Some t) (Some u) result is) member
+
+-- ---- one place after the other
+
+members_are : (members : List Bool) → length members ≡ 4 → members ≡ get_or members 0 false ∷ get_or members 1 false ∷ get_or members 2 false ∷ get_or members 3 false ∷ []
+members_are [] size = absurd (omega arith)
+members_are (a ∷ []) size = absurd (omega arith)
+members_are (a ∷ b ∷ []) size = absurd (omega arith)
+members_are (a ∷ b ∷ c ∷ []) size = absurd (omega arith)
+members_are (a ∷ b ∷ c ∷ d ∷ []) size = refl
+members_are (a ∷ b ∷ c ∷ d ∷ e ∷ members) size = absurd (omega arith)
+
+adds_err : {T E : Type 0} → (es : List Event) (old new : Option Told) (result : Result T E) → IsErr result → AddsPart es old new → Adds es old new result
+adds_err es old new (Ok x) err is = absurd (let no : false ≡ true = err in cc)
+adds_err es old new (Err e) err is = is
+
+module _ (f : SuperFields) (members : List Bool) (size : length members ≡ 4) where
+  abbrev part : ℕ → List Event
+  part n = mend_events f n (get_or members n false)
+
+  -- all four parts
+  abbrev parts : List Event
+  parts = part 0 ++ (part 1 ++ (part 2 ++ (part 3 ++ [])))
+
+  are_parts : repair_events f 0 members ≡ parts
+  are_parts = ap (λ (ms : List Bool). repair_events f 0 ms) (members_are members size)
+
+  module _ {T E : Type 0} (result : Result T E) (err : IsErr result) where
+    some_mended : (old new : Option Told) → AddsPart parts old new → Adds (repair_events f 0 members) old new result
+    some_mended old new is = adds_err (repair_events f 0 members) old new result err (subst (λ (es : List Event). AddsPart es old new) (sym are_parts) is)
+
+    pub first_fails : (old new : Option Told) → AddsPart (part 0) old new → Adds (repair_events f 0 members) old new result
+    first_fails old new is = some_mended old new (part_then (part 0) _ old new is)
+
+    pub second_fails : (old one new : Option Told) → one ≡ after_all (part 0) old → AddsPart (part 1) one new → Adds (repair_events f 0 members) old new result
+    second_fails old one new first is = some_mended old new (all_then (part 0) _ old one new first (part_then (part 1) _ one new is))
+
+    pub third_fails : (old one two new : Option Told) → one ≡ after_all (part 0) old → two ≡ after_all (part 1) one → AddsPart (part 2) two new → Adds (repair_events f 0 members) old new result
+    third_fails old one two new first second is = some_mended old new (all_then (part 0) _ old one new first (all_then (part 1) _ one two new second (part_then (part 2) _ two new is)))
 
 -- ---- moments, and the end
 

@@ -1,6 +1,7 @@
 -- What slots that were read say of the copies, and what an update answers of them.
-use Rattle.std.proofs.Common.{◌≡◌, ◌⊎◌, inl, inr, ◌<◌, ◌≤◌, ◌+◌, ◌==◌, if◌then◌else◌, ℕ, Bool, true, false, List, [], ◌∷◌, get_or, Option, Some, None, refl, sym, ◌∙◌, ap, subst, arith, Result, Ok, Err}
+use Rattle.std.proofs.Common.{◌≡◌, ◌⊎◌, inl, inr, ◌<◌, ◌≤◌, ◌+◌, ◌==◌, if◌then◌else◌, ◌↔◌, ℕ, zero, suc, Bool, true, false, IsTrue, List, [], ◌∷◌, length, get_or, Option, Some, None, refl, sym, ◌∙◌, ap, subst, arith, Result, Ok, Err}
 use Rattle.std.proofs.lemmas.Bool.{cases_lt}
+use Rattle.std.proofs.lemmas.Bool.Decides.{nat_tests}
 use Rattle.df_base.specs.Image.{Image}
 use Rattle.df_base.specs.Log.{Event}
 use Rattle.df_disk.specs.Told.{Told}
@@ -14,7 +15,7 @@ use Rattle.df_quorum.specs.declared.slot.Slot.TheVariants.{Sound, Bad}
 use Rattle.df_quorum.specs.Quorum.{copies_of, copy_of, nothing}
 use Rattle.df_superblock.specs.declared.updates.UpdateError.{UpdateError}
 use Rattle.df_superblock.specs.declared.updates.UpdateError.TheVariants.{Damaged, DiskFault}
-use Rattle.df_superblock.specs.Calls.{slot_of, slot_at, ShowsSlot, ShowsSlots, ShowsCopies, ShowsEqual, IsRead, AreEnough, IsFirstMissing, IsDamaged, IsVerdict, IsUndamaged, AddsUpdate, IsCausedBy, class_of_slot}
+use Rattle.df_superblock.specs.Calls.{slot_of, slot_at, ShowsSlot, ShowsSlots, ShowsCopies, ShowsEqual, Holds, IsRead, AreEnough, IsFirstMissing, IsDamaged, IsVerdict, IsUndamaged, AddsUpdate, IsCausedBy, class_of_slot}
 
 -- a copy that belongs here belongs here
 here_again : (n : ℕ) (class : Class) (o : Option SuperCopy) → if_here n (copy_of (slot_of (copy_or_class (if_here n o) class))) ≡ if_here n o
@@ -32,6 +33,33 @@ slot_shows image n = ap content_of (here_again n (class_of_copy n (image n)) (co
 pub shows_copies : (told : Option Told) (slots : List Slot) → ShowsSlots told slots → ShowsCopies told slots
 shows_copies None slots shown = tt
 shows_copies (Some t) slots shown = λ n below. ap (λ (slot : Slot). content_of (if_here n (copy_of slot))) (shown n below) ∙ slot_shows t.shown n
+
+-- ---- slots
+
+get_or_any : (slots : List Slot) (n : ℕ) (one two : Slot) → n < length slots → get_or slots n one ≡ get_or slots n two
+get_or_any [] n one two inside = absurd (omega arith)
+get_or_any (slot ∷ slots) zero one two inside = refl
+get_or_any (slot ∷ slots) (suc n) one two inside = get_or_any slots n one two (omega arith)
+
+-- whatever is read past the end
+pub read_here : (slots : List Slot) (n m : ℕ) (other : Slot) (f : SuperFields) (b : Bool) → n < length slots → m ≡ n → IsTrue b ↔ Holds n (get_or slots m other) f → IsTrue b ↔ IsRead slots f n
+read_here slots n m other f b inside same is = subst (λ (slot : Slot). IsTrue b ↔ Holds n slot f) (ap (λ (k : ℕ). get_or slots k other) same ∙ get_or_any slots n other nothing inside) is
+
+some_content : (c d : Content) → Some c ≡ Some d → c ≡ d
+some_content c d e = cc
+
+pub holds_sound : (n : ℕ) (slot : Slot) (copy : SuperCopy) (f : SuperFields) (b : Bool) → slot ≡ Sound copy → copy.number ≡ n → IsTrue b ↔ (copy.fields ≡ f) → IsTrue b ↔ Holds n slot f
+holds_sound n slot copy f b is here same =
+    let shown : content_of (if_here n (copy_of slot)) ≡ Some (record { checksum = copy.checksum; fields = copy.fields }) =
+        ap (λ (s : Slot). content_of (if_here n (copy_of s))) is ∙ ap (λ (t : Bool). content_of (if t then Some copy else None)) (number_is copy.number n here) in (
+      λ true_b. (record { checksum = copy.checksum; fields = copy.fields }, shown, same.0 true_b),
+      λ held.
+          let one : record { checksum = copy.checksum; fields = copy.fields } ≡ held.0 = some_content _ _ (sym shown ∙ held.1) in
+          same.1 (ap (λ (c : Content). c.fields) one ∙ held.2),
+    )
+  where
+    number_is : (a b : ℕ) → a ≡ b → (a == b) ≡ true
+    number_is a b e = grind (arith, nat_tests)
 
 -- where all is shown as it was written, it is read so
 all_read : (t : Told) (slots : List Slot) (f : SuperFields) → ShowsEqual f (Some t) → ShowsCopies (Some t) slots → (n : ℕ) → n < 4 → IsRead slots f n
@@ -64,6 +92,13 @@ enough_from slots f first is behind = (first, λ n below away. elim (cases_lt n 
   where
     order : (a b : ℕ) → b ≤ a → (a ≡ b → ⊥) → b < a
     order a b more away = omega arith
+
+-- one more
+pub read_on : (slots : List Slot) (f : SuperFields) (from next : ℕ) → ((n : ℕ) → from ≤ n → n < next → IsRead slots f n) → IsRead slots f next → (n : ℕ) → from ≤ n → n < next + 1 → IsRead slots f n
+read_on slots f from next before here n more less = elim (cases_lt n next) [
+  | inl low ↦ before n more low
+  | inr high ↦ let same : next ≡ n = omega arith in subst (λ (k : ℕ). IsRead slots f k) same here
+]
 
 pub enough_all : (slots : List Slot) (f : SuperFields) → ((n : ℕ) → 0 ≤ n → n < 4 → IsRead slots f n) → AreEnough slots f
 enough_all slots f all = (4, λ n below away. all n (omega arith) below)

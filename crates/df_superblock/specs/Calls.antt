@@ -12,11 +12,11 @@ use Rattle.df_layout.specs.declared.places.Zone.TheVariants.{Superblock}
 use Rattle.df_format.specs.Own.{place_in}
 use Rattle.df_format.specs.declared.superblock.SuperCopy.{SuperCopy}
 use Rattle.df_format.specs.declared.superblock.SuperFields.{SuperFields}
-use Rattle.df_format.specs.Copies.{Content, content_at, content_with, own_copy}
+use Rattle.df_format.specs.Copies.{Content, content_at, content_of, content_with, if_here, own_copy}
 use Rattle.df_quorum.specs.declared.slot.Slot.{Slot}
 use Rattle.df_quorum.specs.declared.slot.Slot.TheVariants.{Sound, Bad}
 use Rattle.df_quorum.specs.declared.choice.Chosen.{Chosen}
-use Rattle.df_quorum.specs.Quorum.{IsChosen, copies_of, nothing}
+use Rattle.df_quorum.specs.Quorum.{IsChosen, copies_of, copy_of, nothing}
 use Rattle.df_superblock.specs.Copies.{AreQuiet, AreSteady, AreEqual, IsBounded, IsKept, IsEither, IsMisled, IsOldOrNew, MayUpdate, IsChoice}
 use Rattle.df_superblock.specs.Moments.{PassedTo}
 use Rattle.df_superblock.specs.Events.{update_events}
@@ -50,9 +50,13 @@ ShowsCopies (Some t) slots = (n : ℕ) → n < 4 → copies_of slots n ≡ conte
 
 -- ---- updates
 
--- a copy with these fields was read at its own place
+-- the slot of this number holds a copy that belongs there and has these fields
+abbrev pub Holds : ℕ → Slot → SuperFields → Type 0
+Holds number slot f = (c : Content) × (content_of (if_here number (copy_of slot)) ≡ Some c) × (c.fields ≡ f)
+
+-- so the copy was read as it was written
 abbrev pub IsRead : List Slot → SuperFields → ℕ → Type 0
-IsRead slots f number = (c : Content) × (copies_of slots number ≡ Some c) × (c.fields ≡ f)
+IsRead slots f number = Holds number (get_or slots number nothing) f
 
 -- three or four copies were read as they were written
 abbrev pub AreEnough : List Slot → SuperFields → Type 0

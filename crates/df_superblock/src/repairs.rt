@@ -65,6 +65,7 @@ pub fn repair<D: Disk>(
     ensures repaired { OnOk result (EndsRepaired chosen.now (D.told disk.old) (D.told disk.new)) }
     ensures cause { HasCause (D.faults disk.old) (D.faults disk.new) result }
 {
+    // Its fields obey their rules.
     let _fields = content.fields();
     mend_each(disk, room, content, &chosen.members)
 }

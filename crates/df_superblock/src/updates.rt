@@ -2,14 +2,14 @@
 ghost use Rattle.std.specs.Prelude.{◌≡◌, ◌<◌, ◌≤◌, ℕ, IsTrue, ◌↔◌, IfSome, IfNone, OnOk};
 ghost use Rattle.df_base.specs.Causes.{HasCause};
 ghost use Rattle.df_disk.specs.Adds.{Adds};
-ghost use Rattle.df_superblock.specs.Calls.{IsRead, IsFirstMissing, IsVerdict, IsJudged, IsUndamaged, AddsUpdate, IsCausedBy, UpdatesSafely, UpdatesSteadily, ShowsEqual, EndsEqual, EndsSteady, class_of_slot};
+ghost use Rattle.df_superblock.specs.Calls.{Holds, IsRead, IsFirstMissing, IsVerdict, IsJudged, IsUndamaged, AddsUpdate, IsCausedBy, UpdatesSafely, UpdatesSteadily, ShowsEqual, EndsEqual, EndsSteady, class_of_slot};
 ghost use Rattle.df_superblock.specs.Events.{update_events};
 
 use crate::copies::{read_all, write_copy};
 use df_base::Failed;
 use df_buffers::ProbeRoom;
 use df_disk::Disk;
-use df_format::Super;
+use df_format::{Super, SuperCopy};
 use df_layout::{Class, Place, Zone};
 use df_quorum::Slot;
 
@@ -44,6 +44,7 @@ fn write_all<D: Disk>(disk: &mut D, room: &mut ProbeRoom, content: &Super) -> Re
     ensures steady { OnOk result (EndsSteady content.now (D.told disk.old) (D.told disk.new)) }
     ensures cause { HasCause (D.faults disk.old) (D.faults disk.new) result }
 {
+    // Its fields obey their rules.
     let _fields = content.fields();
     write_each(disk, room, content)
 }
@@ -57,18 +58,30 @@ fn class_of(slot: &Slot) -> Class
     }
 }
 
-// Whether the place of this number was read as it was written.
-fn is_read(slots: &[Slot; 4], content: &Super, number: u8) -> bool
-    requires { number < 4 }
-    ensures { IsTrue result ↔ IsRead slots.now content.now number }
+fn has_fields(copy: &SuperCopy, content: &Super) -> bool
+    ensures { IsTrue result ↔ (copy.now.fields ≡ content.now) }
 {
-    match &slots[usize::from(number)] {
-        Slot::Sound(copy) => copy.number == number && &copy.fields == content.fields(),
+    copy.fields == *content.fields()
+}
+
+// Whether the slot of this number holds the copy that was written.
+fn holds(number: u8, slot: &Slot, content: &Super) -> bool
+    ensures { IsTrue result ↔ Holds number slot.now content.now }
+{
+    match slot {
+        Slot::Sound(copy) => copy.number == number && has_fields(copy, content),
         Slot::Bad(_) => false,
     }
 }
 
-// The first place from a number on that wasn't.
+fn is_read(slots: &[Slot; 4], content: &Super, number: u8) -> bool
+    requires { number < 4 }
+    ensures { IsTrue result ↔ IsRead slots.now content.now number }
+{
+    holds(number, &slots[usize::from(number)], content)
+}
+
+// The first copy from a number on that wasn't read as it was written.
 fn first_missing(slots: &[Slot; 4], content: &Super, from: u8) -> Option<u8>
     ensures some { IfSome result (λ first. IsFirstMissing slots.now content.now from first) }
     ensures none { IfNone result ((n : ℕ) → from ≤ n → n < 4 → IsRead slots.now content.now n) }

@@ -1,4 +1,6 @@
+use Rattle.std.proofs.Common.{arith}
+use Rattle.df_superblock.proofs.Verdicts.{read_here}
 use Rattle.df_superblock.proofs.updates.is_read.Goals as goal
 
-pub returns-then-copy-number : goal.returns-then-copy-number
-returns-then-copy-number c = let h = c.in-Sound.is in let k = c.eq.ensures in let w = c.if-copy-number.true in ?
+pub returns : goal.returns
+returns c = read_here c.args.slots.now c.args.number c.from.result _ c.args.content.now c.holds.result (omega (arith, c.told-slots, c.requires)) c.from.ensures c.holds.ensures

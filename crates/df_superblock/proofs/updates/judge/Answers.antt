@@ -1,4 +1,5 @@
+use Rattle.df_superblock.proofs.Verdicts.{enough_from}
 use Rattle.df_superblock.proofs.updates.judge.Goals as goal
 
 pub returns-in-None-first_missing : goal.returns-in-None-first_missing
-returns-in-None-first_missing c = let h = c.in-Some.ensures.some in let k = c.in-None-first_missing.ensures in ?
+returns-in-None-first_missing c = enough_from c.args.slots.now c.args.content.now c.in-Some.first c.in-Some.ensures.some c.in-None-first_missing.ensures.none
