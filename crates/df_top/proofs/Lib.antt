@@ -4,6 +4,9 @@ mod Lines
 mod Rounds
 mod Steps
 mod Wals
+mod Fronts
+mod Members
+mod Opens
 mod Made
 mod Progress
 mod LineEnds
@@ -11,4 +14,5 @@ pub mod Commas
 pub mod Commands
 pub mod Refusing
 mod Whole
+mod Makes
 mod Follows
