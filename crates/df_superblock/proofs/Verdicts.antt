@@ -1,10 +1,12 @@
 -- What slots that were read say of the copies, and what an update answers of them.
-use Rattle.std.proofs.Common.{◌≡◌, ◌⊎◌, inl, inr, ◌<◌, ◌≤◌, ◌+◌, ◌==◌, if◌then◌else◌, ◌↔◌, ℕ, zero, suc, Bool, true, false, IsTrue, List, [], ◌∷◌, length, get_or, Option, Some, None, refl, sym, ◌∙◌, ap, subst, arith, Result, Ok, Err}
+use Rattle.std.proofs.Common.{◌≡◌, ◌⊎◌, inl, inr, ◌<◌, ◌≤◌, ◌+◌, ◌/◌, ◌==◌, if◌then◌else◌, ◌↔◌, ℕ, zero, suc, Bool, true, false, IsTrue, List, [], ◌∷◌, ◌++◌, length, take, drop, get_or, Option, Some, None, refl, sym, ◌∙◌, ap, subst, arith, Result, Ok, Err, OnOk}
 use Rattle.std.proofs.lemmas.Bool.{cases_lt}
 use Rattle.std.proofs.lemmas.Bool.Decides.{nat_tests}
-use Rattle.df_base.specs.Image.{Image}
+use Rattle.std.proofs.lemmas.List.{append-nil}
+use Rattle.std.proofs.Math.Seq.{take-append_seam}
+use Rattle.df_base.specs.Image.{Image, bytes_at}
 use Rattle.df_base.specs.Log.{Event}
-use Rattle.df_disk.specs.Told.{Told}
+use Rattle.df_disk.specs.Told.{Told, Shows}
 use Rattle.df_disk.specs.Adds.{after_all}
 use Rattle.df_layout.specs.declared.damage.Class.{Class}
 use Rattle.df_format.specs.declared.superblock.SuperCopy.{SuperCopy}
@@ -15,7 +17,7 @@ use Rattle.df_quorum.specs.declared.slot.Slot.TheVariants.{Sound, Bad}
 use Rattle.df_quorum.specs.Quorum.{copies_of, copy_of, nothing}
 use Rattle.df_superblock.specs.declared.updates.UpdateError.{UpdateError}
 use Rattle.df_superblock.specs.declared.updates.UpdateError.TheVariants.{Damaged, DiskFault}
-use Rattle.df_superblock.specs.Calls.{slot_of, slot_at, ShowsSlot, ShowsSlots, ShowsCopies, ShowsEqual, Holds, IsRead, AreEnough, IsFirstMissing, IsDamaged, IsVerdict, IsUndamaged, AddsUpdate, IsCausedBy, class_of_slot}
+use Rattle.df_superblock.specs.Calls.{slot_of, slot_at, ShowsSector, ShowsSlot, ShowsSlots, ShowsCopies, ShowsEqual, Holds, IsRead, AreEnough, IsFirstMissing, IsDamaged, IsVerdict, IsUndamaged, AddsUpdate, IsCausedBy, class_of_slot}
 
 -- a copy that belongs here belongs here
 here_again : (n : ℕ) (class : Class) (o : Option SuperCopy) → if_here n (copy_of (slot_of (copy_or_class (if_here n o) class))) ≡ if_here n o
@@ -33,6 +35,36 @@ slot_shows image n = ap content_of (here_again n (class_of_copy n (image n)) (co
 pub shows_copies : (told : Option Told) (slots : List Slot) → ShowsSlots told slots → ShowsCopies told slots
 shows_copies None slots shown = tt
 shows_copies (Some t) slots shown = λ n below. ap (λ (slot : Slot). content_of (if_here n (copy_of slot))) (shown n below) ∙ slot_shows t.shown n
+
+-- one sector is read
+shows_sector : (told : Option Told) (n : ℕ) (bytes : List ℕ) → length bytes ≡ 4096 → Shows told n bytes → ShowsSector told n bytes
+shows_sector None n bytes size shown = tt
+shows_sector (Some t) n bytes size shown = shown ∙ ap (λ (count : ℕ). bytes_at t.shown n count) (one (length bytes) size) ∙ append-nil (t.shown n)
+  where
+    one : (k : ℕ) → k ≡ 4096 → k / 4096 ≡ 1
+    one k is = omega (arith, is)
+
+pub read_shows : {T E : Type 0} → (told : Option Told) (at n : ℕ) (bytes : List ℕ) (result : Result T E) → at ≡ n → length bytes ≡ 4096 → OnOk result (Shows told at bytes) → OnOk result (ShowsSector told n bytes)
+read_shows told at n bytes (Ok x) same size shown = shows_sector told n bytes size (subst (λ (k : ℕ). Shows told k bytes) same shown)
+read_shows told at n bytes (Err e) same size shown = tt
+
+-- a room that was written over as a whole
+pub whole_room : (new old : List ℕ) → length new ≡ length old → take (length old) (new ++ drop (length new) old) ≡ new
+whole_room new old size = ap (λ (k : ℕ). take k (new ++ drop (length new) old)) (sym size) ∙ take-append_seam new (drop (length new) old)
+
+pub shows_slot : (told : Option Told) (n : ℕ) (bytes held : List ℕ) (slot : Slot) → ShowsSector told n bytes → held ≡ bytes → slot ≡ slot_of (own_copy n held) → ShowsSlot told n slot
+shows_slot None n bytes held slot shown same is = tt
+shows_slot (Some t) n bytes held slot shown same is = is ∙ ap (λ (b : List ℕ). slot_of (own_copy n b)) (same ∙ shown)
+
+pub shows_four : (told : Option Told) (a b c d : Slot) → ShowsSlot told 0 a → ShowsSlot told 1 b → ShowsSlot told 2 c → ShowsSlot told 3 d → ShowsSlots told (a ∷ b ∷ c ∷ d ∷ [])
+shows_four told a b c d first second third fourth zero below = first
+shows_four told a b c d first second third fourth (suc zero) below = second
+shows_four told a b c d first second third fourth (suc (suc zero)) below = third
+shows_four told a b c d first second third fourth (suc (suc (suc zero))) below = fourth
+shows_four told a b c d first second third fourth (suc (suc (suc (suc n)))) below = absurd (omega arith)
+
+pub shows_later : (one two : Option Told) (n : ℕ) (slot : Slot) → two ≡ one → ShowsSlot two n slot → ShowsSlot one n slot
+shows_later one two n slot same shown = subst (λ (told : Option Told). ShowsSlot told n slot) same shown
 
 -- ---- slots
 

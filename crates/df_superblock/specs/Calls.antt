@@ -25,6 +25,11 @@ use Rattle.df_superblock.specs.declared.updates.UpdateError.TheVariants.{Damaged
 
 -- ---- reads
 
+-- these bytes are what is shown at a copy's sector, where the disk tells it
+abbrev pub ShowsSector : Option Told → ℕ → List ℕ → Type 0
+ShowsSector None number bytes = Unit {0}
+ShowsSector (Some t) number bytes = bytes ≡ t.shown number
+
 -- a slot with the sound copy that belongs there, or else with the class of what is there
 abbrev pub slot_of : Result SuperCopy Class → Slot
 slot_of (Ok copy) = Sound copy

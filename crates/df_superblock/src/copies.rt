@@ -1,9 +1,10 @@
 // Reads and writes of single copies. A copy is durable before its writer answers.
-ghost use Rattle.std.specs.Prelude.{◌≡◌, ◌<◌, [], ◌∷◌, IfOk};
+ghost use Rattle.std.specs.Prelude.{◌≡◌, ◌<◌, [], ◌∷◌, length, IfOk, OnOk};
 ghost use Rattle.df_base.specs.Causes.{HasCause};
 ghost use Rattle.df_base.specs.Log.{Sync};
 ghost use Rattle.df_disk.specs.Adds.{Adds};
-ghost use Rattle.df_superblock.specs.Calls.{ShowsSlot, ShowsSlots, ShowsCopies};
+ghost use Rattle.df_format.specs.Copies.{own_copy};
+ghost use Rattle.df_superblock.specs.Calls.{ShowsSector, ShowsSlot, ShowsSlots, ShowsCopies, slot_of};
 ghost use Rattle.df_superblock.specs.Events.{copy_written};
 
 use df_base::Failed;
@@ -13,26 +14,45 @@ use df_format::{Super, encode_copy};
 use df_layout::{Place, Zone};
 use df_quorum::Slot;
 
+// Reads the sector of one copy.
+fn read_sector<D: Disk>(disk: &mut D, number: u8, into: &mut [u8]) -> Result<(), Failed>
+    requires size { length into.old ≡ 4096 }
+    ensures bytes { OnOk result (ShowsSector (D.told disk.old) number into.new) }
+    ensures same { D.told disk.new ≡ D.told disk.old }
+    ensures cause { HasCause (D.faults disk.old) (D.faults disk.new) result }
+{
+    disk.read(u64::from(number), into)
+}
+
+// The copy in a room that was read from the place of this number, or the class of what is there.
+fn slot_in(room: &Raw<SuperSector>, number: u8) -> Slot
+    requires { number < 4 }
+    ensures { result ≡ slot_of (own_copy number room.now.bytes) }
+{
+    let place = Place {
+        zone: Zone::Superblock,
+        index: u64::from(number),
+    };
+    match room.copy(place) {
+        Ok(copy) => Slot::Sound(copy),
+        Err(class) => Slot::Bad(class),
+    }
+}
+
 // Reads the place of one copy.
 fn read_copy<D: Disk>(
     disk: &mut D,
     room: &mut Raw<SuperSector>,
     number: u8,
 ) -> Result<Slot, Failed>
-    requires { number < 4 }
+    requires number { number < 4 }
+    requires size { length room.old.bytes ≡ 4096 }
     ensures shown { IfOk result (ShowsSlot (D.told disk.old) number) }
     ensures same { D.told disk.new ≡ D.told disk.old }
     ensures cause { HasCause (D.faults disk.old) (D.faults disk.new) result }
 {
-    disk.read(u64::from(number), room.bytes_mut())?;
-    let place = Place {
-        zone: Zone::Superblock,
-        index: u64::from(number),
-    };
-    match room.copy(place) {
-        Ok(copy) => Ok(Slot::Sound(copy)),
-        Err(class) => Ok(Slot::Bad(class)),
-    }
+    read_sector(disk, number, room.bytes_mut())?;
+    Ok(slot_in(room, number))
 }
 
 /// Reads the four copies: each slot is the sound copy that belongs at its place, or the class of what is there.
