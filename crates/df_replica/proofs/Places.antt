@@ -1,7 +1,7 @@
 -- What the slots of the four places say of the image that they were read from.
 use Rattle.std.specs.Prelude.{Result, Ok, Err}
 use Rattle.std.proofs.Common.{◌≡◌, ◌↔◌, inl, inr, ℕ, ◌<◌, ◌≤◌, ◌==◌, Bool, true, false, IsTrue, cond, List, [], ◌∷◌, length, get_or, Option, Some, None, refl, sym, ◌∙◌, ap, subst, arith}
-use Rattle.std.proofs.lemmas.Bool.{cond-true, eq-eqb}
+use Rattle.std.proofs.lemmas.Bool.{cond-true, eq-eqb, false_from_ne_true}
 use Rattle.df_base.specs.Image.{Image}
 use Rattle.df_layout.specs.declared.damage.Class.{Class}
 use Rattle.df_layout.specs.declared.damage.Class.TheVariants.{Blank, Garbled, Elsewhere, Stale}
@@ -19,6 +19,8 @@ use Rattle.df_quorum.specs.declared.choice.Chosen.{Chosen}
 use Rattle.df_disk.specs.Told.{Told}
 use Rattle.df_replica.specs.Opening.{IsUnformatted, shown_classes, Refuses}
 use Rattle.df_replica.specs.Found.{AreBlank, IsFirstWrittenOf, IsChoiceOf, TellsChoice}
+use Rattle.df_replica.specs.Formatting.{IsFirstWritten, TellsBlank}
+use Rattle.df_replica.specs.declared.errors.FormatError.TheVariants.{NotBlank}
 use Rattle.df_replica.specs.declared.errors.OpenError.TheVariants.{NotFormatted, NoQuorum}
 use Rattle.df_superblock.specs.Calls.{slot_of, slot_at, ShowsSlots, ShowsCopies}
 
@@ -139,3 +141,20 @@ pub tells_split : (told : Option Told) (slots : List Slot) (classes : List Class
     → TellsChoice told (Err (NoQuorum classes))
 tells_split None slots classes first shown copies size are split written = tt
 tells_split (Some t) slots classes first shown copies size are split written = no_quorum t.shown slots shown copies classes first size are split written
+
+first_written : (image : Image) (slots : List Slot) (copy : ℕ) → ((n : ℕ) → n < 4 → get_or slots n nothing ≡ slot_at image n) → IsFirstWrittenOf slots copy → IsFirstWritten image copy
+first_written image slots copy shown is = record {
+  inside = is.inside;
+  written = false_from_ne_true _ (λ zeros. is.written (shown copy is.inside ∙ shown_blank image copy zeros));
+  before = λ n below.
+      let inside : n < 4 = (let low : copy < 4 = is.inside in omega arith) in
+      blank_shown image n (sym (shown n inside) ∙ is.before n below);
+}
+
+pub tells_written : (T : Type 0) (told : Option Told) (slots : List Slot) (copy : ℕ) → ShowsSlots told slots → IsFirstWrittenOf slots copy → TellsBlank {T = T} told (Err (NotBlank copy))
+tells_written T None slots copy shown is = tt
+tells_written T (Some t) slots copy shown is = first_written t.shown slots copy shown is
+
+pub tells_blank : (T : Type 0) (told : Option Told) (slots : List Slot) (x : T) → ShowsSlots told slots → AreBlank slots 4 → TellsBlank {T = T} told (Ok x)
+tells_blank T None slots x shown blank = tt
+tells_blank T (Some t) slots x shown blank = unformatted t.shown slots shown blank
