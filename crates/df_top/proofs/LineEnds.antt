@@ -15,7 +15,7 @@ use Rattle.df_top.specs.Logs.{line_bound}
 use Rattle.df_top.specs.Serving.{AnswersAppend, AnswersLine, EndedIsEnd, KeepsReader, RefusesLine, state}
 use Rattle.df_top.specs.declared.session.Session.{Session}
 use Rattle.df_top.specs.declared.status.Status.{Status}
-use Rattle.df_top.specs.declared.status.Status.TheVariants.{Done, Words, Script, DiskFault, ReadFault, WriteFault, Memory}
+use Rattle.df_top.specs.declared.status.Status.TheVariants.{Done, Words, Script, Refused, DiskFault, ReadFault, WriteFault, Memory}
 use Rattle.df_prepares.proofs.Rests.{rest_kept}
 use Rattle.df_top.proofs.Progress.{goes_on, ends_disk, ends_answer, ends_script, ends_script_fault}
 
@@ -29,6 +29,7 @@ ends_refused wal bound old new same refused Script wrote = ends_script wal bound
 ends_refused wal bound old new same refused WriteFault wrote = ends_script_fault wal bound (rest_kept wal) old new same refused wrote
 ends_refused wal bound old new same refused Done wrote = absurd wrote
 ends_refused wal bound old new same refused Words wrote = absurd wrote
+ends_refused wal bound old new same refused Refused wrote = absurd wrote
 ends_refused wal bound old new same refused DiskFault wrote = absurd wrote
 ends_refused wal bound old new same refused ReadFault wrote = absurd wrote
 ends_refused wal bound old new same refused Memory wrote = absurd wrote
@@ -94,6 +95,7 @@ module _ (wal : Wal) (told later : Option Told) (left after_left written took : 
     answered_end (Err WriteFault) ring did = ends_answer wal (line_bound old.file) (rest_kept wal) before after said (takes ring) did.1 did.0
     answered_end (Err Done) ring did = absurd did
     answered_end (Err Words) ring did = absurd did
+    answered_end (Err Refused) ring did = absurd did
     answered_end (Err Script) ring did = absurd did
     answered_end (Err ReadFault) ring did = absurd did
     answered_end (Err Memory) ring did = absurd did

@@ -13,7 +13,7 @@ use Rattle.df_format.specs.declared.superblock.SuperFields.{SuperFields}
 use Rattle.df_format.specs.declared.wal.Wal.{Wal}
 use Rattle.df_quorum.proofs.Choices.{one_law}
 use Rattle.df_replica.specs.First.{first_super}
-use Rattle.df_replica.specs.Found.{Answers, IsFound, TellsFound, TellsLayout, Syncs, fault_error, OpensBy}
+use Rattle.df_replica.specs.Found.{Answers, IsFound, IsLayoutShown, TellsFound, TellsLayout, Syncs, fault_error, OpensBy}
 use Rattle.df_replica.specs.Opening.{HasSuper, Refuses, IsLayoutOf}
 use Rattle.df_replica.specs.declared.errors.OpenError.{OpenError}
 use Rattle.df_replica.specs.declared.errors.OpenError.TheVariants.{NotFormatted, NoQuorum, Version, BadField, LayoutDiffers, Damaged, DiskFault}
@@ -241,3 +241,27 @@ module _ (told : Option Told) (reserved : Layout) (probed : TellsLayout told (Ok
         -- the disk failed while they were
         pub mending_opens : {T : Type 0} → (file_of : T → DataFile) (later : Option Told) (e : OpenError) → e ≡ DiskFault → AddsPart repairs (after Sync told) later → OnFile told (λ file wal. OpensFile file_of file told later (Err e))
         mending_opens file_of later e failed part t file wal is is_file = (failed, (repairs, found_repairs t file wal is is_file, inr part))
+
+-- ---- the probe refuses
+
+module _ (told : Option Told) (e : OpenError) (answer : TellsLayout told (Err e)) where
+  probe_says : (t : Told) → told ≡ Some t → (e ≡ DiskFault) ⊎ Refuses t.shown e
+  probe_says t is = told_refuses (IsLayoutShown t.shown) t.shown e (subst (λ (o : Option Told). TellsLayout o (Err e)) is answer)
+
+  pub probe_fails : OnFile told (λ file wal. e ≡ DiskFault)
+  probe_fails t file wal is is_file = elim (probe_says t is) [
+    | inl failed ↦ failed
+    | inr refused ↦ absurd (none_refused file wal t.shown is_file e refused)
+  ]
+
+  pub probe_refuses : (t : Told) (error : OpenError) → told ≡ Some t → RefusesRun t.shown error → ((e ≡ error) ⊎ (e ≡ DiskFault)) × ((told ≡ told) ⊎ (told ≡ after Sync told))
+  probe_refuses t error is refuses = (
+    elim (probe_says t is) [
+      | inl failed ↦ inr failed
+      | inr refused ↦ elim refuses [
+          | inl other ↦ inl (one_refusal t.shown e error refused other)
+          | inr later_one ↦ absurd (super_or_refusal t.shown later_one.fields e later_one.usable refused)
+        ]
+    ],
+    inl refl,
+  )

@@ -325,3 +325,8 @@ module _ (told mid : Option Told) (left written : Option (List ℕ)) (s : Sessio
           (both_of_file file wal t.shown repairs wrote_ring.events (repairs_of_file file wal t.shown repairs are) (run_of_file file wal t.shown wrote_ring.events wrote_ring.each));
       added = wrote_ring.added ∙ ap (after_all wrote_ring.events) mends.2 ∙ after_both repairs wrote_ring.events (after Sync told);
     }
+
+-- ---- nothing was done
+
+pub writes_nothing : (file : DataFile) (wal : Wal) (told later : Option Told) → later ≡ told → WritesFile file wal told later
+writes_nothing file wal told later same = record { events = []; behind = []; barrier = inl refl; each = λ t is. tt; added = same }

@@ -1,5 +1,5 @@
 // The opening of a file: the barrier, the superblock that is chosen, the copies that are mended, and the ring.
-ghost use Rattle.std.specs.Prelude.{◌≡◌, [], ◌∷◌, Ok, IfOk, IfErr};
+ghost use Rattle.std.specs.Prelude.{◌≡◌, [], ◌∷◌, length, Ok, IfOk, IfErr};
 ghost use Rattle.std.specs.Result.{result_err};
 ghost use Rattle.df_disk.specs.Adds.{Adds};
 ghost use Rattle.df_format.specs.SuperRules.{first_failing, test};
@@ -95,6 +95,7 @@ fn file_of(found: &Found, reserved: &Layout) -> Result<DataFile, OpenError>
 fn mend<D: Disk>(disk: &mut D, rooms: &mut Rooms, found: &Found) -> Result<(), OpenError>
     requires { found.now.content ≡ found.now.chosen.content }
     ensures events { Adds (repair_events found.now.content 0 found.now.chosen.members) (D.told disk.old) (D.told disk.new) result }
+    ensures size { length found.now.chosen.members ≡ 4 }
     ensures layout { rooms.new.layout ≡ rooms.old.layout }
     ensures failed { IfErr result (λ error. error ≡ OpenError.DiskFault) }
     ensures cause { BlamesIfFailed (D.faults disk.old) (D.faults disk.new) result }
