@@ -7,6 +7,7 @@ mod Wals
 mod Fronts
 mod Members
 mod Opens
+mod Begins
 mod Words
 mod Refused
 mod Made

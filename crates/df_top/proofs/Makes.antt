@@ -129,10 +129,10 @@ module _ (file : DataFile) where
   not_done line old new status (inl printed) done = cc
   not_done line old new status (inr cut) done = cc
 
-  pub makes_err : {T : Type 0} → (told later : Option Told) (old new : Option (List ℕ)) (status : Status) (e : FormatError) → AddsFormat {T = T} (format_events file) told later (Err e) → PrintsFormatRefusal e old new status → MakesFile file told later status
-  makes_err told later old new status formats.DiskFault adds prints = makes_not_done told later status (λ done. cc) adds
-  makes_err told later old new status ClusterZero same prints = makes_none told later status (not_done _ old new status prints) same
-  makes_err told later old new status (NotBlank copy) same prints = makes_none told later status (not_done _ old new status prints) same
+  pub makes_err : (T : Type 0) → (told later : Option Told) (old new : Option (List ℕ)) (status : Status) (e : FormatError) → AddsFormat {T = T} (format_events file) told later (Err e) → PrintsFormatRefusal e old new status → MakesFile file told later status
+  makes_err T told later old new status formats.DiskFault adds prints = makes_not_done told later status (λ done. cc) adds
+  makes_err T told later old new status ClusterZero same prints = makes_none told later status (not_done _ old new status prints) same
+  makes_err T told later old new status (NotBlank copy) same prints = makes_none told later status (not_done _ old new status prints) same
 
   -- ---- what is printed
 
@@ -151,11 +151,11 @@ module _ (file : DataFile) where
   refused_with told later old new status e refuses same (inl printed) = subst (λ (s : Status). Formats file told later old new s) (sym printed.0) (e, refuses, same, printed.1)
   refused_with told later old new status e refuses same (inr cut) = subst (λ (s : Status). Formats file told later old new s) (sym cut.0) (inr (e, refuses, same, cut.1))
 
-  pub formats_err : {T : Type 0} → (told later : Option Told) (old new : Option (List ℕ)) (status : Status) (e : FormatError) → RefusesCluster {T = T} file.cluster (Err e) → TellsBlank {T = T} told (Err e) → AddsFormat {T = T} (format_events file) told later (Err e)
+  pub formats_err : (T : Type 0) → (told later : Option Told) (old new : Option (List ℕ)) (status : Status) (e : FormatError) → RefusesCluster {T = T} file.cluster (Err e) → TellsBlank {T = T} told (Err e) → AddsFormat {T = T} (format_events file) told later (Err e)
       → PrintsFormatRefusal e old new status → Formats file told later old new status
-  formats_err told later old new status formats.DiskFault cluster tells adds prints = subst (λ (s : Status). Formats file told later old new s) (sym prints.0) (adds, prints.1)
-  formats_err told later old new status ClusterZero cluster tells same prints = refused_with told later old new status ClusterZero cluster same prints
-  formats_err {T = T} told later old new status (NotBlank copy) cluster tells same prints =
+  formats_err T told later old new status formats.DiskFault cluster tells adds prints = subst (λ (s : Status). Formats file told later old new s) (sym prints.0) (adds, prints.1)
+  formats_err T told later old new status ClusterZero cluster tells same prints = refused_with told later old new status ClusterZero cluster same prints
+  formats_err T told later old new status (NotBlank copy) cluster tells same prints =
       refused_with told later old new status (NotBlank copy) ((λ zero. absurd (omega (arith, zero, cluster))), (λ t is. subst (λ (o : Option Told). TellsBlank {T = T} o (Err (NotBlank copy))) is tells)) same prints
 
 -- ---- the statuses
@@ -172,7 +172,7 @@ refusal_is_not (NotBlank copy) old new status other one two three prints is = li
 pub blames_ok : (line : List ℕ) (old new : Option (List ℕ)) (status : Status) (before now : ℕ) → now ≡ before → PrintsLine line Done old new status → Blames DiskFault before now status
 blames_ok line old new status before now same prints = record { rose = λ is. absurd (line_is_not line old new Done status DiskFault (λ no. cc) (λ no. cc) prints is); same = λ _. same }
 
-pub blames_err : {T : Type 0} → (e : FormatError) (old new : Option (List ℕ)) (status : Status) (before now : ℕ) → FormatsBy {T = T} before now (Err e) → PrintsFormatRefusal e old new status → Blames DiskFault before now status
-blames_err formats.DiskFault old new status before now by prints = record { rose = λ _. by.1; same = λ no. absurd (no prints.0) }
+pub blames_err : (T : Type 0) → (e : FormatError) (old new : Option (List ℕ)) (status : Status) (before now : ℕ) → FormatsBy {T = T} before now (Err e) → PrintsFormatRefusal e old new status → Blames DiskFault before now status
+blames_err T formats.DiskFault old new status before now by prints = record { rose = λ _. by.1; same = λ no. absurd (no prints.0) }
 blames_err ClusterZero old new status before now by prints = record { rose = λ is. absurd (line_is_not _ old new Refused status DiskFault (λ no. cc) (λ no. cc) prints is); same = λ _. by }
 blames_err (NotBlank copy) old new status before now by prints = record { rose = λ is. absurd (line_is_not _ old new Refused status DiskFault (λ no. cc) (λ no. cc) prints is); same = λ _. by }

@@ -1,5 +1,6 @@
 -- What a run writes leaves the copies of the superblock that agree: they are chosen at each moment.
 use Rattle.std.proofs.Common.{◌≡◌, ◌≢◌, ◌⊎◌, inl, inr, ℕ, ◌<◌, ◌≤◌, ◌+◌, ◌^◌, false, List, [], ◌∷◌, ◌++◌, length, Option, Some, refl, sym, ◌∙◌, ap, subst, arith}
+use Rattle.df_format.proofs.Messages.{AreBytes-zeros}
 use Rattle.df_base.specs.Image.{Image, covers}
 use Rattle.df_base.specs.Log.{Event, Write, Sync, Stop, Log, add, now}
 use Rattle.df_base.specs.Moments.{EachMoment}
@@ -36,16 +37,16 @@ use Rattle.df_top.proofs.Fronts.{IsFront, AreFront}
 
 zeros_are_check : IsCheck no_checksum
 unfolding no_checksum
-zeros_are_check = record { size = refl; each = λ i. omega arith }
+zeros_are_check = record { size = refl; each = AreBytes-zeros 16 }
 
 first_fits : (layout : Layout) (cluster : ℕ) → cluster < 2 ^ 128 → FitsSuper (first_super layout cluster)
 unfolding first_super
 first_fits layout cluster small = record {
   version = omega arith;
-  slots = omega (arith, layout.slots_within.1.0);
-  message_size = omega (arith, layout.message_size_within.1.0);
+  slots = omega (arith, layout.slots_within.1);
+  message_size = omega (arith, layout.message_size_within.1);
   clients = omega (arith, layout.clients_within.1);
-  block_size = omega (arith, layout.block_size_within.1.0);
+  block_size = omega (arith, layout.block_size_within.1);
   blocks = omega (arith, layout.blocks_within.1);
   cluster = small;
   sequence = omega arith;

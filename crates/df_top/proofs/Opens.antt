@@ -1,5 +1,6 @@
 -- What an open finds of a file, and what it answers where it opens none.
-use Rattle.std.proofs.Common.{◌≡◌, ◌≢◌, ◌⊎◌, inl, inr, ℕ, ◌<◌, ◌≤◌, ◌+◌, Bool, true, false, IsTrue, ◌↔◌, List, [], ◌∷◌, ◌++◌, length, get_or, Option, Some, None, Result, Ok, Err, refl, sym, ◌∙◌, ap, subst, arith}
+use Rattle.std.proofs.Common.{◌≡◌, ◌≢◌, ◌⊎◌, inl, inr, ℕ, suc, ◌<◌, ◌≤◌, ◌+◌, Bool, true, false, IsTrue, IsErrAnd, ◌↔◌, List, [], ◌∷◌, ◌++◌, length, get_or, Option, Some, None, Result, Ok, Err, refl, sym, ◌∙◌, ap, subst, arith}
+use Rattle.std.proofs.lemmas.Result.{err_from_is_err_and}
 use Rattle.df_base.specs.Image.{Image}
 use Rattle.df_base.specs.Log.{Event, Sync}
 use Rattle.df_disk.specs.Told.{Told, after}
@@ -29,14 +30,18 @@ use Rattle.df_top.proofs.Members.{some_owner}
 
 -- ---- the count of faults
 
-pub opens_blames : {T : Type 0} → (before now : ℕ) (e : OpenError) → OpensBy {T = T} before now (Err e) → BlamesDisk before now e
-opens_blames before now DiskFault by = record { rose = λ _. by.1; same = λ no. absurd (no refl) }
-opens_blames before now NotFormatted by = record { rose = λ no. absurd (cc); same = λ _. by }
-opens_blames before now (NoQuorum classes) by = record { rose = λ no. absurd (cc); same = λ _. by }
-opens_blames before now (Version found) by = record { rose = λ no. absurd (cc); same = λ _. by }
-opens_blames before now (BadField field value) by = record { rose = λ no. absurd (cc); same = λ _. by }
-opens_blames before now (LayoutDiffers reserved there) by = absurd by
-opens_blames before now (Damaged place class) by = absurd by
+pub opens_blames : (T : Type 0) → (before now : ℕ) (e : OpenError) → OpensBy {T = T} before now (Err e) → BlamesDisk before now e
+opens_blames T before now DiskFault by = record { rose = λ _. by.1; same = λ no. absurd (no refl) }
+opens_blames T before now NotFormatted by = record { rose = λ no. absurd (cc); same = λ _. by }
+opens_blames T before now (NoQuorum classes) by = record { rose = λ no. absurd (cc); same = λ _. by }
+opens_blames T before now (Version found) by = record { rose = λ no. absurd (cc); same = λ _. by }
+opens_blames T before now (BadField field value) by = record { rose = λ no. absurd (cc); same = λ _. by }
+opens_blames T before now (LayoutDiffers reserved there) by = absurd by
+opens_blames T before now (Damaged place class) by = absurd by
+
+-- an error that a `?` hands on
+pub handed_on : {T : Type 0} → (r : Result T OpenError) (e : OpenError) → IsErrAnd r (λ d. d ≡ e) → r ≡ Err e
+handed_on r e is = let p = err_from_is_err_and r is in p.1 ∙ ap Err p.2
 
 -- ---- refusals
 
@@ -49,14 +54,14 @@ told_refuses P image (BadField field value) a = inr a
 told_refuses P image (LayoutDiffers reserved there) a = absurd a
 told_refuses P image (Damaged place class) a = absurd a
 
-pub synced_at_most : {T : Type 0} → (told later : Option Told) (e : OpenError) → Syncs {T = T} told later (Err e) → (later ≡ told) ⊎ (later ≡ after Sync told)
-synced_at_most told later DiskFault s = s
-synced_at_most told later NotFormatted s = inr s
-synced_at_most told later (NoQuorum classes) s = inr s
-synced_at_most told later (Version found) s = inr s
-synced_at_most told later (BadField field value) s = inr s
-synced_at_most told later (LayoutDiffers reserved there) s = inr s
-synced_at_most told later (Damaged place class) s = inr s
+pub synced_at_most : (T : Type 0) → (told later : Option Told) (e : OpenError) → Syncs {T = T} told later (Err e) → (later ≡ told) ⊎ (later ≡ after Sync told)
+synced_at_most T told later DiskFault s = s
+synced_at_most T told later NotFormatted s = inr s
+synced_at_most T told later (NoQuorum classes) s = inr s
+synced_at_most T told later (Version found) s = inr s
+synced_at_most T told later (BadField field value) s = inr s
+synced_at_most T told later (LayoutDiffers reserved there) s = inr s
+synced_at_most T told later (Damaged place class) s = inr s
 
 first_passes : (layout : Layout) (cluster : ℕ) → first_failing (first_tests (first_super layout cluster)) ≡ None
 unfolding first_super
@@ -107,6 +112,9 @@ file_same file other g is same =
     let cluster : other.cluster ≡ file.cluster = is.cluster ∙ cluster_of_first file g same in
     λ i. record { layout = layout i; cluster = cluster i }
 
+from_zero : (k : ℕ) → k ≡ 0 + k
+from_zero k = omega arith
+
 -- ---- the copies that are written
 
 module _ (file : DataFile) (image : Image) where
@@ -122,8 +130,8 @@ module _ (file : DataFile) (image : Image) where
 
   later_members : (number : ℕ) (m : Bool) (members : List Bool) → FromNumber number (m ∷ members) → FromNumber (number + 1) members
   later_members number m members are k below =
-      let at : number + (k + 1) ≡ number + 1 + k = omega arith in
-      subst (λ (n : ℕ). IsTrue (get_or members k false) ↔ (content_at image n ≡ Some c)) at (are (k + 1) (omega (arith, below)))
+      let at : number + suc k ≡ number + 1 + k = omega arith in
+      subst (λ (n : ℕ). IsTrue (get_or members k false) ↔ (content_at image n ≡ Some c)) at (are (suc k) (omega (arith, below)))
 
   here_member : (number : ℕ) (m : Bool) (members : List Bool) → FromNumber number (m ∷ members) → IsTrue m ↔ (content_at image number ≡ Some c)
   here_member number m members are =
@@ -160,8 +168,8 @@ module _ (told : Option Told) (reserved : Layout) (probed : TellsLayout told (Ok
           | inr refused ↦ absurd (none_refused file wal t.shown is_file e refused)
         ]
 
-    pub survey_refuses : {T : Type 0} → RefusesToOpen {T = T} told later (Err e)
-    survey_refuses t error is refuses =
+    pub survey_refuses : (T : Type 0) → RefusesToOpen {T = T} told later (Err e)
+    survey_refuses T t error is refuses =
         let why = told_refuses (IsFound t.shown) t.shown e (subst (λ (o : Option Told). TellsFound o (Err e)) is answer) in
         (
           elim why [
@@ -189,8 +197,8 @@ module _ (told : Option Told) (reserved : Layout) (probed : TellsLayout told (Ok
       pub no_file_opens : {T : Type 0} → (file_of : T → DataFile) (later : Option Told) → OnFile told (λ file wal. OpensFile file_of file told later (Err e))
       no_file_opens file_of later t file wal is is_file = absurd (not_later file wal t.shown is_file found.content e (found_shown t is).super (no_file t is))
 
-      pub no_file_refuses : {T : Type 0} → RefusesToOpen {T = T} told (after Sync told) (Err e)
-      no_file_refuses t error is refuses =
+      pub no_file_refuses : (T : Type 0) → RefusesToOpen {T = T} told (after Sync told) (Err e)
+      no_file_refuses T t error is refuses =
           let fails = no_file t is in
           let has = (found_shown t is).super in
           (
@@ -232,7 +240,7 @@ module _ (told : Option Told) (reserved : Layout) (probed : TellsLayout told (Ok
             let members = subst (λ (d : Content). (n : ℕ) → n < 4 → IsTrue (get_or found.chosen.members n false) ↔ (content_at t.shown n ≡ Some d)) content shown.choice.members in
             subst (λ (x : Told). AreRepairs file x.shown repairs) same_told
             (subst (λ (g : SuperFields). AreRepairs file t.shown (repair_events g 0 found.chosen.members)) (sym fields)
-            (repairs_are file t.shown 0 found.chosen.members (omega (arith, size)) (λ k below. members k (omega (arith, below, size)))))
+            (repairs_are file t.shown 0 found.chosen.members (omega (arith, size)) (λ k below. subst (λ (n : ℕ). IsTrue (get_or found.chosen.members k false) ↔ (content_at t.shown n ≡ Some (content_of_file file))) (from_zero k) (members k (omega (arith, below, size))))))
 
         -- the copies are mended
         pub mended_opens : (later : Option Told) → later ≡ after_all repairs (after Sync told) → OnFile told (λ file wal. OpensFile {T = DataFile} (λ x. x) file told later (Ok given))
