@@ -39,10 +39,10 @@ pub ring_opens : (told mid later : Option Told) (given : DataFile) (r : Result S
     → OnFile told (λ file wal. OpensFile {T = Session} (λ s. s.file) file told later r)
 ring_opens told mid later given (Ok s) same opens is failed t file wal told_is is_file =
     let o = opens t file wal told_is is_file in
-    (is ∙ o.0, (o.1, o.2, same ∙ o.3))
+    (is ∙ o.0, (o.1.0, o.1.1, same ∙ o.1.2))
 ring_opens told mid later given (Err e) same opens is failed t file wal told_is is_file =
     let o = opens t file wal told_is is_file in
-    (failed, (o.1, o.2, adds_part {T = DataFile} {E = OpenError} (Sync ∷ o.1) told later (Ok given) (same ∙ o.3)))
+    (failed, (o.1.0, o.1.1, adds_part {T = DataFile} {E = OpenError} (Sync ∷ o.1.0) told later (Ok given) (same ∙ o.1.2)))
 
 pub ring_refuses : (told mid later : Option Told) (given : DataFile) (r : Result Session OpenError) → RefusesToOpen told mid (Ok given) → RefusesToOpen told later r
 ring_refuses told mid later given (Ok s) none t error is refuses = none t error is refuses
