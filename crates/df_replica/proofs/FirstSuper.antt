@@ -1,7 +1,6 @@
 -- The superblock of a new file can be used.
-use Rattle.std.proofs.Common.{◌≡◌, ◌≢◌, ℕ, ◌<◌, ◌≤◌, ◌+◌, None, refl, arith}
+use Rattle.std.proofs.Common.{◌≡◌, ℕ, ◌<◌, None, refl, arith}
 use Rattle.df_layout.specs.declared.layout.Layout.{Layout}
-use Rattle.df_layout.specs.Limits.{AreWithin}
 use Rattle.df_format.specs.SuperRules.{IsSuper, fault_of}
 use Rattle.df_format.proofs.SuperFaults.{faults}
 use Rattle.df_replica.specs.First.{first_super}

@@ -1,5 +1,5 @@
 -- An image has one answer.
-use Rattle.std.proofs.Common.{◌≡◌, ℕ, ◌<◌, ◌≤◌, true, List, replicate, Some, None, refl, sym, ◌∙◌, ap, subst, arith}
+use Rattle.std.proofs.Common.{◌≡◌, ℕ, true, List, replicate, Some, None, refl, sym, ◌∙◌, ap, subst}
 use Rattle.std.proofs.lemmas.Slice.Eq.{bytes_eq-Decides}
 use Rattle.df_base.specs.Image.{Image, blank}
 use Rattle.df_layout.specs.declared.damage.Class.{Class}
@@ -12,9 +12,8 @@ use Rattle.df_format.specs.declared.superblock.SuperFault.TheVariants.{Version a
 use Rattle.df_format.specs.declared.superblock.SuperFields.{SuperFields}
 use Rattle.df_quorum.specs.Quorum.{Agree, IsChosen}
 use Rattle.df_quorum.proofs.Choices.{one_law}
-use Rattle.df_replica.specs.Opening.{IsUnformatted, HasFault, HasSuper, HasNoQuorum, Refuses}
+use Rattle.df_replica.specs.Opening.{IsUnformatted, HasFault, HasSuper}
 use Rattle.df_replica.specs.OpeningLaws.{SuperOrRefusal, OneSuper, OneRefusal}
-use Rattle.df_replica.specs.declared.errors.OpenError.{OpenError}
 use Rattle.df_replica.specs.declared.errors.OpenError.TheVariants.{NotFormatted, NoQuorum, Version, BadField, LayoutDiffers, Damaged, DiskFault}
 
 one_content : (image : Image) (c d : Content) → IsChosen (content_at image) c → IsChosen (content_at image) d → c ≡ d

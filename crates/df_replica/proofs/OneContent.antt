@@ -1,5 +1,5 @@
 -- Logs whose copies are of one content: they are safe, and the events of a file keep them so.
-use Rattle.std.proofs.Common.{◌≡◌, ◌≢◌, ◌⊎◌, inl, inr, ℕ, ◌+◌, ◌-◌, ◌*◌, ◌<◌, ◌≤◌, Bool, true, false, List, [], ◌∷◌, ◌++◌, length, take, drop, Some, None, refl, sym, ◌∙◌, ap, subst, arith, append_assoc}
+use Rattle.std.proofs.Common.{◌≡◌, ◌≢◌, ◌⊎◌, inl, inr, ℕ, ◌-◌, ◌*◌, ◌<◌, true, false, List, [], ◌∷◌, ◌++◌, length, take, drop, Some, None, refl, sym, ◌∙◌, ap, subst, arith, append_assoc}
 use Rattle.std.proofs.lemmas.Bool.{cases_eq}
 use Rattle.std.proofs.lemmas.Bool.Decides.{nat_tests}
 use Rattle.std.proofs.lemmas.List.{take_all}
@@ -197,4 +197,3 @@ module _ (f : SuperFields) (can : IsUsable f) where
   pure_moments [] log pure are = started log (λ m. IsPure m (content_with f)) pure
   pure_moments (e ∷ es) log pure are =
       from_before e log (adds es (add e log)) (λ m. IsPure m (content_with f)) pure (adds_extends es (add e log)) (pure_moments es (add e log) (pure_goes_on log e pure are.0) are.1)
-

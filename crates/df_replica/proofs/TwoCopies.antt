@@ -1,12 +1,12 @@
 -- Two copies that are shown and not written: their content is chosen in whatever a stop leaves.
-use Rattle.std.proofs.Common.{◌≡◌, ◌≢◌, ◌⊎◌, inl, inr, ℕ, ◌<◌, ◌≤◌, ◌||◌, false, List, [], ◌∷◌, Some, refl, sym, ◌∙◌, ap, subst, arith}
+use Rattle.std.proofs.Common.{◌≡◌, ◌≢◌, inl, inr, ℕ, ◌<◌, ◌||◌, false, List, [], ◌∷◌, Some, refl, ◌∙◌, ap, arith}
 use Rattle.std.proofs.lemmas.Bool.{cases_lt}
 use Rattle.df_base.proofs.Goes.{started, from_before}
-use Rattle.df_base.specs.Image.{Image, covers, written}
-use Rattle.df_base.specs.Log.{Event, Write, Sync, Stop, Log, IsLeft, add, now, loose}
+use Rattle.df_base.specs.Image.{written}
+use Rattle.df_base.specs.Log.{Event, Write, Sync, Stop, Log, add, now, loose}
 use Rattle.df_base.specs.Moments.{EachMoment}
 use Rattle.df_format.specs.Copies.{Content, content_at, content_with, rank_of}
-use Rattle.df_format.specs.CopyPools.{NoChanceCopy, EachLeftCopies}
+use Rattle.df_format.specs.CopyPools.{EachLeftCopies}
 use Rattle.df_format.specs.SuperRules.{IsUsable}
 use Rattle.df_format.specs.declared.superblock.SuperFields.{SuperFields}
 use Rattle.df_format.proofs.CopyShown.{same_copy}
@@ -44,7 +44,7 @@ two_chosen log c a b keeps image left fair =
     let at_first : content_at image a ≡ Some c = same_copy image (now log) a (left.kept a keeps.first_firm) ∙ keeps.two.at_first in
     let at_second : content_at image b ≡ Some c = same_copy image (now log) b (left.kept b keeps.second_firm) ∙ keeps.two.at_second in
     alone_is_chosen (content_at image) c (agree_on (content_at image) c a b keeps.two.first keeps.two.second keeps.two.apart at_first at_second)
-        (λ n d inside shown. pool_is log c keeps.pure n d inside (fair.known n d inside shown))
+    (λ n d inside shown. pool_is log c keeps.pure n d inside (fair.known n d inside shown))
 
 module _ (f : SuperFields) (can : IsUsable f) (a b : ℕ) where
   two_go_on : (log : Log) (e : Event) → KeepsTwo log (content_with f) a b → IsOfFile f e → AreApartFrom a (e ∷ []) → AreApartFrom b (e ∷ []) → KeepsTwo (add e log) (content_with f) a b

@@ -1,9 +1,9 @@
 -- A superblock that can be used was written: its content is the one that its fields give.
-use Rattle.std.proofs.Common.{◌≡◌, ℕ, ◌<◌, ◌==◌, Bool, true, false, cond, List, Option, Some, None, refl, sym, ◌∙◌, ap, subst, arith}
+use Rattle.std.proofs.Common.{◌≡◌, ℕ, ◌==◌, Bool, true, false, cond, List, Option, Some, None, refl, sym, ◌∙◌, ap, subst}
 use Rattle.df_base.specs.Fields.{check_of}
-use Rattle.df_base.specs.Image.{Image, IsSector, IsImage}
+use Rattle.df_base.specs.Image.{Image, IsSector}
 use Rattle.df_format.specs.Super.{covered_bytes}
-use Rattle.df_format.specs.SuperRules.{IsSuper, fault_of}
+use Rattle.df_format.specs.SuperRules.{IsSuper}
 use Rattle.df_format.specs.Copies.{Content, copy_in, if_here, copy_at, content_of, content_at, content_with}
 use Rattle.df_format.specs.CopyLaws.{IsWritten}
 use Rattle.df_format.specs.declared.superblock.SuperCopy.{SuperCopy}
@@ -11,7 +11,6 @@ use Rattle.df_format.specs.declared.superblock.SuperFields.{SuperFields}
 use Rattle.df_format.proofs.CopySpelled.{was_written}
 use Rattle.df_format.proofs.SuperFaults.{faults}
 use Rattle.df_quorum.specs.Quorum.{IsChosen}
-use Rattle.df_replica.specs.Opening.{HasSuper}
 use Rattle.df_replica.specs.OpeningLaws.{SuperIsWritten}
 
 -- a content that a sector shows is that of the copy that the sector is

@@ -1,7 +1,7 @@
 -- What holds of every log whose copies of the superblock are of one content: the laws that a program over a file rests on.
-use Rattle.std.specs.Prelude.{◌≡◌, ◌≢◌, ◌<◌, ℕ, false, List, [], ◌∷◌, Some}
-use Rattle.df_base.specs.Image.{Image, IsImage, covers, changed}
-use Rattle.df_base.specs.Log.{Event, Write, Sync, Stop, Log, AreLoose, add, now, loose}
+use Rattle.std.specs.Prelude.{◌≡◌, ◌≢◌, ◌<◌, ℕ, false, List, ◌∷◌, Some}
+use Rattle.df_base.specs.Image.{Image, covers, changed}
+use Rattle.df_base.specs.Log.{Event, Sync, Stop, Log, AreLoose, add, now}
 use Rattle.df_base.specs.Moments.{EachMoment}
 use Rattle.df_format.specs.Super.{copy_bytes}
 use Rattle.df_format.specs.Copies.{Content, content_at, content_with}

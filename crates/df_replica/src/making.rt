@@ -32,11 +32,7 @@ fn test_blank<D: Disk>(disk: &mut D, room: &mut ProbeRoom) -> Result<(), FormatE
 }
 
 // Writes the copies in order of number, each durable before the next one is written.
-fn write_copies<D: Disk>(
-    disk: &mut D,
-    room: &mut ProbeRoom,
-    content: &Super,
-) -> Result<(), Failed>
+fn write_copies<D: Disk>(disk: &mut D, room: &mut ProbeRoom, content: &Super) -> Result<(), Failed>
     ensures events { Adds (update_events content.now) (D.told disk.old) (D.told disk.new) result }
     ensures cause { HasCause (D.faults disk.old) (D.faults disk.new) result }
 {

@@ -172,7 +172,12 @@ fn each_superblock_that_cannot_be_used_is_refused(rt: HostRuntime) -> Result<(),
         ),
         // Two sound copies are enough, beside two that agree on a lower sequence.
         (
-            [copy(0, 72, 2), copy(1, 72, 2), copy(2, 36, 0), copy(3, 36, 0)],
+            [
+                copy(0, 72, 2),
+                copy(1, 72, 2),
+                copy(2, 36, 0),
+                copy(3, 36, 0),
+            ],
             Ok(Layout::small()),
         ),
     ];

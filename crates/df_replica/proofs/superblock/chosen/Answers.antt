@@ -13,4 +13,4 @@ pub returns-in-Err-clause-told : goal.returns-in-Err-clause-told
 returns-in-Err-clause-told c =
     let size : length c.in-Err.classes ≡ 4 = search rules in
     λ told shown copies.
-        tells_split told c.args.copies.now c.in-Err.classes c.in-Some.field-0 shown copies size c.in-Err.ensures.classes (c.in-Err.ensures.split.0 refl) c.in-Some.ensures.some
+    tells_split told c.args.copies.now c.in-Err.classes c.in-Some.field-0 shown copies size c.in-Err.ensures.classes (c.in-Err.ensures.split.0 refl) c.in-Some.ensures.some
