@@ -1,8 +1,10 @@
 -- A session that was just opened can be served.
-use Rattle.std.proofs.Common.{◌≡◌, ℕ, ◌+◌, ◌≤◌, ◌^◌, false, true, Bool, IsTrue, List, ◌∷◌, Option, Result, Ok, Err, IfOk, IfErr, sym, ◌∙◌, ap, subst, arith}
+use Rattle.std.proofs.Common.{◌≡◌, ℕ, ◌+◌, ◌≤◌, ◌^◌, false, true, Bool, not, eqb, ◌&&◌, IsTrue, List, ◌∷◌, Option, Result, Ok, Err, IfOk, IfErr, sym, ◌∙◌, ap, subst, arith}
+use Rattle.std.proofs.lemmas.Bool.{eq-eqb}
 use Rattle.df_base.specs.Log.{Sync}
 use Rattle.df_disk.specs.Told.{Told}
 use Rattle.df_disk.specs.Adds.{after_all}
+use Rattle.df_layout.specs.declared.layout.Layout.{Layout}
 use Rattle.df_replica.specs.declared.errors.OpenError.{OpenError}
 use Rattle.df_replica.specs.declared.errors.OpenError.TheVariants.{DiskFault}
 use Rattle.df_script.specs.Text.{Reading}
@@ -27,8 +29,7 @@ count_begins told s opened =
     omega (arith, budget, opened.fresh.count)
 
 not_true : (b : Bool) → b ≡ false → IsTrue b → ⊥
-not_true true is yes = absurd (cc)
-not_true false is yes = yes
+not_true b is yes = absurd (cc)
 
 pub end_begins : (told : Option Told) (s : Session) (left : Option (List ℕ)) → IsOpened told s → EndedIsEnd s left
 end_begins told s left opened ended = absurd (not_true s.lines.ended opened.fresh.lines.ended ended)
@@ -45,5 +46,16 @@ ring_opens told mid later given (Err e) same opens is failed t file wal told_is 
     (failed, (o.1.0, o.1.1, adds_part {T = DataFile} {E = OpenError} (Sync ∷ o.1.0) told later (Ok given) (same ∙ o.1.2)))
 
 pub ring_refuses : (told mid later : Option Told) (given : DataFile) (r : Result Session OpenError) → RefusesToOpen told mid (Ok given) → RefusesToOpen told later r
-ring_refuses told mid later given (Ok s) none t error is refuses = none t error is refuses
-ring_refuses told mid later given (Err e) none t error is refuses = absurd (none t error is refuses)
+ring_refuses told mid later given (Ok s) none = none
+ring_refuses told mid later given (Err e) none = λ t error is refuses. absurd (none t error is refuses)
+
+-- ---- layouts that differ
+
+pub layouts_differ : (a b : Layout) → true ≡ not (eqb a.slots b.slots && (eqb a.message_size b.message_size && (eqb a.clients b.clients && (eqb a.block_size b.block_size && eqb a.blocks b.blocks)))) → a ≡ b → ⊥
+layouts_differ a b is same =
+    let slots : eqb a.slots b.slots ≡ true = eq-eqb a.slots b.slots (ap (λ (l : Layout). l.slots) same) in
+    let message_size : eqb a.message_size b.message_size ≡ true = eq-eqb a.message_size b.message_size (ap (λ (l : Layout). l.message_size) same) in
+    let clients : eqb a.clients b.clients ≡ true = eq-eqb a.clients b.clients (ap (λ (l : Layout). l.clients) same) in
+    let block_size : eqb a.block_size b.block_size ≡ true = eq-eqb a.block_size b.block_size (ap (λ (l : Layout). l.block_size) same) in
+    let blocks : eqb a.blocks b.blocks ≡ true = eq-eqb a.blocks b.blocks (ap (λ (l : Layout). l.blocks) same) in
+    absurd (let no : true ≡ false = is ∙ (λ i. not (slots i && (message_size i && (clients i && (block_size i && blocks i))))) in cc)

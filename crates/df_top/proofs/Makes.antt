@@ -169,10 +169,10 @@ refusal_is_not formats.DiskFault old new status other one two three prints is = 
 refusal_is_not ClusterZero old new status other one two three prints is = line_is_not _ old new Refused status other one two prints is
 refusal_is_not (NotBlank copy) old new status other one two three prints is = line_is_not _ old new Refused status other one two prints is
 
-pub blames_ok : (line : List ℕ) (old new : Option (List ℕ)) (status : Status) (before now : ℕ) → now ≡ before → PrintsLine line Done old new status → Blames DiskFault before now status
-blames_ok line old new status before now same prints = record { rose = λ is. absurd (line_is_not line old new Done status DiskFault (λ no. cc) (λ no. cc) prints is); same = λ _. same }
+pub blames_ok : (line : List ℕ) (old new : Option (List ℕ)) (status : Status) (before count : ℕ) → count ≡ before → PrintsLine line Done old new status → Blames DiskFault before count status
+blames_ok line old new status before count same prints = record { rose = λ is. absurd (line_is_not line old new Done status DiskFault (λ no. cc) (λ no. cc) prints is); same = λ _. same }
 
-pub blames_err : (T : Type 0) → (e : FormatError) (old new : Option (List ℕ)) (status : Status) (before now : ℕ) → FormatsBy {T = T} before now (Err e) → PrintsFormatRefusal e old new status → Blames DiskFault before now status
-blames_err T formats.DiskFault old new status before now by prints = record { rose = λ _. by.1; same = λ no. absurd (no prints.0) }
-blames_err ClusterZero old new status before now by prints = record { rose = λ is. absurd (line_is_not _ old new Refused status DiskFault (λ no. cc) (λ no. cc) prints is); same = λ _. by }
-blames_err (NotBlank copy) old new status before now by prints = record { rose = λ is. absurd (line_is_not _ old new Refused status DiskFault (λ no. cc) (λ no. cc) prints is); same = λ _. by }
+pub blames_err : (T : Type 0) → (e : FormatError) (old new : Option (List ℕ)) (status : Status) (before count : ℕ) → FormatsBy {T = T} before count (Err e) → PrintsFormatRefusal e old new status → Blames DiskFault before count status
+blames_err T formats.DiskFault old new status before count by prints = record { rose = λ _. by.1; same = λ no. absurd (no prints.0) }
+blames_err T ClusterZero old new status before count by prints = record { rose = λ is. absurd (line_is_not _ old new Refused status DiskFault (λ no. cc) (λ no. cc) prints is); same = λ _. by }
+blames_err T (NotBlank copy) old new status before count by prints = record { rose = λ is. absurd (line_is_not _ old new Refused status DiskFault (λ no. cc) (λ no. cc) prints is); same = λ _. by }

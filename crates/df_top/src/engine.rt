@@ -64,7 +64,6 @@ fn refuse_file<W: Sink>(sink: &mut W, error: &OpenError) -> Status
 }
 
 // Opens the file and serves the script.
-#[tactic(auto, using(crate::proofs::Begins::log_begins, crate::proofs::Begins::ready_begins, crate::proofs::Begins::count_begins, crate::proofs::Begins::end_begins))]
 fn execute<D: Disk, S: Source, W: Sink>(
     disk: &mut D,
     source: &mut S,

@@ -100,7 +100,6 @@ fn mend<D: Disk>(disk: &mut D, rooms: &mut Rooms, found: &Found) -> Result<(), O
     ensures failed { IfErr result (λ error. error ≡ OpenError.DiskFault) }
     ensures cause { BlamesIfFailed (D.faults disk.old) (D.faults disk.new) result }
 {
-    let _members = found.chosen.members;
     match repair(disk, &mut rooms.superblock, &found.chosen, &found.content) {
         Ok(()) => Ok(()),
         Err(_) => Err(OpenError::DiskFault),

@@ -1,14 +1,19 @@
 -- The session goes on from the file that was opened; where none was, the refusal is printed.
 use Rattle.std.proofs.Common.{refl, sym, subst}
-use Rattle.df_format.specs.declared.wal.Wal.{Wal}
 use Rattle.df_top.specs.Run.{Prints, Runs}
-use Rattle.df_top.specs.Session.{State}
 use Rattle.df_top.specs.Serving.{state}
 use Rattle.df_top.specs.declared.status.Status.{Status}
+use Rattle.df_top.proofs.Begins.{log_begins, ready_begins, count_begins, end_begins}
 use Rattle.df_top.proofs.Refused.{no_line, refused, blames_disk}
-use Rattle.df_top.proofs.Wals.{log_of_wal}
 use Rattle.df_top.proofs.Whole.{prints_nothing, opening_runs, opening_writes, session_prints, session_runs, session_writes}
 use Rattle.df_top.proofs.engine.execute.Goals as goal
+
+pub serve-requires : goal.serve-requires
+serve-requires g c = λ κs within.
+    let told = g.D.Disk.told c.open.new.disk in
+    let session = c.in-Ok.session in
+    let opened = c.in-Ok.ensures.opened in
+    (within.0, (within.1.0, (within.1.1, (log_begins told session opened, (ready_begins told session opened, (count_begins told session opened, end_begins told session (g.S.Source.left c.args.source.now) opened))))))
 
 pub returns-in-Ok-clause-refuses : goal.returns-in-Ok-clause-refuses
 returns-in-Ok-clause-refuses g c = λ t error is refuses. absurd (c.in-Ok.ensures.refuses t error is refuses)

@@ -1,6 +1,7 @@
 -- Words ask for one thing at most, so that the clauses of the others say nothing.
-use Rattle.std.proofs.Common.{◌≡◌, ℕ, map, string_bytes, subst}
+use Rattle.std.proofs.Common.{ℕ, subst}
 use Rattle.df_layout.specs.declared.layout.Layout.{Layout}
+use Rattle.df_top.specs.Command.{Means}
 use Rattle.df_top.specs.Formats.{Formats, MakesFile}
 use Rattle.df_top.specs.declared.command.Command.TheVariants.{Format, Run}
 use Rattle.df_top.proofs.Words.{same_layout_asked, same_cluster_asked}
@@ -8,21 +9,19 @@ use Rattle.df_top.proofs.engine.run.Goals as goal
 
 pub returns-in-Some-Format-clause-formats : goal.returns-in-Some-Format-clause-formats
 returns-in-Some-Format-clause-formats g c = λ layout cluster asks.
-    let words = map string_bytes c.args.words.now in
-    let mine = c.in-Some-Format.ensures.found in
+    let mine = subst (Means _) c.in-Some-Format.field-0-is c.in-Some-Format.ensures.found in
     subst (λ (l : Layout). Formats (record { layout = l; cluster = cluster }) (g.D.Disk.told c.args.disk.now) (g.D.Disk.told c.make_file.new.disk) (g.W.Sink.written c.args.sink.now) (g.W.Sink.written c.make_file.new.sink) c.make_file.result)
-    (same_layout_asked words c.in-Some-Format.layout layout c.in-Some-Format.cluster cluster mine asks)
+    (same_layout_asked _ c.in-Some-Format.layout layout c.in-Some-Format.cluster cluster mine asks)
     (subst (λ (n : ℕ). Formats (record { layout = c.in-Some-Format.layout; cluster = n }) (g.D.Disk.told c.args.disk.now) (g.D.Disk.told c.make_file.new.disk) (g.W.Sink.written c.args.sink.now) (g.W.Sink.written c.make_file.new.sink) c.make_file.result)
-    (same_cluster_asked words c.in-Some-Format.layout layout c.in-Some-Format.cluster cluster mine asks) c.make_file.ensures.formats)
+    (same_cluster_asked _ c.in-Some-Format.layout layout c.in-Some-Format.cluster cluster mine asks) c.make_file.ensures.formats)
 
 pub returns-in-Some-Format-clause-makes : goal.returns-in-Some-Format-clause-makes
 returns-in-Some-Format-clause-makes g c = λ layout cluster asks.
-    let words = map string_bytes c.args.words.now in
-    let mine = c.in-Some-Format.ensures.found in
+    let mine = subst (Means _) c.in-Some-Format.field-0-is c.in-Some-Format.ensures.found in
     subst (λ (l : Layout). MakesFile (record { layout = l; cluster = cluster }) (g.D.Disk.told c.args.disk.now) (g.D.Disk.told c.make_file.new.disk) c.make_file.result)
-    (same_layout_asked words c.in-Some-Format.layout layout c.in-Some-Format.cluster cluster mine asks)
+    (same_layout_asked _ c.in-Some-Format.layout layout c.in-Some-Format.cluster cluster mine asks)
     (subst (λ (n : ℕ). MakesFile (record { layout = c.in-Some-Format.layout; cluster = n }) (g.D.Disk.told c.args.disk.now) (g.D.Disk.told c.make_file.new.disk) c.make_file.result)
-    (same_cluster_asked words c.in-Some-Format.layout layout c.in-Some-Format.cluster cluster mine asks) c.make_file.ensures.makes)
+    (same_cluster_asked _ c.in-Some-Format.layout layout c.in-Some-Format.cluster cluster mine asks) c.make_file.ensures.makes)
 
 pub returns-in-None-clause-formats : goal.returns-in-None-clause-formats
 returns-in-None-clause-formats g c = λ layout cluster asks. absurd (c.in-None.ensures.none (Format layout cluster) asks)
