@@ -29,7 +29,7 @@ count_begins told s opened =
     omega (arith, budget, opened.fresh.count)
 
 not_true : (b : Bool) → b ≡ false → IsTrue b → ⊥
-not_true b is yes = absurd (cc)
+not_true b is it = absurd (cc)
 
 pub end_begins : (told : Option Told) (s : Session) (left : Option (List ℕ)) → IsOpened told s → EndedIsEnd s left
 end_begins told s left opened ended = absurd (not_true s.lines.ended opened.fresh.lines.ended ended)
