@@ -1,14 +1,11 @@
--- What the making of a file does to a disk, and what is printed of it.
+-- What the making of a file does to a disk.
 use Rattle.std.proofs.Common.{◌≡◌, ◌≢◌, ◌⊎◌, inl, inr, ℕ, ◌<◌, ◌^◌, true, List, [], ◌∷◌, Option, Some, None, Result, Ok, Err, refl, sym, ◌∙◌, ap, subst, arith}
 use Rattle.df_base.specs.Image.{Image}
 use Rattle.df_base.specs.Log.{Event, Write, Sync, Stop, Log, now}
 use Rattle.df_base.specs.Moments.{EachMoment}
-use Rattle.df_base.specs.Causes.{Rose}
 use Rattle.df_base.proofs.Goes.{extends_self, started}
 use Rattle.df_disk.specs.Told.{Told, did, after, IsHonest}
 use Rattle.df_disk.specs.Adds.{AddsPart, after_all}
-use Rattle.df_layout.specs.Zones.{file_sectors}
-use Rattle.df_format.specs.Copies.{is_blank_copy}
 use Rattle.df_format.specs.declared.superblock.SuperFields.{SuperFields}
 use Rattle.df_format.specs.declared.wal.Wal.{Wal}
 use Rattle.df_prepares.specs.Apart.{AreSyncs}
@@ -133,46 +130,3 @@ module _ (file : DataFile) where
   makes_err T told later old new status formats.DiskFault adds prints = makes_not_done told later status (λ done. cc) adds
   makes_err T told later old new status ClusterZero same prints = makes_none told later status (not_done _ old new status prints) same
   makes_err T told later old new status (NotBlank copy) same prints = makes_none told later status (not_done _ old new status prints) same
-
-  -- ---- what is printed
-
-  may_format : {T : Type 0} → (told : Option Told) (x : T) → 0 < file.cluster → TellsBlank {T = T} told (Ok x) → MayFormat file told
-  may_format told x some tells = record {
-    cluster = λ zero. absurd (omega (arith, zero, some));
-    blank = λ t n is below. subst (λ (o : Option Told). TellsBlank o (Ok x)) is tells n below;
-  }
-
-  pub formats_ok : {T : Type 0} → (told later : Option Told) (old new : Option (List ℕ)) (status : Status) (x : T) → 0 < file.cluster → TellsBlank {T = T} told (Ok x) → later ≡ after_all (format_events file) told
-      → PrintsLine (formatted_of (file_sectors file.layout)) Done old new status → Formats file told later old new status
-  formats_ok told later old new status x some tells is (inl printed) = subst (λ (s : Status). Formats file told later old new s) (sym printed.0) (may_format told x some tells, is, printed.1)
-  formats_ok told later old new status x some tells is (inr cut) = subst (λ (s : Status). Formats file told later old new s) (sym cut.0) (inl (may_format told x some tells, is, cut.1))
-
-  refused_with : (told later : Option Told) (old new : Option (List ℕ)) (status : Status) (e : FormatError) → RefusesFormat file told e → later ≡ told → PrintsLine (format_refusal_of e) Refused old new status → Formats file told later old new status
-  refused_with told later old new status e refuses same (inl printed) = subst (λ (s : Status). Formats file told later old new s) (sym printed.0) (e, refuses, same, printed.1)
-  refused_with told later old new status e refuses same (inr cut) = subst (λ (s : Status). Formats file told later old new s) (sym cut.0) (inr (e, refuses, same, cut.1))
-
-  pub formats_err : (T : Type 0) → (told later : Option Told) (old new : Option (List ℕ)) (status : Status) (e : FormatError) → RefusesCluster {T = T} file.cluster (Err e) → TellsBlank {T = T} told (Err e) → AddsFormat {T = T} (format_events file) told later (Err e)
-      → PrintsFormatRefusal e old new status → Formats file told later old new status
-  formats_err T told later old new status formats.DiskFault cluster tells adds prints = subst (λ (s : Status). Formats file told later old new s) (sym prints.0) (adds, prints.1)
-  formats_err T told later old new status ClusterZero cluster tells same prints = refused_with told later old new status ClusterZero cluster same prints
-  formats_err T told later old new status (NotBlank copy) cluster tells same prints =
-      refused_with told later old new status (NotBlank copy) ((λ zero. absurd (omega (arith, zero, cluster))), (λ t is. subst (λ (o : Option Told). TellsBlank {T = T} o (Err (NotBlank copy))) is tells)) same prints
-
--- ---- the statuses
-
-pub line_is_not : (line : List ℕ) (old new : Option (List ℕ)) (given status other : Status) → (given ≡ other → ⊥) → (WriteFault ≡ other → ⊥) → PrintsLine line given old new status → status ≡ other → ⊥
-line_is_not line old new given status other one two (inl printed) is = one (sym printed.0 ∙ is)
-line_is_not line old new given status other one two (inr cut) is = two (sym cut.0 ∙ is)
-
-pub refusal_is_not : (e : FormatError) (old new : Option (List ℕ)) (status other : Status) → (Refused ≡ other → ⊥) → (WriteFault ≡ other → ⊥) → (DiskFault ≡ other → ⊥) → PrintsFormatRefusal e old new status → status ≡ other → ⊥
-refusal_is_not formats.DiskFault old new status other one two three prints is = three (sym prints.0 ∙ is)
-refusal_is_not ClusterZero old new status other one two three prints is = line_is_not _ old new Refused status other one two prints is
-refusal_is_not (NotBlank copy) old new status other one two three prints is = line_is_not _ old new Refused status other one two prints is
-
-pub blames_ok : (line : List ℕ) (old new : Option (List ℕ)) (status : Status) (before count : ℕ) → count ≡ before → PrintsLine line Done old new status → Blames DiskFault before count status
-blames_ok line old new status before count same prints = record { rose = λ is. absurd (line_is_not line old new Done status DiskFault (λ no. cc) (λ no. cc) prints is); same = λ _. same }
-
-pub blames_err : (T : Type 0) → (e : FormatError) (old new : Option (List ℕ)) (status : Status) (before count : ℕ) → FormatsBy {T = T} before count (Err e) → PrintsFormatRefusal e old new status → Blames DiskFault before count status
-blames_err T formats.DiskFault old new status before count by prints = record { rose = λ _. by.1; same = λ no. absurd (no prints.0) }
-blames_err T ClusterZero old new status before count by prints = record { rose = λ is. absurd (line_is_not _ old new Refused status DiskFault (λ no. cc) (λ no. cc) prints is); same = λ _. by }
-blames_err T (NotBlank copy) old new status before count by prints = record { rose = λ is. absurd (line_is_not _ old new Refused status DiskFault (λ no. cc) (λ no. cc) prints is); same = λ _. by }

@@ -28,17 +28,6 @@ use Rattle.df_top.specs.Writes.{AreRepairs}
 use Rattle.df_top.specs.declared.session.DataFile.{DataFile}
 use Rattle.df_top.proofs.Members.{some_owner}
 
--- ---- the count of faults
-
-pub opens_blames : (T : Type 0) → (before now : ℕ) (e : OpenError) → OpensBy {T = T} before now (Err e) → BlamesDisk before now e
-opens_blames T before now DiskFault by = record { rose = λ _. by.1; same = λ no. absurd (no refl) }
-opens_blames T before now NotFormatted by = record { rose = λ no. absurd (cc); same = λ _. by }
-opens_blames T before now (NoQuorum classes) by = record { rose = λ no. absurd (cc); same = λ _. by }
-opens_blames T before now (Version found) by = record { rose = λ no. absurd (cc); same = λ _. by }
-opens_blames T before now (BadField field value) by = record { rose = λ no. absurd (cc); same = λ _. by }
-opens_blames T before now (LayoutDiffers reserved there) by = absurd by
-opens_blames T before now (Damaged place class) by = absurd by
-
 -- an error that a `?` hands on
 pub handed_on : {T : Type 0} → (r : Result T OpenError) (e : OpenError) → IsErrAnd r (λ d. d ≡ e) → r ≡ Err e
 handed_on r e is = let p = err_from_is_err_and r is in p.1 ∙ ap Err p.2

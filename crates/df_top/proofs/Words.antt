@@ -6,10 +6,6 @@ use Rattle.df_top.specs.declared.command.Command.{Command}
 use Rattle.df_top.specs.declared.command.Command.TheVariants.{Format, Run}
 use Rattle.df_top.proofs.Commands.{one_command}
 
--- no words ask for both
-pub run_or_format : (words : List (List ℕ)) (layout : Layout) (cluster : ℕ) → Means words Run → Means words (Format layout cluster) → ⊥
-run_or_format words layout cluster run format = absurd (let same : Run ≡ Format layout cluster = one_command words Run (Format layout cluster) run format in cc)
-
 -- words that ask for a file ask for one
 pub same_layout_asked : (words : List (List ℕ)) (layout other : Layout) (cluster another : ℕ) → Means words (Format layout cluster) → Means words (Format other another) → layout ≡ other
 same_layout_asked words layout other cluster another one two = let same : Format layout cluster ≡ Format other another = one_command words (Format layout cluster) (Format other another) one two in cc
