@@ -67,6 +67,7 @@ fn refusal(fault: SuperFault) -> OpenError
 
 // The choice, if it can be used.
 fn usable(chosen: Chosen) -> Result<Found, OpenError>
+    ensures same_fields { IfOk result (λ found. found.content ≡ found.chosen.content) }
     ensures chosen { IfOk result (λ found. found.chosen ≡ chosen) }
     ensures content { IfOk result (λ found. found.content ≡ chosen.content) }
     ensures usable { IfOk result (λ _. fault_of chosen.content ≡ None) }
@@ -82,6 +83,7 @@ fn usable(chosen: Chosen) -> Result<Found, OpenError>
 
 /// The superblock that the four places say, or the first reason why the file can't be opened.
 pub(crate) fn superblock_of(copies: &[Slot; 4]) -> Result<Found, OpenError>
+    ensures same_fields { IfOk result (λ found. found.content ≡ found.chosen.content) }
     ensures told { (told : Option Told) → ShowsSlots told copies.now → ShowsCopies told copies.now → TellsFound told result }
     ensures refusal { IfErr result IsRefusal }
 {

@@ -63,6 +63,7 @@ pub fn repair<D: Disk>(
     ensures history { RepairsSteadily chosen.now (D.told disk.old) (D.told disk.new) }
     ensures unless_misled { RepairsUnlessMisled chosen.now (D.told disk.old) (D.told disk.new) }
     ensures repaired { OnOk result (EndsRepaired chosen.now (D.told disk.old) (D.told disk.new)) }
+    ensures size { length chosen.now.members ≡ 4 }
     ensures cause { HasCause (D.faults disk.old) (D.faults disk.new) result }
 {
     // Its fields obey their rules.

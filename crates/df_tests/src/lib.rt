@@ -6,6 +6,8 @@ mod copies;
 #[cfg(test)]
 mod faults;
 #[cfg(test)]
+mod files;
+#[cfg(test)]
 mod rows;
 #[cfg(test)]
 mod runs;

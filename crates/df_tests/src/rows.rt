@@ -1,10 +1,10 @@
 // Worked scripts, with the text and the status that they end in.
-use crate::runs::{blank, printed, run_failing, run_script, word};
+use crate::runs::{blank, printed, run_failing, run_script, small_file, word};
 use df_memdisk::Change;
 use df_top::Status;
 use std::test::Fail;
 
-// A script over a blank disk, what it prints and how it ends.
+// A script over a new file, what it prints and how it ends.
 const ROWS: [(&str, &str, Status); 15] = [
     ("", "", Status::Done),
     (
@@ -50,7 +50,7 @@ const ROWS: [(&str, &str, Status); 15] = [
 #[test]
 fn scripts_print_their_answers(rt: HostRuntime) -> Result<(), Fail> {
     for (script, text, status) in &ROWS {
-        let mut disk = blank(rt.alloc(), &[])?;
+        let mut disk = small_file(rt.alloc(), &[])?;
         let ran = run_script(rt.alloc(), &mut disk, script.as_bytes())?;
         assert_eq!(rt; ran.status, *status, "{script}");
         assert_eq!(rt; ran.text.as_slice(), text.as_bytes(), "{script}");
@@ -66,7 +66,7 @@ fn a_body_may_fill_its_slot_and_no_more(rt: HostRuntime) -> Result<(), Fail> {
         for _ in 0..size {
             script.extend_from_slice(b"5a")?;
         }
-        let mut disk = blank(rt.alloc(), &[])?;
+        let mut disk = small_file(rt.alloc(), &[])?;
         let ran = run_script(rt.alloc(), &mut disk, &script)?;
         assert_eq!(rt; ran.text.as_slice(), text.as_bytes());
     }
@@ -79,7 +79,7 @@ fn a_full_ring_refuses(rt: HostRuntime) -> Result<(), Fail> {
     for _ in 0..33 {
         script.extend_from_slice(b"append 1 1 -\n")?;
     }
-    let mut disk = blank(rt.alloc(), &[])?;
+    let mut disk = small_file(rt.alloc(), &[])?;
     let ran = run_script(rt.alloc(), &mut disk, &script)?;
     assert_eq!(rt; ran.status, Status::Done);
     let last = "appended 32\nrefused WalFull op 33 checkpoint_op 0\n";
@@ -95,17 +95,17 @@ fn other_words_print_the_usage_line(rt: HostRuntime) -> Result<(), Fail> {
     let words = word(rt.alloc(), "append")?;
     let ran = run_failing(rt.alloc(), &mut disk, &words, b"append 5 1 -\n", &[], &[])?;
     assert_eq!(rt; ran.status, Status::Words);
-    assert!(rt; printed(&ran, "usage: run\n"));
+    assert!(rt; printed(&ran, "usage: format LAYOUT CLUSTER | run\n"));
     let none = run_failing(rt.alloc(), &mut disk, &[], b"", &[], &[])?;
     assert_eq!(rt; none.status, Status::Words);
-    assert!(rt; printed(&none, "usage: run\n"));
+    assert!(rt; printed(&none, "usage: format LAYOUT CLUSTER | run\n"));
     assert_eq!(rt; disk.events(), 0);
     Ok(())
 }
 
 #[test]
 fn a_torn_append_is_not_there(rt: HostRuntime) -> Result<(), Fail> {
-    let mut disk = blank(rt.alloc(), &[5])?;
+    let mut disk = small_file(rt.alloc(), &[13])?;
     let ran = run_script(rt.alloc(), &mut disk, b"append 5 1 -\nappend 6 1 -\n")?;
     assert_eq!(rt; ran.status, Status::DiskFault);
     assert!(rt; printed(&ran, "appended 1\n"));

@@ -14,11 +14,21 @@ pub struct Ran {
     pub refused: u64,
 }
 
+/// Device calls of a format: it reads the four copies, and writes and syncs each of them.
+pub const FORMAT_CALLS: u64 = 12;
+
+/// These words.
+pub fn words(alloc: Global, texts: &[&str]) -> Result<Vec<String>, Fail> {
+    let mut words = Vec::new(alloc);
+    for text in texts {
+        words.push(String::from_str(alloc, text)?)?;
+    }
+    Ok(words)
+}
+
 /// One word.
 pub fn word(alloc: Global, text: &str) -> Result<Vec<String>, Fail> {
-    let mut words = Vec::new(alloc);
-    words.push(String::from_str(alloc, text)?)?;
-    Ok(words)
+    words(alloc, &[text])
 }
 
 /// Runs these words with the listed calls of source and sink failing.
@@ -45,6 +55,26 @@ pub fn run_failing(
 pub fn run_script(alloc: Global, disk: &mut MemoryDisk, script: &[u8]) -> Result<Ran, Fail> {
     let words = word(alloc, "run")?;
     run_failing(alloc, disk, &words, script, &[], &[])
+}
+
+/// Runs words that read no script.
+pub fn run_words(alloc: Global, disk: &mut MemoryDisk, texts: &[&str]) -> Result<Ran, Fail> {
+    let words = words(alloc, texts)?;
+    run_failing(alloc, disk, &words, b"append 5 1 -\n", &[], &[])
+}
+
+/// A disk in memory with a file of layout small and cluster 7, whose listed calls fail, counted behind the format.
+pub fn small_file(alloc: Global, failing: &[u64]) -> Result<MemoryDisk, Fail> {
+    let mut calls = Vec::new(alloc);
+    for call in failing {
+        calls.push(call.saturating_add(FORMAT_CALLS))?;
+    }
+    let mut disk = MemoryDisk::new(alloc, calls);
+    let ran = run_words(alloc, &mut disk, &["format", "small", "7"])?;
+    if ran.status != Status::Done {
+        return Err("no file was made".into());
+    }
+    Ok(disk)
 }
 
 /// A blank disk in memory whose listed calls fail.

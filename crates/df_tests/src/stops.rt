@@ -2,7 +2,7 @@
 // filled or torn: the next run finds exactly the appends that were answered, and the one in flight where it is whole.
 ghost use Rattle.std.specs.Prelude.{◌≡◌, ◌<◌, ◌≤◌, ◌+◌, ◌^◌, length};
 
-use crate::runs::{blank, lines, run_script};
+use crate::runs::{lines, run_script, small_file};
 use df_base::SECTOR;
 use df_disk::Disk;
 use df_memdisk::{Change, MemoryDisk};
@@ -33,12 +33,13 @@ const FATES: [[Fate; 2]; 8] = [
 // How many bytes of a torn sector are new.
 const TORN: usize = 64;
 
-// Device calls of a run before its first append, over a ring with so many prepares: the barrier and the slots.
+// Device calls of a run before its first append, over a ring with so many prepares: the probe's four copies, the barrier,
+// the four copies and the slots.
 fn calls_of_open(ring: u64) -> u64
     requires { ring < 2 ^ 32 }
-    ensures { result ≡ 2 + ring }
+    ensures { result ≡ 10 + ring }
 {
-    2 + ring
+    10 + ring
 }
 
 // The op of the append during which the device call falls, if it falls within one: a write and a sync each.
@@ -190,7 +191,7 @@ fn cut_twice(alloc: Global, first: Cut, second: Cut) -> Result<(Vec<u8>, u64), F
     // Each cut reads a slot before its run and one behind it, by two calls each.
     let call = first.call.saturating_add(2);
     let later = call.saturating_add(4).saturating_add(second.call);
-    let disk = blank(alloc, &[call, later])?;
+    let disk = small_file(alloc, &[call, later])?;
     let (disk, ring) = cut_off(alloc, disk, &appends(alloc, 3, b"11")?, 0, first)?;
     let (mut disk, ring) = cut_off(alloc, disk, &appends(alloc, 2, b"22")?, ring, second)?;
     let ran = run_script(alloc, &mut disk, b"append 9 1 -\n")?;

@@ -1,5 +1,5 @@
 // Runs over files whose sectors were damaged, lost or swapped: the ring ends where it is hurt.
-use crate::runs::{blank, printed, run_script};
+use crate::runs::{printed, run_script, small_file};
 use df_memdisk::Strike;
 use df_top::Status;
 use std::test::Fail;
@@ -18,7 +18,7 @@ const STRIKES: [(u64, Strike, &str); 7] = [
 #[test]
 fn a_struck_ring_ends_where_it_is_hurt(rt: HostRuntime) -> Result<(), Fail> {
     for (sector, strike, text) in &STRIKES {
-        let mut disk = blank(rt.alloc(), &[])?;
+        let mut disk = small_file(rt.alloc(), &[])?;
         run_script(rt.alloc(), &mut disk, b"append 5 1 -\nappend 6 1 -\n")?;
         if disk.strike(*sector, *strike).is_err() {
             return Err("no memory for a strike".into());

@@ -24,7 +24,7 @@ const FRONT: [u8; 80] = [
 ];
 
 // The sector of the copy with this number, with one byte changed before the checksum is taken.
-fn copy(number: u8, at: usize, byte: u8) -> [u8; SECTOR] {
+pub fn copy(number: u8, at: usize, byte: u8) -> [u8; SECTOR] {
     let mut bytes = [0u8; SECTOR];
     bytes[..80].copy_from_slice(&FRONT);
     bytes[16] = number;

@@ -1,30 +1,38 @@
 -- Runs follow one another, and a text has one script.
 use Rattle.std.proofs.Common.{◌≡◌, ◌⊎◌, inl, inr, ℕ, ◌-◌, List, [], ◌∷◌, refl, sym, ◌∙◌, subst}
 use Rattle.df_base.specs.Image.{changed}
-use Rattle.df_base.specs.Log.{now}
+use Rattle.df_base.specs.Log.{new_log, now}
 use Rattle.df_base.proofs.Goes.{extends_self}
 use Rattle.df_format.specs.declared.wal.Wal.{Wal}
-use Rattle.df_prepares.specs.Steady.{IsSafe}
 use Rattle.df_prepares.proofs.Rings.{one_ring}
 use Rattle.df_prepares.proofs.Rests.{new_rests, stop_rests}
+use Rattle.df_replica.specs.OneContent.{IsUntouched}
+use Rattle.df_replica.proofs.Safe.{untouched_is_safe, stop_stays_safe}
 use Rattle.df_script.specs.Grammar.{Said, Says}
 use Rattle.df_script.specs.Text.{line_of, after_line, taken}
 use Rattle.df_script.proofs.Meanings.{one_said}
 use Rattle.df_top.specs.Script.{IsAppend, Begins, IsRefused}
+use Rattle.df_top.specs.Files.{IsSafeFile, content_of_file}
 use Rattle.df_top.specs.Laws.{NewIsSafe, RunsFollow, OneScript}
 use Rattle.df_top.proofs.LineEnds.{nothing_said}
 
+new_is_untouched : IsUntouched new_log
+new_is_untouched = record { begins = λ sector. refl; syncs = tt }
+
 pub new_is_safe : NewIsSafe
-new_is_safe wal = (new_rests wal).safe
+new_is_safe file wal log_of = record { ring = (new_rests wal).safe; copies = untouched_is_safe new_log (content_of_file file) new_is_untouched }
 
 pub runs_follow : RunsFollow
-runs_follow wal before told opening text old new status run =
-    let safe : IsSafe wal run.after.log = run.safe run.after.log (record { since = run.grown; until = extends_self run.after.log }) in
+runs_follow file wal before told opening text old new status run =
+    let safe : IsSafeFile file wal run.after.log = run.safe run.after.log (record { since = run.grown; until = extends_self run.after.log }) in
     record {
       safe = safe;
-      stopped = λ cs are fair.
+      stopped = λ cs are fair fair_copies.
           let ring = one_ring wal (changed cs (now run.after.log)) in
-          (stop_rests wal run.after.log cs ring.ring safe are fair ring.is).safe;
+          record {
+            ring = (stop_rests wal run.after.log cs ring.ring safe.ring are fair ring.is).safe;
+            copies = stop_stays_safe run.after.log (content_of_file file) cs safe.copies are fair_copies;
+          };
     }
 
 -- an append isn't refused, and doesn't stand in an empty text

@@ -3,12 +3,19 @@ mod Writes
 mod Lines
 mod Rounds
 mod Steps
+mod Wals
+mod Fronts
+mod Members
+mod Opens
+mod Begins
+mod Words
+mod Refused
 mod Made
 mod Progress
 mod LineEnds
-mod Small
 pub mod Commas
 pub mod Commands
 pub mod Refusing
 mod Whole
+mod Makes
 mod Follows

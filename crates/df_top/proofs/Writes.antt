@@ -13,9 +13,6 @@ use Rattle.df_top.specs.Writes.{AreOfRun, WritesRing}
 pub writes_none : (wal : Wal) (old new : Option Told) → new ≡ old → WritesRing wal old new
 writes_none wal old new same = record { events = []; each = tt; added = same }
 
-pub writes_sync : (wal : Wal) (old new : Option Told) → new ≡ after Sync old → WritesRing wal old new
-writes_sync wal old new synced = record { events = Sync ∷ []; each = (tt, tt); added = synced }
-
 after_both : (xs ys : List Event) (old : Option Told) → after_all ys (after_all xs old) ≡ after_all (xs ++ ys) old
 after_both [] ys old = refl
 after_both (x ∷ xs) ys old = after_both xs ys (after x old)
@@ -46,12 +43,3 @@ writes_result wal events old new (Err e) each adds = writes_part wal events old 
 pub append_writes : {T E : Type 0} (wal : Wal) (head : Head) (said : Said) (old new : Option Told) (r : Result T E) → IsPrepare wal (behind wal head said) → Adds (append_events wal head said) old new r → WritesRing wal old new
 append_writes wal head said old new r is adds =
     writes_result wal (append_events wal head said) old new r (record { prepare = behind wal head said; is = is; place = refl; sectors = refl }, (tt, tt)) adds
-
--- a turn of a session that goes on with the same log
-pub writes_turn : (wal its : Wal) (old mid new : Option Told) → its ≡ wal → WritesRing wal old mid → WritesRing its mid new → WritesRing wal old new
-writes_turn wal its old mid new same first second = writes_both wal old mid new first (subst (λ (w : Wal). WritesRing w mid new) same second)
-
--- the barrier failed, or what comes behind it
-pub writes_barrier : (wal : Wal) (old new : Option Told) → (new ≡ old) ⊎ (new ≡ after Sync old) → WritesRing wal old new
-writes_barrier wal old new (inl same) = writes_none wal old new same
-writes_barrier wal old new (inr synced) = writes_sync wal old new synced

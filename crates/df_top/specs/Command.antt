@@ -37,3 +37,7 @@ Means words (Format layout cluster) = SpellsFormat words layout cluster
 -- words ask for one thing at most
 abbrev pub OneMeaning : Type 0
 OneMeaning = (words : List (List ℕ)) (one other : Command) → Means words one → Means words other → one ≡ other
+
+-- the words have no meaning
+abbrev pub MeansNothing : List (List ℕ) → Type 0
+MeansNothing words = (command : Command) → Means words command → ⊥

@@ -14,7 +14,7 @@ use Rattle.df_top.specs.Appends.{ring_after, IsGood}
 use Rattle.df_top.specs.Texts.{answers, printed}
 use Rattle.df_top.specs.Session.{State, Rests, Since}
 use Rattle.df_top.specs.declared.status.Status.{Status}
-use Rattle.df_top.specs.declared.status.Status.TheVariants.{Done, Words, Script, DiskFault, ReadFault, WriteFault, Memory}
+use Rattle.df_top.specs.declared.status.Status.TheVariants.{Done, Words, Script, Refused, DiskFault, ReadFault, WriteFault, Memory}
 
 -- What is unread at the end: where the script is cut, a line that asks for no append; at Done nothing at all.
 pub record EndsText (wal : Wal) (bound budget : ℕ) (rest : List ℕ) (left : Option (List ℕ)) (cut : Bool) (status : Status) : Type 0 where
@@ -30,6 +30,7 @@ IsAnswered slots op lines old new asked done cut ReadFault = (cut ≡ false) × 
 IsAnswered slots op lines old new asked done cut DiskFault = (cut ≡ false) × Appends old new (answers slots op (take done asked))
 IsAnswered slots op lines old new asked done cut WriteFault = (done ≡ length asked) × AppendsPart old new (printed slots op lines asked cut)
 IsAnswered slots op lines old new asked done cut Words = ⊥
+IsAnswered slots op lines old new asked done cut Refused = ⊥
 IsAnswered slots op lines old new asked done cut Memory = ⊥
 
 -- The image has the ring after the appends that were done; or after one more, but only where the disk failed.

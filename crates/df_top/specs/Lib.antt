@@ -13,3 +13,7 @@ pub mod Statuses
 pub mod Writes
 pub mod Command
 pub mod Refusals
+pub mod Files
+pub mod Refused
+pub mod Formats
+pub mod Opening

@@ -1,7 +1,8 @@
 -- The log of a data file, and what is said of a prepare of it before its body is known.
-use Rattle.std.specs.Prelude.{◌+◌, ◌%◌, ℕ}
+use Rattle.std.specs.Prelude.{◌+◌, ◌*◌, ◌%◌, max, ℕ}
 use Rattle.df_format.specs.declared.header.Header.{Header}
 use Rattle.df_format.specs.declared.kind.Kind.TheVariants.{Prepare as AsPrepare}
+use Rattle.df_layout.specs.declared.layout.Layout.{Layout}
 use Rattle.df_format.specs.declared.wal.Wal.{Wal}
 use Rattle.df_format.specs.Spelling.{no_checksum}
 use Rattle.df_format.specs.UnitLaws.{IsWalOf}
@@ -29,3 +30,10 @@ header_given file head client request = record {
   kind = AsPrepare;
   block_kind = 0;
 }
+
+-- how many bytes a line of a script may have: two digits for each byte of a message or a block, and the words beside them
+abbrev pub layout_bound : Layout → ℕ
+layout_bound layout = 2 * max layout.message_size layout.block_size + 64
+
+abbrev pub line_bound : DataFile → ℕ
+line_bound file = layout_bound file.layout

@@ -12,7 +12,7 @@ use Rattle.df_top.specs.Script.{IsTaken}
 use Rattle.df_top.specs.Session.{State}
 use Rattle.df_top.specs.Step.{StepDone, StepFailed}
 use Rattle.df_top.specs.Texts.{answer, count_after, script_line}
-use Rattle.df_top.specs.Run.{line_bound}
+use Rattle.df_top.specs.Logs.{line_bound}
 use Rattle.df_top.specs.declared.session.Session.{Session}
 use Rattle.df_top.specs.declared.status.Status.{Status}
 use Rattle.df_top.specs.declared.status.Status.TheVariants.{Script, DiskFault, WriteFault}
@@ -38,7 +38,7 @@ pub record HasRoom (s : Session) : Type 0 where
 pub record IsReady (wal : Wal) (s : Session) : Type 0 where
   pub room : HasRoom s
   pub head : IsEnd wal s.head
-  pub bound : s.lines.reading.bound ≡ line_bound
+  pub bound : s.lines.reading.bound ≡ line_bound s.file
 
 -- a source that has said that it has ended has nothing left
 abbrev pub EndedIsEnd : Session → Option (List ℕ) → Type 0
@@ -81,14 +81,6 @@ AnswersLine wal told written old said later took new result =
 
 -- a session that was just made: it has its room, and a reader that has read nothing
 pub record IsFreshSession (s : Session) : Type 0 where
-  pub lines : IsFresh line_bound s.lines
+  pub lines : IsFresh (line_bound s.file) s.lines
   pub room : HasRoom s
   pub count : s.count ≡ 0
-
--- the session is as it was, but for its room's bytes and its head, which is one of the log's ring
-pub record IsOpened (wal : Wal) (old new : Session) : Type 0 where
-  pub file : new.file ≡ old.file
-  pub lines : new.lines ≡ old.lines
-  pub count : new.count ≡ old.count
-  pub room : HasRoom new
-  pub head : IsEnd wal new.head

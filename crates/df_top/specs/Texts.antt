@@ -3,7 +3,7 @@ use Rattle.std.specs.Prelude.{◌+◌, ℕ, Bool, true, false, List, length, [],
 use Rattle.df_script.specs.Grammar.{Said}
 
 unfoldable pub usage : List ℕ
-usage = codes "usage: run\n"
+usage = codes "usage: format LAYOUT CLUSTER | run\n"
 
 -- the answer to an append where the ring has n prepares: the op that it got, or that the ring is full
 unfoldable pub answer : ℕ → ℕ → List ℕ

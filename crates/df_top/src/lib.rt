@@ -5,13 +5,14 @@ mod append;
 mod command;
 mod engine;
 mod laws;
+mod making;
+mod opening;
 mod refusals;
 mod serve;
 mod session;
 mod status;
 mod texts;
 mod turns;
-mod words;
 
 pub use command::{Command, command_of, words_have_one_meaning};
 pub use engine::run;

@@ -9,6 +9,8 @@ pub enum Status {
     Words,
     /// The next line is no line of a script, too long, or past the budget of bytes.
     Script,
+    /// No file was made or opened, for another cause than the disk's failure.
+    Refused,
     /// The disk failed.
     DiskFault,
     /// The source of the script failed.
@@ -31,6 +33,7 @@ impl Status {
             Status::Done => 0,
             Status::Words => 2,
             Status::Script => 3,
+            Status::Refused => 4,
             Status::DiskFault => 5,
             Status::ReadFault => 6,
             Status::WriteFault => 7,

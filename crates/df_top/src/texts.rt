@@ -9,7 +9,7 @@ use itoa::Buffer;
 const LINE: usize = 96;
 
 /// The line that says which words have a meaning.
-pub const USAGE: &[u8] = b"usage: run\n";
+pub const USAGE: &[u8] = b"usage: format LAYOUT CLUSTER | run\n";
 
 // A number between two pieces of text.
 fn line_with(front: &[u8], number: u64, back: &[u8]) -> ArrayVec<u8, LINE>

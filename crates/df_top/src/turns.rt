@@ -3,9 +3,8 @@ ghost use Rattle.std.specs.Prelude.{◌≡◌, ◌<◌, ◌≤◌, ◌+◌, ◌^
 ghost use Rattle.df_format.specs.declared.wal.Wal.{Wal};
 ghost use Rattle.df_script.specs.Grammar.{body_length, said_with};
 ghost use Rattle.df_top.specs.Ending.{Ended};
-ghost use Rattle.df_top.specs.Logs.{IsLogOf};
+ghost use Rattle.df_top.specs.Logs.{IsLogOf, line_bound};
 ghost use Rattle.df_top.specs.Step.{GoesOn, Ends};
-ghost use Rattle.df_top.specs.Run.{line_bound};
 ghost use Rattle.df_top.specs.Serving.{AnswersLine, Blames, BlamesIfErr, EndedIsEnd, IsReady, KeepsReader, state};
 ghost use Rattle.df_top.specs.Writes.{WritesRing};
 
@@ -58,10 +57,10 @@ fn turn<D: Disk, S: Source, W: Sink>(
     requires ready { IsReady wal session.old }
     requires count { session.old.count + session.old.lines.reading.budget ≤ 2 ^ 33 }
     requires at_end { EndedIsEnd session.old (S.left source.old) }
-    ensures goes_on { OnOk result (GoesOn wal line_bound
+    ensures goes_on { OnOk result (GoesOn wal (line_bound session.old.file)
         (state (D.told disk.old) (S.left source.old) (W.written sink.old) session.old)
         (state (D.told disk.new) (S.left source.new) (W.written sink.new) session.new)) }
-    ensures ends { IfErr result (Ends wal line_bound
+    ensures ends { IfErr result (Ends wal (line_bound session.old.file)
         (state (D.told disk.old) (S.left source.old) (W.written sink.old) session.old)
         (state (D.told disk.new) (S.left source.new) (W.written sink.new) session.new)) }
     ensures writes { WritesRing wal (D.told disk.old) (D.told disk.new) }
@@ -94,7 +93,7 @@ pub fn serve<D: Disk, S: Source, W: Sink>(
     requires ready { IsReady wal session.old }
     requires count { session.old.count + session.old.lines.reading.budget ≤ 2 ^ 33 }
     requires at_end { EndedIsEnd session.old (S.left source.old) }
-    ensures session { Ended wal line_bound
+    ensures session { Ended wal (line_bound session.old.file)
         (state (D.told disk.old) (S.left source.old) (W.written sink.old) session.old)
         (state (D.told disk.new) (S.left source.new) (W.written sink.new) session.new) result }
     ensures writes { WritesRing wal (D.told disk.old) (D.told disk.new) }

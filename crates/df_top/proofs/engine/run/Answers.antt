@@ -1,42 +1,42 @@
--- Where memory is wanted nothing was done.
-use Rattle.std.proofs.Common.{inr, refl, sym, subst}
-use Rattle.df_top.specs.declared.session.DataFile.{DataFile}
-use Rattle.df_top.specs.Logs.{IsLogOf}
-use Rattle.df_top.specs.declared.status.Status.TheVariants.{Memory}
-use Rattle.df_top.proofs.Small.{small, small_is}
-use Rattle.df_top.proofs.Whole.{prints_memory, runs_nothing}
-use Rattle.df_top.proofs.Writes.{writes_none}
+-- Words ask for one thing at most, so that the clauses of the others say nothing.
+use Rattle.std.proofs.Common.{ℕ, subst}
+use Rattle.df_layout.specs.declared.layout.Layout.{Layout}
+use Rattle.df_top.specs.Command.{Means}
+use Rattle.df_top.specs.Formats.{Formats, MakesFile}
+use Rattle.df_top.specs.declared.command.Command.TheVariants.{Format, Run}
+use Rattle.df_top.proofs.Words.{same_layout_asked, same_cluster_asked}
 use Rattle.df_top.proofs.engine.run.Goals as goal
 
-pub returns-in-Err-clause-prints : goal.returns-in-Err-clause-prints
-returns-in-Err-clause-prints g c = λ words. (
-  small,
-  small_is,
-  prints_memory small (g.D.Disk.told c.args.disk.now) (g.S.Source.left c.args.source.now) (g.S.Source.left c.args.source.now) (g.W.Sink.written c.args.sink.now) (g.W.Sink.written c.args.sink.now),
-)
+pub returns-in-Some-Format-clause-formats : goal.returns-in-Some-Format-clause-formats
+returns-in-Some-Format-clause-formats g c = λ layout cluster asks.
+    let mine = subst (Means _) c.in-Some-Format.field-0-is c.in-Some-Format.ensures.found in
+    subst (λ (l : Layout). Formats (record { layout = l; cluster = cluster }) (g.D.Disk.told c.args.disk.now) (g.D.Disk.told c.make_file.new.disk) (g.W.Sink.written c.args.sink.now) (g.W.Sink.written c.make_file.new.sink) c.make_file.result)
+    (same_layout_asked _ c.in-Some-Format.layout layout c.in-Some-Format.cluster cluster mine asks)
+    (subst (λ (n : ℕ). Formats (record { layout = c.in-Some-Format.layout; cluster = n }) (g.D.Disk.told c.args.disk.now) (g.D.Disk.told c.make_file.new.disk) (g.W.Sink.written c.args.sink.now) (g.W.Sink.written c.make_file.new.sink) c.make_file.result)
+    (same_cluster_asked _ c.in-Some-Format.layout layout c.in-Some-Format.cluster cluster mine asks) c.make_file.ensures.formats)
 
-pub returns-in-Err-clause-runs : goal.returns-in-Err-clause-runs
-returns-in-Err-clause-runs g c = λ words. (
-  small,
-  small_is,
-  runs_nothing small (g.D.Disk.told c.args.disk.now) (g.D.Disk.told c.args.disk.now) (g.S.Source.left c.args.source.now) (g.W.Sink.written c.args.sink.now) (g.W.Sink.written c.args.sink.now) Memory refl refl (inr refl),
-)
+pub returns-in-Some-Format-clause-makes : goal.returns-in-Some-Format-clause-makes
+returns-in-Some-Format-clause-makes g c = λ layout cluster asks.
+    let mine = subst (Means _) c.in-Some-Format.field-0-is c.in-Some-Format.ensures.found in
+    subst (λ (l : Layout). MakesFile (record { layout = l; cluster = cluster }) (g.D.Disk.told c.args.disk.now) (g.D.Disk.told c.make_file.new.disk) c.make_file.result)
+    (same_layout_asked _ c.in-Some-Format.layout layout c.in-Some-Format.cluster cluster mine asks)
+    (subst (λ (n : ℕ). MakesFile (record { layout = c.in-Some-Format.layout; cluster = n }) (g.D.Disk.told c.args.disk.now) (g.D.Disk.told c.make_file.new.disk) c.make_file.result)
+    (same_cluster_asked _ c.in-Some-Format.layout layout c.in-Some-Format.cluster cluster mine asks) c.make_file.ensures.makes)
 
-pub returns-then-not-are_run-clause-writes : goal.returns-then-not-are_run-clause-writes
-returns-then-not-are_run-clause-writes g c = (small, small_is, writes_none small (g.D.Disk.told c.args.disk.now) (g.D.Disk.told c.args.disk.now) refl)
+pub returns-in-None-clause-formats : goal.returns-in-None-clause-formats
+returns-in-None-clause-formats g c = λ layout cluster asks. absurd (c.in-None.ensures.none (Format layout cluster) asks)
 
-pub returns-in-Err-clause-writes : goal.returns-in-Err-clause-writes
-returns-in-Err-clause-writes g c = (small, small_is, writes_none small (g.D.Disk.told c.args.disk.now) (g.D.Disk.told c.args.disk.now) refl)
+pub returns-in-None-clause-makes : goal.returns-in-None-clause-makes
+returns-in-None-clause-makes g c = λ layout cluster asks. absurd (c.in-None.ensures.none (Format layout cluster) asks)
 
-pub execute-requires : goal.execute-requires
-execute-requires g c = λ κs within.
-    (within.0, (within.1.0, (within.1.1, (subst (λ (f : DataFile). IsLogOf f small) (sym c.in-Ok.ensures.file) (c.small_file-file.ensures small small_is), c.in-Ok.ensures.fresh))))
+pub returns-in-None-clause-refuses : goal.returns-in-None-clause-refuses
+returns-in-None-clause-refuses g c = λ asks. absurd (c.in-None.ensures.none Run asks)
 
-pub returns-in-Ok-clause-prints : goal.returns-in-Ok-clause-prints
-returns-in-Ok-clause-prints g c = λ words. (small, small_is, c.execute.ensures.prints)
+pub returns-in-None-clause-prints : goal.returns-in-None-clause-prints
+returns-in-None-clause-prints g c = λ asks. absurd (c.in-None.ensures.none Run asks)
 
-pub returns-in-Ok-clause-runs : goal.returns-in-Ok-clause-runs
-returns-in-Ok-clause-runs g c = λ words. (small, small_is, c.execute.ensures.runs)
+pub returns-in-None-clause-runs : goal.returns-in-None-clause-runs
+returns-in-None-clause-runs g c = λ asks. absurd (c.in-None.ensures.none Run asks)
 
-pub returns-in-Ok-clause-writes : goal.returns-in-Ok-clause-writes
-returns-in-Ok-clause-writes g c = (small, small_is, c.execute.ensures.writes)
+pub returns-in-None-clause-writes : goal.returns-in-None-clause-writes
+returns-in-None-clause-writes g c = λ asks. absurd (c.in-None.ensures.none Run asks)

@@ -1,6 +1,10 @@
 -- Each turn goes on with one append more, or ends the session.
-use Rattle.std.proofs.Common.{[], ◌∷◌, ◌++◌, refl, ◌∙◌, arith}
-use Rattle.df_top.specs.Run.{line_bound}
+use Rattle.std.proofs.Common.{[], ◌∷◌, ◌++◌, refl, ◌∙◌, subst, arith}
+use Rattle.df_format.specs.declared.wal.Wal.{Wal}
+use Rattle.df_top.specs.Session.{State}
+use Rattle.df_top.specs.Step.{GoesOn, Ends}
+use Rattle.df_top.specs.Logs.{line_bound}
+use Rattle.df_top.specs.declared.session.DataFile.{DataFile}
 use Rattle.df_top.specs.Serving.{state}
 use Rattle.df_top.proofs.Progress.{executed_none}
 use Rattle.df_top.proofs.Writes.{writes_none, writes_both}
@@ -8,7 +12,7 @@ use Rattle.df_top.proofs.turns.serve.Goals as goal
 
 pub loop-status-init : goal.loop-status-init
 loop-status-init g c = record {
-  so_far = ([], executed_none g.wal line_bound (state (g.D.Disk.told c.args.disk.now) (g.S.Source.left c.args.source.now) (g.W.Sink.written c.args.sink.now) c.args.session.now));
+  so_far = ([], executed_none g.wal (line_bound c.args.session.now.file) (state (g.D.Disk.told c.args.disk.now) (g.S.Source.left c.args.source.now) (g.W.Sink.written c.args.sink.now) c.args.session.now));
   writes = writes_none g.wal (g.D.Disk.told c.args.disk.now) (g.D.Disk.told c.args.disk.now) refl;
   ready = c.requires.1.1.1.1.0;
   file = refl;
@@ -21,7 +25,10 @@ loop-status-init g c = record {
 
 pub loop-status-preserved : goal.loop-status-preserved
 loop-status-preserved g c =
-    let more = c.in-Ok.ensures.goes_on (state (g.D.Disk.told c.args.disk.now) (g.S.Source.left c.args.source.now) (g.W.Sink.written c.args.sink.now) c.args.session.now) c.loop-status.invariant.so_far.0 c.loop-status.invariant.so_far.1 in
+    let before : State = state (g.D.Disk.told c.loop-status.disk) (g.S.Source.left c.loop-status.source) (g.W.Sink.written c.loop-status.sink) c.loop-status.session in
+    let after : State = state (g.D.Disk.told c.turn.new.disk) (g.S.Source.left c.turn.new.source) (g.W.Sink.written c.turn.new.sink) c.turn.new.session in
+    let on = subst (λ (f : DataFile). GoesOn g.wal (line_bound f) before after) c.loop-status.invariant.file c.in-Ok.ensures.goes_on in
+    let more = on _ c.loop-status.invariant.so_far.0 c.loop-status.invariant.so_far.1 in
     record {
       so_far = (c.loop-status.invariant.so_far.0 ++ more.0 ∷ [], more.1);
       writes = writes_both g.wal (g.D.Disk.told c.args.disk.now) (g.D.Disk.told c.loop-status.disk) (g.D.Disk.told c.turn.new.disk) c.loop-status.invariant.writes c.turn.ensures.writes;
@@ -36,7 +43,9 @@ loop-status-preserved g c =
 
 pub returns-in-Err-clause-session : goal.returns-in-Err-clause-session
 returns-in-Err-clause-session g c =
-    c.in-Err.ensures.ends (state (g.D.Disk.told c.args.disk.now) (g.S.Source.left c.args.source.now) (g.W.Sink.written c.args.sink.now) c.args.session.now) c.loop-status.invariant.so_far.0 c.loop-status.invariant.so_far.1
+    let before : State = state (g.D.Disk.told c.loop-status.disk) (g.S.Source.left c.loop-status.source) (g.W.Sink.written c.loop-status.sink) c.loop-status.session in
+    let after : State = state (g.D.Disk.told c.turn.new.disk) (g.S.Source.left c.turn.new.source) (g.W.Sink.written c.turn.new.sink) c.turn.new.session in
+    subst (λ (f : DataFile). Ends g.wal (line_bound f) before after c.in-Err.status) c.loop-status.invariant.file c.in-Err.ensures.ends _ c.loop-status.invariant.so_far.0 c.loop-status.invariant.so_far.1
 
 pub returns-in-Err-clause-writes : goal.returns-in-Err-clause-writes
 returns-in-Err-clause-writes g c =

@@ -2,14 +2,14 @@
 use Rattle.std.proofs.Common.{◌≡◌, ◌+◌, ◌≤◌, ◌^◌, List}
 use Rattle.df_script.specs.Grammar.{Said}
 use Rattle.df_top.specs.Session.{Executed}
-use Rattle.df_top.specs.Run.{line_bound}
+use Rattle.df_top.specs.Logs.{line_bound}
 use Rattle.df_top.specs.Serving.{EndedIsEnd, IsReady, state}
 use Rattle.df_top.specs.Writes.{WritesRing}
 use Rattle.df_top.proofs.turns.serve.Given as goal
 
 abbrev pub invariant-loop-status : goal.invariant-loop-status
 invariant-loop-status g l = record {
-  so_far : (asked : List Said) × Executed g.wal line_bound (state (g.D.Disk.told l.initial.disk) (g.S.Source.left l.initial.source) (g.W.Sink.written l.initial.sink) l.initial.session) (state (g.D.Disk.told l.disk) (g.S.Source.left l.source) (g.W.Sink.written l.sink) l.session) asked;
+  so_far : (asked : List Said) × Executed g.wal (line_bound l.fn.session.file) (state (g.D.Disk.told l.initial.disk) (g.S.Source.left l.initial.source) (g.W.Sink.written l.initial.sink) l.initial.session) (state (g.D.Disk.told l.disk) (g.S.Source.left l.source) (g.W.Sink.written l.sink) l.session) asked;
   writes : WritesRing g.wal (g.D.Disk.told l.initial.disk) (g.D.Disk.told l.disk);
   ready : IsReady g.wal l.session;
   file : l.session.file ≡ l.fn.session.file;

@@ -1,7 +1,7 @@
 -- Each arm is one way in which a line ends or goes on.
 use Rattle.std.proofs.Common.{refl, subst}
 use Rattle.df_script.specs.Reads.{GivesNext}
-use Rattle.df_top.specs.Run.{line_bound}
+use Rattle.df_top.specs.Logs.{line_bound}
 use Rattle.df_top.specs.Serving.{state}
 use Rattle.df_prepares.proofs.Rests.{rest_kept}
 use Rattle.df_top.proofs.Progress.{ends_done, ends_read}
@@ -20,17 +20,17 @@ returns-in-Ok-Line-clause-ends g c =
 
 pub returns-in-Ok-Refused-clause-ends : goal.returns-in-Ok-Refused-clause-ends
 returns-in-Ok-Refused-clause-ends g c =
-    ends_refused g.wal (state (g.D.Disk.told c.args.disk.now) (g.S.Source.left c.args.source.now) (g.W.Sink.written c.args.sink.now) c.args.session.now) _ refl
+    ends_refused g.wal (line_bound c.args.session.now.file) (state (g.D.Disk.told c.args.disk.now) (g.S.Source.left c.args.source.now) (g.W.Sink.written c.args.sink.now) c.args.session.now) _ refl
     (refused_next g.wal (g.D.Disk.told c.args.disk.now) (g.S.Source.left c.args.source.now) (g.S.Source.left c.next.new.source) (g.W.Sink.written c.args.sink.now) c.args.session.now c.next.new.self c.requires.1.1.1.1.0.bound c.requires.1.1.1.1.1.1
     (λ text tells. subst (GivesNext c.args.session.now.lines c.next.new.self text (g.S.Source.left c.next.new.source)) c.in-Ok-Refused.field-0-is (c.in-Ok-Refused.ensures.gives text tells)))
     c.refuse.result c.refuse.ensures.line
 
 pub returns-in-Ok-End-clause-ends : goal.returns-in-Ok-End-clause-ends
 returns-in-Ok-End-clause-ends g c =
-    ends_done g.wal line_bound (rest_kept g.wal) (state (g.D.Disk.told c.args.disk.now) (g.S.Source.left c.args.source.now) (g.W.Sink.written c.args.sink.now) c.args.session.now) _ refl refl
+    ends_done g.wal (line_bound c.args.session.now.file) (rest_kept g.wal) (state (g.D.Disk.told c.args.disk.now) (g.S.Source.left c.args.source.now) (g.W.Sink.written c.args.sink.now) c.args.session.now) _ refl refl
     (λ rest is.
     let ends = subst (GivesNext c.args.session.now.lines c.next.new.self rest (g.S.Source.left c.next.new.source)) c.in-Ok-End.field-0-is (c.in-Ok-End.ensures.gives rest (record { is = is; ended = c.requires.1.1.1.1.1.1 })) in
     (ends.none, ends.ended))
 
 pub returns-in-Err-clause-ends : goal.returns-in-Err-clause-ends
-returns-in-Err-clause-ends g c = ends_read g.wal line_bound (rest_kept g.wal) (state (g.D.Disk.told c.args.disk.now) (g.S.Source.left c.args.source.now) (g.W.Sink.written c.args.sink.now) c.args.session.now) _ refl refl
+returns-in-Err-clause-ends g c = ends_read g.wal (line_bound c.args.session.now.file) (rest_kept g.wal) (state (g.D.Disk.told c.args.disk.now) (g.S.Source.left c.args.source.now) (g.W.Sink.written c.args.sink.now) c.args.session.now) _ refl refl
