@@ -73,59 +73,69 @@ fn run_stands_alone(rt: HostRuntime) -> Result<(), AllocError> {
 }
 
 #[test]
-fn other_layouts_and_clusters_have_no_meaning(rt: HostRuntime) -> Result<(), AllocError> {
-    let rows = [
+fn other_names_of_layouts_have_no_meaning(rt: HostRuntime) -> Result<(), AllocError> {
+    let names = [
         // The name of a layout has one spelling, and so has each of its numbers.
-        ("", "7"),
-        ("Small", "7"),
-        ("small ", "7"),
-        (" large", "7"),
-        ("medium", "7"),
-        ("-small", "7"),
-        ("032,8192,4,16384,64", "7"),
-        ("+32,8192,4,16384,64", "7"),
-        ("-32,8192,4,16384,64", "7"),
-        ("32,8192,4,16384,064", "7"),
-        ("32, 8192,4,16384,64", "7"),
-        ("32 ,8192,4,16384,64", "7"),
-        ("0x20,8192,4,16384,64", "7"),
+        "",
+        "Small",
+        "small ",
+        " large",
+        "medium",
+        "-small",
+        "032,8192,4,16384,64",
+        "+32,8192,4,16384,64",
+        "-32,8192,4,16384,64",
+        "32,8192,4,16384,064",
+        "32, 8192,4,16384,64",
+        "32 ,8192,4,16384,64",
+        "0x20,8192,4,16384,64",
         // There are five numbers.
-        ("32,8192,4,16384,64,", "7"),
-        (",32,8192,4,16384,64", "7"),
-        ("32,8192,4,16384", "7"),
-        ("32,8192,4,16384,", "7"),
-        ("32,8192,4,16384,64,1", "7"),
-        ("32,8192,,16384,64", "7"),
-        ("32.8192.4.16384.64", "7"),
-        (",,,,", "7"),
+        "32,8192,4,16384,64,",
+        ",32,8192,4,16384,64",
+        "32,8192,4,16384",
+        "32,8192,4,16384,",
+        "32,8192,4,16384,64,1",
+        "32,8192,,16384,64",
+        "32.8192.4.16384.64",
+        ",,,,",
         // Each number is within its limits.
-        ("17,8192,4,16384,64", "7"),
-        ("0,8192,4,16384,64", "7"),
-        ("32,8191,4,16384,64", "7"),
-        ("32,8192,65,16384,64", "7"),
-        ("32,8192,16384,4,64", "7"),
-        ("32,8192,4,2048,64", "7"),
-        ("32,8192,4,16384,7", "7"),
-        ("4294967328,8192,4,16384,64", "7"),
-        ("18446744073709551648,8192,4,16384,64", "7"),
-        // The cluster is a number below 2^128.
-        ("small", ""),
-        ("small", "07"),
-        ("small", "00"),
-        ("small", "+7"),
-        ("small", "-7"),
-        ("small", "-"),
-        ("small", " 7"),
-        ("small", "7 "),
-        ("small", "7,"),
-        ("small", "0x7"),
-        ("small", "seven"),
-        ("small", "340282366920938463463374607431768211456"),
-        ("small", "3402823669209384634633746074317682114550"),
+        "17,8192,4,16384,64",
+        "0,8192,4,16384,64",
+        "32,8191,4,16384,64",
+        "32,8192,65,16384,64",
+        "32,8192,16384,4,64",
+        "32,8192,4,2048,64",
+        "32,8192,4,16384,7",
+        "4294967328,8192,4,16384,64",
+        "18446744073709551648,8192,4,16384,64",
     ];
-    for (name, cluster) in rows {
-        let words = words_of(rt.alloc(), &["format", name, cluster])?;
-        assert_eq!(rt; command_of(&words), None, "{name} {cluster}");
+    for name in names {
+        let words = words_of(rt.alloc(), &["format", name, "7"])?;
+        assert_eq!(rt; command_of(&words), None, "{name}");
+    }
+    Ok(())
+}
+
+#[test]
+fn other_clusters_have_no_meaning(rt: HostRuntime) -> Result<(), AllocError> {
+    let clusters = [
+        "",
+        "07",
+        "00",
+        "+7",
+        "-7",
+        "-",
+        " 7",
+        "7 ",
+        "7,",
+        "0x7",
+        "seven",
+        "340282366920938463463374607431768211456",
+        "3402823669209384634633746074317682114550",
+    ];
+    for cluster in clusters {
+        let words = words_of(rt.alloc(), &["format", "small", cluster])?;
+        assert_eq!(rt; command_of(&words), None, "{cluster}");
     }
     Ok(())
 }
@@ -161,52 +171,31 @@ fn a_file_that_is_not_made_has_its_line(rt: HostRuntime) {
     );
 }
 
+fn elsewhere(zone: Zone, index: u64) -> Class {
+    Class::Elsewhere(Place { zone, index })
+}
+
+fn damaged(zone: Zone, index: u64, class: Class) -> OpenError {
+    let place = Place { zone, index };
+    OpenError::Damaged { place, class }
+}
+
+fn bad_field(field: Field, value: u128) -> OpenError {
+    OpenError::BadField { field, value }
+}
+
 #[test]
 fn a_file_that_is_not_opened_has_its_line(rt: HostRuntime) {
-    let place = Place {
-        zone: Zone::WalPrepares,
-        index: 3,
-    };
-    let next = Place {
-        zone: Zone::WalPrepares,
-        index: 4,
-    };
-    let reply = Place {
-        zone: Zone::ClientReplies,
-        index: u64::MAX,
-    };
+    let next = elsewhere(Zone::WalPrepares, 4);
     let rows = [
         (OpenError::NotFormatted, "refused NotFormatted\n"),
-        (
-            OpenError::NoQuorum {
-                classes: [Class::Garbled, Class::Garbled, Class::Garbled, Class::Stale],
-            },
-            "refused NoQuorum Garbled Garbled Garbled Stale\n",
-        ),
-        (
-            OpenError::NoQuorum {
-                classes: [
-                    Class::Blank,
-                    Class::Stale,
-                    Class::Elsewhere(next),
-                    Class::Garbled,
-                ],
-            },
-            "refused NoQuorum Blank Stale Elsewhere WalPrepares 4 Garbled\n",
-        ),
         (OpenError::Version { found: 2 }, "refused Version found 2\n"),
         (
-            OpenError::BadField {
-                field: Field::Op,
-                value: 4_611_686_018_427_387_905,
-            },
+            bad_field(Field::Op, 4_611_686_018_427_387_905),
             "refused BadField Op 4611686018427387905\n",
         ),
         (
-            OpenError::BadField {
-                field: Field::TrailerChecksum,
-                value: u128::MAX,
-            },
+            bad_field(Field::TrailerChecksum, u128::MAX),
             "refused BadField TrailerChecksum 340282366920938463463374607431768211455\n",
         ),
         (
@@ -217,17 +206,11 @@ fn a_file_that_is_not_opened_has_its_line(rt: HostRuntime) {
             "refused LayoutDiffers 1024 1048576 64 524288 16384 32 8192 4 16384 64\n",
         ),
         (
-            OpenError::Damaged {
-                place,
-                class: Class::Elsewhere(next),
-            },
+            damaged(Zone::WalPrepares, 3, next),
             "refused Damaged WalPrepares 3 Elsewhere WalPrepares 4\n",
         ),
         (
-            OpenError::Damaged {
-                place: reply,
-                class: Class::Blank,
-            },
+            damaged(Zone::ClientReplies, u64::MAX, Class::Blank),
             "refused Damaged ClientReplies 18446744073709551615 Blank\n",
         ),
         (OpenError::DiskFault, ""),
@@ -238,18 +221,33 @@ fn a_file_that_is_not_opened_has_its_line(rt: HostRuntime) {
 }
 
 #[test]
-fn the_longest_line_is_whole(rt: HostRuntime) {
-    let far = Class::Elsewhere(Place {
-        zone: Zone::ClientReplies,
-        index: u64::MAX,
-    });
-    let text = "refused NoQuorum \
-        Elsewhere ClientReplies 18446744073709551615 \
-        Elsewhere ClientReplies 18446744073709551615 \
-        Elsewhere ClientReplies 18446744073709551615 \
-        Elsewhere ClientReplies 18446744073709551615\n";
-    let error = OpenError::NoQuorum { classes: [far; 4] };
-    assert_eq!(rt; open_refusal(&error).as_slice(), text.as_bytes());
+fn four_copies_of_which_no_two_agree_are_told(rt: HostRuntime) {
+    let next = elsewhere(Zone::WalPrepares, 4);
+    let far = elsewhere(Zone::ClientReplies, u64::MAX);
+    let (blank, garbled, stale) = (Class::Blank, Class::Garbled, Class::Stale);
+    let rows = [
+        (
+            [garbled, garbled, garbled, stale],
+            "refused NoQuorum Garbled Garbled Garbled Stale\n",
+        ),
+        (
+            [blank, stale, next, garbled],
+            "refused NoQuorum Blank Stale Elsewhere WalPrepares 4 Garbled\n",
+        ),
+        // The longest line of all.
+        (
+            [far, far, far, far],
+            "refused NoQuorum \
+                Elsewhere ClientReplies 18446744073709551615 \
+                Elsewhere ClientReplies 18446744073709551615 \
+                Elsewhere ClientReplies 18446744073709551615 \
+                Elsewhere ClientReplies 18446744073709551615\n",
+        ),
+    ];
+    for (classes, text) in rows {
+        let error = OpenError::NoQuorum { classes };
+        assert_eq!(rt; open_refusal(&error).as_slice(), text.as_bytes(), "{text}");
+    }
 }
 
 #[test]
@@ -265,10 +263,7 @@ fn zones_have_their_names(rt: HostRuntime) {
         (Zone::Grid, "refused Damaged Grid 1 Garbled\n"),
     ];
     for (zone, text) in rows {
-        let error = OpenError::Damaged {
-            place: Place { zone, index: 1 },
-            class: Class::Garbled,
-        };
+        let error = damaged(zone, 1, Class::Garbled);
         assert_eq!(rt; open_refusal(&error).as_slice(), text.as_bytes(), "{text}");
     }
 }
@@ -306,7 +301,7 @@ fn fields_have_their_names(rt: HostRuntime) {
         (Field::Pending, "refused BadField Pending 0\n"),
     ];
     for (field, text) in rows {
-        let error = OpenError::BadField { field, value: 0 };
+        let error = bad_field(field, 0);
         assert_eq!(rt; open_refusal(&error).as_slice(), text.as_bytes(), "{text}");
     }
 }
