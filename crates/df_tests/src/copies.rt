@@ -7,7 +7,10 @@ use df_format::{Super, SuperFields, encode_copy, test_fields};
 use df_layout::{Class, Place, Zone};
 use df_memdisk::{DroppingDisk, MemoryDisk};
 use df_quorum::{Chosen, Slot, choose};
-use df_superblock::{UpdateError, read_all, repair, update, write_copy};
+use df_superblock::{
+    UpdateError, equal_copies_begin, four_copies_become_steady, new_disk_has_no_copies,
+    other_writes_keep, read_all, repair, steady_copies_are_kept, update, write_copy,
+};
 use std::alloc::Global;
 use std::test::Fail;
 
@@ -191,4 +194,13 @@ fn each_failing_call_of_an_update_is_a_disk_fault(rt: HostRuntime) -> Result<(),
         assert_eq!(rt; answer, wanted, "call {call}");
     }
     Ok(())
+}
+
+#[test]
+fn the_laws_of_the_copies_are_called(_rt: HostRuntime) {
+    equal_copies_begin();
+    new_disk_has_no_copies();
+    four_copies_become_steady();
+    steady_copies_are_kept();
+    other_writes_keep();
 }
