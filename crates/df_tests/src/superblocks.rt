@@ -7,9 +7,10 @@ use df_disk::Disk;
 use df_layout::{Class, Field, Layout, Place, Zone};
 use df_memdisk::{MemoryDisk, Strike};
 use df_replica::{
-    FormatError, OpenError, copies_are_apart, copies_format, format, one_answer, probe,
-    read_superblock, safe_stays_safe, stop_stays_safe, super_is_written, survey_superblock,
-    two_copies_stay_chosen, untouched_is_safe,
+    FormatError, OpenError, choices_have_two_members, copies_are_apart, copies_format,
+    events_are_of_file, format, one_answer, probe, read_superblock, safe_stays_safe,
+    stop_stays_safe, super_is_written, survey_superblock, two_copies_stay_chosen,
+    untouched_is_safe,
 };
 use std::alloc::Global;
 use std::test::Fail;
@@ -249,6 +250,8 @@ fn the_laws_of_files_are_called(_rt: HostRuntime) {
     two_copies_stay_chosen();
     copies_are_apart();
     copies_format();
+    events_are_of_file();
+    choices_have_two_members();
     one_answer();
     super_is_written();
 }
