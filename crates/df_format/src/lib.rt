@@ -8,6 +8,8 @@ mod copy_laws;
 mod decode;
 #[cfg(test)]
 mod examples;
+#[cfg(test)]
+mod fault_tests;
 mod header;
 mod kind;
 #[cfg(test)]
@@ -20,6 +22,8 @@ mod places;
 mod reference;
 mod rules;
 mod super_codec;
+#[cfg(test)]
+mod super_examples;
 mod super_rules;
 #[cfg(test)]
 mod super_tests;

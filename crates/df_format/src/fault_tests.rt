@@ -1,0 +1,143 @@
+// Which superblocks can be used: each field's test failing in turn, and passing at its limits.
+use crate::super_examples::{FIRST, LATER, sealed, written};
+use crate::{SuperFault, SuperFields, decode_copy, test_fields};
+use df_layout::{Field, Layout};
+
+// A number of so many bytes, at an offset of the sector.
+type Put = (usize, usize, u64);
+
+fn put(bytes: &mut [u8; 4096], number: &Put) {
+    let (at, width, value) = *number;
+    for (i, byte) in value.to_le_bytes().iter().enumerate() {
+        if i < width && at < 4096 - i {
+            bytes[at + i] = *byte;
+        }
+    }
+}
+
+// Whether a superblock can be used whose sector is that of these fields with numbers put over it; None where that is no
+// copy.
+fn tested(fields: &SuperFields, numbers: &[Put]) -> Option<Result<(), SuperFault>> {
+    let mut bytes = written(fields, 0);
+    for number in numbers {
+        put(&mut bytes, number);
+    }
+    let copy = decode_copy(&sealed(bytes))?;
+    Some(test_fields(&copy.fields).map(|_| ()))
+}
+
+fn bad(field: Field, value: u64) -> SuperFault {
+    SuperFault::BadField {
+        field,
+        value: u128::from(value),
+    }
+}
+
+#[test]
+fn tests_each_field_without_a_checkpoint(rt: HostRuntime) {
+    let cases = [
+        (36, 4, 0, Field::Slots),
+        (36, 4, 24, Field::Slots),
+        (36, 4, 1040, Field::Slots),
+        (40, 4, 8191, Field::MessageSize),
+        (40, 4, 1_052_672, Field::MessageSize),
+        (44, 4, 0, Field::Clients),
+        (44, 4, 65, Field::Clients),
+        (64, 4, 0, Field::BlockSize),
+        (64, 4, 528_384, Field::BlockSize),
+        (68, 4, 7, Field::Blocks),
+        (68, 4, 16_385, Field::Blocks),
+        (48, 8, 0, Field::Cluster),
+        (72, 8, 0, Field::Sequence),
+        (72, 8, (1 << 62) + 1, Field::Sequence),
+        (112, 2, 256, Field::OpChecksum),
+        (128, 8, u64::MAX, Field::TrailerChecksum),
+        (144, 8, 1, Field::TrailerSize),
+        (152, 8, 1, Field::Boot),
+    ];
+    for (at, width, value, field) in cases {
+        let answer = tested(&FIRST, &[(at, width, value)]);
+        assert_eq!(rt; answer, Some(Err(bad(field, value))));
+    }
+    for at in [160, 4095] {
+        let answer = tested(&FIRST, &[(at, 1, 1)]);
+        assert_eq!(rt; answer, Some(Err(bad(Field::Zero, at as u64))));
+    }
+    assert_eq!(rt; tested(&FIRST, &[]), Some(Ok(())));
+}
+
+#[test]
+fn tests_each_field_with_a_checkpoint(rt: HostRuntime) {
+    let cases = [
+        (80, (1 << 62) + 1, Field::Op),
+        (80, u64::MAX, Field::Op),
+        (88, 99, Field::Head),
+        (88, 133, Field::Head),
+        (96, 111, Field::Replies),
+        (96, 101, Field::Replies),
+        (96, u64::MAX, Field::Replies),
+        (104, 0, Field::TrailerAddress),
+        (104, 65, Field::TrailerAddress),
+        (144, 0, Field::TrailerSize),
+        (144, 2193, Field::TrailerSize),
+    ];
+    for (at, value, field) in cases {
+        let answer = tested(&LATER, &[(at, 8, value)]);
+        assert_eq!(rt; answer, Some(Err(bad(field, value))));
+    }
+    let usable = [
+        [(88, 8, 132), (96, 8, 124), (48, 8, 7)],
+        [(88, 8, 100), (96, 8, 100), (48, 8, 7)],
+        [(104, 8, 64), (144, 8, 1), (72, 8, 1 << 62)],
+        [(80, 8, 1 << 62), (88, 8, 1 << 62), (96, 8, (1 << 62) - 8)],
+        [(48, 8, 0), (56, 8, u64::MAX), (72, 8, 1)],
+    ];
+    for numbers in usable {
+        assert_eq!(rt; tested(&LATER, &numbers), Some(Ok(())));
+    }
+}
+
+#[test]
+fn tests_the_version_first_and_then_in_order(rt: HostRuntime) {
+    let broken = [
+        (32, 4, 9),
+        (36, 4, 0),
+        (44, 4, 0),
+        (48, 8, 0),
+        (80, 8, u64::MAX),
+        (152, 8, 1),
+        (200, 1, 1),
+    ];
+    let faults = [
+        SuperFault::Version { found: 9 },
+        bad(Field::Slots, 0),
+        bad(Field::Clients, 0),
+        bad(Field::Cluster, 0),
+        bad(Field::Op, u64::MAX),
+        bad(Field::Boot, 1),
+        bad(Field::Zero, 200),
+    ];
+    for (i, fault) in faults.iter().enumerate() {
+        if i < broken.len() {
+            assert_eq!(rt; tested(&LATER, &broken[i..]), Some(Err(*fault)));
+        }
+    }
+}
+
+#[test]
+fn uses_the_largest_superblock(rt: HostRuntime) {
+    let large = Layout::large();
+    let fields = SuperFields {
+        slots: large.slots,
+        message_size: large.message_size,
+        clients: large.clients,
+        block_size: large.block_size,
+        blocks: large.blocks,
+        trailer_size: 267_272,
+        ..LATER
+    };
+    let layout = test_fields(&fields).map(|content| content.layout());
+    assert_eq!(rt; layout, Ok(large));
+    let answer = tested(&fields, &[(144, 8, 267_273)]);
+    assert_eq!(rt; answer, Some(Err(bad(Field::TrailerSize, 267_273))));
+}

@@ -1,0 +1,55 @@
+// Two superblocks of layout small and cluster 7, and their sectors.
+use crate::{SuperFields, encode_copy, test_fields};
+use df_base::check;
+
+// What the first superblock of layout small and cluster 7 says.
+pub(crate) const FIRST: SuperFields = SuperFields {
+    version: 1,
+    slots: 32,
+    message_size: 8192,
+    clients: 4,
+    block_size: 16_384,
+    blocks: 64,
+    cluster: 7,
+    sequence: 1,
+    op: 0,
+    op_checksum: [0; 16],
+    head: 0,
+    replies: 0,
+    trailer_address: 0,
+    trailer_checksum: [0; 16],
+    trailer_size: 0,
+    boot: 0,
+    first_nonzero: None,
+};
+
+// One with a checkpoint of op 100, whose trailer ends at address 9.
+pub(crate) const LATER: SuperFields = SuperFields {
+    sequence: 2,
+    op: 100,
+    op_checksum: [1; 16],
+    head: 110,
+    replies: 105,
+    trailer_address: 9,
+    trailer_checksum: [2; 16],
+    trailer_size: 2192,
+    ..FIRST
+};
+
+// The sector with its checksum made right.
+pub(crate) fn sealed(mut bytes: [u8; 4096]) -> [u8; 4096] {
+    let sum = check(&bytes[32..]);
+    bytes[..16].copy_from_slice(&sum);
+    bytes
+}
+
+// The sector of a copy of these fields, if they can be used.
+pub(crate) fn written(fields: &SuperFields, number: u8) -> [u8; 4096] {
+    let mut bytes = [9; 4096];
+    if let Ok(content) = test_fields(fields)
+        && number < 4
+    {
+        encode_copy(&content, number, &mut bytes);
+    }
+    bytes
+}
