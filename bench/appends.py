@@ -1,8 +1,8 @@
 """What appends cost: writes, syncs, bytes and memory by strace, and the time against a raw loop of the same calls.
 
-    python3 bench/appends.py PATH-TO-datafile [--rounds N] [--seed N] [--folder PATH]
+    python3 bench/appends.py PATH-TO-datafile [--layout WORD] [--rounds N] [--seed N] [--folder PATH]
 
-Python's standard library alone. Each round is a ring of 32 appends on a fresh file. See docs/BENCHMARKS.md.
+Python's standard library alone. Each round is 32 appends on a file fresh from `format`. See docs/BENCHMARKS.md.
 """
 
 import sys
@@ -16,45 +16,69 @@ import statistics
 import struct
 import subprocess
 import tempfile
+import threading
 import time
 from random import Random
+from typing import NamedTuple
 
 from tries import form, script
 from tries.binary import Binary, expect, has_strace
 from tries.common import named
 
-SIZES = (0, 128, 3840, 7936)
+APPENDS = 32
+CLUSTER = 7
+SIZES = (0, 128, 3840, 7936, 65280)
 # Linux's call that makes a pipe hold more, so that a whole script can wait in it.
 SET_PIPE_SIZE = 1031
 RAW = os.path.join(os.path.dirname(os.path.abspath(__file__)), "raw_loop.py")
 
 
-def script_of(random: Random, size: int) -> bytes:
-    """A ring of appends with bodies of one size."""
-    bodies = (random.randbytes(size).hex().encode() or b"-" for _ in range(32))
-    return b"".join(b"append %d 1 %s\n" % (client, body) for client, body in enumerate(bodies, 1))
+class Bench(NamedTuple):
+    """The program over a file of one layout, and how many appends a round has."""
+
+    binary: Binary
+    word: str
+    layout: form.Layout
+    appends: int
+
+    def make(self) -> bytes:
+        """A file fresh from `format`."""
+        self.binary.put(None)
+        wanted = script.make(None, form.Home(self.layout, CLUSTER))
+        expect("format", wanted.text, self.binary.run(words=["format", self.word, str(CLUSTER)]).text)
+        return wanted.data
+
+    def sizes(self) -> list:
+        """The bodies' bytes: those that fit, and the greatest."""
+        most = self.layout.body_max()
+        return sorted({most, *(size for size in SIZES if size < most)})
+
+    def script_of(self, random: Random, size: int) -> bytes:
+        """Appends with bodies of one size."""
+        bodies = (random.randbytes(size).hex().encode() or b"-" for _ in range(self.appends))
+        return b"".join(b"append %d 1 %s\n" % (client, body) for client, body in enumerate(bodies, 1))
 
 
-def calls_of(binary: Binary, size: int, text: bytes) -> list:
-    """One row of the table of calls: what a ring of appends asks of the file, for each append."""
-    binary.put(None)
+def calls_of(bench: Bench, size: int, text: bytes) -> list:
+    """One row of the table of calls: what the appends ask of the file, for each append."""
+    data, binary, layout, count = bench.make(), bench.binary, bench.layout, bench.appends
     result, calls = binary.trace(text)
-    expect("the answers", script.run(b"", text).text, result.text)
+    expect("the answers", script.run(data, text).text, result.text)
     fd = [call.result for call in calls if call.name == "openat" and f'"{binary.path}"' in call.args[1]][-1]
     writes = [(int(call.args[-1]), int(call.args[-2])) for call in named(calls, "pwrite64", fd)]
     first = next(at for at, call in enumerate(calls) if call.name == "read" and call.fd == 0)
     after = calls[first:]
     syncs = len(named(after, "fdatasync", fd)) + len(named(after, "fsync"))
-    covered = [(form.place(op), len(form.whole_sectors(bytes(form.HEADER + size)))) for op in range(1, 33)]
+    covered = [(layout.place(op), len(form.whole_sectors(bytes(form.HEADER + size)))) for op in range(1, count + 1)]
     outside = sum(length for place, length in writes) - sum(length for place, length in covered)
     outside = outside // form.SECTOR if [at for at, _ in writes] == [at for at, _ in covered] else "other places"
     memory = sum(call.name in ("brk", "mmap") for call in after)
     others = len(calls) - first - len(writes) - syncs - len(named(after, "read", 0)) - len(named(after, "write", 1))
-    each = [len(writes) / 32, syncs / 32, sum(length for _, length in writes) / 32]
+    each = [len(writes) / count, syncs / count, sum(length for _, length in writes) / count]
     return [size, *each, outside, memory, len(named(after, "read", 0)), others]
 
 
-def show_calls(binary: Binary, random: Random) -> None:
+def show_calls(bench: Bench, random: Random) -> None:
     if not has_strace():
         print("strace isn't installed: the system calls aren't counted\n")
         return
@@ -62,9 +86,9 @@ def show_calls(binary: Binary, random: Random) -> None:
     print("| body | writes | syncs | bytes written | sectors the unit doesn't cover, in all | takes of memory, in all "
           "| reads of the script, in all | other calls, in all (closes at the end) |")
     print("|---|---|---|---|---|---|---|---|")
-    for size in SIZES:
-        row = calls_of(binary, size, script_of(random, size))
-        print("| " + " | ".join(f"{cell:g}" if isinstance(cell, float) else str(cell) for cell in row) + " |")
+    for size in bench.sizes():
+        row = calls_of(bench, size, bench.script_of(random, size))
+        print("| " + " | ".join(f"{cell:.10g}" if isinstance(cell, float) else str(cell) for cell in row) + " |")
     print()
 
 
@@ -76,6 +100,22 @@ def first_in_line() -> None:
         pass
 
 
+def hold(pipe, length: int) -> int:
+    """Makes a pipe hold so many bytes, or a mebibyte where more isn't allowed. Gives the bytes that it holds."""
+    for size in (1 << max(20, (length - 1).bit_length()), 1 << 20):
+        try:
+            return fcntl.fcntl(pipe, SET_PIPE_SIZE, size)
+        except OSError:
+            continue
+    return 65536
+
+
+def give(pipe, text: bytes) -> None:
+    """Writes a text and ends it."""
+    with pipe:
+        pipe.write(text)
+
+
 def run_timed(command: list, first: bytes = b"", rest: bytes = b"") -> tuple:
     """What a command prints, the time at which each line came, and the processor's nanoseconds that it took.
 
@@ -84,14 +124,17 @@ def run_timed(command: list, first: bytes = b"", rest: bytes = b"") -> tuple:
     """
     pipe = subprocess.PIPE
     with subprocess.Popen(command, stdin=pipe, stdout=pipe, bufsize=0, preexec_fn=first_in_line) as process:
+        held = 0
         if first:
-            fcntl.fcntl(process.stdin, SET_PIPE_SIZE, 1 << 20)
+            held = hold(process.stdin, len(first) + len(rest))
             time.sleep(0.03)
             process.stdin.write(first)
         printed = os.read(process.stdout.fileno(), 65536)
         stamps = [time.perf_counter_ns()]
-        process.stdin.write(rest)
-        process.stdin.close()
+        if len(rest) <= held:
+            give(process.stdin, rest)
+        else:
+            threading.Thread(target=give, args=(process.stdin, rest)).start()
         while piece := os.read(process.stdout.fileno(), 65536):
             stamps += [time.perf_counter_ns()] * piece.count(b"\n")
             printed += piece
@@ -103,22 +146,22 @@ def run_timed(command: list, first: bytes = b"", rest: bytes = b"") -> tuple:
 
 
 class Rounds:
-    """Rounds of both over fresh files."""
+    """Rounds of both over fresh files. That these are made isn't timed."""
 
-    def __init__(self, binary: Binary, text: bytes):
-        self.binary, self.text = binary, text
-        self.wanted = script.run(b"", text)
-        self.plan = os.path.join(binary.folder, "plan")
-        writes = [event for event in self.wanted.events if event.kind == "write"]
+    def __init__(self, bench: Bench, text: bytes):
+        self.bench, self.binary, self.text = bench, bench.binary, text
+        self.wanted = script.run(bench.make(), text)
+        self.plan = os.path.join(self.binary.folder, "plan")
+        writes = [event for event in self.wanted.events if event.prepare]
         put(self.plan, b"".join(struct.pack("<QQ", event.at, len(event.data)) + event.data for event in writes))
 
     def program(self) -> tuple:
         """The nanoseconds of each of the program's appends but the first, from answer to answer; the processor's."""
         command = [self.binary.program, self.binary.path, "run"]
         end = self.text.index(b"\n") + 1
-        self.binary.put(None)
+        self.bench.make()
         _, _, least = run_timed(command, self.text[:end])
-        self.binary.put(None)
+        self.bench.make()
         printed, stamps, processor = run_timed(command, self.text[:end], self.text[end:])
         expect("the answers", self.wanted.text, printed)
         expect("the file", self.wanted.data, self.binary.get())
@@ -126,7 +169,7 @@ class Rounds:
 
     def raw(self) -> tuple:
         """The same for the raw loop, measured within it."""
-        self.binary.put(None)
+        self.bench.make()
         command = [sys.executable, "-I", "-S", RAW, self.binary.path, self.plan]
         printed, _, _ = run_timed(command)
         expect("the raw loop's file", self.wanted.data, self.binary.get())
@@ -144,9 +187,9 @@ def quarters(ratios: list) -> str:
     return f"{middle:.3f} ({low:.3f} to {high:.3f})"
 
 
-def ratio_row(binary: Binary, random: Random, size: int, rounds: int) -> list:
+def ratio_row(bench: Bench, random: Random, size: int, rounds: int) -> list:
     """One row of the table of times."""
-    both = Rounds(binary, script_of(random, size))
+    both, timed = Rounds(bench, bench.script_of(random, size)), bench.appends - 1
     seen: dict = {"program": [], "raw": [], "raw again": []}
     runs = {"program": both.program, "raw": both.raw, "raw again": both.raw}
     for _ in range(rounds):
@@ -154,36 +197,41 @@ def ratio_row(binary: Binary, random: Random, size: int, rounds: int) -> list:
             seen[name].append(runs[name]())
     own, raw, again = ([sum(times) for times, _ in seen[name]] for name in seen)
     typical = [statistics.median(one[0]) / statistics.median(two[0]) for one, two in zip(seen["program"], seen["raw"])]
-    beyond = statistics.median(one[1] - two[1] for one, two in zip(seen["program"], seen["raw"])) / 31
+    beyond = statistics.median(one[1] - two[1] for one, two in zip(seen["program"], seen["raw"])) / timed
     ratios = [[one / two for one, two in zip(own, raw)], typical, [one / two for one, two in zip(again, raw)]]
-    times = [statistics.median(own) / 31, statistics.median(raw) / 31, beyond]
+    times = [statistics.median(own) / timed, statistics.median(raw) / timed, beyond]
     return [str(size), *map(quarters, ratios), *(f"{time_ / 1e3:.0f}" for time_ in times)]
 
 
-def show_times(binary: Binary, random: Random, rounds: int) -> None:
-    print(f"Time of 31 appends against a raw loop of the same writes and syncs, {rounds} rounds in random order; the")
+def show_times(bench: Bench, random: Random, rounds: int) -> None:
+    print(f"Time of {bench.appends - 1} appends against a raw loop of the same writes and syncs, {rounds} rounds in random order; the")
     print("median of the rounds' ratios, with its quartiles:\n")
     print("| body | ratio of the whole | ratio of the median append | of two raw loops (what the machine adds) "
           "| an append, us | raw, us | processor beyond raw, us |")
     print("|---|---|---|---|---|---|---|")
-    sizes = list(SIZES)
+    sizes = bench.sizes()
     random.shuffle(sizes)
-    for row in sorted((ratio_row(binary, random, size, rounds) for size in sizes), key=lambda row: int(row[0])):
+    for row in sorted((ratio_row(bench, random, size, rounds) for size in sizes), key=lambda row: int(row[0])):
         print("| " + " | ".join(row) + " |")
 
 
 def main() -> None:
     parser = argparse.ArgumentParser(description="What appends cost.")
     parser.add_argument("program", help="the built program datafile")
+    parser.add_argument("--layout", default="small", help="the file's layout, as `format` takes it (default small)")
     parser.add_argument("--rounds", type=int, default=40, help="rounds for each size of body (default 40)")
     parser.add_argument("--seed", type=int, default=1, help="the seed of the bodies and of the order (default 1)")
     parser.add_argument("--folder", help="where the files stand (default: the folder for temporary files)")
     given = parser.parse_args()
+    layout = script.layout_of(given.layout)
+    if layout is None:
+        parser.error(f"no layout: {given.layout}")
     first_in_line()
     with tempfile.TemporaryDirectory(dir=given.folder) as folder:
-        binary, random = Binary(given.program, folder), Random(given.seed)
-        show_calls(binary, random)
-        show_times(binary, random, given.rounds)
+        bench = Bench(Binary(given.program, folder), given.layout, layout, min(APPENDS, layout.slots))
+        random = Random(given.seed)
+        show_calls(bench, random)
+        show_times(bench, random, given.rounds)
 
 
 if __name__ == "__main__":

@@ -1,4 +1,4 @@
-"""Tries the built program against an independent model, written from docs/FORMAT.md and docs/SCRIPT.md alone.
+"""Tries the built program against an independent model of its file and its words, that of docs/FORMAT.md and docs/SCRIPT.md.
 
     python3 bench/model.py PATH-TO-datafile [--seconds N] [--seed N] [--kind NAME] [--first N] [--folder PATH]
 
@@ -17,11 +17,12 @@ import time
 from collections import Counter
 from random import Random, SystemRandom
 
-from tries import budget, damage, faults, scripts, stops, streams
+from tries import budget, damage, faults, formats, rows, scripts, stops, streams
 from tries.binary import Binary, Disagreement, has_strace
 from tries.common import Try
 
-KINDS = {**budget.KINDS, **scripts.KINDS, **damage.KINDS, **stops.KINDS, **streams.KINDS, **faults.KINDS}
+PARTS = (rows, formats, scripts, damage, stops, streams, faults, budget)
+KINDS = {name: kind for part in PARTS for name, kind in part.KINDS.items()}
 TRACED = {"killed", *faults.KINDS}
 
 

@@ -1,4 +1,4 @@
-"""The writes and syncs of a ring of appends and nothing else, for bench/appends.py: raw_loop.py FILE PLAN.
+"""The writes and syncs of appends and nothing else, for bench/appends.py: raw_loop.py FILE PLAN.
 
 PLAN holds for each write two numbers of 8 bytes, offset and length, and its bytes. Prints the processor's nanoseconds
 of all writes and syncs but the first, then the nanoseconds that each of these took, one number a line.

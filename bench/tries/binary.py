@@ -58,6 +58,8 @@ class Binary:
 
     def __init__(self, program: str, folder: str):
         self.program = os.path.abspath(program)
+        # Of an interpreter nothing can be said about memory, nor about the files that it opens for itself.
+        self.interpreted = program.endswith(".py")
         self.folder = folder
         self.path = os.path.join(folder, "file")
         self.log = os.path.join(folder, "calls")
@@ -103,13 +105,14 @@ class Binary:
             [self.program, self.path, "run"], stdin=pipe, stdout=pipe, stderr=pipe, cwd=self.folder, bufsize=0
         )
 
-    def trace(self, text: bytes, inject=(), before=None) -> tuple:
+    def trace(self, text: bytes, inject=(), before=None, words=("run",)) -> tuple:
         """One run under strace with these injections: what it printed, and its calls. The input is a file."""
         source = os.path.join(self.folder, "input")
         with open(source, "wb") as file:
             file.write(text)
         rules = [word for rule in inject for word in ("-e", f"inject={rule}")]
-        command = ["strace", "-f", "-s", "0", "-o", self.log, "-e", TRACED, *rules, self.program, self.path, "run"]
+        command = ["strace", "-f", "-s", "0", "-o", self.log, "-e", TRACED, *rules]
+        command += [self.program, self.path, *words]
         with open(source, "rb") as stdin:
             result = self.call(command, None, before, {"stdin": stdin})
         return result, self.calls()

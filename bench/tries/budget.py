@@ -7,7 +7,8 @@ from . import form, script
 from .binary import expect
 from .common import Try, same_bytes
 
-LINE = b"append 1 1 " + b"5a" * form.BODY_MAX + b"\n"
+HOME = form.Home(form.SMALL, 7)
+LINE = b"append 1 1 " + b"5a" * HOME.layout.body_max() + b"\n"
 BLOCK = LINE * 200
 
 
@@ -28,7 +29,7 @@ def tail_of(rest: int) -> bytes:
 
 def budget(t: Try) -> None:
     """Scripts of just 2^32 bytes and of some more, over a full ring."""
-    data = script.run(b"", b"append 1 1 -\n" * 32).data
+    data = script.run(script.fresh(HOME), b"append 1 1 -\n" * 32).data
     cases = (
         (0, "just 2^32 bytes"), (1, "one byte more, a byte 10"), (-1, "2^32 bytes without a last byte 10"),
         (2, "2^32 bytes and a further line"),
@@ -40,7 +41,7 @@ def budget(t: Try) -> None:
         tail = tail_of(rest)
         tail = tail[:-1] if beyond == -1 else tail + (b"append 2 2 -\n" if beyond == 2 else b"")
         good = blocks * 200 + len(script.lines(tail)) - (beyond in (1, 2))
-        wanted = script.FULL * good + (b"script %d\n" % (good + 1) if beyond in (1, 2) else b"")
+        wanted = script.full(HOME.layout).data * good + (b"script %d\n" % (good + 1) if beyond in (1, 2) else b"")
         text, status = feed(t, blocks, tail)
         expect(f"{name}: status", 3 if beyond in (1, 2) else 0, status)
         expect(f"{name}: text", wanted, text)

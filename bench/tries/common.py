@@ -35,36 +35,34 @@ def same_run(what: str, wanted: script.Outcome, got: Result) -> None:
     expect(f"{what}: status", wanted.status, got.status)
 
 
-def session(t: Try, what: str, data: Optional[bytes], text: bytes) -> script.Outcome:
-    """Runs a script over the file, which holds `data`, and compares text, status and bytes with the model."""
-    wanted = script.run(data or b"", text)
-    same_run(what, wanted, t.binary.run(text))
+def asked(t: Try, what: str, data: Optional[bytes], words: list, text: bytes = b"") -> script.Outcome:
+    """Runs words over the file, which holds `data`, and compares text, status and bytes with the model."""
+    wanted = script.command(data, words, text)
+    same_run(what, wanted, t.binary.run(text, words))
     same_bytes(what, wanted.data, t.binary.get())
     t.counts["runs that were as the model's"] += 1
     return wanted
 
 
+def session(t: Try, what: str, data: Optional[bytes], text: bytes) -> script.Outcome:
+    """The same for the word `run`."""
+    return asked(t, what, data, ["run"], text)
+
+
 def reopen(t: Try, what: str, kept: list, data: Optional[bytes]) -> bytes:
     """Opens the file with one more append: each prepare of `kept` is there, and the run is the model's."""
-    found = form.ring(data or b"")
+    found = script.found(data)
     require(f"{what}: the file has lost an answered append: {len(found)} of {len(kept)}", found[: len(kept)] == kept)
     wanted = session(t, what, data, b"append 77 78 797a\n")
-    require(f"{what}: an append is lost at the open", form.ring(wanted.data)[: len(found)] == found)
+    require(f"{what}: an append is lost at the open", script.found(wanted.data)[: len(found)] == found)
     return wanted.data
-
-
-def state(data: bytes, events: list) -> bytes:
-    """The file after these events."""
-    for event in events:
-        data = script.apply(data, event)
-    return data
 
 
 def on_file(t: Try, calls: list) -> tuple:
     """The calls from the opening of the data file on, without those on other open files; and the file's descriptor."""
     opened = [call for call in calls if call.name == "openat" and f'"{t.binary.path}"' in call.args[1]]
     if not opened or opened[-1].result < 0:
-        return [], None
+        return [call for call in calls if call.name == "write" and call.fd == 1], None
     start = calls.index(opened[0])
     fd = opened[-1].result
     any_file = ("openat", "fsync", "brk", "mmap")

@@ -5,95 +5,59 @@ import resource
 import signal
 from typing import Optional
 
-from . import form, generate, script
+from . import form, generate, script, superblock
 from .binary import expect, require
-from .common import Try, named, on_file, reopen, same_bytes, same_run, state
+from .common import Try, named, on_file, reopen, same_bytes, same_run
+from .plan import Plan, copies_reads, events_before, events_of
+from .script import state
 from .stops import left
 
 DISK, READ, WRITE, MEMORY = 5, 6, 7, 8
 ERRORS = "EIO ENOSPC EACCES EINVAL EBADF EAGAIN EPIPE ENOMEM EROFS EDQUOT EISDIR ETIMEDOUT".split()
 
 
-class Plan:
-    """One session over one file: what the model has, and the calls of a run in which nothing fails."""
-
-    def __init__(self, t: Try, most: int = 20, data: Optional[bytes] = None):
-        if data is None and t.random.random() < 0.7:
-            data = generate.image(t.random, most)
-        self.data = data
-        self.text = generate.any_script(t.random) if t.random.random() < 0.3 else generate.good_script(t.random)
-        self.wanted = script.run(self.data or b"", self.text)
-        t.binary.put(self.data)
-        got, calls = t.binary.trace(self.text)
-        same_run("the run under strace", self.wanted, got)
-        same_bytes("the run under strace", self.wanted.data, t.binary.get())
-        self.all = calls
-        self.calls, self.fd = on_file(t, calls)
-
-    def again(self, t: Try, rules, before=None):
-        """The same session with these injections."""
-        t.binary.put(self.data)
-        return t.binary.trace(self.text, rules, before)[0]
-
-    def answered(self, text: bytes) -> list:
-        """The prepares that are durable by what was printed."""
-        return form.ring(self.data or b"") + self.wanted.accepted[: text.count(b"appended ")]
-
-    def ends(self, t: Try, what: str, got, upto: int, status: int) -> bytes:
-        """The run ended with this status after the first `upto` events, and the file opens with what was answered."""
-        expect(f"{what}: status", status, got.status)
-        expect(f"{what}: text", script.answers(self.wanted.events[:upto]), got.text)
-        data = state(self.data or b"", self.wanted.events[:upto])
-        same_bytes(what, data, t.binary.get() or b"")
-        t.counts[what] += 1
-        return reopen(t, what, self.answered(got.text), t.binary.get())
-
-    def torn(self, t: Try, what: str, at: int, text: bytes) -> bytes:
-        """The write at this event wasn't synced: a stop tears it, and the file opens with what was answered."""
-        image = left(t, state(self.data or b"", self.wanted.events[:at]), self.wanted.events[at])
-        t.binary.put(image)
-        return reopen(t, f"{what}, then a stop", self.answered(text), image)
-
-
-def event_of(plan: Plan, kind: str, number: int) -> int:
-    """The place of one event of a kind."""
-    return [at for at, event in enumerate(plan.wanted.events) if event.kind == kind][number]
-
-
-def events_of(calls: list, fd: int) -> list:
-    """The writes, syncs and answers that a run did, in order, with their offsets and lengths."""
-    seen = []
-    for call in calls:
-        if call.result < 0:
-            continue
-        if call.name == "pwrite64" and call.fd == fd:
-            seen.append(("write", int(call.args[-1]), int(call.args[-2])))
-        elif call.name in ("fdatasync", "fsync") and call.fd == fd:
-            seen.append(("sync", 0, 0))
-        elif call.name == "write" and call.fd == 1:
-            seen.append(("answer", 0, call.result))
-    return seen
-
-
 def order(t: Try) -> None:
-    """The order of the calls: a barrier, reads of whole slots, then for each append one write, one sync, one answer."""
+    """The order of the calls: reads of the copies, a barrier, reads again, repairs; then reads of the ring; then for each
+    append one write, one sync, one answer."""
     plan = Plan(t, 32)
-    seen = events_of(plan.calls, plan.fd)
-    wanted = [(e.kind, e.at, len(e.data)) for e in plan.wanted.events]
-    expect("the order of writes, syncs and answers", wanted, seen)
+    expect("the order of writes, syncs and answers", [(e.kind, e.at, len(e.data)) for e in plan.wanted.events],
+           events_of(plan.calls, plan.fd))
     allowed = {"openat", "fsync", "fdatasync", "pread64", "pwrite64", "read", "write", "close", "brk", "mmap"}
     expect("calls of no other kind", set(), {call.name for call in plan.calls} - allowed)
-    for call in named(plan.calls, "pread64", plan.fd):
-        at, length = int(call.args[-1]), int(call.args[-2])
-        require("reads are whole sectors of the ring", at % 4096 == 0 == length % 4096 and form.FIRST <= at < form.END)
-    first = next((at for at, call in enumerate(plan.calls) if call.name == "read" and call.fd == 0), len(plan.calls))
-    late = [call for call in plan.calls[first:] if call.name in ("brk", "mmap")]
-    expect("no call takes memory after the first read of the script", [], late)
-    if not plan.data:
+    order_of_reads(plan)
+    first = next((at for at, call in enumerate(plan.calls) if call.name in ("read", "pwrite64")), len(plan.calls))
+    late = [call for call in plan.calls[first:] if call.name in ("brk", "mmap") and not t.binary.interpreted]
+    expect("no call takes memory after the first read of the script or the first write", [], late)
+    if plan.words != ["run"] or plan.wanted.status == script.REFUSED:
+        expect("no read of a script that isn't executed", [], named(plan.calls, "read", 0))
+    syncs = named(plan.calls, "fdatasync", plan.fd)
+    if not plan.data and syncs:
         # An empty file may be one whose maker was stopped before the file's name was durable.
-        folder = [call for call in plan.calls if call.name == "fsync" and call.fd != plan.fd]
-        require("the folder of a new or empty file is synced", bool(folder) and plan.calls.index(folder[0]) < first)
-    t.counts["runs whose calls were in order"] += 1
+        folder = [call for call in named(plan.calls, "fsync") if call.fd != plan.fd]
+        after = plan.calls.index(named(plan.calls, "pwrite64", plan.fd)[1])
+        require("the first sync of a new file is its folder's too", bool(folder) and plan.calls.index(folder[0]) < after)
+    t.counts[f"{plan.words[0]}: runs whose calls were in order"] += 1
+
+
+def order_of_reads(plan: Plan) -> None:
+    """The copies are read once before the barrier and once behind it, and behind the repairs each slot at most once."""
+    calls, layout = plan.calls, generate.home_of(plan.data).layout
+    changes = [at for at, call in enumerate(calls) if call.name in ("fdatasync", "pwrite64") and call.fd == plan.fd]
+    barrier = changes[0] if changes else len(calls)
+    before, ring = copies_reads(calls[:barrier], plan.fd, layout)
+    expect("reads of the ring before the first sync or write", [], ring)
+    if plan.words != ["run"]:
+        require("format reads each copy at most once", len(before) == len(set(before)))
+        expect("reads behind the first write of format", ([], []), copies_reads(calls[barrier:], plan.fd, layout))
+        return
+    expect("the copies that are read first", [0, 1, 2, 3], before)
+    opened = superblock.opened(plan.data or b"")
+    repaired = changes[2 * len(opened.repairs)] if changes else barrier
+    again, ring = copies_reads(calls[barrier:repaired], plan.fd, layout)
+    later, ring_later = copies_reads(calls[repaired:], plan.fd, layout)
+    expect("reads of the ring before the repairs are done", [], ring)
+    expect("the copies that are read behind the barrier", [] if opened.early else [0, 1, 2, 3], again + later)
+    require("each slot is read at most once", len(ring_later) == len(set(ring_later)))
 
 
 def with_one_failing(t: Try, plan: Plan, name: str, places: list) -> tuple:
@@ -106,17 +70,20 @@ def with_one_failing(t: Try, plan: Plan, name: str, places: list) -> tuple:
 def disk(t: Try, plan: Optional[Plan] = None) -> Optional[bytes]:
     """One call on the file fails: status 5, and the text of what went before. A stop may tear the write that failed."""
     plan = plan or Plan(t)
-    name = t.random.choice(("pwrite64", "pwrite64", "fdatasync", "fdatasync", "pread64", "openat", "fsync"))
+    name = t.random.choice(("pwrite64", "pwrite64", "fdatasync", "fdatasync", "pread64", "pread64", "openat", "fsync"))
     places = named(plan.calls, name, None if name in ("openat", "fsync") else plan.fd)
     if not places:
         return plan.data
+    # Half the failing calls are among the first ones, which are those of the copies.
+    places = places[:8] if t.random.random() < 0.5 else places
     number, got = with_one_failing(t, plan, name, places)
-    kind = {"pwrite64": "write", "fdatasync": "sync"}.get(name)
-    upto = event_of(plan, kind, number) if kind else 0
+    upto = events_before(plan, places[number])
     data = plan.ends(t, f"faults of {name}", got, upto, DISK)
     write = upto if name == "pwrite64" else upto - 1
-    if kind and write > 0 and t.random.random() < 0.5:
-        return plan.torn(t, f"faults of {name}", write, got.text)
+    if name in ("pwrite64", "fdatasync") and write >= 0 and plan.wanted.events[write].kind == "write":
+        if t.random.random() < 0.5:
+            before = state(plan.data or b"", plan.wanted.events[:write])
+            return plan.torn(t, f"faults of {name}", left(t, before, plan.wanted.events[write]), got.text)
     return data
 
 
@@ -127,7 +94,7 @@ def output(t: Try, plan: Optional[Plan] = None) -> Optional[bytes]:
     if not places:
         return plan.data
     number, got = with_one_failing(t, plan, "write", places)
-    return plan.ends(t, "faults of write", got, event_of(plan, "answer", number), WRITE)
+    return plan.ends(t, "faults of write", got, events_before(plan, places[number]), WRITE)
 
 
 def script_read(t: Try, plan: Optional[Plan] = None) -> Optional[bytes]:
@@ -139,13 +106,13 @@ def script_read(t: Try, plan: Optional[Plan] = None) -> Optional[bytes]:
     number, got = with_one_failing(t, plan, "read", places)
     given = plan.text[: sum(call.result for call in places[:number])]
     whole = given[: given.rfind(b"\n") + 1]
-    upto = len(script.run(plan.data or b"", whole).events)
+    upto = len(script.run(plan.data, whole).events)
     return plan.ends(t, "faults of read", got, upto, READ)
 
 
 def in_a_row(t: Try) -> None:
     """Several sessions with faults over one file."""
-    data = None
+    data = generate.image(t.random, 8, hurt=0.4)
     for _ in range(t.random.randint(2, 4)):
         data = t.random.choice((disk, disk, output, script_read))(t, Plan(t, 8, data))
     t.counts["rows of sessions with faults"] += 1
@@ -161,8 +128,7 @@ def interrupted(t: Try) -> None:
     if not places:
         return
     first = t.random.choice(places).number
-    t.binary.put(plan.data)
-    got, calls = t.binary.trace(plan.text, [f"{name}:error=EINTR:when={first}..{first + t.random.randint(0, 5)}"])
+    got, calls = plan.traced(t, [f"{name}:error=EINTR:when={first}..{first + t.random.randint(0, 5)}"])
     calls, fd = on_file(t, calls)
     what = f"interruptions of {name}"
     expect(f"{what}: the calls that were done", events_of(plan.calls, plan.fd), events_of(calls, fd))
@@ -179,7 +145,7 @@ def short(t: Try) -> None:
     if not places:
         return
     number = t.random.randrange(len(places))
-    at = event_of(plan, kind, number)
+    at = events_before(plan, places[number])
     event = plan.wanted.events[at]
     taken = t.random.choice((0, 1, len(event.data) - 1, t.random.randrange(len(event.data))))
     got = plan.again(t, [f"{name}:retval={taken}:when={places[number].number}"])
@@ -204,7 +170,7 @@ def ended_early(t: Try) -> None:
     number = t.random.randrange(len(places))
     got = plan.again(t, [f"read:retval=0:when={places[number].number}+"])
     given = plan.text[: sum(call.result for call in places[:number])]
-    wanted = script.run(plan.data or b"", given)
+    wanted = script.run(plan.data, given)
     same_run("an input that ends early", wanted, got)
     same_bytes("an input that ends early", wanted.data, t.binary.get())
     t.counts["inputs that end early"] += 1
@@ -212,6 +178,8 @@ def ended_early(t: Try) -> None:
 
 def unaffected(t: Try) -> None:
     """Closes that fail change nothing."""
+    if t.binary.interpreted:
+        return
     plan = Plan(t)
     rule = f"close:error=EIO:when={1 + len(named(loading(plan), 'close'))}+"
     plan.ends(t, "faults without effect", plan.again(t, [rule]), len(plan.wanted.events), plan.wanted.status)
@@ -225,20 +193,32 @@ def loading(plan: Plan) -> list:
 
 
 def memory(t: Try) -> None:
-    """Want of memory: status 8, nothing read or written, nothing printed."""
-    plan = Plan(t)
-    brks = [call.number for call in named(plan.all, "brk") if call.args[0] != "NULL"]
-    if not brks:
+    """Want of memory, from the start or from one later take on: status 8, nothing written, nothing of the script read."""
+    if t.binary.interpreted:
         return
+    plan = Plan(t)
+    takes = [call for call in plan.all if call.name == "mmap" or (call.name == "brk" and call.args[0] != "NULL")]
+    first = [call for call in takes if call.name == "brk"][:1]
+    later = [call for call in takes if call in plan.calls]
+    if not first + later:
+        return
+    place = t.random.choice(first + later)
+    counts = {name: len(named(plan.all[: plan.all.index(place)], name)) for name in ("brk", "mmap")}
+    if place in first and place not in later:
+        # The loader and the runtime map what they need first, which is no take of the program's.
+        counts["mmap"] = len(named(plan.all, "mmap"))
     # A kernel that refuses memory answers brk with the old break, which is below the one that was asked for.
-    rules = [f"brk:retval=0:when={brks[0]}+", f"mmap:error=ENOMEM:when={1 + len(named(plan.all, 'mmap'))}+"]
-    t.binary.put(plan.data)
-    got, calls = t.binary.trace(plan.text, rules)
+    got, calls = plan.traced(t, [f"brk:retval=0:when={counts['brk'] + 1}+", f"mmap:error=ENOMEM:when={counts['mmap'] + 1}+"])
+    if got.status != MEMORY and (plan.wanted.status == script.REFUSED or place not in first):
+        # A refusal may come before memory is asked for, and a take may have been more than was needed.
+        plan.ends(t, "wants of memory that didn't matter", got, len(plan.wanted.events), plan.wanted.status)
+        return
     expect("want of memory: status", MEMORY, got.status)
     expect("want of memory: text", b"", got.text)
-    same_bytes("want of memory", plan.data, t.binary.get())
-    expect("want of memory: reads of the script", [], named(calls, "read", 0))
-    t.counts["wants of memory"] += 1
+    same_bytes("want of memory", plan.data or b"", t.binary.get() or b"")
+    calls, fd = on_file(t, calls)
+    expect("want of memory: reads of the script, writes and syncs", ([], []), (named(calls, "read", 0), events_of(calls, fd)))
+    t.counts[f"{plan.words[0]}: wants of memory"] += 1
 
 
 def file_limit(t: Try) -> None:
@@ -247,7 +227,7 @@ def file_limit(t: Try) -> None:
     writes = [at for at, event in enumerate(plan.wanted.events) if event.kind == "write"]
     if not writes:
         return
-    at = t.random.choice(writes)
+    at = t.random.choice(writes[:4] if t.random.random() < 0.3 else writes)
     event = plan.wanted.events[at]
     limit = event.at + t.random.choice((0, 1, form.HEADER, 2048, t.random.randrange(len(event.data))))
     # The first write that passes the limit is the one that fails.
@@ -259,7 +239,7 @@ def file_limit(t: Try) -> None:
         signal.signal(signal.SIGXFSZ, signal.SIG_IGN)
         resource.setrlimit(resource.RLIMIT_FSIZE, (limit, limit))
 
-    got = t.binary.run(plan.text, before=before)
+    got = t.binary.run(plan.text, plan.words, before=before)
     expect("a limit of the file: status", DISK, got.status)
     expect("a limit of the file: text", script.answers(plan.wanted.events[:at]), got.text)
     data = state(plan.data or b"", plan.wanted.events[:at])

@@ -1,4 +1,4 @@
-"""The bytes of the file, from docs/FORMAT.md alone: a prepare, what a slot shows, and the ring of a file."""
+"""The bytes of the file as docs/FORMAT.md has them: layouts, a prepare, what a slot shows, and the ring of a file."""
 
 import hashlib
 import struct
@@ -6,13 +6,73 @@ from typing import NamedTuple, Optional
 
 SECTOR = 4096
 HEADER = 256
-SLOTS = 32
-SLOT = 2 * SECTOR
-FIRST = 6 * SECTOR
-END = FIRST + SLOTS * SLOT
-BODY_MAX = SLOT - HEADER
+COPIES = 4
 LIMIT = 2**62
-CLUSTER = 7
+# The least and the greatest value of each of a layout's five numbers, and what it is a multiple of.
+LIMITS = {
+    "Slots": (16, 1024, 16), "MessageSize": (4096, 1048576, 4096), "Clients": (1, 64, 1),
+    "BlockSize": (4096, 524288, 4096), "Blocks": (8, 16384, 1),
+}
+
+
+class Layout(NamedTuple):
+    """The five numbers of a file, and the places that follow from them. Offsets and lengths are bytes."""
+
+    slots: int
+    message_size: int
+    clients: int
+    block_size: int
+    blocks: int
+
+    def broken(self) -> Optional[tuple]:
+        """The first number outside its limits, with its name."""
+        for (name, (low, high, step)), value in zip(LIMITS.items(), self):
+            if not low <= value <= high or value % step:
+                return name, value
+        return None
+
+    def first(self) -> int:
+        """The offset of the ring of prepares: behind the copies and sixteen headers for each sector."""
+        return SECTOR * (COPIES + self.slots // 16)
+
+    def place(self, op: int) -> int:
+        """The offset of an op's slot."""
+        return self.first() + self.message_size * (op % self.slots)
+
+    def end(self) -> int:
+        """The offset of the end of the ring."""
+        return self.first() + self.message_size * self.slots
+
+    def sectors(self) -> int:
+        """The sectors of the whole file: replies behind the ring, then the grid from a multiple of a block's sectors on."""
+        replies_end = (self.end() + self.clients * self.message_size) // SECTOR
+        block = self.block_size // SECTOR
+        return (replies_end + block - 1) // block * block + self.blocks * block
+
+    def body_max(self) -> int:
+        """The bytes of the longest body."""
+        return self.message_size - HEADER
+
+    def line_max(self) -> int:
+        """The bytes of the longest line of a script."""
+        return 2 * max(self.message_size, self.block_size) + 64
+
+    def word(self) -> str:
+        """The five numbers with commas."""
+        return ",".join(map(str, self))
+
+
+SMALL = Layout(32, 8192, 4, 16384, 64)
+LARGE = Layout(1024, 1048576, 64, 524288, 16384)
+NAMED = {"small": SMALL, "large": LARGE}
+
+
+class Home(NamedTuple):
+    """The file that a unit belongs to: its layout and its cluster."""
+
+    layout: Layout
+    cluster: int
+
 
 # checksum, checksum_body, cluster, parent, client, op, request, mark, checkpoint, size, slot, kind, block kind,
 # version, boot, zero
@@ -36,6 +96,7 @@ def number(value: int) -> bytes:
 class Prepare(NamedTuple):
     """What a prepare says, without its checksums."""
 
+    home: Home
     parent: bytes
     client: int
     op: int
@@ -47,8 +108,8 @@ class Prepare(NamedTuple):
     def fields(self) -> dict:
         """The header's fields, all but the two checksums."""
         values = (
-            b"", b"", number(CLUSTER), self.parent, number(self.client), self.op, self.request, self.mark,
-            self.checkpoint, HEADER + len(self.body), self.op % SLOTS, 2, 0, 1, 0, bytes(124),
+            b"", b"", number(self.home.cluster), self.parent, number(self.client), self.op, self.request, self.mark,
+            self.checkpoint, HEADER + len(self.body), self.op % self.home.layout.slots, 2, 0, 1, 0, bytes(124),
         )
         return dict(zip(NAMES, values))
 
@@ -72,32 +133,33 @@ def whole_sectors(data: bytes) -> bytes:
     return data + bytes(-len(data) % SECTOR)
 
 
-def place(op: int) -> int:
-    """The offset of an op's slot."""
-    return FIRST + SLOT * (op % SLOTS)
-
-
 def part(data: bytes, start: int, length: int) -> bytes:
     """Bytes of a file, with zeros behind its end."""
     piece = bytes(data[start : start + length])
     return piece + bytes(length - len(piece))
 
 
-def shown(data: bytes, slot: int) -> Optional[Prepare]:
+def sector(data: bytes, index: int) -> bytes:
+    """One sector of a file."""
+    return part(data, SECTOR * index, SECTOR)
+
+
+def shown(data: bytes, home: Home, slot: int) -> Optional[Prepare]:
     """The prepare that a slot of the file shows."""
-    unit = part(data, FIRST + SLOT * slot, SLOT)
+    layout = home.layout
+    unit = part(data, layout.place(slot), layout.message_size)
     f = dict(zip(NAMES, FIELDS.unpack(unit[:HEADER])))
     rules = (
         f["checksum"] == check(unit[16:HEADER]),
-        f["cluster"] == number(CLUSTER),
+        f["cluster"] == number(home.cluster),
         f["client"] != bytes(16),
         1 <= f["op"] <= LIMIT,
         1 <= f["request"] <= LIMIT,
         f["mark"] < f["op"],
         1 <= f["checkpoint"] <= LIMIT,
-        HEADER <= f["size"] <= SLOT,
+        HEADER <= f["size"] <= layout.message_size,
         f["op"] != 1 or f["parent"] == bytes(16),
-        f["slot"] == f["op"] % SLOTS,
+        f["slot"] == f["op"] % layout.slots,
         f["slot"] == slot,
         f["kind"] == 2,
         f["block_kind"] == 0,
@@ -109,25 +171,19 @@ def shown(data: bytes, slot: int) -> Optional[Prepare]:
     if not all(rules):
         return None
     return Prepare(
-        f["parent"], int.from_bytes(f["client"], "little"), f["op"], f["request"], unit[HEADER : f["size"]],
+        home, f["parent"], int.from_bytes(f["client"], "little"), f["op"], f["request"], unit[HEADER : f["size"]],
         f["mark"], f["checkpoint"],
     )
 
 
-def ring(data: bytes) -> list:
-    """The longest list of prepares with ops 1, 2, .. up to 32, each the child of the one before."""
+def ring(data: bytes, home: Home) -> list:
+    """The longest list of prepares with ops 1, 2, .. up to the number of slots, each the child of the one before."""
     found: list = []
     parent = bytes(16)
-    for op in range(1, SLOTS + 1):
-        prepare = shown(data, op % SLOTS)
+    for op in range(1, home.layout.slots + 1):
+        prepare = shown(data, home, op % home.layout.slots)
         if prepare is None or prepare.op != op or prepare.parent != parent:
             break
         found.append(prepare)
         parent = prepare.checksum()
     return found
-
-
-# The worked example of docs/FORMAT.md.
-EXAMPLE = Prepare(bytes(16), 5, 1, 1, b"").encode()
-assert EXAMPLE[16:32].hex() == "e3b0c44298fc1c149afbf4c8996fb924"
-assert EXAMPLE[112:124].hex() == "000100000100000002000100" and place(1) == 32768

@@ -2,34 +2,54 @@
 
 import os
 
-from . import form, generate, script
+from . import generate, script
 from .binary import expect
-from .common import Try, reopen, same_bytes, state
+from .common import Try, reopen, same_bytes
+from .script import REFUSED, state
 
 DISK, READ, WRITE = 5, 6, 7
 
 
 def streams(t: Try) -> None:
     """Standard streams that are closed, full, of the wrong direction or a directory."""
-    data = generate.image(t.random, 20)
+    data = generate.image(t.random, 20, hurt=0.5) if t.random.random() < 0.9 else b""
     t.binary.put(data)
-    text = generate.any_script(t.random)
-    wanted = script.run(data, text)
+    text = generate.any_script(t.random, generate.home_of(data).layout)
     what = t.random.choice(("closed input", "directory input", "unreadable input", "closed output", "full output",
                             "unwritable output", "broken output", "all closed"))
+    if what == "directory input" and t.binary.interpreted:
+        return
     if what in ("closed input", "directory input", "unreadable input", "all closed"):
         got = run_without_input(t, what)
-        expect(f"{what}: status", READ, got.status)
-        expect(f"{what}: text", b"", got.text)
-        same_bytes(what, data, t.binary.get())
+        # The open comes first, and what it refuses is printed.
+        opened = script.run(data, b"")
+        refused = opened.status == script.REFUSED
+        printed = refused and what != "all closed"
+        expect(f"{what}: status", (REFUSED if printed else WRITE) if refused else READ, got.status)
+        expect(f"{what}: text", opened.text if printed else b"", got.text)
+        data = opened.data
     else:
+        wanted = script.run(data, text)
         first = next((at for at, event in enumerate(wanted.events) if event.kind == "answer"), None)
         got = run_without_output(t, what, text)
         expect(f"{what}: status", 0 if first is None else WRITE, got.status)
         data = state(data, wanted.events[:first])
-        same_bytes(what, data, t.binary.get())
-    reopen(t, what, form.ring(data), data)
+    same_bytes(what, data, t.binary.get())
+    reopen(t, what, script.found(data), data)
     t.counts[f"streams: {what}"] += 1
+
+
+def format_without_output(t: Try) -> None:
+    """`format` with an output that fails: status 7, and the file is made."""
+    home = generate.home(t.random)
+    data = t.random.choice((None, b"", script.fresh(home)))
+    t.binary.put(data)
+    words = ["format", home.layout.word(), str(home.cluster)]
+    what = t.random.choice(("closed output", "full output", "unwritable output", "broken output"))
+    got = run_without_output(t, what, b"", words)
+    expect(f"format, {what}: status", WRITE, got.status)
+    same_bytes(f"format, {what}", script.command(data, words).data, t.binary.get())
+    t.counts[f"format: {what}"] += 1
 
 
 def run_without_input(t: Try, what: str):
@@ -46,8 +66,7 @@ def run_without_input(t: Try, what: str):
         os.close(fd)
 
 
-def run_without_output(t: Try, what: str, text: bytes):
-    words = ("run",)
+def run_without_output(t: Try, what: str, text: bytes, words=("run",)):
     if what == "closed output":
         return t.binary.run(text, words, before=lambda: os.close(1))
     if what == "broken output":
@@ -62,25 +81,27 @@ def run_without_output(t: Try, what: str, text: bytes):
 
 
 def no_file(t: Try) -> None:
-    """Paths that can't be a data file: status 5, nothing printed, the script unread."""
+    """Paths that can't be a data file: status 5, nothing printed, the script unread. Cluster 0 is refused before that."""
     missing = os.path.join(t.binary.folder, "missing", "file")
     loop = os.path.join(t.binary.folder, "loop")
     if not os.path.lexists(loop):
         os.symlink(loop, loop)
     long = ("x" * 300, "/" + "y/" * 3000)
-    path = t.random.choice(("", "/", t.binary.folder, missing, loop, "/dev/null/x", os.devnull, *long))
+    path = t.random.choice(("", "/", t.binary.folder, missing, loop, "/dev/null/x", *long))
     source = os.path.join(t.binary.folder, "input")
     with open(source, "wb") as file:
         file.write(b"append 1 1 -\n")
+    words = t.random.choice((["run"], ["format", "small", "7"], ["format", "16,4096,1,4096,8", "0"]))
     with open(source, "rb", buffering=0) as stdin:
-        got = t.binary.run(None, path=path, stdin=stdin)
+        got = t.binary.run(None, words, path=path, stdin=stdin)
         expect("no data file: the script is unread", 0, stdin.seek(0, os.SEEK_CUR))
-    expect(f"no data file at {path[:40]!r}: status", DISK, got.status)
-    expect("no data file: text", b"", got.text)
+    zero = words[-1] == "0"
+    expect(f"no data file at {path[:40]!r}, {words}: status", REFUSED if zero else DISK, got.status)
+    expect("no data file: text", b"refused ClusterZero\n" if zero else b"", got.text)
     with open("/dev/full", "wb") as full:
         got = t.binary.run(b"", words=("walk",), path=path, stdout=full)
     expect("words without a meaning and a full output: status", WRITE, got.status)
     t.counts["paths without a data file"] += 1
 
 
-KINDS = {"streams": (streams, 4), "no_file": (no_file, 2)}
+KINDS = {"streams": (streams, 4), "format_without_output": (format_without_output, 2), "no_file": (no_file, 2)}

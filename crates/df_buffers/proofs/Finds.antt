@@ -1,6 +1,7 @@
 -- What the tests of a unit find, and that a room is sound where they pass.
-use Rattle.std.proofs.Common.{◌≡◌, ◌≢◌, ◌≤◌, ◌-◌, ◌*◌, ℕ, List, [], length, take, drop, Option, Some, None, refl, sym, ◌∙◌, ap, subst, arith}
+use Rattle.std.proofs.Common.{◌≡◌, ◌≢◌, ◌≤◌, ◌*◌, ℕ, List, [], length, take, Option, Some, None, refl, sym, ◌∙◌, ap, subst, arith}
 use Rattle.std.specs.Prelude.{Result, Ok}
+use Rattle.std.proofs.lemmas.List.{length-take-le}
 use Rattle.df_base.specs.Fields.{AreBytes}
 use Rattle.df_layout.specs.declared.damage.Class.{Class}
 use Rattle.df_layout.specs.declared.damage.Class.TheVariants.{Stale}
@@ -13,16 +14,16 @@ use Rattle.df_format.specs.declared.header.Header.{Header}
 use Rattle.df_format.specs.declared.kind.Kind.{Kind}
 use Rattle.df_format.specs.declared.kind.Kind.TheVariants.{Reserved, Prepare, Reply, Block, Trailer}
 use Rattle.df_format.specs.Message.{Message, sectors_end}
-use Rattle.df_format.specs.Whole.{greatest_size, body_in}
+use Rattle.df_format.specs.Whole.{greatest_size}
 use Rattle.df_format.specs.Shown.{unit_in, class_of, header_or_class}
 use Rattle.df_format.specs.Valid.{IsUnit}
 use Rattle.df_format.specs.Wanted.{IsWanted, Wanted as Words, Any as AnyOne, Op as WithOp, Checksum as WithChecksum, Answer as AnswerTo}
 use Rattle.df_format.specs.UnitLaws.{place_size}
-use Rattle.df_format.proofs.Wholes.{one_unit, valid_stale, unit_found}
+use Rattle.df_format.proofs.Wholes.{one_unit, valid_stale, body_follows, ring_has_no_body}
 use Rattle.df_buffers.specs.declared.identity.Identity.{Identity}
 use Rattle.df_buffers.specs.Rooms.{StandsIn, FillsRoom, room_size}
 use Rattle.df_buffers.specs.Found.{words_of, Finds, FindsKind, IsThere, class_for}
-use Rattle.df_buffers.specs.Sounds.{Holding, IsSound, unit_with}
+use Rattle.df_buffers.specs.Sounds.{Holding, IsSound, AreWhole, unit_with}
 
 ok_same : {h k : Header} → (let one : Result Header Class = Ok h in one ≡ Ok k) → h ≡ k
 ok_same is = cc
@@ -91,18 +92,10 @@ fits_slot layout WalPrepares other = omega (arith, layout.message_size_within.2)
 fits_slot layout ClientReplies other = omega (arith, layout.message_size_within.2)
 fits_slot layout Grid other = omega (arith, layout.block_size_within.2)
 
-body_behind : (zone : Zone) (size : ℕ) (bytes : List ℕ) → zone ≢ WalHeaders → body_in zone size bytes ≡ take (size - 256) (drop 256 bytes)
-body_behind Superblock size bytes other = refl
-body_behind WalHeaders size bytes other = absurd (other refl)
-body_behind WalPrepares size bytes other = refl
-body_behind ClientReplies size bytes other = refl
-body_behind Grid size bytes other = refl
-
 -- the unit of a slot is its header, and the body that follows it
 pub found_whole : (layout : Layout) (cluster : ℕ) (place : Place) (bytes : List ℕ) (u : Message) (h : Header) → place.zone ≢ WalHeaders → u.header ≡ h → unit_in layout cluster place bytes ≡ Some u → u ≡ unit_with h bytes
 found_whole layout cluster place bytes u h other same valid =
-    let f = unit_found layout cluster place bytes u valid in
-    let body : u.body ≡ take (u.header.size - 256) (drop 256 bytes) = sym f.body ∙ body_behind place.zone u.header.size bytes other in
+    let body = body_follows layout cluster place bytes u other valid in
     let whole : u ≡ unit_with u.header bytes = λ i. record { header = u.header; body = body i } in
     whole ∙ ap (λ (x : Header). unit_with x bytes) same
 
@@ -140,8 +133,7 @@ ends zone kind holding stands is =
 -- a header of the ring is a unit with no body
 header_whole : (identity : Identity) (bytes : List ℕ) (u : Message) (h : Header) → identity.place.zone ≡ WalHeaders → u.header ≡ h → Finds identity bytes u → u ≡ record { header = h; body = [] }
 header_whole identity bytes u h ring same found =
-    let f = unit_found identity.layout identity.cluster identity.place bytes u found.valid in
-    let none : u.body ≡ [] = sym f.body ∙ ap (λ (z : Zone). body_in z u.header.size bytes) ring in
+    let none = ring_has_no_body identity.layout identity.cluster identity.place bytes u ring found.valid in
     λ i. record { header = same i; body = none i }
 
 pub found_header : (identity : Identity) (bytes : List ℕ) (u : Message) (h : Header) → identity.place.zone ≡ WalHeaders → u.header ≡ h → Finds identity bytes u → Finds identity bytes (record { header = h; body = [] })
@@ -149,6 +141,14 @@ found_header identity bytes u h ring same found = subst (λ (x : Message). Finds
 
 pub header_there : (identity : Identity) (bytes : List ℕ) (u : Message) (h : Header) → identity.place.zone ≡ WalHeaders → u.header ≡ h → Finds identity bytes u → IsThere identity u → IsThere identity (record { header = h; body = [] })
 header_there identity bytes u h ring same found there = subst (λ (x : Message). IsThere identity x) (header_whole identity bytes u h ring same found) there
+
+-- the sectors that a sound room lends are whole ones of the room, one at least
+pub are_whole : (zone : Zone) (kind : Kind) (holding : Holding) (lent : List ℕ) → StandsIn kind zone → IsSound zone kind holding → lent ≡ take (sectors_end holding.unit.header.size) holding.bytes
+    → AreWhole zone holding.layout lent
+are_whole zone kind holding lent stands is same =
+    let e = ends zone kind holding stands is in
+    let size : length lent ≡ sectors_end holding.unit.header.size = ap (λ (l : List ℕ). length l) same ∙ length-take-le (sectors_end holding.unit.header.size) holding.bytes e.sectors in
+    record { some = omega (arith, size, e.least); whole = omega (arith, size); fits = omega (arith, size, e.sectors, is.fills) }
 
 pub sector_size : (layout : Layout) → room_size layout WalHeaders ≡ 4096
 unfolding place_sectors

@@ -1,5 +1,5 @@
 -- Sound rooms: rooms whose bytes are a unit that is valid at its own place.
-use Rattle.std.specs.Prelude.{◌≡◌, ◌-◌, ℕ, List, take, drop, Some}
+use Rattle.std.specs.Prelude.{◌≡◌, ◌-◌, ◌%◌, ◌<◌, ◌≤◌, ℕ, List, length, take, drop, Some}
 use Rattle.df_layout.specs.declared.layout.Layout.{Layout}
 use Rattle.df_layout.specs.declared.places.Place.{Place}
 use Rattle.df_layout.specs.declared.places.Zone.{Zone}
@@ -8,7 +8,7 @@ use Rattle.df_format.specs.declared.kind.Kind.{Kind}
 use Rattle.df_format.specs.Message.{Message}
 use Rattle.df_format.specs.Shown.{unit_in}
 use Rattle.df_format.specs.Valid.{IsUnit}
-use Rattle.df_buffers.specs.Rooms.{FillsRoom}
+use Rattle.df_buffers.specs.Rooms.{FillsRoom, room_size}
 
 -- what a sound room is seen as: the layout that it was reserved for, its unit, and its bytes
 pub record Holding : Type 0 where
@@ -32,3 +32,9 @@ pub record IsSound (zone : Zone) (kind : Kind) (holding : Holding) : Type 0 wher
   pub in_zone : place.zone ≡ zone
   pub is : IsUnit holding.layout holding.unit.header.cluster place holding.unit
   pub valid : unit_in holding.layout holding.unit.header.cluster place holding.bytes ≡ Some holding.unit
+
+-- the bytes are whole sectors, one at least, and no more than a room of the zone has
+pub record AreWhole (zone : Zone) (layout : Layout) (bytes : List ℕ) : Type 0 where
+  pub some : 0 < length bytes
+  pub whole : length bytes % 4096 ≡ 0
+  pub fits : length bytes ≤ room_size layout zone

@@ -1,7 +1,7 @@
 // Sound rooms: their bytes are a unit that is valid at its own place. They lend its parts without copying.
 ghost use Rattle.std.specs.Prelude.{◌≡◌, ◌≤◌, ◌-◌, length, take, drop};
 ghost use Rattle.df_format.specs.Message.{sectors_end};
-ghost use Rattle.df_buffers.specs.Sounds.{IsSound};
+ghost use Rattle.df_buffers.specs.Sounds.{AreWhole, IsSound};
 
 use crate::{Raw, UnitKind};
 use df_base::{HEADER, SECTOR};
@@ -63,7 +63,8 @@ impl<K: UnitKind> Sound<K> {
 
     /// The whole sectors that the unit covers.
     pub fn sectors(&self) -> &[u8]
-        ensures { result.now ≡ take (sectors_end self.now.unit.header.size) self.now.bytes }
+        ensures value { result.now ≡ take (sectors_end self.now.unit.header.size) self.now.bytes }
+        ensures whole { AreWhole K.ZONE self.now.layout result.now }
     {
         sectors_in(&self.bytes, self.header.size)
     }

@@ -1,16 +1,14 @@
--- What is made is a prepare of its log, and its sectors stand at the front of the buffer.
+-- What is made is a unit, and its sectors stand at the front of the buffer.
 use Rattle.std.proofs.Common.{◌≡◌, ℕ, ◌+◌, ◌-◌, ◌≤◌, List, [], ◌++◌, length, take, drop, replicate, refl, sym, ◌∙◌, ap, subst, arith}
 use Rattle.std.proofs.lemmas.List.{drop-drop}
 use Rattle.df_base.specs.Fields.{AreBytes}
 use Rattle.df_format.specs.declared.header.Header.{Header}
-use Rattle.df_format.specs.declared.wal.Wal.{Wal}
 use Rattle.df_format.specs.Spelling.{spelling, spelling_rest, sealed}
 use Rattle.df_format.specs.declared.kind.Kind.{Kind}
 use Rattle.df_format.specs.declared.kind.Kind.TheVariants.{Reserved, Prepare as AsPrepare, Reply, Block, Trailer}
 use Rattle.df_format.specs.Rules.{ObeysKind, ObeysRules, IsSealed}
-use Rattle.df_format.specs.Message.{sectors_of, sectors_end}
-use Rattle.df_format.specs.Unit.{Prepare, IsPrepare}
-use Rattle.df_format.specs.Making.{filled, for_body}
+use Rattle.df_format.specs.Message.{Message, sectors_of, sectors_end}
+use Rattle.df_format.specs.Making.{for_body}
 use Rattle.df_format.specs.UnitLaws.{MadeIsUnit}
 use Rattle.df_format.specs.Valid.{IsBodyOf, HasBody}
 use Rattle.df_layout.specs.declared.places.Zone.{Zone}
@@ -51,20 +49,6 @@ sealed_is h is = record {
 pub is_sealed : (h result : Header) → result ≡ sealed h → ObeysRules h → IsSealed result
 is_sealed h result is rules = subst (λ (x : Header). IsSealed x) (sym is) (sealed_is h rules)
 
-pub is_prepare : (wal : Wal) (h result : Header) (body : List ℕ) → result ≡ sealed (filled wal h body) → ObeysRules (filled wal h body) → 256 + length body ≤ wal.message_size → AreBytes body → IsPrepare wal (record { header = result; body = body })
-is_prepare wal h result body is rules fits are =
-    let there : IsPrepare wal (record { header = sealed (filled wal h body); body = body }) = record {
-      sealed = sealed_is (filled wal h body) rules;
-      kind = refl;
-      cluster = refl;
-      size = refl;
-      fits = fits;
-      body = refl;
-      each = are;
-      slot = refl;
-    } in
-    subst (λ (x : Header). IsPrepare wal (record { header = x; body = body })) (sym is) there
-
 -- lists that are the same from an offset on are so from a later one on
 pub further : (a b : ℕ) (xs ys : List ℕ) → a ≤ b → drop a xs ≡ drop a ys → drop b xs ≡ drop b ys
 further a b xs ys order same =
@@ -72,7 +56,7 @@ further a b xs ys order same =
     ap (λ (n : ℕ). drop n xs) (sym there) ∙ sym (drop-drop (b - a) a xs) ∙ ap (λ (l : List ℕ). drop (b - a) l) same ∙ drop-drop (b - a) a ys ∙ ap (λ (n : ℕ). drop n ys) there
 
 -- header, body and zeros, one behind the other
-pub sectors_made : (p : Prepare) (s1 s2 s3 : List ℕ) (end : ℕ) → take 256 s1 ≡ spelling p.header → take (256 + length p.body) s2 ≡ take 256 s1 ++ p.body
+pub sectors_made : (p : Message) (s1 s2 s3 : List ℕ) (end : ℕ) → take 256 s1 ≡ spelling p.header → take (256 + length p.body) s2 ≡ take 256 s1 ++ p.body
     → take end s3 ≡ take (256 + length p.body) s2 ++ replicate (end - (256 + length p.body)) 0 → end ≡ sectors_end (256 + length p.body) → take end s3 ≡ sectors_of p
 unfolding sectors_of
 sectors_made p s1 s2 s3 end head body zeros is =

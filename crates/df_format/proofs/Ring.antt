@@ -15,11 +15,11 @@ use Rattle.df_format.specs.declared.kind.Kind.TheVariants.{Prepare as AsPrepare}
 use Rattle.df_format.specs.declared.wal.Wal.{Wal}
 use Rattle.df_format.specs.Limits.{IsWal}
 use Rattle.df_format.specs.Message.{Message}
-use Rattle.df_format.specs.Unit.{prepare_in, prepare_at, slot_start, slot_sectors}
+use Rattle.df_format.specs.Unit.{IsPrepare, prepare_in, prepare_at, slot_start, slot_sectors}
 use Rattle.df_format.specs.Own.{place_in, named_elsewhere, has_op_of_slot, own_place}
 use Rattle.df_format.specs.Shown.{bytes_of, unit_in, unit_at}
 use Rattle.df_format.specs.Valid.{IsInSlot}
-use Rattle.df_format.specs.UnitLaws.{IsWalOf, PreparesAreUnits}
+use Rattle.df_format.specs.UnitLaws.{IsWalOf, PreparesAreUnits, SlotsArePlaces, UnitsArePrepares}
 use Rattle.df_format.proofs.Owned.{own_is, is_own, belongs}
 use Rattle.df_format.proofs.Slots.{found, is_found}
 use Rattle.df_format.proofs.Wholes.{unit_found, found_unit}
@@ -74,7 +74,7 @@ module _ (layout : Layout) (cluster : ℕ) (wal : Wal) (is : IsWalOf layout clus
   same_in = same_options _ _ prepare_is_unit unit_is_prepare
 
 -- the slot's sectors are those of its place
-same_first : (layout : Layout) (cluster : ℕ) (wal : Wal) (slot : ℕ) → IsWalOf layout cluster wal → slot_start wal slot ≡ (span_of layout (place_in WalPrepares slot)).first
+pub same_first : SlotsArePlaces
 unfolding span_of sectors_before
 same_first layout cluster wal slot is = λ i. is.first_sector i + slot * (is.message_size i / 4096)
 
@@ -87,6 +87,22 @@ unfolding prepare_at unit_at bytes_of
 prepares_are_units layout cluster wal image slot is =
     (λ i. prepare_in wal slot (bytes_at image (same_first layout cluster wal slot is i) (same_count layout cluster wal slot is i)))
     ∙ same_in layout cluster wal is slot (bytes_at image (span_of layout (place_in WalPrepares slot)).first (span_of layout (place_in WalPrepares slot)).count)
+
+pub units_are_prepares : UnitsArePrepares
+units_are_prepares layout cluster wal slot u of is =
+    let in_slot : IsInSlot layout slot u.header = belongs layout WalPrepares slot u.header (own_is layout WalPrepares u.header (place_in WalPrepares slot) is.own) in (
+      record {
+        sealed = is.sealed;
+        kind = in_slot.kind;
+        cluster = is.owner ∙ sym of.owner;
+        size = is.body.size;
+        fits = omega (arith, is.fits, of.message_size);
+        body = is.body.checksum;
+        each = is.body.each;
+        slot = in_slot.slot ∙ sym in_slot.op ∙ ap (λ (n : ℕ). u.header.op % n) (sym of.slots);
+      },
+      in_slot.slot,
+    )
 
 -- the ring of a layout ends within the disk
 ring_ends : (layout : Layout) → first_sector layout WalPrepares + layout.slots * (layout.message_size / 4096) ≤ 2 ^ 40

@@ -17,10 +17,10 @@ use Rattle.df_format.specs.declared.header.Header.{Header}
 use Rattle.df_format.specs.Spelling.{spelling}
 use Rattle.df_format.specs.Rules.{IsSealed}
 use Rattle.df_format.specs.Message.{Message, unit_of, sectors_of}
-use Rattle.df_format.specs.Own.{place_in}
+use Rattle.df_format.specs.Own.{place_in, own_place}
 use Rattle.df_format.specs.Shown.{part_in, bytes_of, unit_in, class_of, unit_at, class_at}
 use Rattle.df_format.specs.Valid.{IsBodyOf, HasBody, IsUnit}
-use Rattle.df_format.specs.UnitLaws.{place_size, ShownBelongs, ShownIsUnit, AgreeAt, SameIsShown, WrittenIsShown, SectorsFitPlace, IsOther, WrittenIsApart, SectorIsShown, headers_bytes, HeadersFillSector, HeaderIsShown, BlankShowsNone, LeftIsApart}
+use Rattle.df_format.specs.UnitLaws.{place_size, IsAtPlace, ShownBelongs, ReadBelongs, ValidBelongs, ShownIsUnit, AgreeAt, SameIsShown, ReadIsShown, WrittenIsShown, SectorsFitPlace, IsOther, WrittenIsApart, SectorIsShown, headers_bytes, HeadersFillSector, HeaderIsShown, BlankShowsNone, LeftIsApart}
 use Rattle.df_format.proofs.Messages.{length-sectors, AreBytes-sectors, AreBytes-spelling}
 use Rattle.df_format.proofs.Owned.{own_is, belongs}
 use Rattle.df_format.proofs.Parts.{bytes-take, bytes-drop, bytes-append}
@@ -29,12 +29,20 @@ use Rattle.df_format.proofs.Shown.{none_unless, uncovered_below, uncovered_above
 use Rattle.df_format.proofs.Spelled.{length-spelling}
 use Rattle.df_format.proofs.Wholes.{unit_found, begun_is_shown, one_unit, fits_slot, zeros_are_none, blank-from}
 
-pub shown_belongs : ShownBelongs
-unfolding unit_at
-shown_belongs layout cluster image place u is =
-    let own = (unit_found layout cluster place _ u is).belongs in
+at_place : (layout : Layout) (place : Place) (u : Message) → own_place layout place.zone u.header ≡ Some place → IsAtPlace layout place u
+at_place layout place u own =
     let there = own_is layout place.zone u.header place own in
     record { has = there.has; own = own; belongs = belongs layout place.zone place.index u.header there }
+
+pub shown_belongs : ShownBelongs
+unfolding unit_at
+shown_belongs layout cluster image place u is = at_place layout place u (unit_found layout cluster place _ u is).belongs
+
+pub read_belongs : ReadBelongs
+read_belongs layout cluster place bytes u is = at_place layout place u (unit_found layout cluster place bytes u is).belongs
+
+pub valid_belongs : ValidBelongs
+valid_belongs layout cluster place u is = at_place layout place u is.own
 
 -- a header's part of a sector
 length-part : (zone : Zone) (index : ℕ) (bytes : List ℕ) (layout : Layout) → length bytes ≡ 4096 * place_sectors layout zone → length (part_in zone index bytes) ≡ place_size layout zone
@@ -88,6 +96,11 @@ unfolding unit_at class_at
 same_shown layout cluster place one two same =
     let bytes = same_bytes_of layout place one two same in
     record { unit = ap (λ (l : List ℕ). unit_in layout cluster place l) bytes; class = ap (λ (l : List ℕ). class_of layout cluster place l) bytes }
+
+pub read_shown : ReadIsShown
+unfolding unit_at bytes_of
+read_shown layout cluster image place other =
+    ap (λ (l : List ℕ). unit_in layout cluster place l) (sym (part_whole place.zone place.index (bytes_at image (span_of layout place).first (span_of layout place).count) other))
 
 -- a unit that isn't a header alone has its body
 body_of : (zone : Zone) (h : Header) (body : List ℕ) → zone ≢ WalHeaders → HasBody zone h body → IsBodyOf h body

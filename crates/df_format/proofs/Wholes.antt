@@ -1,5 +1,5 @@
 -- Which unit the bytes of a place show: exactly the one that they begin with.
-use Rattle.std.proofs.Common.{◌≡◌, ◌≢◌, ◌≤◌, ◌-◌, ◌*◌, ℕ, Bool, true, false, List, ◌++◌, length, take, drop, replicate, Option, Some, None, cond, refl, sym, ◌∙◌, ap, subst, arith, append_assoc}
+use Rattle.std.proofs.Common.{◌≡◌, ◌≢◌, ◌≤◌, ◌-◌, ◌*◌, ℕ, Bool, true, false, List, [], ◌++◌, length, take, drop, replicate, Option, Some, None, cond, refl, sym, ◌∙◌, ap, subst, arith, append_assoc}
 use Rattle.std.proofs.lemmas.Bool.{cond-true, cond-false, and_parts, and_from, eqb-true, eq-eqb, leb-true, le-leb}
 use Rattle.std.proofs.lemmas.List.{take_at, drop_at, take-append-drop, length-take-le, length-drop}
 use Rattle.std.proofs.lemmas.Slice.Eq.{bytes_eq-Decides}
@@ -21,7 +21,7 @@ use Rattle.df_format.specs.Own.{own_place}
 use Rattle.df_format.specs.Whole.{Whole, greatest_size, body_in, has_body, is_unit, with_own, if_unit, whole_in}
 use Rattle.df_format.specs.Shown.{same_place, if_own, unit_in, is_blank, class_of_whole, class_of}
 use Rattle.df_format.specs.Valid.{IsBodyOf, HasBody, Begins}
-use Rattle.df_format.specs.UnitLaws.{place_size, UnitsHaveOneSpelling, ValidIsStale, ElsewhereIsOther}
+use Rattle.df_format.specs.UnitLaws.{place_size, UnitsHaveOneSpelling, BodyFollows, RingHasNoBody, ValidIsStale, ElsewhereIsOther}
 use Rattle.df_format.proofs.Parts.{bytes-take, bytes-drop}
 use Rattle.df_format.proofs.Codes.{some-eq}
 use Rattle.df_format.proofs.Spelled.{guard_is, read_as, reads, was_spelled, length-spelling}
@@ -95,6 +95,19 @@ unfolding unit_in
 found_unit layout cluster place bytes u is =
     ap (λ (o : Option Whole). if_own place o) (found_whole layout cluster place.zone bytes u place is)
     ∙ cond-true (same_place place place) (Some u) None (same_place-self place)
+
+body_behind : (zone : Zone) (size : ℕ) (bytes : List ℕ) → zone ≢ WalHeaders → body_in zone size bytes ≡ take (size - 256) (drop 256 bytes)
+body_behind Superblock size bytes other = refl
+body_behind WalHeaders size bytes other = absurd (other refl)
+body_behind WalPrepares size bytes other = refl
+body_behind ClientReplies size bytes other = refl
+body_behind Grid size bytes other = refl
+
+pub body_follows : BodyFollows
+body_follows layout cluster place bytes u other valid = sym (unit_found layout cluster place bytes u valid).body ∙ body_behind place.zone u.header.size bytes other
+
+pub ring_has_no_body : RingHasNoBody
+ring_has_no_body layout cluster place bytes u ring valid = sym (unit_found layout cluster place bytes u valid).body ∙ ap (λ (z : Zone). body_in z u.header.size bytes) ring
 
 -- what stands behind the header is the body, and a rest
 body_rest : (zone : Zone) (size : ℕ) (bytes : List ℕ) → (rest : List ℕ) × (drop 256 bytes ≡ body_in zone size bytes ++ rest)

@@ -59,11 +59,6 @@ with_body wal slot bytes (Some h) = if is_whole wal slot bytes h then Some (reco
 unfoldable pub prepare_in : Wal → ℕ → List ℕ → Option Prepare
 prepare_in wal slot bytes = with_body wal slot bytes (header_in (take 256 bytes))
 
--- its header
-abbrev pub header_of : Option Prepare → Option Header
-header_of None = None
-header_of (Some p) = Some p.header
-
 -- sectors of a slot
 abbrev pub slot_sectors : Wal → ℕ
 slot_sectors wal = wal.message_size / 4096

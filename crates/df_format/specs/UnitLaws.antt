@@ -1,7 +1,7 @@
 -- What holds of every unit, place and image of a layout: what the layers above rest on.
-use Rattle.std.specs.Prelude.{◌≡◌, ◌≢◌, ◌⊎◌, ◌↔◌, ◌<◌, ◌≤◌, ◌+◌, ◌*◌, ◌/◌, ◌%◌, ℕ, false, List, [], ◌∷◌, ◌++◌, length, slice_get, Some, None}
+use Rattle.std.specs.Prelude.{◌≡◌, ◌≢◌, ◌⊎◌, ◌↔◌, ◌<◌, ◌≤◌, ◌+◌, ◌-◌, ◌*◌, ◌/◌, ◌%◌, ℕ, false, List, [], ◌∷◌, ◌++◌, length, take, drop, slice_get, Some, None}
 use Rattle.df_base.specs.Fields.{AreBytes}
-use Rattle.df_base.specs.Image.{Image, IsImage, IsPiece, blank, written}
+use Rattle.df_base.specs.Image.{Image, IsImage, IsPiece, blank, bytes_at, written}
 use Rattle.df_base.specs.Log.{Log, Write, IsLeft, add, loose, now, settled}
 use Rattle.df_layout.specs.declared.damage.Class.TheVariants.{Blank, Elsewhere, Stale}
 use Rattle.df_layout.specs.declared.layout.Layout.{Layout}
@@ -20,7 +20,7 @@ use Rattle.df_format.specs.Own.{place_in, own_place}
 use Rattle.df_format.specs.Whole.{greatest_size}
 use Rattle.df_format.specs.Shown.{part_in, unit_in, class_of, unit_at, class_at}
 use Rattle.df_format.specs.Valid.{IsUnit, Begins, Belongs}
-use Rattle.df_format.specs.Unit.{prepare_at}
+use Rattle.df_format.specs.Unit.{IsPrepare, prepare_at, slot_start}
 use Rattle.df_format.specs.Pools.{InImages, NoChance}
 
 -- how many bytes a place of a zone has; a header has its part of a sector
@@ -47,6 +47,24 @@ ShownBelongs = (layout : Layout) (cluster : ℕ) (image : Image) (place : Place)
 abbrev pub ShownIsUnit : Type 0
 ShownIsUnit = (layout : Layout) (cluster : ℕ) (image : Image) (place : Place) (u : Message) → IsImage image → unit_at layout cluster image place ≡ Some u → IsUnit layout cluster place u
 
+-- so is each place whose bytes are a unit that is valid there
+abbrev pub ReadBelongs : Type 0
+ReadBelongs = (layout : Layout) (cluster : ℕ) (place : Place) (bytes : List ℕ) (u : Message) → unit_in layout cluster place bytes ≡ Some u → IsAtPlace layout place u
+
+-- and each place at which a unit is valid
+abbrev pub ValidBelongs : Type 0
+ValidBelongs = (layout : Layout) (cluster : ℕ) (place : Place) (u : Message) → IsUnit layout cluster place u → IsAtPlace layout place u
+
+-- the body of a unit is what follows its header
+abbrev pub BodyFollows : Type 0
+BodyFollows =
+    (layout : Layout) (cluster : ℕ) (place : Place) (bytes : List ℕ) (u : Message) → place.zone ≢ WalHeaders → unit_in layout cluster place bytes ≡ Some u
+    → u.body ≡ take (u.header.size - 256) (drop 256 bytes)
+
+-- in the header ring a unit has no body
+abbrev pub RingHasNoBody : Type 0
+RingHasNoBody = (layout : Layout) (cluster : ℕ) (place : Place) (bytes : List ℕ) (u : Message) → place.zone ≡ WalHeaders → unit_in layout cluster place bytes ≡ Some u → u.body ≡ []
+
 -- the classes of bytes: what is valid is neither blank nor elsewhere, and what is elsewhere belongs at another place
 abbrev pub ValidIsStale : Type 0
 ValidIsStale = (layout : Layout) (cluster : ℕ) (place : Place) (bytes : List ℕ) (u : Message) → unit_in layout cluster place bytes ≡ Some u → class_of layout cluster place bytes ≡ Stale
@@ -67,6 +85,12 @@ pub record ShowSame (layout : Layout) (cluster : ℕ) (place : Place) (one two :
 -- what a place shows depends on its own sectors alone
 abbrev pub SameIsShown : Type 0
 SameIsShown = (layout : Layout) (cluster : ℕ) (place : Place) (one two : Image) → AgreeAt layout place one two → ShowSame layout cluster place one two
+
+-- elsewhere than in the header ring the sectors of a place, as they are read, are what it shows
+abbrev pub ReadIsShown : Type 0
+ReadIsShown =
+    (layout : Layout) (cluster : ℕ) (image : Image) (place : Place) → place.zone ≢ WalHeaders
+    → unit_in layout cluster place (bytes_at image (span_of layout place).first (span_of layout place).count) ≡ unit_at layout cluster image place
 
 -- the image after a write from the first sector of a place on
 abbrev pub put : Layout → Place → List ℕ → Image → Image
@@ -158,6 +182,16 @@ abbrev pub PreparesAreUnits : Type 0
 PreparesAreUnits =
     (layout : Layout) (cluster : ℕ) (wal : Wal) (image : Image) (slot : ℕ) → IsWalOf layout cluster wal
     → prepare_at wal image slot ≡ unit_at layout cluster image (place_in WalPrepares slot)
+
+-- each slot begins where the place of its number does
+abbrev pub SlotsArePlaces : Type 0
+SlotsArePlaces = (layout : Layout) (cluster : ℕ) (wal : Wal) (slot : ℕ) → IsWalOf layout cluster wal → slot_start wal slot ≡ (span_of layout (place_in WalPrepares slot)).first
+
+-- a unit that is valid in a slot is a prepare of the log, with that slot
+abbrev pub UnitsArePrepares : Type 0
+UnitsArePrepares =
+    (layout : Layout) (cluster : ℕ) (wal : Wal) (slot : ℕ) (u : Message) → IsWalOf layout cluster wal → IsUnit layout cluster (place_in WalPrepares slot) u
+    → IsPrepare wal u × (u.header.slot ≡ slot)
 
 -- a unit that was made is valid at its own place, where it fits that; in the header ring it has no body
 abbrev pub MadeIsUnit : Message → Type 0

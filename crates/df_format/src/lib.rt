@@ -30,7 +30,6 @@ mod super_tests;
 mod superblock;
 #[cfg(test)]
 mod tests;
-mod unit;
 mod unit_laws;
 mod wal;
 
@@ -52,10 +51,9 @@ pub use reference::Reference;
 pub use super_codec::{decode_copy, decode_own_copy, encode_copy};
 pub use super_rules::{Super, faults_are_broken_rules, test_fields};
 pub use superblock::{SuperCopy, SuperFault, SuperFields};
-pub use unit::{decode_prepare, make_prepare};
 pub use unit_laws::{
-    blank_shows_no_unit, classes_tell, header_sector_is_shown, left_is_old_or_new,
-    other_places_stay, places_show_their_sectors, prepares_are_units, units_belong,
-    units_have_one_spelling, written_unit_is_shown,
+    blank_shows_no_unit, bodies_follow_headers, classes_tell, header_sector_is_shown,
+    left_is_old_or_new, other_places_stay, places_show_their_sectors, prepares_are_units,
+    units_belong, units_have_one_spelling, written_unit_is_shown,
 };
 pub use wal::Wal;

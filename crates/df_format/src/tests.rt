@@ -1,18 +1,22 @@
 // The definitions against values from outside: the bytes of an example, and which changed bytes are refused.
-ghost use Rattle.df_format.specs.Making.{AreGiven};
+ghost use Rattle.std.specs.Prelude.{◌≤◌, length};
+ghost use Rattle.df_format.specs.Rules.{ObeysRules};
+ghost use Rattle.df_format.specs.Making.{for_body};
 
 use crate::examples::{PREPARE, changed, spelled};
-use crate::{Header, Kind, Wal, decode_header, decode_prepare, make_prepare};
-use df_layout::Layout;
+use crate::{Header, Kind, Wal, decode_header, decode_unit, make_unit};
+use df_layout::{Class, Layout, Place, Zone};
 
-// What the maker of the example says of it; the other fields are set.
-fn given() -> Header
-    ensures { AreGiven result }
+// What the maker of the example says of it; its size and checksums are set.
+#[tactic(auto, unfolding(crate::specs::Spelling::no_checksum))]
+fn given(body: &[u8]) -> Header
+    requires { length body.now ≤ 3840 }
+    ensures { ObeysRules (for_body result body.now) }
 {
     Header {
         checksum: [0; 16],
         checksum_body: [0; 16],
-        cluster: 0,
+        cluster: 7,
         parent: [0; 16],
         client: 5,
         op: 1,
@@ -20,7 +24,7 @@ fn given() -> Header
         mark: 0,
         checkpoint: 1,
         size: 0,
-        slot: 0,
+        slot: 1,
         kind: Kind::Prepare,
         block_kind: 0,
     }
@@ -38,17 +42,24 @@ fn is_example_before_nines(slot: &[u8]) -> bool {
         && slot[4096..].iter().all(|b| *b == 9)
 }
 
+// What a slot of the ring shows in a file of this cluster.
+#[tactic(auto, unfolding(df_layout::specs::Spans::place_sectors))]
+fn shown(cluster: u128, index: u64, slot: &[u8; 8192]) -> Result<Header, Class> {
+    let place = Place {
+        zone: Zone::WalPrepares,
+        index,
+    };
+    decode_unit(&Layout::small(), cluster, place, slot)
+}
+
 #[test]
 fn makes_and_reads_the_example(rt: HostRuntime) {
-    let wal = Wal::of(&Layout::small(), 7);
-    assert_eq!(rt; wal, Wal::small());
     let mut slot = [9u8; 8192];
-    let made = make_prepare(&wal, given(), &[], &mut slot);
+    let made = make_unit(given(&[]), &[], &mut slot);
     assert_eq!(rt; made.length, 4096);
     assert!(rt; is_example_before_nines(&slot));
     assert_eq!(rt; decode_header(&example()), Some(made.header));
-    assert_eq!(rt; decode_prepare(&wal, 1, &slot), Some(made.header));
-    assert_eq!(rt; decode_prepare(&wal, 2, &slot), None);
+    assert_eq!(rt; shown(7, 1, &slot), Ok(made.header));
 }
 
 #[test]
@@ -90,19 +101,26 @@ fn tests_each_field_that_needs_no_layout(rt: HostRuntime) {
 
 #[test]
 fn tests_the_body_and_not_what_follows_it(rt: HostRuntime) {
-    let wal = Wal::small();
     let mut slot = [0u8; 8192];
-    let made = make_prepare(&wal, given(), b"abc", &mut slot);
+    let made = make_unit(given(b"abc"), b"abc", &mut slot);
     slot[259] = 1;
-    assert_eq!(rt; decode_prepare(&wal, 1, &slot), Some(made.header));
+    assert_eq!(rt; shown(7, 1, &slot), Ok(made.header));
     slot[258] = b'd';
-    assert_eq!(rt; decode_prepare(&wal, 1, &slot), None);
-    slot[258] = b'c';
-    let other = Wal {
-        cluster: 8,
-        slots: 32,
-        message_size: 8192,
-        first_sector: 6,
-    };
-    assert_eq!(rt; decode_prepare(&other, 1, &slot), None);
+    assert_eq!(rt; shown(7, 1, &slot), Err(Class::Garbled));
+}
+
+#[test]
+fn has_the_log_of_a_layout(rt: HostRuntime) {
+    let cases = [
+        (Layout::small(), 32, 8192, 6),
+        (Layout::large(), 1024, 1_048_576, 68),
+    ];
+    for (layout, slots, message_size, first_sector) in cases {
+        let wal = Wal::of(&layout, 7);
+        assert_eq!(rt;
+            (wal.cluster, wal.slots, wal.message_size),
+            (7, slots, message_size)
+        );
+        assert_eq!(rt; wal.first_sector, first_sector);
+    }
 }

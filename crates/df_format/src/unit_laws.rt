@@ -1,5 +1,5 @@
 // Laws of every unit, place and image of a layout, each the clause of a function that does nothing.
-ghost use Rattle.df_format.specs.UnitLaws.{UnitsHaveOneSpelling, ShownBelongs, ShownIsUnit, ValidIsStale, ElsewhereIsOther, SameIsShown, WrittenIsShown, SectorsFitPlace, WrittenIsApart, LeftIsApart, LeftIsOldOrNew, SectorIsShown, HeadersFillSector, HeaderIsShown, BlankShowsNone, PreparesAreUnits};
+ghost use Rattle.df_format.specs.UnitLaws.{UnitsHaveOneSpelling, ShownBelongs, ShownIsUnit, ReadBelongs, ValidBelongs, BodyFollows, RingHasNoBody, ValidIsStale, ElsewhereIsOther, SameIsShown, ReadIsShown, WrittenIsShown, SectorsFitPlace, WrittenIsApart, LeftIsApart, LeftIsOldOrNew, SectorIsShown, HeadersFillSector, HeaderIsShown, BlankShowsNone, PreparesAreUnits, SlotsArePlaces, UnitsArePrepares};
 
 /// A place shows a unit exactly where its bytes begin with one that is valid there.
 pub fn units_have_one_spelling()
@@ -7,10 +7,18 @@ pub fn units_have_one_spelling()
 {}
 
 /// A place that shows a unit is one of the layout, and the unit says that it belongs there; on an image of whole
-/// sectors it is valid there.
+/// sectors it is valid there. The same is so of the bytes of a place, and of each unit that is valid at one.
 pub fn units_belong()
     ensures belongs { ShownBelongs }
+    ensures read { ReadBelongs }
     ensures unit { ShownIsUnit }
+    ensures valid { ValidBelongs }
+{}
+
+/// The body of a unit follows the 256 bytes of its header; in the header ring a unit has none.
+pub fn bodies_follow_headers()
+    ensures body { BodyFollows }
+    ensures ring { RingHasNoBody }
 {}
 
 /// A valid unit that isn't the one wanted is stale; what is elsewhere belongs at another place of the layout.
@@ -19,9 +27,10 @@ pub fn classes_tell()
     ensures elsewhere { ElsewhereIsOther }
 {}
 
-/// What a place shows depends on its own sectors alone.
+/// What a place shows depends on its own sectors alone; elsewhere than in the header ring it is what they are read as.
 pub fn places_show_their_sectors()
-    ensures { SameIsShown }
+    ensures same { SameIsShown }
+    ensures read { ReadIsShown }
 {}
 
 /// A unit that is written at its own place is shown there; its sectors fit the place.
@@ -55,7 +64,10 @@ pub fn blank_shows_no_unit()
     ensures { BlankShowsNone }
 {}
 
-/// The slots of a layout's log show the units of the ring of prepares.
+/// The slots of a layout's log lie where the places of the ring of prepares lie, and show the units of those places; a
+/// unit that is valid in one is a prepare of the log with that slot.
 pub fn prepares_are_units()
-    ensures { PreparesAreUnits }
+    ensures shown { PreparesAreUnits }
+    ensures start { SlotsArePlaces }
+    ensures valid { UnitsArePrepares }
 {}

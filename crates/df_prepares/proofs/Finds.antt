@@ -1,26 +1,29 @@
 -- The head of the ring is found slot by slot.
-use Rattle.std.proofs.Common.{◌≡◌, ℕ, ◌+◌, ◌/◌, ◌%◌, ◌<◌, ◌≤◌, List, [], ◌∷◌, ◌++◌, length, Option, Some, None, sym, ◌∙◌, ap, subst, arith, length-append}
-use Rattle.df_base.specs.Image.{Image, bytes_at}
+use Rattle.std.proofs.Common.{◌≡◌, ℕ, ◌+◌, ◌%◌, ◌<◌, ◌≤◌, List, [], ◌∷◌, ◌++◌, length, Option, Some, None, sym, ◌∙◌, ap, subst, arith, length-append}
+use Rattle.df_base.specs.Image.{Image}
 use Rattle.df_disk.specs.Told.{Told, Shows}
+use Rattle.df_layout.specs.declared.layout.Layout.{Layout}
+use Rattle.df_layout.specs.declared.places.Zone.TheVariants.{WalPrepares}
 use Rattle.df_format.specs.declared.wal.Wal.{Wal}
 use Rattle.df_format.specs.Spelling.{no_checksum}
-use Rattle.df_format.specs.Unit.{Prepare, prepare_in, prepare_at, slot_start}
+use Rattle.df_format.specs.Shown.{unit_in}
+use Rattle.df_format.specs.Unit.{Prepare, prepare_at}
+use Rattle.df_format.specs.UnitLaws.{IsWalOf}
+use Rattle.df_buffers.specs.Rooms.{room_size}
 use Rattle.df_prepares.specs.declared.ring.Head.{Head}
 use Rattle.df_prepares.specs.Ring.{IsTail, IsRing, IsHead, end_of}
 use Rattle.df_prepares.specs.Found.{IsHeadOf, IsChild, MovesOn, ShowsNext, head_of}
 use Rattle.df_prepares.proofs.Chains.{IsBehind, chain_more, end_of-append}
+use Rattle.df_prepares.specs.Slots.{slot_place, slot_first}
+use Rattle.df_prepares.proofs.Places.{read_shows}
 use Rattle.df_prepares.proofs.Rings.{same_ring, ring_ends, ring_full}
 
--- the bytes that were read of a slot show what the image shows there
-read_shows : (wal : Wal) (image : Image) (slot : ℕ) (bytes : List ℕ) → length bytes ≡ wal.message_size → bytes ≡ bytes_at image (slot_start wal slot) (length bytes / 4096) → prepare_in wal slot bytes ≡ prepare_at wal image slot
-unfolding prepare_at
-read_shows wal image slot bytes size is = ap (λ (b : List ℕ). prepare_in wal slot b) (is ∙ ap (λ (n : ℕ). bytes_at image (slot_start wal slot) (n / 4096)) size)
-
-pub shows_next : (wal : Wal) (told : Option Told) (head : Head) (next : Option Head) (slot : ℕ) (bytes : List ℕ) → slot ≡ (head.op + 1) % wal.slots → length bytes ≡ wal.message_size → Shows told (slot_start wal slot) bytes
-    → MovesOn head (prepare_in wal slot bytes) next → ShowsNext wal told head next
-shows_next wal None head next slot bytes place size shows moves = tt
-shows_next wal (Some t) head next slot bytes place size shows moves =
-    subst (λ (o : Option Prepare). MovesOn head o next) (read_shows wal t.shown slot bytes size shows ∙ ap (λ (s : ℕ). prepare_at wal t.shown s) place) moves
+pub shows_next : (layout : Layout) (cluster : ℕ) (wal : Wal) (told : Option Told) (head : Head) (next : Option Head) (slot : ℕ) (bytes : List ℕ) → IsWalOf layout cluster wal → slot ≡ (head.op + 1) % layout.slots
+    → length bytes ≡ room_size layout WalPrepares → Shows told (slot_first layout slot) bytes → MovesOn head (unit_in layout cluster (slot_place slot) bytes) next → ShowsNext wal told head next
+shows_next layout cluster wal None head next slot bytes of place size shows moves = tt
+shows_next layout cluster wal (Some t) head next slot bytes of place size shows moves =
+    let turned : slot ≡ (head.op + 1) % wal.slots = place ∙ ap (λ (n : ℕ). (head.op + 1) % n) (sym of.slots) in
+    subst (λ (o : Option Prepare). MovesOn head o next) (read_shows layout cluster wal t.shown slot bytes of size shows ∙ ap (λ (s : ℕ). prepare_at wal t.shown s) turned) moves
 
 -- the head of a chain from op 1 on
 pub record IsFoundIn (wal : Wal) (image : Image) (head : Head) : Type 0 where

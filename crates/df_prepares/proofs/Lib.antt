@@ -1,4 +1,5 @@
 pub mod Slots
+pub mod Places
 pub mod Chains
 pub mod Rings
 pub mod Images
@@ -8,3 +9,4 @@ pub mod Steps
 pub mod Rests
 pub mod Finds
 pub mod Heads
+pub mod Apart

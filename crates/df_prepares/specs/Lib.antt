@@ -1,4 +1,6 @@
 pub mod Ring
+pub mod Slots
 pub mod Found
 pub mod Steady
 pub mod Laws
+pub mod Apart

@@ -1,41 +1,66 @@
 // Writes and reads of one slot of the ring. A prepare is durable before its writer answers.
-ghost use Rattle.std.specs.Prelude.{◌≡◌, ◌<◌, ◌≤◌, ◌%◌, [], ◌∷◌, length, OnOk};
+ghost use Rattle.std.specs.Prelude.{◌≡◌, ◌<◌, ◌^◌, OnOk};
 ghost use Rattle.df_base.specs.Causes.{HasCause};
-ghost use Rattle.df_base.specs.Log.{Write, Sync};
 ghost use Rattle.df_disk.specs.Told.{Shows};
 ghost use Rattle.df_disk.specs.Adds.{Adds};
-ghost use Rattle.df_format.specs.Unit.{slot_start};
+ghost use Rattle.df_buffers.specs.Rooms.{FillsRoom};
+ghost use Rattle.df_prepares.specs.Slots.{slot_place, slot_first, IsInOwnSlot, write_events};
 
 use df_base::Failed;
+use df_buffers::{Prepare, Raw, Sound};
 use df_disk::Disk;
-use df_format::Wal;
+use df_layout::{Layout, Place, Zone};
 
-/// Writes whole sectors from the start of a slot on, and makes them durable. After an error they may hold anything
-/// once the machine stops.
+/// The place of a slot.
+pub(crate) fn slot_place(slot: u32) -> Place
+    ensures { result ≡ slot_place slot }
+{
+    Place {
+        zone: Zone::WalPrepares,
+        index: u64::from(slot),
+    }
+}
+
+// The first sector of a slot.
+fn slot_first(layout: &Layout, slot: u32) -> u64
+    requires { slot < layout.now.slots }
+    ensures first { result ≡ slot_first layout.now slot }
+    ensures below { result < 2 ^ 22 }
+{
+    layout.sectors_of(slot_place(slot)).first
+}
+
+/// Writes the sectors of a prepare into its slot, and makes them durable. After an error they may hold anything once
+/// the machine stops. The prepare's room is one of the layout.
 pub fn write_prepare<D: Disk>(
     disk: &mut D,
-    wal: &Wal,
-    slot: u32,
-    sectors: &[u8],
+    layout: &Layout,
+    unit: &Sound<Prepare>,
 ) -> Result<(), Failed>
-    requires slot { slot < wal.now.slots }
-    requires some { 0 < length sectors.now }
-    requires whole { length sectors.now % 4096 ≡ 0 }
-    requires fits { length sectors.now ≤ wal.now.message_size }
-    ensures events { Adds (Write (slot_start wal.now slot) sectors.now ∷ Sync ∷ []) (D.told disk.old) (D.told disk.new) result }
+    requires layout { unit.now.layout ≡ layout.now }
+    ensures events { Adds (write_events layout.now unit.now) (D.told disk.old) (D.told disk.new) result }
+    ensures own { IsInOwnSlot layout.now unit.now.unit }
     ensures cause { HasCause (D.faults disk.old) (D.faults disk.new) result }
 {
-    disk.write(wal.slot_start(slot), sectors)?;
+    let slot = unit.header().slot;
+    disk.write(slot_first(layout, slot), unit.sectors())?;
     disk.sync()
 }
 
-/// Reads a whole slot into a room of its length. After an error the room holds any bytes.
-pub fn read_slot<D: Disk>(disk: &mut D, wal: &Wal, slot: u32, room: &mut [u8]) -> Result<(), Failed>
-    requires slot { slot < wal.now.slots }
-    requires room { length room.old ≡ wal.now.message_size }
-    ensures bytes { OnOk result (Shows (D.told disk.old) (slot_start wal.now slot) room.new) }
+/// Reads a whole slot into a room of the layout. After an error the room holds any bytes.
+pub fn read_slot<D: Disk>(
+    disk: &mut D,
+    layout: &Layout,
+    slot: u32,
+    room: &mut Raw<Prepare>,
+) -> Result<(), Failed>
+    requires slot { slot < layout.now.slots }
+    requires room { room.old.layout ≡ layout.now }
+    ensures bytes { OnOk result (Shows (D.told disk.old) (slot_first layout.now slot) room.new.bytes) }
+    ensures room { room.new.layout ≡ layout.now }
+    ensures fills { FillsRoom layout.now Zone.WalPrepares room.new.bytes }
     ensures same { D.told disk.new ≡ D.told disk.old }
     ensures cause { HasCause (D.faults disk.old) (D.faults disk.new) result }
 {
-    disk.read(wal.slot_start(slot), room)
+    disk.read(slot_first(layout, slot), room.bytes_mut())
 }

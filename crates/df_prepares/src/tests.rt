@@ -1,14 +1,19 @@
 // What no clause says: that the calls come together over a disk in memory, and that a failed call is answered and
 // forgotten by the next.
-ghost use Rattle.std.specs.Prelude.{◌≡◌, ◌≤◌, ◌<◌, ◌+◌, length, IfOk, None};
+ghost use Rattle.std.specs.Prelude.{◌≡◌, ◌≤◌, ◌<◌, ◌+◌, length, IfOk, IsSome, None};
 ghost use Rattle.df_base.specs.Causes.{HasCause};
-ghost use Rattle.df_format.specs.Making.{AreGiven};
+ghost use Rattle.df_layout.specs.declared.layout.Layout.{Layout as AnyLayout};
+ghost use Rattle.df_format.specs.Rules.{ObeysRules};
+ghost use Rattle.df_format.specs.Own.{own_place};
+ghost use Rattle.df_format.specs.Making.{for_body};
 ghost use Rattle.df_format.specs.Spelling.{no_checksum};
 
 use super::*;
-use df_base::{Failed, SECTOR};
+use df_base::{Failed, SECTOR, check};
+use df_buffers::{Prepare, Raw};
 use df_disk::Disk;
-use df_format::{Header, Kind, Wal, make_prepare};
+use df_format::{Header, Kind, Wal};
+use df_layout::{Layout, Zone};
 use std::alloc::{AllocError, Global};
 use std::test::Fail;
 
@@ -71,17 +76,21 @@ impl Disk for Board {
     }
 }
 
-// The child of a head: what its maker says of it.
-fn child_of(head: &Head) -> Header
-    requires op { head.now.op ≤ 32 }
-    requires empty { head.now.op ≡ 0 → head.now.checksum ≡ no_checksum }
-    ensures { AreGiven result }
+// The child of a head, as its maker gives it.
+#[tactic(auto, unfolding(df_format::specs::Own::own_place))]
+fn child_of(head: Head, body: &[u8]) -> Header
+    requires op { head.op ≤ 32 }
+    requires empty { head.op ≡ 0 → head.checksum ≡ no_checksum }
+    requires body { length body.now ≤ 7936 }
+    ensures rules { ObeysRules (for_body result body.now) }
+    ensures kind { result.kind ≡ Kind.Prepare }
+    ensures own { (layout : AnyLayout) → layout.slots ≡ 32 → IsSome (own_place layout Zone.WalPrepares result) }
 {
     let parent = head.checksum;
     Header {
         checksum: [0; 16],
-        checksum_body: [0; 16],
-        cluster: 0,
+        checksum_body: check(body),
+        cluster: 7,
         parent,
         client: 5,
         op: head.op + 1,
@@ -89,94 +98,111 @@ fn child_of(head: &Head) -> Header
         mark: 0,
         checkpoint: 1,
         size: 0,
-        slot: 0,
+        slot: ((head.op + 1) % 32) as u32,
         kind: Kind::Prepare,
         block_kind: 0,
     }
 }
 
 // Writes the child of a head into its slot, with a body of so many bytes.
-fn append(board: &mut Board, room: &mut [u8], head: &Head, body: usize) -> Result<Head, Failed>
+fn append(
+    board: &mut Board,
+    layout: &Layout,
+    room: Raw<Prepare>,
+    head: &Head,
+    body: usize,
+) -> (Raw<Prepare>, Result<Head, Failed>)
+    requires slots { layout.now.slots ≡ 32 }
+    requires size { layout.now.message_size ≡ 8192 }
     requires op { head.now.op ≤ 32 }
     requires empty { head.now.op ≡ 0 → head.now.checksum ≡ no_checksum }
     requires body { body ≤ 7936 }
-    requires room { length room.old ≡ 8192 }
-    ensures { IfOk result (λ later. later.op ≡ head.now.op + 1) }
+    requires room { room.layout ≡ layout.now }
+    ensures room { result.0.layout ≡ layout.now }
+    ensures op { IfOk result.1 (λ later. later.op ≡ head.now.op + 1) }
 {
-    let wal = Wal::small();
     let bytes = [7u8; 7936];
-    let made = make_prepare(&wal, child_of(head), &bytes[..body], room);
-    let slot = (made.header.op % 32) as u32;
-    write_prepare(board, &wal, slot, &room[..made.length])?;
-    let checksum = made.header.checksum;
-    Ok(Head {
-        op: head.op + 1,
-        checksum,
-    })
+    let child = child_of(*head, &bytes[..body]);
+    let unit = room.make(child, &bytes[..body]);
+    let checksum = unit.header().checksum;
+    let written = write_prepare(board, layout, &unit);
+    let room = unit.loosen();
+    match written {
+        Ok(()) => (
+            room,
+            Ok(Head {
+                op: head.op + 1,
+                checksum,
+            }),
+        ),
+        Err(failed) => (room, Err(failed)),
+    }
 }
 
 #[test]
 fn each_prepare_that_is_written_is_found(rt: HostRuntime) -> Result<(), Fail> {
-    let wal = Wal::small();
+    let layout = Layout::small();
     let mut board = Board::blank(rt.alloc(), 0)?;
-    let mut room = [0u8; 8192];
     for turn in 0..32usize {
-        let head = find_ring(&mut board, &wal, &mut room)?;
+        let room = Raw::reserve(rt.alloc(), &layout).expect(&rt, "memory of a room");
+        let (back, head) = find_ring(&mut board, &layout, 7, room);
+        let head = head?;
         assert!(rt; head.op < 32);
         assert_eq!(rt; head.op, turn as u64);
-        let later = append(&mut board, &mut room, &head, 256 * turn)?;
-        assert_eq!(rt;
-            find_ring(&mut board, &wal, &mut room)?,
-            later,
-            "behind op {turn}"
-        );
+        let (back, later) = append(&mut board, &layout, back, &head, 256 * turn);
+        let (_, found) = find_ring(&mut board, &layout, 7, back);
+        assert_eq!(rt; found?, later?, "behind op {turn}");
     }
     Ok(())
 }
 
 #[test]
 fn a_prepare_with_another_parent_is_not_taken(rt: HostRuntime) -> Result<(), Fail> {
-    let wal = Wal::small();
+    let layout = Layout::small();
     let mut board = Board::blank(rt.alloc(), 0)?;
-    let mut room = [0u8; 8192];
-    let empty = find_ring(&mut board, &wal, &mut room)?;
+    let room = Raw::reserve(rt.alloc(), &layout).expect(&rt, "memory of a room");
+    let (room, empty) = find_ring(&mut board, &layout, 7, room);
+    let empty = empty?;
     assert_eq!(rt; (empty.op, empty.checksum), (0, [0u8; 16]));
-    let first = append(&mut board, &mut room, &empty, 0)?;
+    let (room, first) = append(&mut board, &layout, room, &empty, 0);
+    let first = first?;
     let stray = Head {
         op: first.op,
         checksum: [1; 16],
     };
-    append(&mut board, &mut room, &stray, 0)?;
-    assert_eq!(rt; find_ring(&mut board, &wal, &mut room)?, first);
+    let (room, written) = append(&mut board, &layout, room, &stray, 0);
+    assert!(rt; written.is_ok());
+    let (room, found) = find_ring(&mut board, &layout, 7, room);
+    assert_eq!(rt; found?, first);
+    let (_, other) = find_ring(&mut board, &layout, 8, room);
+    assert_eq!(rt; other?.op, 0);
     Ok(())
 }
 
 #[test]
 #[tactic(auto, unfolding(df_format::specs::Spelling::no_checksum))]
 fn a_failed_call_is_answered_once(rt: HostRuntime) -> Result<(), Fail> {
-    let wal = Wal::small();
-    let mut room = [0u8; 8192];
+    let layout = Layout::small();
     for failing in 1..5u64 {
+        let room = Raw::reserve(rt.alloc(), &layout).expect(&rt, "memory of a room");
         let mut board = Board::blank(rt.alloc(), failing)?;
         let empty = Head {
             op: 0,
             checksum: [0; 16],
         };
-        let written = append(&mut board, &mut room, &empty, 5000);
+        let (back, written) = append(&mut board, &layout, room, &empty, 5000);
         assert_eq!(rt; written.is_err(), failing <= 2, "call {failing}");
-        let found = find_ring(&mut board, &wal, &mut room);
+        let (back, found) = find_ring(&mut board, &layout, 7, back);
         assert_eq!(rt; found.is_err(), 2 < failing, "call {failing}");
-        assert_eq!(rt;
-            find_ring(&mut board, &wal, &mut room)?.op,
-            if failing == 1 { 0 } else { 1 }
-        );
+        let (_, again) = find_ring(&mut board, &layout, 7, back);
+        assert_eq!(rt; again?.op, if failing == 1 { 0 } else { 1 });
     }
     Ok(())
 }
 
 #[test]
 fn the_laws_are_called(_rt: HostRuntime) {
-    let wal = Wal::small();
+    let wal = Wal::of(&Layout::small(), 7);
     one_ring(&wal);
     new_is_at_rest(&wal);
     next_may_be_written(&wal);

@@ -11,6 +11,7 @@ mod words;
 
 pub use line::Line;
 pub use next::Next;
+pub use number::{u32_of, u64_of, u128_of};
 pub use parser::{one_meaning, parse};
 pub use reader::LineRoom;
 

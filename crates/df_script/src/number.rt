@@ -2,8 +2,16 @@
 ghost use Rattle.std.specs.Prelude.{◌≡◌, ◌<◌, ◌^◌, ℕ, List, [], ◌∷◌, ◌++◌};
 ghost use Rattle.std.specs.Prelude.{decimal, IfSome, IfNone};
 
+/// The number that the bytes spell, or None where they spell none below 2^32.
+pub fn u32_of(digits: &[u8]) -> Option<u32>
+    ensures found { IfSome result (λ n. digits.now ≡ decimal n) }
+    ensures none { IfNone result ((n : ℕ) → n < 2 ^ 32 → digits.now ≡ decimal n → ⊥) }
+{
+    u32::try_from(u64_of(digits)?).ok()
+}
+
 /// The number that the bytes spell, or None where they spell none below 2^64.
-pub(crate) fn u64_of(digits: &[u8]) -> Option<u64>
+pub fn u64_of(digits: &[u8]) -> Option<u64>
     ensures found { IfSome result (λ n. digits.now ≡ decimal n) }
     ensures none { IfNone result ((n : ℕ) → n < 2 ^ 64 → digits.now ≡ decimal n → ⊥) }
 {
@@ -11,7 +19,7 @@ pub(crate) fn u64_of(digits: &[u8]) -> Option<u64>
 }
 
 /// The number that the bytes spell, or None where they spell none below 2^128.
-pub(crate) fn u128_of(digits: &[u8]) -> Option<u128>
+pub fn u128_of(digits: &[u8]) -> Option<u128>
     ensures found { IfSome result (λ n. digits.now ≡ decimal n) }
     ensures none { IfNone result ((n : ℕ) → n < 2 ^ 128 → digits.now ≡ decimal n → ⊥) }
 {

@@ -85,6 +85,48 @@ fn other_lines_are_refused(rt: HostRuntime) {
 }
 
 #[test]
+fn numbers_are_read_up_to_their_width(rt: HostRuntime) {
+    let rows = [
+        (b"0".as_slice(), Some(0), Some(0), Some(0)),
+        (b"10", Some(10), Some(10), Some(10)),
+        (
+            b"4294967295",
+            Some(u32::MAX),
+            Some(4_294_967_295),
+            Some(4_294_967_295),
+        ),
+        (b"4294967296", None, Some(1 << 32), Some(1 << 32)),
+        (
+            b"18446744073709551615",
+            None,
+            Some(u64::MAX),
+            Some(18_446_744_073_709_551_615),
+        ),
+        (b"18446744073709551616", None, None, Some(1 << 64)),
+        (
+            b"340282366920938463463374607431768211455",
+            None,
+            None,
+            Some(u128::MAX),
+        ),
+        (b"340282366920938463463374607431768211456", None, None, None),
+        (b"", None, None, None),
+        (b"00", None, None, None),
+        (b"07", None, None, None),
+        (b"+7", None, None, None),
+        (b"-7", None, None, None),
+        (b" 7", None, None, None),
+        (b"7 ", None, None, None),
+        (b"7a", None, None, None),
+    ];
+    for (digits, small, middle, large) in rows {
+        assert_eq!(rt; u32_of(digits), small);
+        assert_eq!(rt; u64_of(digits), middle);
+        assert_eq!(rt; u128_of(digits), large);
+    }
+}
+
+#[test]
 fn a_script_is_read_in_pieces_of_any_size(rt: HostRuntime) -> Result<(), Fail> {
     for piece in [1, 2, 7, 64, 65, 1000] {
         let mut source = Drip {

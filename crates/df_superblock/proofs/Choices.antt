@@ -1,29 +1,16 @@
 -- How a content is shown to be chosen, and that contents can be told apart.
-use Rattle.std.proofs.Common.{◌≡◌, ◌⊎◌, inl, inr, ℕ, ◌≤◌, ◌<◌, Bool, true, false, List, Option, Some, None, refl, sym, ◌∙◌, ap, arith}
-use Rattle.std.proofs.lemmas.Bool.{cases_eq, cases_lt}
+use Rattle.std.proofs.Common.{◌≡◌, ◌⊎◌, inl, inr, ℕ, ◌<◌, Bool, true, false, List, Option, Some, None, refl, ap, arith}
+use Rattle.std.proofs.lemmas.Bool.{cases_eq}
 use Rattle.std.proofs.lemmas.Slice.Eq.{bytes_eq-Decides}
 use Rattle.std.specs.Str.{bytes_eq}
 use Rattle.df_format.specs.Copies.{Content, rank_of}
 use Rattle.df_format.specs.declared.superblock.SuperFields.{SuperFields}
+use Rattle.df_quorum.proofs.Choices.{two_law}
 use Rattle.df_quorum.specs.Quorum.{Copies, Agree, IsChosen}
-
-pub same_copy : (copies : Copies) (n : ℕ) (c d : Content) → copies n ≡ Some c → copies n ≡ Some d → c ≡ d
-same_copy copies n c d one two = let both : Some c ≡ Some d = sym one ∙ two in cc
 
 -- a content that two copies show, where whatever else two copies show is lower
 pub chosen_above : (copies : Copies) (c : Content) → Agree copies c → ((d : Content) → Agree copies d → (d ≡ c) ⊎ (rank_of d < rank_of c)) → IsChosen copies c
-chosen_above copies c agreed other = record {
-  agreed = agreed;
-  greatest = λ d a. elim (other d a) [ inl same ↦ omega (arith, ap rank_of same) | inr low ↦ omega arith ];
-  lowest = λ d a tie n below is. elim (other d a) [ inl same ↦ (n, omega arith, is ∙ ap (λ (x : Content). Some x) same) | inr low ↦ absurd (omega arith) ];
-}
-
--- two copies in any order agree
-pub agree_of : (copies : Copies) (c : Content) (i j : ℕ) → i < 4 → j < 4 → (i ≡ j → ⊥) → copies i ≡ Some c → copies j ≡ Some c → Agree copies c
-agree_of copies c i j below_i below_j apart is_i is_j = elim (cases_lt i j) [
-  | inl less ↦ record { first = i; second = j; apart = less; inside = below_j; at_first = is_i; at_second = is_j }
-  | inr more ↦ record { first = j; second = i; apart = omega arith; inside = below_i; at_first = is_j; at_second = is_i }
-]
+chosen_above copies c agreed other = two_law copies c agreed.first agreed.second (omega (arith, agreed.apart, agreed.inside)) agreed.inside (λ e. omega (arith, agreed.apart)) agreed.at_first agreed.at_second other
 
 -- another one of two copies that agree
 pub partner : (copies : Copies) (c : Content) → Agree copies c → (i : ℕ) → (j : ℕ) × (j < 4) × (i ≡ j → ⊥) × (copies j ≡ Some c)
@@ -79,24 +66,24 @@ same_third f g = both _ _ (cases_eq f.trailer_address g.trailer_address) (both _
 
 fields_from : (f g : SuperFields) → First f g × (Second f g × Third f g) → f ≡ g
 fields_from f g is i = record {
-    version = is.0.0 i;
-    slots = is.0.1.0 i;
-    message_size = is.0.1.1.0 i;
-    clients = is.0.1.1.1.0 i;
-    block_size = is.0.1.1.1.1.0 i;
-    blocks = is.0.1.1.1.1.1 i;
-    cluster = is.1.0.0 i;
-    sequence = is.1.0.1.0 i;
-    op = is.1.0.1.1.0 i;
-    op_checksum = is.1.0.1.1.1.0 i;
-    head = is.1.0.1.1.1.1.0 i;
-    replies = is.1.0.1.1.1.1.1 i;
-    trailer_address = is.1.1.0 i;
-    trailer_checksum = is.1.1.1.0 i;
-    trailer_size = is.1.1.1.1.0 i;
-    boot = is.1.1.1.1.1.0 i;
-    first_nonzero = is.1.1.1.1.1.1 i;
-  }
+  version = is.0.0 i;
+  slots = is.0.1.0 i;
+  message_size = is.0.1.1.0 i;
+  clients = is.0.1.1.1.0 i;
+  block_size = is.0.1.1.1.1.0 i;
+  blocks = is.0.1.1.1.1.1 i;
+  cluster = is.1.0.0 i;
+  sequence = is.1.0.1.0 i;
+  op = is.1.0.1.1.0 i;
+  op_checksum = is.1.0.1.1.1.0 i;
+  head = is.1.0.1.1.1.1.0 i;
+  replies = is.1.0.1.1.1.1.1 i;
+  trailer_address = is.1.1.0 i;
+  trailer_checksum = is.1.1.1.0 i;
+  trailer_size = is.1.1.1.1.0 i;
+  boot = is.1.1.1.1.1.0 i;
+  first_nonzero = is.1.1.1.1.1.1 i;
+}
 
 fields_to : (f g : SuperFields) → f ≡ g → First f g × (Second f g × Third f g)
 fields_to f g e = ((ap (λ (x : SuperFields). x.version) e, (ap (λ (x : SuperFields). x.slots) e, (ap (λ (x : SuperFields). x.message_size) e, (ap (λ (x : SuperFields). x.clients) e, (ap (λ (x : SuperFields). x.block_size) e, ap (λ (x : SuperFields). x.blocks) e))))), ((ap (λ (x : SuperFields). x.cluster) e, (ap (λ (x : SuperFields). x.sequence) e, (ap (λ (x : SuperFields). x.op) e, (ap (λ (x : SuperFields). x.op_checksum) e, (ap (λ (x : SuperFields). x.head) e, ap (λ (x : SuperFields). x.replies) e))))), (ap (λ (x : SuperFields). x.trailer_address) e, (ap (λ (x : SuperFields). x.trailer_checksum) e, (ap (λ (x : SuperFields). x.trailer_size) e, (ap (λ (x : SuperFields). x.boot) e, ap (λ (x : SuperFields). x.first_nonzero) e))))))
@@ -120,24 +107,3 @@ shows_content (Some d) c = elim (same_content d c) [
   | inl is ↦ inl (ap (λ (x : Content). Some x) is)
   | inr differ ↦ inr (λ e. differ (let same : d ≡ c = cc in same))
 ]
-
-agree_same : (one two : Copies) (c : Content) → ((n : ℕ) → n < 4 → one n ≡ two n) → Agree one c → Agree two c
-agree_same one two c same a = record {
-  first = a.first;
-  second = a.second;
-  apart = a.apart;
-  inside = a.inside;
-  at_first = sym (same a.first (omega (arith, a.apart, a.inside))) ∙ a.at_first;
-  at_second = sym (same a.second a.inside) ∙ a.at_second;
-}
-
--- the choice depends on the four places alone
-pub chosen_same : (one two : Copies) (c : Content) → ((n : ℕ) → n < 4 → one n ≡ two n) → IsChosen one c → IsChosen two c
-chosen_same one two c same is = record {
-  agreed = agree_same one two c same is.agreed;
-  greatest = λ d a. is.greatest d (agree_same two one d (λ n below. sym (same n below)) a);
-  lowest = λ d a tie n below shown.
-      let k = is.lowest d (agree_same two one d (λ m inside. sym (same m inside)) a) tie n below (same n below ∙ shown) in
-      let kb : k.0 ≤ n = k.1 in
-      (k.0, kb, sym (same k.0 (omega arith)) ∙ k.2);
-}

@@ -1,8 +1,8 @@
 -- A repair, one copy after the other, by the history.
-use Rattle.std.proofs.Common.{◌≡◌, ◌⊎◌, inl, inr, ℕ, zero, suc, ◌<◌, ◌≤◌, ◌+◌, Bool, true, false, List, [], ◌∷◌, length, get_or, Some, refl, sym, ◌∙◌, ap, subst, arith}
+use Rattle.std.proofs.Common.{◌≡◌, ◌⊎◌, inl, inr, ℕ, zero, suc, ◌<◌, ◌≤◌, ◌+◌, Bool, true, false, List, [], ◌∷◌, length, get_or, Some, ◌∙◌, ap, subst, arith}
 use Rattle.std.proofs.lemmas.Bool.{cases_eq}
 use Rattle.df_base.specs.Image.{Image, written}
-use Rattle.df_base.specs.Log.{Event, Write, Sync, Log, add, now}
+use Rattle.df_base.specs.Log.{Write, Sync, Log, add, now}
 use Rattle.df_format.specs.Super.{copy_bytes}
 use Rattle.df_format.specs.Copies.{Content, content_at}
 use Rattle.df_format.specs.declared.superblock.SuperFields.{SuperFields}
@@ -63,8 +63,7 @@ module _ (f : SuperFields) (c : Content) (puts : (n : ℕ) → n < 4 → PutsCop
   repair_keeps p q number [] log fits first second ready = ready_kept log c p q ready
   repair_keeps p q number (true ∷ members) log fits first second ready = repair_keeps p q (number + 1) members log (omega arith) first second ready
   repair_keeps p q number (false ∷ members) log fits first second ready =
-      let wet : IsReady (add (Write number (copy_bytes number f)) log) c p q = ready_wrote log c p q number (copy_bytes number f) (puts number (omega arith)) first.0 second.0 ready in
-      (
+      let wet : IsReady (add (Write number (copy_bytes number f)) log) c p q = ready_wrote log c p q number (copy_bytes number f) (puts number (omega arith)) first.0 second.0 ready in (
         ready_kept log c p q ready,
         (
           ready_kept (add (Write number (copy_bytes number f)) log) c p q wet,

@@ -1,5 +1,5 @@
 -- A repair with no word on the history.
-use Rattle.std.proofs.Common.{◌≡◌, ◌⊎◌, inl, inr, ℕ, ◌<◌, ◌≤◌, ◌+◌, ◌||◌, Bool, true, false, List, [], ◌∷◌, length, Some, refl, sym, ◌∙◌, ap, arith}
+use Rattle.std.proofs.Common.{◌≡◌, ◌⊎◌, inl, inr, ℕ, ◌<◌, ◌≤◌, ◌+◌, Bool, true, false, List, [], ◌∷◌, length, Some, refl, sym, ◌∙◌, ap, arith}
 use Rattle.std.proofs.lemmas.Bool.{cases_lt, cases_eq}
 use Rattle.df_base.specs.Image.{Image, written}
 use Rattle.df_base.specs.Log.{Write, Sync, Log, add, loose, now}
@@ -9,7 +9,8 @@ use Rattle.df_format.specs.declared.superblock.SuperFields.{SuperFields}
 use Rattle.df_quorum.specs.Quorum.{Copies, Agree, IsChosen}
 use Rattle.df_superblock.specs.Copies.{IsMisled}
 use Rattle.df_superblock.specs.Events.{repair_events}
-use Rattle.df_superblock.proofs.Choices.{same_copy, same_content, shows_content, agree_of, partner}
+use Rattle.df_quorum.proofs.Choices.{same_content as same_copy, agree_at as agree_of}
+use Rattle.df_superblock.proofs.Choices.{same_content, shows_content, partner}
 use Rattle.df_superblock.proofs.Sights.{PutsCopy, seen_apart}
 use Rattle.df_superblock.proofs.Ready.{Keeps, firm_shows, loose_wrote}
 use Rattle.df_superblock.proofs.Passing.{AtEach}
@@ -126,8 +127,7 @@ module _ (f : SuperFields) (c : Content) (puts : (n : ℕ) → n < 4 → PutsCop
   each_stays number (true ∷ members) log fits u outside = each_stays (number + 1) members log (omega arith) u outside
   each_stays number (false ∷ members) log fits u outside =
       let bytes : List ℕ = copy_bytes number f in
-      let w : IsUnder before (add (Write number bytes) log) c = under_wrote before log c number bytes (puts number (omega arith)) u outside.0 in
-      (
+      let w : IsUnder before (add (Write number bytes) log) c = under_wrote before log c number bytes (puts number (omega arith)) u outside.0 in (
         λ image keeps not. stays before log c image u keeps not chosen,
         (
           λ image keeps not. stays before (add (Write number bytes) log) c image w keeps not chosen,

@@ -1,7 +1,7 @@
 -- A fact at each moment of some events, and what a call says that added them.
-use Rattle.std.proofs.Common.{◌≡◌, ◌⊎◌, inl, inr, List, [], ◌∷◌, ◌++◌, Option, Some, None, refl, sym, ◌∙◌, ap, subst, append_assoc, Result, Ok, Err}
+use Rattle.std.proofs.Common.{◌≡◌, inl, inr, List, [], ◌∷◌, ◌++◌, Option, Some, None, refl, sym, ◌∙◌, subst, append_assoc, Result, Ok, Err}
 use Rattle.df_base.specs.Log.{Event, Log, add}
-use Rattle.df_base.specs.Moments.{Extends, EachMoment}
+use Rattle.df_base.specs.Moments.{Extends}
 use Rattle.df_base.proofs.Goes.{extends_self, started, from_before}
 use Rattle.df_disk.specs.Told.{Told, after, did}
 use Rattle.df_disk.specs.Adds.{Adds, AddsPart, after_all}

@@ -1,14 +1,15 @@
 -- What holds while copies of one content are written beside two that show it.
-use Rattle.std.proofs.Common.{◌≡◌, ◌⊎◌, inl, inr, ℕ, ◌<◌, ◌||◌, true, false, List, [], ◌∷◌, Some, None, refl, sym, ◌∙◌, ap, subst, arith}
+use Rattle.std.proofs.Common.{◌≡◌, ◌⊎◌, inl, inr, ℕ, ◌<◌, ◌||◌, false, List, Some, refl, sym, ◌∙◌, ap, subst, arith}
 use Rattle.std.proofs.lemmas.Bool.{cases_eq}
 use Rattle.df_base.specs.Image.{Image, covers, written, changed}
-use Rattle.df_base.specs.Log.{Write, Sync, Stop, Log, IsLeft, AreLoose, add, loose, now, settled}
+use Rattle.df_base.specs.Log.{Write, Sync, Stop, Log, AreLoose, add, loose, now}
 use Rattle.df_format.specs.Copies.{Content, content_at, rank_of}
-use Rattle.df_format.specs.CopyPools.{AmongImages, AmongWrites, InCopyPool, NoChanceCopy}
+use Rattle.df_format.specs.CopyPools.{AmongWrites, InCopyPool}
 use Rattle.df_quorum.specs.Quorum.{Agree, IsChosen}
 use Rattle.df_superblock.specs.Copies.{AreQuiet, IsBounded, AreSteady, AreEqual, IsKept}
 use Rattle.df_superblock.specs.Laws.{BeginsLaw, KeptLaw, OthersLaw}
-use Rattle.df_superblock.proofs.Choices.{same_copy, chosen_above, chosen_same}
+use Rattle.df_quorum.proofs.Choices.{same_content as same_copy, same_law as chosen_same}
+use Rattle.df_superblock.proofs.Choices.{chosen_above}
 use Rattle.df_superblock.proofs.Sights.{PutsCopy, put_is, seen_same, seen_apart, changed_same, none_pending, firm_settled}
 
 -- the image has what the log leaves in each sector that isn't loose

@@ -1,11 +1,11 @@
 -- What the places of the copies show after writes, syncs and stops.
-use Rattle.std.proofs.Common.{◌≡◌, ◌⊎◌, inl, inr, ◌<◌, ◌-◌, ◌==◌, if◌then◌else◌, ℕ, zero, suc, Bool, true, false, ◌||◌, ◌&&◌, List, [], ◌∷◌, drop, take, length, replicate, Option, Some, None, refl, sym, ◌∙◌, ap, subst, arith, nat_lt}
+use Rattle.std.proofs.Common.{◌≡◌, inl, inr, ◌-◌, ℕ, zero, suc, Bool, true, false, ◌||◌, ◌&&◌, List, [], ◌∷◌, replicate, Some, None, refl, sym, ◌∙◌, ap, subst, arith, nat_lt}
 use Rattle.std.proofs.lemmas.Bool.{cases_eq}
 use Rattle.std.proofs.lemmas.Bool.Decides.{nat_tests}
 use Rattle.std.proofs.lemmas.List.{length-replicate, drop-replicate}
 use Rattle.df_base.specs.Fields.{AreBytes, field_at}
 use Rattle.df_base.specs.Image.{Image, IsImage, covers, written, changed}
-use Rattle.df_base.specs.Log.{Event, Write, Sync, Stop, Log, AreLoose, now_of, loose_of, settled_of}
+use Rattle.df_base.specs.Log.{Event, Write, Sync, Stop, AreLoose, now_of, loose_of, settled_of}
 use Rattle.df_format.specs.Copies.{Content, content_at, content_of, copy_at, copy_in, if_here, is_copy}
 use Rattle.df_format.specs.CopyPools.{AmongImages, AmongWrites}
 

@@ -1,16 +1,17 @@
 -- An update of four equal copies, step by step.
 use Rattle.std.proofs.Common.{◌≡◌, ◌⊎◌, inl, inr, ℕ, ◌<◌, ◌≤◌, ◌+◌, ◌||◌, false, List, [], ◌∷◌, ◌++◌, Some, refl, sym, ◌∙◌, ap, subst, arith}
 use Rattle.std.proofs.lemmas.Bool.{cases_eq, cases_lt}
-use Rattle.df_base.specs.Image.{Image, covers, written, changed}
-use Rattle.df_base.specs.Log.{Event, Write, Sync, Stop, Log, IsLeft, AreLoose, add, loose, loose_of, now, now_of, settled}
+use Rattle.df_base.specs.Image.{Image, written, changed}
+use Rattle.df_base.specs.Log.{Event, Write, Sync, Stop, Log, AreLoose, add, loose, loose_of, now, now_of}
 use Rattle.df_base.specs.Moments.{Extends}
 use Rattle.df_format.specs.Copies.{Content, content_at, rank_of}
 use Rattle.df_format.specs.CopyPools.{AmongWrites, NoChanceCopy}
 use Rattle.df_quorum.specs.Quorum.{Copies, Agree, IsChosen}
 use Rattle.df_superblock.specs.Copies.{AreQuiet, IsBounded, AreSteady, AreEqual, OfEither, IsEither, Spare, IsOldOrNew}
-use Rattle.df_superblock.proofs.Choices.{same_copy, chosen_above, shows_content}
-use Rattle.df_superblock.proofs.Sights.{PutsCopy, put_is, seen_apart, none_pending, or_parts}
-use Rattle.df_superblock.proofs.Ready.{Keeps, Knows, IsLow, stop_keeps, firm_shows, low_image, bounded_stop, bounded_sync, quiet_low, quiet_knows, knows_wrote, low_wrote, loose_wrote}
+use Rattle.df_quorum.proofs.Choices.{same_content as same_copy}
+use Rattle.df_superblock.proofs.Choices.{chosen_above, shows_content}
+use Rattle.df_superblock.proofs.Sights.{PutsCopy, put_is, seen_apart, none_pending}
+use Rattle.df_superblock.proofs.Ready.{Keeps, Knows, IsLow, stop_keeps, firm_shows, bounded_stop, bounded_sync, quiet_low, quiet_knows, knows_wrote, low_wrote, loose_wrote}
 use Rattle.df_superblock.proofs.Passing.{AtEach}
 
 -- ---- the choice among copies of which the first i are new, the next one is any, and the others are old

@@ -1,23 +1,19 @@
 -- What slots that were read say of the copies, and what an update answers of them.
-use Rattle.std.proofs.Common.{◌≡◌, ◌⊎◌, inl, inr, ◌<◌, ◌≤◌, ◌+◌, ◌/◌, ◌==◌, if◌then◌else◌, ◌↔◌, ℕ, zero, suc, Bool, true, false, IsTrue, List, [], ◌∷◌, ◌++◌, length, take, drop, get_or, Option, Some, None, refl, sym, ◌∙◌, ap, subst, arith, Result, Ok, Err, OnOk}
+use Rattle.std.proofs.Common.{◌≡◌, inl, inr, ◌<◌, ◌≤◌, ◌+◌, ◌/◌, ◌==◌, if◌then◌else◌, ◌↔◌, ℕ, zero, suc, Bool, true, false, IsTrue, List, [], ◌∷◌, ◌++◌, length, take, drop, get_or, Option, Some, None, refl, sym, ◌∙◌, ap, subst, arith, Result, Ok, Err, OnOk}
 use Rattle.std.proofs.lemmas.Bool.{cases_lt}
 use Rattle.std.proofs.lemmas.Bool.Decides.{nat_tests}
 use Rattle.std.proofs.lemmas.List.{append-nil}
 use Rattle.std.proofs.Math.Seq.{take-append_seam}
 use Rattle.df_base.specs.Image.{Image, bytes_at}
-use Rattle.df_base.specs.Log.{Event}
 use Rattle.df_disk.specs.Told.{Told, Shows}
-use Rattle.df_disk.specs.Adds.{after_all}
 use Rattle.df_layout.specs.declared.damage.Class.{Class}
 use Rattle.df_format.specs.declared.superblock.SuperCopy.{SuperCopy}
 use Rattle.df_format.specs.declared.superblock.SuperFields.{SuperFields}
-use Rattle.df_format.specs.Copies.{Content, content_at, content_of, content_with, copy_at, copy_in, copy_or_class, class_of_copy, if_here, own_copy}
+use Rattle.df_format.specs.Copies.{Content, content_at, content_of, copy_at, copy_in, copy_or_class, class_of_copy, if_here, own_copy}
 use Rattle.df_quorum.specs.declared.slot.Slot.{Slot}
-use Rattle.df_quorum.specs.declared.slot.Slot.TheVariants.{Sound, Bad}
-use Rattle.df_quorum.specs.Quorum.{copies_of, copy_of, nothing}
-use Rattle.df_superblock.specs.declared.updates.UpdateError.{UpdateError}
-use Rattle.df_superblock.specs.declared.updates.UpdateError.TheVariants.{Damaged, DiskFault}
-use Rattle.df_superblock.specs.Calls.{slot_of, slot_at, ShowsSector, ShowsSlot, ShowsSlots, ShowsCopies, ShowsEqual, Holds, IsRead, AreEnough, IsFirstMissing, IsDamaged, IsVerdict, IsUndamaged, AddsUpdate, IsCausedBy, class_of_slot}
+use Rattle.df_quorum.specs.declared.slot.Slot.TheVariants.{Sound}
+use Rattle.df_quorum.specs.Quorum.{copy_of, nothing}
+use Rattle.df_superblock.specs.Calls.{slot_of, slot_at, ShowsSector, ShowsSlot, ShowsSlots, ShowsCopies, Holds, IsRead, AreEnough, IsFirstMissing}
 
 -- a copy that belongs here belongs here
 here_again : (n : ℕ) (class : Class) (o : Option SuperCopy) → if_here n (copy_of (slot_of (copy_or_class (if_here n o) class))) ≡ if_here n o
@@ -83,7 +79,7 @@ some_content c d e = cc
 pub holds_sound : (n : ℕ) (slot : Slot) (copy : SuperCopy) (f : SuperFields) (b : Bool) → slot ≡ Sound copy → copy.number ≡ n → IsTrue b ↔ (copy.fields ≡ f) → IsTrue b ↔ Holds n slot f
 holds_sound n slot copy f b is here same =
     let shown : content_of (if_here n (copy_of slot)) ≡ Some (record { checksum = copy.checksum; fields = copy.fields }) =
-        ap (λ (s : Slot). content_of (if_here n (copy_of s))) is ∙ ap (λ (t : Bool). content_of (if t then Some copy else None)) (number_is copy.number n here) in (
+    ap (λ (s : Slot). content_of (if_here n (copy_of s))) is ∙ ap (λ (t : Bool). content_of (if t then Some copy else None)) (number_is copy.number n here) in (
       λ true_b. (record { checksum = copy.checksum; fields = copy.fields }, shown, same.0 true_b),
       λ held.
           let one : record { checksum = copy.checksum; fields = copy.fields } ≡ held.0 = some_content _ _ (sym shown ∙ held.1) in
@@ -93,34 +89,17 @@ holds_sound n slot copy f b is here same =
     number_is : (a b : ℕ) → a ≡ b → (a == b) ≡ true
     number_is a b e = grind (arith, nat_tests)
 
--- where all is shown as it was written, it is read so
-all_read : (t : Told) (slots : List Slot) (f : SuperFields) → ShowsEqual f (Some t) → ShowsCopies (Some t) slots → (n : ℕ) → n < 4 → IsRead slots f n
-all_read t slots f equal shown n below = (content_with f, shown n below ∙ equal n below, refl)
-
-pub undamaged : {T : Type 0} → (told : Option Told) (slots : List Slot) (f : SuperFields) (result : Result T UpdateError) → ShowsEqual f told → ShowsCopies told slots → IsVerdict slots f result → IsUndamaged told result
-undamaged None slots f result equal shown verdict = tt
-undamaged (Some t) slots f (Ok x) equal shown verdict = tt
-undamaged (Some t) slots f (Err (Damaged place class)) equal shown verdict = absurd (verdict.is.missing (all_read t slots f equal shown verdict.first verdict.is.inside))
-undamaged (Some t) slots f (Err DiskFault) equal shown verdict = tt
-
-pub adds_update : {T : Type 0} → (events : List Event) (old new : Option Told) (slots : List Slot) (f : SuperFields) (result : Result T UpdateError) → new ≡ after_all events old → IsVerdict slots f result → AddsUpdate events old new result
-adds_update events old new slots f (Ok x) is verdict = is
-adds_update events old new slots f (Err (Damaged place class)) is verdict = is
-adds_update events old new slots f (Err DiskFault) is verdict = absurd verdict
-
-pub caused : {T : Type 0} → (before now : ℕ) (slots : List Slot) (f : SuperFields) (result : Result T UpdateError) → now ≡ before → IsVerdict slots f result → IsCausedBy before now result
-caused before now slots f (Ok x) is verdict = is
-caused before now slots f (Err (Damaged place class)) is verdict = is
-caused before now slots f (Err DiskFault) is verdict = absurd verdict
-
 -- ---- verdicts
 
 -- all but one at most
 pub enough_from : (slots : List Slot) (f : SuperFields) (first : ℕ) → IsFirstMissing slots f 0 first → ((n : ℕ) → first + 1 ≤ n → n < 4 → IsRead slots f n) → AreEnough slots f
-enough_from slots f first is behind = (first, λ n below away. elim (cases_lt n first) [
-  | inl less ↦ is.read n (omega arith) less
-  | inr more ↦ behind n (omega (arith, more, order n first more away)) below
-])
+enough_from slots f first is behind = (
+  first,
+  λ n below away. elim (cases_lt n first) [
+    | inl less ↦ is.read n (omega arith) less
+    | inr more ↦ behind n (omega (arith, more, order n first more away)) below
+  ],
+)
   where
     order : (a b : ℕ) → b ≤ a → (a ≡ b → ⊥) → b < a
     order a b more away = omega arith
@@ -131,6 +110,3 @@ read_on slots f from next before here n more less = elim (cases_lt n next) [
   | inl low ↦ before n more low
   | inr high ↦ let same : next ≡ n = omega arith in subst (λ (k : ℕ). IsRead slots f k) same here
 ]
-
-pub enough_all : (slots : List Slot) (f : SuperFields) → ((n : ℕ) → 0 ≤ n → n < 4 → IsRead slots f n) → AreEnough slots f
-enough_all slots f all = (4, λ n below away. all n (omega arith) below)

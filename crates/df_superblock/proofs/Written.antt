@@ -1,5 +1,5 @@
 -- What an update's events make of the copies, where the disk tells its log.
-use Rattle.std.proofs.Common.{◌≡◌, ◌⊎◌, inl, inr, ◌<◌, ◌+◌, ℕ, zero, suc, Bool, true, false, List, [], ◌∷◌, length, get_or, Option, Some, None, refl, sym, ◌∙◌, ap, subst, arith, Result, Ok, Err, OnOk}
+use Rattle.std.proofs.Common.{◌≡◌, ◌⊎◌, inl, inr, ◌<◌, ◌+◌, ℕ, zero, suc, Bool, false, List, [], ◌∷◌, get_or, Option, Some, None, refl, sym, ◌∙◌, ap, subst, arith, Result, Ok, Err, OnOk}
 use Rattle.df_base.specs.Image.{Image}
 use Rattle.df_base.specs.Log.{Event, Write, Sync, Log, add, after_event, now}
 use Rattle.df_disk.specs.Told.{Told, did}
@@ -7,18 +7,24 @@ use Rattle.df_disk.specs.Adds.{Adds, after_all}
 use Rattle.df_format.specs.Super.{copy_bytes}
 use Rattle.df_format.specs.SuperRules.{IsUsable}
 use Rattle.df_format.specs.declared.superblock.SuperFields.{SuperFields}
-use Rattle.df_format.specs.Copies.{Content, content_at, content_with, rank_of}
+use Rattle.df_format.specs.Copies.{Content, content_with, rank_of}
 use Rattle.df_superblock.specs.Copies.{AreQuiet, AreEqual, AreSteady, IsBounded, IsEither, IsOldOrNew, MayUpdate}
-use Rattle.df_superblock.specs.Events.{update_events, repair_events}
-use Rattle.df_superblock.specs.Moments.{PassedTo, adds}
+use Rattle.df_superblock.specs.Events.{update_events}
+use Rattle.df_superblock.specs.Moments.{adds}
+use Rattle.df_superblock.specs.Laws.{NewLaw, WritingLaw}
 use Rattle.df_superblock.specs.Calls.{UpdatesSafely, UpdatesSteadily, TellsLog, ShowsEqual, EndsEqual, EndsSteady}
-use Rattle.df_superblock.proofs.Choices.{same_copy}
 use Rattle.df_superblock.proofs.Sights.{PutsCopy}
 use Rattle.df_superblock.proofs.Ready.{IsLow, Knows, bounded_sync, quiet_low, quiet_knows, low_wrote, knows_wrote, equal_chosen}
 use Rattle.df_superblock.proofs.Passing.{AtEach, passes, told_log}
 use Rattle.df_superblock.proofs.Turns.{IsAt, IsWithin, at_turn, at_past, wrote_turn, wrote_past, synced_at, synced_within, turn_moment, turn_either, each_turn}
 use Rattle.df_superblock.proofs.Mends.{Writes, other_written, written_shows}
+use Rattle.df_format.proofs.CopyClasses.{blank_copy_none}
 use Rattle.df_superblock.proofs.Puts.{copy_put}
+
+-- what is no higher than a content is below a higher one
+higher : (c e : Content) → rank_of c < rank_of e → (d : Content) → (d ≡ c) ⊎ (rank_of d < rank_of c) → (d ≡ e) ⊎ (rank_of d < rank_of e)
+higher c e less d (inl same) = inr (omega (arith, less, ap rank_of same))
+higher c e less d (inr lower) = inr (omega (arith, less))
 
 -- ---- moments
 
@@ -43,17 +49,13 @@ module _ (f : SuperFields) (usable : IsUsable f) (entry : Log) (old : Content) (
   steady_each steady = each_turn (λ log. IsEither log old later) Stands (λ n. copy_bytes n f)
       (λ log i at. turn_either log old later i may.above (at_turn log old later i at.0) (at_past log old later i at.0 at.1))
       (λ log i below at. turn_either (add (Write i (copy_bytes i f)) log) old later i may.above
-          (wrote_turn log old later i (copy_bytes i f) (copy_put f usable i below) at.0)
-          (wrote_past log old later i (copy_bytes i f) may.above (copy_put f usable i below) at.0 at.1))
+      (wrote_turn log old later i (copy_bytes i f) (copy_put f usable i below) at.0)
+      (wrote_past log old later i (copy_bytes i f) may.above (copy_put f usable i below) at.0 at.1))
       (λ log i below at. (
         synced_at log old later i (copy_bytes i f) (copy_put f usable i below) at.0,
         synced_within log old later i (copy_bytes i f) may.above (copy_put f usable i below) at.0 at.1,
       ))
-      entry (begins, record { high = λ n d above below is. higher d (steady.bounded n d above below is); low = λ soon. steady.bounded })
-    where
-      higher : (d : Content) → (d ≡ old) ⊎ (rank_of d < rank_of old) → (d ≡ later) ⊎ (rank_of d < rank_of later)
-      higher d (inl same) = inr (omega (arith, may.above, ap rank_of same))
-      higher d (inr lower) = inr (omega (arith, may.above))
+      entry (begins, record { high = λ n d above below is. higher old later may.above d (steady.bounded n d above below is); low = λ soon. steady.bounded })
 
 pub updates_safely : {T E : Type 0} → (f : SuperFields) (old new : Option Told) (result : Result T E) → IsUsable f → Adds (update_events f) old new result → UpdatesSafely f old new
 updates_safely f None new result usable is = tt
@@ -89,7 +91,7 @@ all_false (suc (suc (suc zero))) below = refl
 all_false (suc (suc (suc (suc n)))) below = absurd (omega arith)
 
 module _ (f : SuperFields) (usable : IsUsable f) (log : Log) where
-  pub all_equal : AreEqual (now (adds (update_events f) log)) (content_with f)
+  all_equal : AreEqual (now (adds (update_events f) log)) (content_with f)
   all_equal n below =
       let place : 0 + n ≡ n = omega arith in
       written_shows f (content_with f) (copy_put f usable) n 0 all log (omega arith) (subst (λ (k : ℕ). Writes k 0 all) place (other_written 0 n all below (all_false n below)))
@@ -121,7 +123,7 @@ past_wrote log c n bytes put past =
       knows = λ m d below is. inl (inl is);
     }
 
-pub all_steady : (f : SuperFields) → IsUsable f → (log : Log) → AreQuiet log → IsBounded log (content_with f) → AreSteady (adds (update_events f) log) (content_with f)
+all_steady : (f : SuperFields) → IsUsable f → (log : Log) → AreQuiet log → IsBounded log (content_with f) → AreSteady (adds (update_events f) log) (content_with f)
 all_steady f usable log quiet bounded =
     let c : Content = content_with f in
     let past : IsPast log c = record { low = quiet_low log c quiet bounded; knows = quiet_knows log quiet } in
@@ -136,6 +138,12 @@ all_steady f usable log quiet bounded =
       bounded = past4.low.bounded;
     }
 
+pub new_law : NewLaw
+new_law c = (λ n below. refl, λ n d above below is. elim is [ inl shown ↦ absurd (let none = blank_copy_none n in cc (shown, none)) | inr never ↦ absurd never ])
+
+pub writing_law : WritingLaw
+writing_law log f usable = (all_equal f usable log, all_steady f usable log)
+
 pub ends_equal : {T E : Type 0} → (f : SuperFields) (old new : Option Told) (result : Result T E) → IsUsable f → Adds (update_events f) old new result → OnOk result (EndsEqual f new)
 ends_equal f None new (Ok x) usable is = tells_none (update_events f) new _ is
 ends_equal f (Some t) new (Ok x) usable is = tells_after (update_events f) t new (λ log. AreEqual (now log) (content_with f)) is (all_equal f usable t.log)
@@ -143,5 +151,6 @@ ends_equal f old new (Err e) usable is = tt
 
 pub ends_steady : {T E : Type 0} → (f : SuperFields) (old new : Option Told) (result : Result T E) → IsUsable f → Adds (update_events f) old new result → OnOk result (EndsSteady f old new)
 ends_steady f None new (Ok x) usable is = tt
-ends_steady f (Some t) new (Ok x) usable is = λ quiet bounded. tells_after (update_events f) t new (λ log. AreSteady log (content_with f)) is (all_steady f usable t.log quiet bounded)
+ends_steady f (Some t) new (Ok x) usable is = λ before steady less.
+    tells_after (update_events f) t new (λ log. AreSteady log (content_with f)) is (all_steady f usable t.log steady.quiet (λ n d above below stood. higher before (content_with f) less d (steady.bounded n d above below stood)))
 ends_steady f old new (Err e) usable is = tt

@@ -1,5 +1,5 @@
 -- What the calls on the copies answer, and what they say of the log that a disk tells.
-use Rattle.std.specs.Prelude.{◌≡◌, ◌≢◌, ◌<◌, ◌≤◌, ℕ, true, false, Bool, IsTrue, List, [], ◌∷◌, get_or, Option, Some, None, Result, Ok, Err}
+use Rattle.std.specs.Prelude.{◌≡◌, ◌≢◌, ◌<◌, ◌≤◌, ℕ, false, Bool, IsTrue, List, get_or, Option, Some, None, Result, Ok, Err}
 use Rattle.df_base.specs.Causes.{Rose}
 use Rattle.df_base.specs.Image.{Image}
 use Rattle.df_base.specs.Log.{Event, Log, IsLog, IsLeft, now}
@@ -12,14 +12,13 @@ use Rattle.df_layout.specs.declared.places.Zone.TheVariants.{Superblock}
 use Rattle.df_format.specs.Own.{place_in}
 use Rattle.df_format.specs.declared.superblock.SuperCopy.{SuperCopy}
 use Rattle.df_format.specs.declared.superblock.SuperFields.{SuperFields}
-use Rattle.df_format.specs.Copies.{Content, content_at, content_of, content_with, if_here, own_copy}
+use Rattle.df_format.specs.Copies.{Content, content_at, content_of, content_with, if_here, own_copy, rank_of}
 use Rattle.df_quorum.specs.declared.slot.Slot.{Slot}
 use Rattle.df_quorum.specs.declared.slot.Slot.TheVariants.{Sound, Bad}
 use Rattle.df_quorum.specs.declared.choice.Chosen.{Chosen}
 use Rattle.df_quorum.specs.Quorum.{IsChosen, copies_of, copy_of, nothing}
-use Rattle.df_superblock.specs.Copies.{AreQuiet, AreSteady, AreEqual, IsBounded, IsKept, IsEither, IsMisled, IsOldOrNew, MayUpdate, IsChoice}
+use Rattle.df_superblock.specs.Copies.{AreQuiet, AreSteady, AreEqual, IsKept, IsEither, IsMisled, IsOldOrNew, MayUpdate, IsChoice}
 use Rattle.df_superblock.specs.Moments.{PassedTo}
-use Rattle.df_superblock.specs.Events.{update_events}
 use Rattle.df_superblock.specs.declared.updates.UpdateError.{UpdateError}
 use Rattle.df_superblock.specs.declared.updates.UpdateError.TheVariants.{Damaged, DiskFault}
 
@@ -149,10 +148,10 @@ TellsLog (Some t) P = P t.log
 abbrev pub EndsEqual : SuperFields → Option Told → Type 0
 EndsEqual f told = TellsLog told (λ log. AreEqual (now log) (content_with f))
 
--- and steady, where copies 1 to 3 never had anything above the new content
+-- and steady, if they were so on a content below the new one
 abbrev pub EndsSteady : SuperFields → Option Told → Option Told → Type 0
 EndsSteady f None new = Unit {0}
-EndsSteady f (Some t) new = AreQuiet t.log → IsBounded t.log (content_with f) → TellsLog new (λ log. AreSteady log (content_with f))
+EndsSteady f (Some t) new = (old : Content) → AreSteady t.log old → rank_of old < rank_of (content_with f) → TellsLog new (λ log. AreSteady log (content_with f))
 
 -- ---- repairs
 

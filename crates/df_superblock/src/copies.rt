@@ -40,11 +40,7 @@ fn slot_in(room: &Raw<SuperSector>, number: u8) -> Slot
 }
 
 // Reads the place of one copy.
-fn read_copy<D: Disk>(
-    disk: &mut D,
-    room: &mut Raw<SuperSector>,
-    number: u8,
-) -> Result<Slot, Failed>
+fn read_copy<D: Disk>(disk: &mut D, room: &mut Raw<SuperSector>, number: u8) -> Result<Slot, Failed>
     requires number { number < 4 }
     requires size { length room.old.bytes ≡ 4096 }
     ensures shown { IfOk result (ShowsSlot (D.told disk.old) number) }

@@ -34,10 +34,10 @@ ends_refused wal old new same refused ReadFault wrote = absurd wrote
 ends_refused wal old new same refused Memory wrote = absurd wrote
 
 -- what the reader refuses is refused
-pub refused_next : (told : Option Told) (left after_left written : Option (List ℕ)) (old : Session) (room : Room) → old.lines.reading.bound ≡ line_bound → EndedIsEnd old left
+pub refused_next : (wal : Wal) (told : Option Told) (left after_left written : Option (List ℕ)) (old : Session) (room : Room) → old.lines.reading.bound ≡ line_bound → EndedIsEnd old left
     → ((text : List ℕ) → Tells old.lines left text → RefusesNext old.lines.reading room.reading text (unread room.reading.held after_left))
-    → (text : List ℕ) → (state told left written old).text ≡ Some text → IsRefused old.wal line_bound old.lines.reading.budget text
-refused_next told left after_left written old room bound ended gives text is =
+    → (text : List ℕ) → (state told left written old).text ≡ Some text → IsRefused wal line_bound old.lines.reading.budget text
+refused_next wal told left after_left written old room bound ended gives text is =
     let next = gives text (record { is = is; ended = ended }) in
     record {
       some = next.refuses.some;
@@ -46,7 +46,7 @@ refused_next told left after_left written old room bound ended gives text is =
 
 -- ---- a line was taken
 
-module _ (told later : Option Told) (left after_left written took : Option (List ℕ)) (old : Session) (room : Room) (line : Line) (bound : old.lines.reading.bound ≡ line_bound) (ended : EndedIsEnd old left)
+module _ (wal : Wal) (told later : Option Told) (left after_left written took : Option (List ℕ)) (old : Session) (room : Room) (line : Line) (bound : old.lines.reading.bound ≡ line_bound) (ended : EndedIsEnd old left)
     (gives : (text : List ℕ) → Tells old.lines left text → TakesLine old.lines.reading room.reading text (unread room.reading.held after_left) (said_with room.body line)) where
   abbrev said : Said
   said = said_with room.body line
@@ -67,7 +67,7 @@ module _ (told later : Option Told) (left after_left written took : Option (List
     abbrev after : State
     after = state later after_left took new
 
-    takes : IsTaken old.wal said → Takes old.wal line_bound before said after.text after.budget
+    takes : IsTaken wal said → Takes wal line_bound before said after.text after.budget
     takes ring text is =
         let line_is = taken_line text is in (
           record { line = in_bound text said line_is.line; ring = ring },
@@ -76,42 +76,42 @@ module _ (told later : Option Told) (left after_left written took : Option (List
         )
 
     -- the ring doesn't take what the line asks for
-    refused : (IsTaken old.wal said → ⊥) → (text : List ℕ) → before.text ≡ Some text → IsRefused old.wal line_bound before.budget text
+    refused : (IsTaken wal said → ⊥) → (text : List ℕ) → before.text ≡ Some text → IsRefused wal line_bound before.budget text
     refused untaken text is =
         let line_is = taken_line text is in
         record {
           some = λ none. nothing_said said (subst (λ (t : List ℕ). Says (line_of t) said) none line_is.line.says);
-          none = λ other append. untaken (subst (IsTaken old.wal) (one_said (line_of text) other said append.line.says line_is.line.says) append.ring);
+          none = λ other append. untaken (subst (IsTaken wal) (one_said (line_of text) other said append.line.says line_is.line.says) append.ring);
         }
 
-    answered_on : {T : Type 0} (r : Result T Status) → IsTaken old.wal said → AnswersAppend old.wal told written mid said later took new r → OnOk r (GoesOn old.wal line_bound before after)
-    answered_on (Ok x) ring did = goes_on old.wal line_bound before after said (takes ring) did.1 did.2 did.3 did.0
+    answered_on : {T : Type 0} (r : Result T Status) → IsTaken wal said → AnswersAppend wal told written mid said later took new r → OnOk r (GoesOn wal line_bound before after)
+    answered_on (Ok x) ring did = goes_on wal line_bound before after said (takes ring) did.1 did.2 did.3 did.0
     answered_on (Err status) ring did = tt
 
-    answered_end : {T : Type 0} (r : Result T Status) → IsTaken old.wal said → AnswersAppend old.wal told written mid said later took new r → IfErr r (Ends old.wal line_bound before after)
+    answered_end : {T : Type 0} (r : Result T Status) → IsTaken wal said → AnswersAppend wal told written mid said later took new r → IfErr r (Ends wal line_bound before after)
     answered_end (Ok x) ring did = tt
-    answered_end (Err DiskFault) ring did = ends_disk old.wal line_bound (rest_kept old.wal) before after said (takes ring) did.1 did.0
-    answered_end (Err WriteFault) ring did = ends_answer old.wal line_bound (rest_kept old.wal) before after said (takes ring) did.1 did.0
+    answered_end (Err DiskFault) ring did = ends_disk wal line_bound (rest_kept wal) before after said (takes ring) did.1 did.0
+    answered_end (Err WriteFault) ring did = ends_answer wal line_bound (rest_kept wal) before after said (takes ring) did.1 did.0
     answered_end (Err Done) ring did = absurd did
     answered_end (Err Words) ring did = absurd did
     answered_end (Err Script) ring did = absurd did
     answered_end (Err ReadFault) ring did = absurd did
     answered_end (Err Memory) ring did = absurd did
 
-    refused_on : {T : Type 0} (r : Result T Status) (status : Status) → IsErrOf r status → OnOk r (GoesOn old.wal line_bound before after)
+    refused_on : {T : Type 0} (r : Result T Status) (status : Status) → IsErrOf r status → OnOk r (GoesOn wal line_bound before after)
     refused_on (Ok x) status is = absurd (cc)
     refused_on (Err e) status is = tt
 
-    refused_end : {T : Type 0} (r : Result T Status) (status : Status) → IsErrOf r status → (IsTaken old.wal said → ⊥) → RefusesLine old.count written took status → later ≡ told → IfErr r (Ends old.wal line_bound before after)
+    refused_end : {T : Type 0} (r : Result T Status) (status : Status) → IsErrOf r status → (IsTaken wal said → ⊥) → RefusesLine old.count written took status → later ≡ told → IfErr r (Ends wal line_bound before after)
     refused_end (Ok x) status is untaken wrote same = tt
     refused_end (Err e) status is untaken wrote same =
         let same_status : status ≡ e = cc in
-        ends_refused old.wal before after same (refused untaken) e (subst (RefusesLine old.count written took) same_status wrote)
+        ends_refused wal before after same (refused untaken) e (subst (RefusesLine old.count written took) same_status wrote)
 
-    pub line_on : {T : Type 0} (r : Result T Status) → AnswersLine old.wal told written mid said later took new r → OnOk r (GoesOn old.wal line_bound before after)
+    pub line_on : {T : Type 0} (r : Result T Status) → AnswersLine wal told written mid said later took new r → OnOk r (GoesOn wal line_bound before after)
     line_on r (inl did) = answered_on r did.0 did.1
     line_on r (inr refusal) = refused_on r refusal.1 refusal.2
 
-    pub line_end : {T : Type 0} (r : Result T Status) → AnswersLine old.wal told written mid said later took new r → IfErr r (Ends old.wal line_bound before after)
+    pub line_end : {T : Type 0} (r : Result T Status) → AnswersLine wal told written mid said later took new r → IfErr r (Ends wal line_bound before after)
     line_end r (inl did) = answered_end r did.0 did.1
     line_end r (inr refusal) = refused_end r refusal.1 refusal.2 refusal.0 refusal.3 refusal.4

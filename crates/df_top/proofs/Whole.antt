@@ -45,8 +45,8 @@ abbrev pub begun : Option Told → Option (List ℕ) → Option (List ℕ) → H
 begun told text written head = record { told = after Sync told; text = text; left = text; written = written; budget = script_budget; lines = 0; head = head }
 
 -- a session that was opened begins there
-pub begun_is : (told later : Option Told) (left written : Option (List ℕ)) (fresh opened : Session) → later ≡ after Sync told → IsFreshSession fresh → IsOpened fresh opened → state later left written opened ≡ begun told left written opened.head
-begun_is told later left written fresh opened synced is_fresh is_opened i =
+pub begun_is : (wal : Wal) (told later : Option Told) (left written : Option (List ℕ)) (fresh opened : Session) → later ≡ after Sync told → IsFreshSession fresh → IsOpened wal fresh opened → state later left written opened ≡ begun told left written opened.head
+begun_is wal told later left written fresh opened synced is_fresh is_opened i =
     let reading = ap (λ (l : Room). l.reading) is_opened.lines ∙ is_fresh.lines.reading in
     record {
       told = synced i;
@@ -182,10 +182,10 @@ module _ (wal : Wal) (may_be_written : NextMayBeWritten wal) (is_kept : RestIsKe
 
 -- ---- over what the opening and the session say
 
-module _ (wal : Wal) (told mid later : Option Told) (left written : Option (List ℕ)) (fresh opened : Session) (new : State) (status : Status) (is_fresh : IsFreshSession fresh) (is_opened : IsOpened fresh opened) (synced : mid ≡ after Sync told)
+module _ (wal : Wal) (told mid later : Option Told) (left written : Option (List ℕ)) (fresh opened : Session) (new : State) (status : Status) (is_fresh : IsFreshSession fresh) (is_opened : IsOpened wal fresh opened) (synced : mid ≡ after Sync told)
     (head_of : IsHeadOf wal mid opened.head) (ended : Ended wal line_bound (state mid left written opened) new status) where
   from_begun : Ended wal line_bound (begun told left written opened.head) new status
-  from_begun = subst (λ (s : State). Ended wal line_bound s new status) (begun_is told mid left written fresh opened synced is_fresh is_opened) ended
+  from_begun = subst (λ (s : State). Ended wal line_bound s new status) (begun_is wal told mid left written fresh opened synced is_fresh is_opened) ended
 
   pub prints_whole : Prints wal told left new.left written new.written status
   prints_whole = prints_ended wal told left written opened.head new status (head_of_told wal told mid opened.head synced head_of) from_begun

@@ -1,4 +1,5 @@
 pub mod Heads
+pub mod Logs
 pub mod Script
 pub mod Appends
 pub mod Texts
@@ -10,3 +11,5 @@ pub mod Serving
 pub mod Laws
 pub mod Statuses
 pub mod Writes
+pub mod Command
+pub mod Refusals

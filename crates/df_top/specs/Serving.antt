@@ -1,5 +1,5 @@
 -- What the functions that serve a script say of their session.
-use Rattle.std.specs.Prelude.{◌≡◌, ◌⊎◌, ◌+◌, ℕ, List, vec_len, IsTrue, Option, Result, Ok, Err, IsErrOf}
+use Rattle.std.specs.Prelude.{◌≡◌, ◌⊎◌, ◌+◌, ℕ, List, IsTrue, IsSome, IfSome, Option, Result, Ok, Err, IsErrOf}
 use Rattle.df_base.specs.Causes.{Rose}
 use Rattle.df_base.specs.Streams.{Appends, AppendsPart}
 use Rattle.df_disk.specs.Told.{Told}
@@ -12,7 +12,7 @@ use Rattle.df_top.specs.Script.{IsTaken}
 use Rattle.df_top.specs.Session.{State}
 use Rattle.df_top.specs.Step.{StepDone, StepFailed}
 use Rattle.df_top.specs.Texts.{answer, count_after, script_line}
-use Rattle.df_top.specs.Run.{line_bound, IsSmall}
+use Rattle.df_top.specs.Run.{line_bound}
 use Rattle.df_top.specs.declared.session.Session.{Session}
 use Rattle.df_top.specs.declared.status.Status.{Status}
 use Rattle.df_top.specs.declared.status.Status.TheVariants.{Script, DiskFault, WriteFault}
@@ -29,19 +29,24 @@ state told left written s = record {
   head = s.head;
 }
 
--- Its buffers are those of its log, and its head is one of a ring.
-pub record IsReady (s : Session) : Type 0 where
-  pub room : vec_len s.room ≡ s.wal.message_size
-  pub head : IsEnd s.wal s.head
+-- its room is at hand, and is one of its file's layout
+pub record HasRoom (s : Session) : Type 0 where
+  pub some : IsSome s.room
+  pub fits : IfSome s.room (λ room. room.layout ≡ s.file.layout)
+
+-- It has its room, and its head is one of the log's ring.
+pub record IsReady (wal : Wal) (s : Session) : Type 0 where
+  pub room : HasRoom s
+  pub head : IsEnd wal s.head
   pub bound : s.lines.reading.bound ≡ line_bound
 
 -- a source that has said that it has ended has nothing left
 abbrev pub EndedIsEnd : Session → Option (List ℕ) → Type 0
 EndedIsEnd s left = IsTrue s.lines.ended → IsAtEnd left
 
--- the log and what was read of the script are as they were
+-- the file and what was read of the script are as they were
 pub record KeepsReader (old new : Session) : Type 0 where
-  pub wal : new.wal ≡ old.wal
+  pub file : new.file ≡ old.file
   pub lines : new.lines ≡ old.lines
 
 -- the call ended with this status, and only a call that ended with the fault has raised the count
@@ -74,17 +79,16 @@ abbrev pub AnswersLine : {T : Type 0} → Wal → Option Told → Option (List �
 AnswersLine wal told written old said later took new result =
     (IsTaken wal said × AnswersAppend wal told written old said later took new result) ⊎ ((IsTaken wal said → ⊥) × (status : Status) × (IsErrOf result status) × RefusesLine old.count written took status × (later ≡ told) × (new ≡ old))
 
--- a session that was just made: of layout `small`, with a reader that has read nothing
+-- a session that was just made: it has its room, and a reader that has read nothing
 pub record IsFreshSession (s : Session) : Type 0 where
-  pub small : IsSmall s.wal
   pub lines : IsFresh line_bound s.lines
-  pub room : vec_len s.room ≡ s.wal.message_size
+  pub room : HasRoom s
   pub count : s.count ≡ 0
 
--- the session is as it was, but for its head, which is one of a ring
-pub record IsOpened (old new : Session) : Type 0 where
-  pub wal : new.wal ≡ old.wal
+-- the session is as it was, but for its room's bytes and its head, which is one of the log's ring
+pub record IsOpened (wal : Wal) (old new : Session) : Type 0 where
+  pub file : new.file ≡ old.file
   pub lines : new.lines ≡ old.lines
   pub count : new.count ≡ old.count
-  pub room : vec_len new.room ≡ vec_len old.room
-  pub head : IsEnd new.wal new.head
+  pub room : HasRoom new
+  pub head : IsEnd wal new.head

@@ -1,5 +1,5 @@
 -- What one step of a session does, whatever was executed before it.
-use Rattle.std.specs.Prelude.{◌≡◌, ◌<◌, ◌≤◌, ◌+◌, ◌-◌, ◌%◌, ℕ, List, [], ◌∷◌, ◌++◌, length, Option, Some, Result, Ok, Err}
+use Rattle.std.specs.Prelude.{◌≡◌, ◌+◌, ◌-◌, ℕ, List, [], ◌∷◌, ◌++◌, length, Option, Some, Result, Ok, Err}
 use Rattle.df_base.specs.Log.{Event, Write, Sync, Log}
 use Rattle.df_disk.specs.Told.{Told}
 use Rattle.df_format.specs.declared.wal.Wal.{Wal}
@@ -21,12 +21,6 @@ behind wal head said = prepare_for wal head.checksum (head.op + 1) said
 -- the events of an append: the prepare is written into its slot, and then synced
 abbrev pub append_events : Wal → Head → Said → List Event
 append_events wal head said = Write (slot_start wal (behind wal head said).header.slot) (sectors_of (behind wal head said)) ∷ Sync ∷ []
-
--- so many bytes are whole sectors of a slot, one at least
-pub record AreSlotful (wal : Wal) (length : ℕ) : Type 0 where
-  pub some : 0 < length
-  pub whole : length % 4096 ≡ 0
-  pub fits : length ≤ wal.message_size
 
 -- the end of the ring with the append behind it
 pub record IsNextHead (wal : Wal) (old : Head) (said : Said) (new : Head) : Type 0 where

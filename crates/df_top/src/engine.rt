@@ -1,21 +1,23 @@
 // The program: its words, the memory that it takes, the opening of the ring, and the session behind it.
 ghost use Rattle.std.specs.Prelude.{◌≡◌, ◌⊎◌, map, string_bytes, IfOk, OnOk, OnErr};
 ghost use Rattle.df_base.specs.Causes.{HasCause};
-ghost use Rattle.df_disk.specs.Told.{after};
 ghost use Rattle.df_base.specs.Log.{Sync};
+ghost use Rattle.df_disk.specs.Told.{after};
+ghost use Rattle.df_format.specs.declared.wal.Wal.{Wal};
 ghost use Rattle.df_prepares.specs.Found.{IsHeadOf};
+ghost use Rattle.df_top.specs.Logs.{IsLogOf};
 ghost use Rattle.df_top.specs.Run.{AreRun, IsSmall, IsUntouched, OnSmall, Prints, PrintsUsage, Runs};
 ghost use Rattle.df_top.specs.Serving.{Blames, IsFreshSession, IsOpened};
 ghost use Rattle.df_top.specs.Writes.{WritesRing};
 
-use crate::session::Session;
+use crate::session::{DataFile, Session};
 use crate::status::Status;
 use crate::texts::USAGE;
 use crate::turns::serve;
 use crate::words::are_run;
 use df_base::{Failed, OutOfMemory, Sink, Source};
+use df_buffers::Rooms;
 use df_disk::Disk;
-use df_format::Wal;
 use df_layout::Layout;
 use df_prepares::{Head, find_ring};
 use df_script::LineRoom;
@@ -27,27 +29,28 @@ const LINE_BOUND: u64 = 32_832;
 // The cluster of every file, until a superblock says it.
 const CLUSTER: u128 = 7;
 
-// The ring of prepares of layout `small`.
+// The file of every run, until a superblock says which it is: layout `small`, cluster 7.
 #[tactic(auto, unfolding(df_layout::specs::Zones::first_sector, df_layout::specs::Zones::zone_sectors))]
-fn small_wal() -> Wal
-    ensures { IsSmall result }
+fn small_file() -> DataFile
+    ensures { (wal : Wal) → IsSmall wal → IsLogOf result wal }
 {
-    Wal::of(&Layout::small(), CLUSTER)
+    DataFile {
+        layout: Layout::small(),
+        cluster: CLUSTER,
+    }
 }
 
-// Takes all the memory of a session over layout `small`.
-fn reserve(alloc: Global) -> Result<Session, OutOfMemory>
-    ensures { IfOk result IsFreshSession }
+// Takes all the memory of a session over a file.
+fn reserve(alloc: Global, file: &DataFile) -> Result<Session, OutOfMemory>
+    ensures fresh { IfOk result IsFreshSession }
+    ensures file { IfOk result (λ session. session.file ≡ file.now) }
 {
-    let wal = small_wal();
     let lines = LineRoom::reserve(alloc, LINE_BOUND)?;
-    let Ok(room) = vec![in alloc; 0; wal.message_size as usize] else {
-        return Err(OutOfMemory);
-    };
+    let Rooms { prepare, .. } = Rooms::reserve(alloc, &file.layout)?;
     Ok(Session {
-        wal,
+        file: *file,
         lines,
-        room,
+        room: Some(prepare),
         head: Head {
             op: 0,
             checksum: [0; 16],
@@ -58,15 +61,23 @@ fn reserve(alloc: Global) -> Result<Session, OutOfMemory>
 
 // Syncs, so that nothing which an earlier failed call left loose is taken for durable, and finds the ring.
 fn open<D: Disk>(disk: &mut D, session: &mut Session) -> Result<(), Failed>
-    requires { IsFreshSession session.old }
-    ensures opened { OnOk result (IsOpened session.old session.new) }
+    ghost wal: { Wal }
+    requires log { IsLogOf session.old.file wal }
+    requires fresh { IsFreshSession session.old }
+    ensures opened { OnOk result (IsOpened wal session.old session.new) }
     ensures synced { OnOk result (D.told disk.new ≡ after Sync (D.told disk.old)) }
-    ensures head { OnOk result (IsHeadOf session.old.wal (D.told disk.new) session.new.head) }
+    ensures head { OnOk result (IsHeadOf wal (D.told disk.new) session.new.head) }
     ensures failed { OnErr result ((D.told disk.new ≡ D.told disk.old) ⊎ (D.told disk.new ≡ after Sync (D.told disk.old))) }
     ensures cause { HasCause (D.faults disk.old) (D.faults disk.new) result }
 {
     disk.sync()?;
-    let head = find_ring(disk, &session.wal, &mut session.room)?;
+    let Some(room) = session.room.take() else {
+        unreachable!()
+    };
+    let file = session.file;
+    let (room, found) = find_ring(disk, &file.layout, file.cluster, room);
+    session.room = Some(room);
+    let head = found?;
     session.head = head;
     Ok(())
 }
@@ -78,10 +89,12 @@ fn execute<D: Disk, S: Source, W: Sink>(
     sink: &mut W,
     session: &mut Session,
 ) -> Status
-    requires { IsFreshSession session.old }
-    ensures prints { Prints session.old.wal (D.told disk.old) (S.left source.old) (S.left source.new) (W.written sink.old) (W.written sink.new) result }
-    ensures runs { Runs session.old.wal (D.told disk.old) (D.told disk.new) (S.left source.old) (W.written sink.old) (W.written sink.new) result }
-    ensures writes { WritesRing session.old.wal (D.told disk.old) (D.told disk.new) }
+    ghost wal: { Wal }
+    requires log { IsLogOf session.old.file wal }
+    requires fresh { IsFreshSession session.old }
+    ensures prints { Prints wal (D.told disk.old) (S.left source.old) (S.left source.new) (W.written sink.old) (W.written sink.new) result }
+    ensures runs { Runs wal (D.told disk.old) (D.told disk.new) (S.left source.old) (W.written sink.old) (W.written sink.new) result }
+    ensures writes { WritesRing wal (D.told disk.old) (D.told disk.new) }
     ensures disk { Blames Status.DiskFault (D.faults disk.old) (D.faults disk.new) result }
     ensures source { Blames Status.ReadFault (S.faults source.old) (S.faults source.new) result }
     ensures sink { Blames Status.WriteFault (W.faults sink.old) (W.faults sink.new) result }
@@ -140,7 +153,8 @@ pub fn run<D: Disk, S: Source, W: Sink>(
     if !are_run(words) {
         return print_usage(sink);
     }
-    match reserve(alloc) {
+    let file = small_file();
+    match reserve(alloc, &file) {
         Ok(mut session) => execute(disk, source, sink, &mut session),
         Err(_) => Status::Memory,
     }

@@ -1,6 +1,8 @@
 // A script is served line by line: each append is durable before its answer is written.
 ghost use Rattle.std.specs.Prelude.{◌≡◌, ◌↔◌, ◌<◌, ◌≤◌, ◌+◌, ◌^◌, IsTrue, length, take};
+ghost use Rattle.df_format.specs.declared.wal.Wal.{Wal};
 ghost use Rattle.df_script.specs.Grammar.{Append};
+ghost use Rattle.df_top.specs.Logs.{IsLogOf};
 ghost use Rattle.df_top.specs.Script.{IsTaken};
 ghost use Rattle.df_top.specs.Serving.{AnswersAppend, Blames, BlamesIfErr, IsReady, KeepsReader, RefusesLine, state};
 ghost use Rattle.df_top.specs.Writes.{WritesRing};
@@ -11,7 +13,7 @@ use crate::status::Status;
 use crate::texts::{answer_line, refusal_line};
 use df_base::{HEADER, Sink, Source};
 use df_disk::Disk;
-use df_format::Wal;
+use df_layout::Layout;
 
 // The greatest request.
 const GREATEST_REQUEST: u64 = 1 << 62;
@@ -29,13 +31,13 @@ pub fn refuse<W: Sink>(sink: &mut W, lines: u64) -> Status
 }
 
 /// Whether the ring takes an append with a body of `size` bytes.
-pub fn is_taken(wal: &Wal, client: u128, request: u64, size: u64) -> bool
-    ensures { IsTrue result ↔ ((0 < client) × (0 < request) × (request ≤ 2 ^ 62) × (256 + size ≤ wal.now.message_size)) }
+pub fn is_taken(layout: &Layout, client: u128, request: u64, size: u64) -> bool
+    ensures { IsTrue result ↔ ((0 < client) × (0 < request) × (request ≤ 2 ^ 62) × (256 + size ≤ layout.now.message_size)) }
 {
     0 < client
         && 0 < request
         && request <= GREATEST_REQUEST
-        && size <= u64::from(wal.message_size) - HEADER as u64
+        && size <= u64::from(layout.message_size) - HEADER as u64
 }
 
 /// Appends the line that was taken last, and writes its answer.
@@ -47,29 +49,28 @@ pub fn serve_append<D: Disk, W: Sink>(
     request: u64,
     size: u64,
 ) -> Result<(), Status>
-    requires ready { IsReady session.old }
+    ghost wal: { Wal }
+    requires log { IsLogOf session.old.file wal }
+    requires ready { IsReady wal session.old }
     requires room { session.old.count < 2 ^ 33 }
     requires size { size ≤ length session.old.lines.body }
-    requires taken { IsTaken session.old.wal (Append client request (take size session.old.lines.body)) }
-    ensures answers { AnswersAppend session.old.wal (D.told disk.old) (W.written sink.old) session.old (Append client request (take size session.old.lines.body)) (D.told disk.new) (W.written sink.new) session.new result }
-    ensures writes { WritesRing session.old.wal (D.told disk.old) (D.told disk.new) }
-    ensures ready { IsReady session.new }
+    requires taken { IsTaken wal (Append client request (take size session.old.lines.body)) }
+    ensures answers { AnswersAppend wal (D.told disk.old) (W.written sink.old) session.old (Append client request (take size session.old.lines.body)) (D.told disk.new) (W.written sink.new) session.new result }
+    ensures writes { WritesRing wal (D.told disk.old) (D.told disk.new) }
+    ensures ready { IsReady wal session.new }
     ensures reader { KeepsReader session.old session.new }
     ensures disk { BlamesIfErr Status.DiskFault (D.faults disk.old) (D.faults disk.new) result }
     ensures sink { BlamesIfErr Status.WriteFault (W.faults sink.old) (W.faults sink.new) result }
 {
-    let answer = answer_line(session.wal.slots, session.head.op);
-    let wal = session.wal;
+    let answer = answer_line(session.file.layout.slots, session.head.op);
+    let Some(room) = session.room.take() else {
+        unreachable!()
+    };
+    let file = session.file;
     let body = session.lines.body(size);
-    match append(
-        disk,
-        &wal,
-        &mut session.head,
-        client,
-        request,
-        body,
-        &mut session.room,
-    ) {
+    let (room, appended) = append(disk, &file, &mut session.head, client, request, body, room);
+    session.room = Some(room);
+    match appended {
         Ok(()) => {}
         Err(_) => return Err(Status::DiskFault),
     }

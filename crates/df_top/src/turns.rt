@@ -1,7 +1,9 @@
 // The session over a script: one turn for each line, until there is none, one is refused, or something fails.
 ghost use Rattle.std.specs.Prelude.{◌≡◌, ◌<◌, ◌≤◌, ◌+◌, ◌^◌, length, take, OnOk, IfErr};
+ghost use Rattle.df_format.specs.declared.wal.Wal.{Wal};
 ghost use Rattle.df_script.specs.Grammar.{body_length, said_with};
 ghost use Rattle.df_top.specs.Ending.{Ended};
+ghost use Rattle.df_top.specs.Logs.{IsLogOf};
 ghost use Rattle.df_top.specs.Step.{GoesOn, Ends};
 ghost use Rattle.df_top.specs.Run.{line_bound};
 ghost use Rattle.df_top.specs.Serving.{AnswersLine, Blames, BlamesIfErr, EndedIsEnd, IsReady, KeepsReader, state};
@@ -21,12 +23,14 @@ fn serve_line<D: Disk, W: Sink>(
     session: &mut Session,
     line: Line,
 ) -> Result<(), Status>
-    requires ready { IsReady session.old }
+    ghost wal: { Wal }
+    requires log { IsLogOf session.old.file wal }
+    requires ready { IsReady wal session.old }
     requires room { session.old.count < 2 ^ 33 }
     requires size { body_length line ≤ length session.old.lines.body }
-    ensures answers { AnswersLine session.old.wal (D.told disk.old) (W.written sink.old) session.old (said_with session.old.lines.body line) (D.told disk.new) (W.written sink.new) session.new result }
-    ensures writes { WritesRing session.old.wal (D.told disk.old) (D.told disk.new) }
-    ensures ready { IsReady session.new }
+    ensures answers { AnswersLine wal (D.told disk.old) (W.written sink.old) session.old (said_with session.old.lines.body line) (D.told disk.new) (W.written sink.new) session.new result }
+    ensures writes { WritesRing wal (D.told disk.old) (D.told disk.new) }
+    ensures ready { IsReady wal session.new }
     ensures reader { KeepsReader session.old session.new }
     ensures disk { BlamesIfErr Status.DiskFault (D.faults disk.old) (D.faults disk.new) result }
     ensures sink { BlamesIfErr Status.WriteFault (W.faults sink.old) (W.faults sink.new) result }
@@ -36,7 +40,7 @@ fn serve_line<D: Disk, W: Sink>(
         request,
         length,
     } = line;
-    if !is_taken(&session.wal, client, request, length) {
+    if !is_taken(&session.file.layout, client, request, length) {
         return Err(refuse(sink, session.count));
     }
     serve_append(disk, sink, session, client, request, length)
@@ -49,18 +53,20 @@ fn turn<D: Disk, S: Source, W: Sink>(
     sink: &mut W,
     session: &mut Session,
 ) -> Result<(), Status>
-    requires ready { IsReady session.old }
+    ghost wal: { Wal }
+    requires log { IsLogOf session.old.file wal }
+    requires ready { IsReady wal session.old }
     requires count { session.old.count + session.old.lines.reading.budget ≤ 2 ^ 33 }
     requires at_end { EndedIsEnd session.old (S.left source.old) }
-    ensures goes_on { OnOk result (GoesOn session.old.wal line_bound
+    ensures goes_on { OnOk result (GoesOn wal line_bound
         (state (D.told disk.old) (S.left source.old) (W.written sink.old) session.old)
         (state (D.told disk.new) (S.left source.new) (W.written sink.new) session.new)) }
-    ensures ends { IfErr result (Ends session.old.wal line_bound
+    ensures ends { IfErr result (Ends wal line_bound
         (state (D.told disk.old) (S.left source.old) (W.written sink.old) session.old)
         (state (D.told disk.new) (S.left source.new) (W.written sink.new) session.new)) }
-    ensures writes { WritesRing session.old.wal (D.told disk.old) (D.told disk.new) }
-    ensures ready { IsReady session.new }
-    ensures wal { session.new.wal ≡ session.old.wal }
+    ensures writes { WritesRing wal (D.told disk.old) (D.told disk.new) }
+    ensures ready { IsReady wal session.new }
+    ensures file { session.new.file ≡ session.old.file }
     ensures count { OnOk result (session.new.count + session.new.lines.reading.budget ≤ session.old.count + session.old.lines.reading.budget) }
     ensures budget { OnOk result (session.new.lines.reading.budget < session.old.lines.reading.budget) }
     ensures at_end { EndedIsEnd session.new (S.left source.new) }
@@ -83,13 +89,15 @@ pub fn serve<D: Disk, S: Source, W: Sink>(
     sink: &mut W,
     session: &mut Session,
 ) -> Status
-    requires ready { IsReady session.old }
+    ghost wal: { Wal }
+    requires log { IsLogOf session.old.file wal }
+    requires ready { IsReady wal session.old }
     requires count { session.old.count + session.old.lines.reading.budget ≤ 2 ^ 33 }
     requires at_end { EndedIsEnd session.old (S.left source.old) }
-    ensures session { Ended session.old.wal line_bound
+    ensures session { Ended wal line_bound
         (state (D.told disk.old) (S.left source.old) (W.written sink.old) session.old)
         (state (D.told disk.new) (S.left source.new) (W.written sink.new) session.new) result }
-    ensures writes { WritesRing session.old.wal (D.told disk.old) (D.told disk.new) }
+    ensures writes { WritesRing wal (D.told disk.old) (D.told disk.new) }
     ensures disk { Blames Status.DiskFault (D.faults disk.old) (D.faults disk.new) result }
     ensures source { Blames Status.ReadFault (S.faults source.old) (S.faults source.new) result }
     ensures sink { Blames Status.WriteFault (W.faults sink.old) (W.faults sink.new) result }

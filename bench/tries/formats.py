@@ -1,0 +1,200 @@
+"""Tries of words and of `format`: which lists of words have a meaning, and what it makes of which file."""
+
+import os
+import time
+from typing import Optional
+
+from . import copies, form, generate, script, superblock
+from .binary import expect, require
+from .common import Try, asked, reopen, same_bytes, same_run, session
+from .form import COPIES, LIMITS, SECTOR
+from .stops import Kept, left
+
+# A file that is made in a longer time, or that takes more bytes on its disk, isn't made by a few writes.
+QUICK_SECONDS, SPARSE_BYTES = 10, 2**20
+
+
+def layout_word(t: Try) -> str:
+    """A word for a layout: right, over an edge, or misspelled."""
+    random = t.random
+    if random.random() < 0.3:
+        return random.choice(("small", "large", generate.layout(random).word()))
+    if random.random() < 0.3:
+        return random.choice(("small", "large", "Small", "small ", "", "-", "smal", "small,", "run", "format", "7"))
+    numbers = list(map(str, generate.layout(random)))
+    for _ in range(random.choice((0, 1, 1, 2))):
+        place = random.randrange(5)
+        low, high, step = list(LIMITS.values())[place]
+        numbers[place] = random.choice((
+            *map(str, (low - step, low - 1, low, low + 1, low + step, high - step, high - 1, high, high + 1, high + step)),
+            "0", str(2**32), str(2**32 + low), str(2**64), str(2**64 + low), str(2**128 + low), "9" * 60, f"0{low}",
+            f"+{low}", f"-{low}", f" {low}", f"{low} ", "", "x", f"{low}.0", "\u0661\u0666", hex(low), f"{low}_0",
+        ))
+    if random.random() < 0.15:
+        numbers = random.choice((numbers[:4], numbers + ["8"], numbers[:1], numbers + [""], [""] + numbers))
+    return random.choice((",", ",", ",", ",", ",", ",", ",", ";", ", ", ",,")).join(numbers)
+
+
+def cluster_word(t: Try) -> str:
+    """A word for a cluster: right, over an edge, or misspelled."""
+    if t.random.random() < 0.6:
+        return str(generate.cluster(t.random) if t.random.random() < 0.85 else 0)
+    return t.random.choice((
+        "0", "1", "7", str(2**64), str(2**127), str(2**128 - 1), str(2**128), str(2**128 + 7), str(10**39), "9" * 60, "00",
+        "07", "007", "+7", "-7", "-0", " 7", "7 ", "7\n", "", "-", "x", "0x7", "7.0", "7e1", "7_0", "\u0667", "\u00b2", "\uff17",
+    ))
+
+
+def list_of_words(t: Try) -> list:
+    """A list of words, with or without a meaning; some aren't UTF-8."""
+    random = t.random
+    if random.random() < 0.7:
+        words = ["format", layout_word(t), cluster_word(t)]
+        change = random.random()
+        if change < 0.05:
+            words.insert(random.randint(0, 3), random.choice(("", "run", "7", "-", "--", "format")))
+        elif change < 0.1:
+            del words[random.randrange(3)]
+        elif change < 0.13:
+            words[0] = random.choice(("Format", "format ", "formatt", "--format", ""))
+        elif change < 0.16:
+            words[random.randrange(3)] = random.choice((b"\xff", b"run\xc3", b"small\xff", b"7\x80"))
+        return words
+    choices = ("", "run", "RUN", "Run", "run ", " run", "runn", "ru", "-", "--", "--run", "-h", "--help", "format", "0",
+               "small", "recover", "inspect", "scrub", "workload", b"\xff", b"run\xc3")
+    return [random.choice(choices) for _ in range(random.randint(0, 4))]
+
+
+def file_for(t: Try, blank: float = 0.6) -> Optional[bytes]:
+    """What `format` finds: no file, a blank one, or one with something in it."""
+    random = t.random
+    if random.random() < blank:
+        return random.choice((None, None, b"", bytes(random.choice((1, SECTOR, COPIES * SECTOR, 100000))), wiped(t)))
+    return random.choice((generate.image(random, 3), dirty(t), cut(t), stopped(t)))
+
+
+def wiped(t: Try) -> bytes:
+    """A file whose copies are blank, with whatever stands behind them: a ring is there again once it is formatted."""
+    return bytes(COPIES * SECTOR) + generate.image(t.random, 8)[COPIES * SECTOR :]
+
+
+def dirty(t: Try) -> bytes:
+    """Zeros with one byte among them, which is often just within the copies or just behind them."""
+    end = COPIES * SECTOR
+    data = bytearray(t.random.choice((end, end + SECTOR, 100000)))
+    at = t.random.choice((0, SECTOR - 1, SECTOR, end - 1, end, t.random.randrange(end), t.random.randrange(len(data))))
+    data[min(at, len(data) - 1)] = t.random.randint(1, 255)
+    return bytes(data)
+
+
+def cut(t: Try) -> bytes:
+    """A file that ends within its copies, or just behind them."""
+    data = generate.image(t.random, 3)
+    return data[: t.random.choice((t.random.randrange(COPIES * SECTOR + 1), t.random.randrange(300) + SECTOR))]
+
+
+def stopped(t: Try) -> bytes:
+    """What a stop within `format` leaves."""
+    return stopped_after(t, script.make(None, generate.home(t.random)), t.random.randint(1, 2 * COPIES))
+
+
+def stopped_after(t: Try, made: script.Outcome, upto: int) -> bytes:
+    """What a stop after the first `upto` events leaves."""
+    if made.events[upto - 1].kind == "write":
+        return left(t, script.state(b"", made.events[: upto - 1]), made.events[upto - 1])
+    return script.state(b"", made.events[:upto])
+
+
+def words(t: Try) -> None:
+    """Lists of words: with a meaning, it is done; without one the usage line, status 2, and nothing is touched."""
+    given = list_of_words(t)
+    data = file_for(t) if t.random.random() < 0.5 else None
+    t.binary.put(data)
+    source = os.path.join(t.binary.folder, "input")
+    with open(source, "wb") as file:
+        file.write(b"append 1 1 -\n")
+    wanted = script.command(data, given, b"append 1 1 -\n")
+    with open(source, "rb", buffering=0) as stdin:
+        path = None
+        if t.random.random() < 0.05:
+            wanted = script.command(data, [])
+            got = t.binary.call([t.binary.program], None, None, {"stdin": stdin})
+        elif t.random.random() < 0.05:
+            path = os.path.join(t.binary.folder.encode(), b"\xfe")
+            wanted = script.command(data, [path])
+            got = t.binary.run(None, words=given, path=path, stdin=stdin)
+            require("words: no file at a path that isn't UTF-8", not os.path.exists(path))
+        else:
+            got = t.binary.run(None, words=given, stdin=stdin)
+        read = stdin.seek(0, os.SEEK_CUR)
+    same_run(f"words {given}", wanted, got)
+    same_bytes(f"words {given}", wanted.data, t.binary.get())
+    opened = wanted.status in (script.DONE, script.SCRIPT) and given == ["run"]
+    require(f"words {given}: standard input is read where a script is executed alone", opened or read == 0)
+    first = "run" if given == ["run"] else "format"
+    t.counts["lists of words without a meaning" if wanted.status == script.WORDS else f"words of a meaning: {first}"] += 1
+
+
+def formats(t: Try) -> None:
+    """`format` over files of all sorts; then sessions over what it made, and `format` once more."""
+    home = generate.home(t.random)
+    given = ["format", home.layout.word(), str(home.cluster)]
+    if home.layout == form.SMALL and t.random.random() < 0.5:
+        given[1] = "small"
+    data = file_for(t, 0.7)
+    t.binary.put(data)
+    made = asked(t, "format", data, given)
+    t.counts[f"files of format: {made.text.split()[0].decode()}"] += 1
+    data = session(t, "after format", made.data, generate.any_script(t.random, generate.home_of(made.data).layout)).data
+    if t.random.random() < 0.5:
+        asked(t, "format again", data, given)
+    session(t, "the open at last", data, b"append 1 2 aa\n")
+
+
+def format_stopped(t: Try) -> None:
+    """A stop after each event of `format`: `run` opens or refuses as the copies say, and so does `format`."""
+    home = generate.home(t.random)
+    given = ["format", home.layout.word(), str(home.cluster)]
+    made = script.make(None, home)
+    for upto in range(1, len(made.events) + 1):
+        data = stopped_after(t, made, upto)
+        t.binary.put(data)
+        first = t.random.choice((given, ["run"]))
+        data = asked(t, f"after {upto} events of format", data, first, b"append 1 1 -\n").data
+        synced = superblock.first(home) if upto > 3 else superblock.opened(data).content
+        expect("two synced copies are the file", synced, superblock.opened(data).content)
+        asked(t, f"after {upto} events of format, then {first[0]}", data, t.random.choice((given, ["run"])), b"append 2 2 -")
+    t.counts["formats stopped after each event"] += 1
+
+
+def large(t: Try) -> None:
+    """The layout `large`: its file is made quickly and takes little of the disk, and appends go to their places."""
+    t.binary.put(None)
+    start = time.monotonic()
+    cluster = generate.cluster(t.random)
+    data = asked(t, "format large", None, ["format", "large", str(cluster)]).data
+    require("format large takes a moment", time.monotonic() - start < QUICK_SECONDS)
+    require("a file of large is sparse", os.stat(t.binary.path).st_blocks * 512 < SPARSE_BYTES)
+    for number in range(t.random.randint(1, 3)):
+        sizes = (0, 1, 3840, 3841, 65536, form.LARGE.body_max() - 1, form.LARGE.body_max(), form.LARGE.body_max() + 1)
+        listed = [b"append 5 %d %s" % (at + 1, t.random.randbytes(t.random.choice(sizes)).hex().encode() or b"-")
+                  for at in range(t.random.randint(0, 3))]
+        if t.random.random() < 0.4:
+            data = copies.hurt(t.random, data)
+            t.binary.put(data)
+        wanted = session(t, f"session {number + 1} over large", data, generate.text_of(t.random, listed))
+        data = wanted.data
+    kept = Kept(data)
+    # A stop within one more append; each of its sectors as the stop chooses.
+    more = script.run(data, b"append 6 1 " + b"5a" * t.random.choice((3840, 20000, form.LARGE.body_max())))
+    writes = [at for at, event in enumerate(more.events) if event.prepare]
+    upto = writes[0] + 1
+    kept.takes(more, upto)
+    data = left(t, script.state(data, more.events[: upto - 1]), more.events[upto - 1])
+    kept.after(t, data)
+    t.binary.put(data)
+    reopen(t, "large after a stop", kept.answered, data)
+    t.counts["files of large"] += 1
+
+
+KINDS = {"words": (words, 8), "formats": (formats, 8), "format_stopped": (format_stopped, 3), "large": (large, 1)}

@@ -1,0 +1,155 @@
+"""The four copies of the superblock as docs/FORMAT.md has them: one copy's bytes, its class, the choice, the field tests."""
+
+import struct
+from typing import Iterator, NamedTuple, Optional, Union
+
+from . import form
+from .form import COPIES, LIMIT, SECTOR, Home, Layout, check, number
+
+# checksum, number, zero, then the content: version, slots, message_size, clients, cluster, block_size, blocks,
+# sequence, op, head, replies, trailer_address, op_checksum, trailer_checksum, trailer_size, boot, zero
+FRONT = struct.Struct("<16sI12s")
+CONTENT = struct.Struct("<IIII16sIIQQQQQ16s16sQQ3936s")
+ZERO = 160
+assert FRONT.size == 32 and FRONT.size + CONTENT.size == SECTOR
+# A copy that doesn't count has the text of its class in place of its content.
+BLANK, GARBLED, STALE = "Blank", "Garbled", "Stale"
+
+
+class Content(NamedTuple):
+    """What a copy says. Checksums and zeros are bytes, all else are numbers."""
+
+    version: int
+    slots: int
+    message_size: int
+    clients: int
+    cluster: int
+    block_size: int
+    blocks: int
+    sequence: int = 1
+    op: int = 0
+    head: int = 0
+    replies: int = 0
+    trailer_address: int = 0
+    op_checksum: bytes = bytes(16)
+    trailer_checksum: bytes = bytes(16)
+    trailer_size: int = 0
+    boot: int = 0
+    zero: bytes = bytes(SECTOR - ZERO)
+
+    def layout(self) -> Layout:
+        return Layout(self.slots, self.message_size, self.clients, self.block_size, self.blocks)
+
+    def home(self) -> Home:
+        return Home(self.layout(), self.cluster)
+
+    def encode(self, copy: int) -> bytes:
+        """The sector of a copy with this number."""
+        rest = CONTENT.pack(*self._replace(cluster=number(self.cluster)))
+        return FRONT.pack(check(rest), copy, bytes(12)) + rest
+
+
+def first(home: Home) -> Content:
+    """The superblock of a new file."""
+    slots, message_size, clients, block_size, blocks = home.layout
+    return Content(1, slots, message_size, clients, home.cluster, block_size, blocks)
+
+
+def decode(sector: bytes) -> Optional[tuple]:
+    """Number and content of a copy."""
+    checksum, copy, zero = FRONT.unpack_from(sector)
+    if checksum != check(sector[FRONT.size :]) or copy >= COPIES or zero != bytes(12):
+        return None
+    content = Content(*CONTENT.unpack_from(sector, FRONT.size))
+    return copy, content._replace(cluster=int.from_bytes(content.cluster, "little"))
+
+
+def seen(sector: bytes, place: int) -> Union[Content, str]:
+    """The content of a copy that counts at its place, or its class."""
+    if sector == bytes(SECTOR):
+        return BLANK
+    decoded = decode(sector)
+    if decoded is None:
+        return GARBLED
+    copy, content = decoded
+    return content if copy == place else f"Elsewhere Superblock {copy}"
+
+
+def all_seen(data: bytes) -> list:
+    """The four copies of a file."""
+    return [seen(form.sector(data, place), place) for place in range(COPIES)]
+
+
+def choose(copies: list) -> Optional[Content]:
+    """The content of greatest sequence on which two copies agree; of two that tie, the lowest-numbered copy's."""
+    sound = [copy for copy in copies if isinstance(copy, Content)]
+    agreed = [copy for copy in sound if sound.count(copy) >= 2]
+    # Of equals, max gives the first.
+    return max(agreed, key=lambda content: content.sequence, default=None)
+
+
+def greatest_trailer(c: Content) -> int:
+    """The bytes of the longest trailer."""
+    return 4 + 1024 + 4 + 32 * c.clients + (c.blocks + 7) // 8 + 16 * c.blocks
+
+
+def tests(c: Content) -> Iterator[tuple]:
+    """The field tests in order: the field, its value, whether it fails."""
+    broken = c.layout().broken()
+    if broken:
+        yield *broken, True
+    yield "Cluster", c.cluster, c.cluster == 0
+    yield "Sequence", c.sequence, not 1 <= c.sequence <= LIMIT
+    yield "Op", c.op, c.op > LIMIT
+    yield "OpChecksum", int.from_bytes(c.op_checksum, "little"), c.op == 0 and c.op_checksum != bytes(16)
+    yield "Head", c.head, c.head < c.op or c.head > c.op + c.slots or c.head > LIMIT
+    yield "Replies", c.replies, c.replies > c.head or c.replies + 8 < c.head
+    yield "TrailerAddress", c.trailer_address, c.trailer_address > c.blocks or (c.trailer_address == 0 and c.op != 0)
+    checksum = int.from_bytes(c.trailer_checksum, "little")
+    yield "TrailerChecksum", checksum, c.trailer_address == 0 and checksum != 0
+    lawful = 1 <= c.trailer_size <= greatest_trailer(c) if c.trailer_address else c.trailer_size == 0
+    yield "TrailerSize", c.trailer_size, not lawful
+    yield "Boot", c.boot, c.boot != 0
+    place = next((ZERO + at for at, byte in enumerate(c.zero) if byte), None)
+    yield "Zero", place, place is not None
+
+
+def fault(c: Content) -> Optional[str]:
+    """Why a chosen content is refused by its fields."""
+    if c.version != 1:
+        return f"Version found {c.version}"
+    return next((f"BadField {field} {value}" for field, value, fails in tests(c) if fails), None)
+
+
+def beyond_first(c: Content) -> Optional[str]:
+    """Why a lawful content is refused that isn't a first one, since nothing has moved it on today."""
+    wanted = (("Sequence", c.sequence, 1), ("Op", c.op, 0), ("Head", c.head, 0), ("Replies", c.replies, 0),
+              ("TrailerAddress", c.trailer_address, 0))
+    return next((f"BadField {field} {value}" for field, value, only in wanted if value != only), None)
+
+
+class Opened(NamedTuple):
+    """What an open finds in the copies."""
+
+    content: Optional[Content]
+    # The refusal's words, and whether it comes before the barrier.
+    refusal: Optional[str]
+    early: bool
+    # The numbers of the copies that are written anew.
+    repairs: list
+
+
+def opened(data: bytes) -> Opened:
+    """What an open finds in the copies of a file."""
+    copies = all_seen(data)
+    content = choose(copies)
+    if all(copy == BLANK for copy in copies):
+        return Opened(None, "NotFormatted", True, [])
+    if content is None:
+        classes = (STALE if isinstance(copy, Content) else copy for copy in copies)
+        return Opened(None, "NoQuorum " + " ".join(classes), True, [])
+    if fault(content):
+        return Opened(content, fault(content), True, [])
+    if beyond_first(content):
+        return Opened(content, beyond_first(content), False, [])
+    return Opened(content, None, False, [place for place, copy in enumerate(copies) if copy != content])

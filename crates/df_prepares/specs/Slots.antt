@@ -1,0 +1,27 @@
+-- Where the slots of the ring of prepares lie, and what a write of a unit into its slot does.
+use Rattle.std.specs.Prelude.{ℕ, List, [], ◌∷◌, take}
+use Rattle.df_base.specs.Log.{Event, Write, Sync}
+use Rattle.df_layout.specs.declared.layout.Layout.{Layout}
+use Rattle.df_layout.specs.declared.places.Place.{Place}
+use Rattle.df_layout.specs.declared.places.Zone.TheVariants.{WalPrepares}
+use Rattle.df_layout.specs.Spans.{span_of}
+use Rattle.df_format.specs.Message.{Message, sectors_end}
+use Rattle.df_format.specs.Own.{place_in}
+use Rattle.df_format.specs.Valid.{IsUnit}
+use Rattle.df_buffers.specs.Sounds.{Holding}
+
+-- the place of a slot
+abbrev pub slot_place : ℕ → Place
+slot_place slot = place_in WalPrepares slot
+
+-- the first sector of a slot
+abbrev pub slot_first : Layout → ℕ → ℕ
+slot_first layout slot = (span_of layout (slot_place slot)).first
+
+-- the unit is valid in the slot that its header names
+abbrev pub IsInOwnSlot : Layout → Message → Type 0
+IsInOwnSlot layout u = IsUnit layout u.header.cluster (slot_place u.header.slot) u
+
+-- the events of a write: the whole sectors that a unit covers go into the slot that its header names, and are synced
+abbrev pub write_events : Layout → Holding → List Event
+write_events layout held = Write (slot_first layout held.unit.header.slot) (take (sectors_end held.unit.header.size) held.bytes) ∷ Sync ∷ []
