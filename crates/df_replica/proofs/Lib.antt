@@ -6,3 +6,4 @@ pub mod Written
 pub mod Places
 pub mod Usable
 pub mod FirstSuper
+pub mod Events

@@ -1,5 +1,5 @@
 -- What holds of every log whose copies of the superblock are of one content: the laws that a program over a file rests on.
-use Rattle.std.specs.Prelude.{◌≡◌, ◌≢◌, ◌<◌, ℕ, false, List, ◌∷◌, Some}
+use Rattle.std.specs.Prelude.{◌≡◌, ◌≢◌, ◌<◌, ℕ, Bool, false, IsTrue, List, ◌∷◌, length, get_or, Some}
 use Rattle.df_base.specs.Image.{Image, covers, changed}
 use Rattle.df_base.specs.Log.{Event, Sync, Stop, Log, AreLoose, add, now}
 use Rattle.df_base.specs.Moments.{EachMoment}
@@ -8,10 +8,10 @@ use Rattle.df_format.specs.Copies.{Content, content_at, content_with}
 use Rattle.df_format.specs.CopyPools.{NoChanceCopy, EachLeftCopies}
 use Rattle.df_format.specs.SuperRules.{IsUsable}
 use Rattle.df_format.specs.declared.superblock.SuperFields.{SuperFields}
-use Rattle.df_quorum.specs.Quorum.{IsChosen}
+use Rattle.df_quorum.specs.Quorum.{IsChosen, AreMembers}
 use Rattle.df_superblock.specs.Moments.{adds}
 use Rattle.df_superblock.specs.Copies.{AreQuiet, AreEqual}
-use Rattle.df_superblock.specs.Events.{update_events}
+use Rattle.df_superblock.specs.Events.{update_events, repair_events}
 use Rattle.df_replica.specs.OneContent.{IsSafeOf, IsUntouched, AreOfFile, AreApartFrom}
 
 -- a disk that was never written is safe for each content
@@ -59,3 +59,25 @@ pub record IsFormatted (log : Log) (c : Content) : Type 0 where
 -- so it is behind the writes of all four copies, whatever was there before
 abbrev pub CopiesFormat : Type 0
 CopiesFormat = (f : SuperFields) (log : Log) → IsUsable f → IsFormatted (adds (update_events f) log) (content_with f)
+
+-- what a new file is written with, and what a repair writes, are events of the file; a repair writes no member
+abbrev pub UpdatesAreOfFile : Type 0
+UpdatesAreOfFile = (f : SuperFields) → AreOfFile f (update_events f)
+
+abbrev pub RepairsAreOfFile : Type 0
+RepairsAreOfFile = (f : SuperFields) (members : List Bool) → length members ≡ 4 → AreOfFile f (repair_events f 0 members)
+
+abbrev pub RepairsSpareMembers : Type 0
+RepairsSpareMembers = (f : SuperFields) (members : List Bool) (n : ℕ) → IsUsable f → IsTrue (get_or members n false) → AreApartFrom n (repair_events f 0 members)
+
+-- two members of a choice, which show its content
+pub record HasTwoMembers (image : Image) (c : Content) (members : List Bool) : Type 0 where
+  pub first : ℕ
+  pub second : ℕ
+  pub two : TwoShow image c first second
+  pub first_member : IsTrue (get_or members first false)
+  pub second_member : IsTrue (get_or members second false)
+
+-- each choice has them
+abbrev pub ChoicesHaveTwo : Type 0
+ChoicesHaveTwo = (image : Image) (c : Content) (members : List Bool) → IsChosen (content_at image) c → AreMembers (content_at image) c members → HasTwoMembers image c members

@@ -10,8 +10,8 @@ mod superblock;
 
 pub use errors::{FormatError, OpenError};
 pub use laws::{
-    copies_are_apart, copies_format, one_answer, safe_stays_safe, stop_stays_safe,
-    super_is_written, two_copies_stay_chosen, untouched_is_safe,
+    choices_have_two_members, copies_are_apart, copies_format, events_are_of_file, one_answer,
+    safe_stays_safe, stop_stays_safe, super_is_written, two_copies_stay_chosen, untouched_is_safe,
 };
 pub use making::format;
 pub use opening::{probe, read_superblock, survey_superblock};

@@ -7,9 +7,10 @@ use df_disk::Disk;
 use df_layout::{Class, Field, Layout, Place, Zone};
 use df_memdisk::{MemoryDisk, Strike};
 use df_replica::{
-    FormatError, OpenError, copies_are_apart, copies_format, format, one_answer, probe,
-    read_superblock, safe_stays_safe, stop_stays_safe, super_is_written, survey_superblock,
-    two_copies_stay_chosen, untouched_is_safe,
+    FormatError, OpenError, choices_have_two_members, copies_are_apart, copies_format,
+    events_are_of_file, format, one_answer, probe, read_superblock, safe_stays_safe,
+    stop_stays_safe, super_is_written, survey_superblock, two_copies_stay_chosen,
+    untouched_is_safe,
 };
 use std::alloc::Global;
 use std::test::Fail;
@@ -170,16 +171,6 @@ fn each_superblock_that_cannot_be_used_is_refused(rt: HostRuntime) -> Result<(),
             [copy(0, 4095, 1), noise, noise, copy(3, 4095, 1)],
             bad_field(Field::Zero, 4095),
         ),
-        // Two sound copies are enough, beside two that agree on a lower sequence.
-        (
-            [
-                copy(0, 72, 2),
-                copy(1, 72, 2),
-                copy(2, 36, 0),
-                copy(3, 36, 0),
-            ],
-            Ok(Layout::small()),
-        ),
     ];
     for (sectors, answer) in rows {
         assert_eq!(rt; probed(rt.alloc(), &sectors)?, answer);
@@ -189,6 +180,13 @@ fn each_superblock_that_cannot_be_used_is_refused(rt: HostRuntime) -> Result<(),
 
 #[test]
 fn two_copies_that_are_left_are_enough(rt: HostRuntime) -> Result<(), Fail> {
+    let later = [
+        copy(0, 72, 2),
+        copy(1, 72, 2),
+        copy(2, 36, 0),
+        copy(3, 36, 0),
+    ];
+    assert_eq!(rt; probed(rt.alloc(), &later)?, Ok(Layout::small()));
     let mut disk = blank(rt.alloc(), &[])?;
     assert_eq!(rt; format_small(rt.alloc(), &mut disk, 7)?, Ok(()));
     let mut room = probe_room(rt.alloc())?;
@@ -249,6 +247,8 @@ fn the_laws_of_files_are_called(_rt: HostRuntime) {
     two_copies_stay_chosen();
     copies_are_apart();
     copies_format();
+    events_are_of_file();
+    choices_have_two_members();
     one_answer();
     super_is_written();
 }
