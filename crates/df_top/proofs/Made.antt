@@ -35,7 +35,7 @@ module _ (file : DataFile) (wal : Wal) (log : IsLogOf file wal) (head : Head) (c
   pub made_events : take (sectors_end held.unit.header.size) held.bytes ≡ sectors_of held.unit → write_events file.layout held ≡ append_events wal head said
   made_events sectors =
       let at : slot_first file.layout held.unit.header.slot ≡ slot_start wal (behind wal head said).header.slot =
-          ap (λ (u : Message). slot_first file.layout u.header.slot) unit ∙ sym (same_first file.layout file.cluster wal (behind wal head said).header.slot log) in
+      ap (λ (u : Message). slot_first file.layout u.header.slot) unit ∙ sym (same_first file.layout file.cluster wal (behind wal head said).header.slot log) in
       let bytes : take (sectors_end held.unit.header.size) held.bytes ≡ sectors_of (behind wal head said) = sectors ∙ ap (λ (u : Message). sectors_of u) unit in
       λ i. Write (at i) (bytes i) ∷ Sync ∷ []
 

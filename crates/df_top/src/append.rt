@@ -33,13 +33,7 @@ const FIRST_SEQUENCE: u64 = 1;
 
 // What the maker of an append's prepare says of it. What follows from the body is set when the prepare is made.
 #[tactic(auto, unfolding(df_format::specs::Own::own_place, df_format::specs::Spelling::no_checksum))]
-fn header_given(
-    file: &DataFile,
-    head: Head,
-    client: u128,
-    request: u64,
-    body: &[u8],
-) -> Header
+fn header_given(file: &DataFile, head: Head, client: u128, request: u64, body: &[u8]) -> Header
     requires cluster { (0 < file.now.cluster) × (file.now.cluster < 2 ^ 128) }
     requires free { head.op < file.now.layout.slots }
     requires first { head.op ≡ 0 → head.checksum ≡ no_checksum }

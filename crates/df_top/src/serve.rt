@@ -68,15 +68,7 @@ pub fn serve_append<D: Disk, W: Sink>(
     };
     let file = session.file;
     let body = session.lines.body(size);
-    let (room, appended) = append(
-        disk,
-        &file,
-        &mut session.head,
-        client,
-        request,
-        body,
-        room,
-    );
+    let (room, appended) = append(disk, &file, &mut session.head, client, request, body, room);
     session.room = Some(room);
     match appended {
         Ok(()) => {}
