@@ -48,14 +48,14 @@ module _ (file : DataFile) where
   of_content : AreOfContent f (format_events file)
   of_content = (
     inl (record { inside = omega arith; copy = refl }),
-    (tt, (inl (record { inside = omega arith; copy = refl }), (tt, (inl (record { inside = omega arith; copy = refl }), (tt, (inl (record { inside = omega arith; copy = refl }), (tt, tt)))))))
+    (tt, (inl (record { inside = omega arith; copy = refl }), (tt, (inl (record { inside = omega arith; copy = refl }), (tt, (inl (record { inside = omega arith; copy = refl }), (tt, tt))))))),
   )
 
   module _ (wal : Wal) (log_of : IsLogOf file wal) where
     in_front : AreFront wal (format_events file)
     in_front = (
       copy_is_front file wal log_of 0 _ (omega arith) refl,
-      (tt, (copy_is_front file wal log_of 1 _ (omega arith) refl, (tt, (copy_is_front file wal log_of 2 _ (omega arith) refl, (tt, (copy_is_front file wal log_of 3 _ (omega arith) refl, (tt, tt)))))))
+      (tt, (copy_is_front file wal log_of 1 _ (omega arith) refl, (tt, (copy_is_front file wal log_of 2 _ (omega arith) refl, (tt, (copy_is_front file wal log_of 3 _ (omega arith) refl, (tt, tt))))))),
     )
 
     -- such events that were added, from the first on

@@ -126,9 +126,9 @@ module _ (file : DataFile) (wal : Wal) (log_of : IsLogOf file wal) where
     spares ((Write at bytes) ∷ es) ((inl repair), more) = (repair_spares at bytes repair, spares es more)
     spares ((Write at bytes) ∷ es) ((inr prepare), more) = (
       (
-        ap (λ (b : List ℕ). covers at b member) prepare.sectors ∙ ap (λ (a : ℕ). covers a (sectors_of prepare.prepare) member) prepare.place
-        ∙ ring_writes_stay_inside wal member prepare.prepare (behind_copies member inside) prepare.is
-      ),
+          ap (λ (b : List ℕ). covers at b member) prepare.sectors ∙ ap (λ (a : ℕ). covers a (sectors_of prepare.prepare) member) prepare.place
+          ∙ ring_writes_stay_inside wal member prepare.prepare (behind_copies member inside) prepare.is
+          ),
       spares es more,
     )
     spares (Sync ∷ es) are = spares es are.1

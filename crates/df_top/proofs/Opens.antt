@@ -159,14 +159,13 @@ module _ (told : Option Told) (reserved : Layout) (probed : TellsLayout told (Ok
 
     pub survey_refuses : (T : Type 0) → RefusesToOpen {T = T} told later (Err e)
     survey_refuses T t error is refuses =
-        let why = told_refuses (IsFound t.shown) t.shown e (subst (λ (o : Option Told). TellsFound o (Err e)) is answer) in
-        (
+        let why = told_refuses (IsFound t.shown) t.shown e (subst (λ (o : Option Told). TellsFound o (Err e)) is answer) in (
           elim why [
             | inl failed ↦ inr failed
             | inr refused ↦ elim refuses [
-                | inl other ↦ inl (one_refusal t.shown e error refused other)
-                | inr later_one ↦ absurd (super_or_refusal t.shown later_one.fields e later_one.usable refused)
-              ]
+              | inl other ↦ inl (one_refusal t.shown e error refused other)
+              | inr later_one ↦ absurd (super_or_refusal t.shown later_one.fields e later_one.usable refused)
+            ]
           ],
           syncs,
         )
@@ -189,8 +188,7 @@ module _ (told : Option Told) (reserved : Layout) (probed : TellsLayout told (Ok
       pub no_file_refuses : (T : Type 0) → RefusesToOpen {T = T} told (after Sync told) (Err e)
       no_file_refuses T t error is refuses =
           let fails = no_file t is in
-          let has = (found_shown t is).super in
-          (
+          let has = (found_shown t is).super in (
             elim refuses [
               | inl other ↦ absurd (super_or_refusal t.shown found.content error has other)
               | inr later_one ↦
@@ -256,9 +254,9 @@ module _ (told : Option Told) (e : OpenError) (answer : TellsLayout told (Err e)
     elim (probe_says t is) [
       | inl failed ↦ inr failed
       | inr refused ↦ elim refuses [
-          | inl other ↦ inl (one_refusal t.shown e error refused other)
-          | inr later_one ↦ absurd (super_or_refusal t.shown later_one.fields e later_one.usable refused)
-        ]
+        | inl other ↦ inl (one_refusal t.shown e error refused other)
+        | inr later_one ↦ absurd (super_or_refusal t.shown later_one.fields e later_one.usable refused)
+      ]
     ],
     inl refl,
   )

@@ -217,7 +217,7 @@ module _ (file : DataFile) (wal : Wal) (before : Told) (opening : List Prepare) 
       let es : List Event = repairs ++ wrote.events in
       let of_file : AreOfFile file wal before.shown es = both_of_file file wal before.shown repairs wrote.events (repairs_of_file file wal before.shown repairs are) (run_of_file file wal before.shown wrote.events wrote.each) in
       let all : after_all es (Some (did Sync before)) ≡ Some left.since.disk =
-          sym (after_both repairs wrote.events (Some (did Sync before))) ∙ ap (after_all wrote.events) (sym is_mid) ∙ sym wrote.added ∙ left.since.is in
+      sym (after_both repairs wrote.events (Some (did Sync before))) ∙ ap (after_all wrote.events) (sym is_mid) ∙ sym wrote.added ∙ left.since.is in
       record {
         after = left.since.disk;
         is = left.since.is;
@@ -260,12 +260,12 @@ pub opening_writes : (file : DataFile) (wal : Wal) (told later : Option Told) (t
 opening_writes file wal told later t is mends = elim (part_of_opening file told later mends t is) [
   | inl none ↦ record { events = []; behind = []; barrier = inl refl; each = λ u is_u. tt; added = none }
   | inr some ↦ record {
-      events = Sync ∷ some.0;
-      behind = some.0;
-      barrier = inr refl;
-      each = λ u is_u. subst (λ (x : Told). AreOfFile file wal x.shown some.0) (one_disk t u told is is_u) (repairs_of_file file wal t.shown some.0 some.1);
-      added = some.2;
-    }
+    events = Sync ∷ some.0;
+    behind = some.0;
+    barrier = inr refl;
+    each = λ u is_u. subst (λ (x : Told). AreOfFile file wal x.shown some.0) (one_disk t u told is is_u) (repairs_of_file file wal t.shown some.0 some.1);
+    added = some.2;
+  }
 ]
 
 -- ---- the file was opened, and the session was served

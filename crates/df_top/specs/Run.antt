@@ -19,7 +19,6 @@ use Rattle.df_top.specs.declared.session.DataFile.{DataFile}
 use Rattle.df_top.specs.declared.status.Status.{Status}
 use Rattle.df_top.specs.declared.status.Status.TheVariants.{Words, DiskFault, WriteFault, Memory}
 
-
 -- all that other words do: the usage line is printed, or a front of it where the sink fails
 abbrev pub PrintsUsage : Option (List ℕ) → Option (List ℕ) → Status → Type 0
 PrintsUsage old new status = ((status ≡ Words) × Appends old new usage) ⊎ ((status ≡ WriteFault) × AppendsPart old new usage)

@@ -124,7 +124,11 @@ fn open_superblock<D: Disk>(disk: &mut D, rooms: &mut Rooms) -> Result<DataFile,
 }
 
 // Finds the ring of a file.
-fn open_ring<D: Disk>(disk: &mut D, file: DataFile, reserved: Reserved) -> Result<Session, OpenError>
+fn open_ring<D: Disk>(
+    disk: &mut D,
+    file: DataFile,
+    reserved: Reserved,
+) -> Result<Session, OpenError>
     requires layout { file.layout ≡ reserved.rooms.layout }
     requires lines { IsFresh (layout_bound reserved.rooms.layout) reserved.lines }
     requires owner { HasOwner file }
