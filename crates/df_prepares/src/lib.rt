@@ -2,8 +2,6 @@
 #![tactic(auto)]
 
 mod apart_laws;
-#[cfg(test)]
-mod apart_tests;
 mod laws;
 mod ring;
 mod slot;
