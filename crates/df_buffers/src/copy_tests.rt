@@ -1,4 +1,6 @@
 // What the rooms of the superblock's copies answer to given bytes.
+ghost use Rattle.std.specs.Prelude.{◌≡◌};
+
 use crate::{ProbeRoom, Raw, SuperSector};
 use df_format::{SuperCopy, SuperFields, decode_copy, encode_copy, test_fields};
 use df_layout::{Class, Layout, Place, Zone};

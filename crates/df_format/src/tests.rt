@@ -5,9 +5,10 @@ ghost use Rattle.df_format.specs.Making.{for_body};
 
 use crate::examples::{PREPARE, changed, spelled};
 use crate::{Header, Kind, Wal, decode_header, decode_unit, make_unit};
+use df_base::check;
 use df_layout::{Class, Layout, Place, Zone};
 
-// What the maker of the example says of it; its size and checksums are set.
+// What the maker of the example says of it; its size and its checksum are set.
 #[tactic(auto, unfolding(crate::specs::Spelling::no_checksum))]
 fn given(body: &[u8]) -> Header
     requires { length body.now ≤ 3840 }
@@ -15,7 +16,7 @@ fn given(body: &[u8]) -> Header
 {
     Header {
         checksum: [0; 16],
-        checksum_body: [0; 16],
+        checksum_body: check(body),
         cluster: 7,
         parent: [0; 16],
         client: 5,
