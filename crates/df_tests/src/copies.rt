@@ -67,8 +67,8 @@ fn chosen<D: Disk>(disk: &mut D, room: &mut ProbeRoom) -> Result<Chosen, Fail> {
     }
 }
 
-fn put<D: Disk>(disk: &mut D, sector: u64, bytes: &[u8; SECTOR]) -> Result<(), Fail> {
-    match disk.write(sector, bytes) {
+fn put<D: Disk>(disk: &mut D, number: u8, bytes: &[u8; SECTOR]) -> Result<(), Fail> {
+    match disk.write(u64::from(number), bytes) {
         Ok(()) => Ok(()),
         Err(_) => Err("a sector can't be written".into()),
     }
@@ -126,8 +126,8 @@ fn each_place_is_read_by_its_own_copy_alone(rt: HostRuntime) -> Result<(), Fail>
 fn a_repair_writes_the_copies_that_are_no_members(rt: HostRuntime) -> Result<(), Fail> {
     let mut room = room(rt.alloc())?;
     let mut disk = begun(rt.alloc(), &mut room)?;
-    for sector in [1, 3] {
-        put(&mut disk, sector, &[0xa5; SECTOR])?;
+    for number in [1, 3] {
+        put(&mut disk, number, &[0xa5; SECTOR])?;
     }
     let hurt = chosen(&mut disk, &mut room)?;
     assert_eq!(rt;
