@@ -1,4 +1,6 @@
 // The copies of the superblock over disks in memory: updates, reads and repairs, and a disk that loses writes.
+ghost use Rattle.std.specs.Prelude.{◌≡◌, IfOk};
+
 use crate::runs::blank;
 use df_base::SECTOR;
 use df_buffers::ProbeRoom;
@@ -39,7 +41,9 @@ const SECOND: SuperFields = SuperFields {
     ..FIRST
 };
 
-fn usable(fields: &SuperFields) -> Result<Super, Fail> {
+fn usable(fields: &SuperFields) -> Result<Super, Fail>
+    ensures { IfOk result (λ content. content ≡ fields.now) }
+{
     match test_fields(fields) {
         Ok(content) => Ok(content),
         Err(_) => Err("a superblock that can't be used".into()),
