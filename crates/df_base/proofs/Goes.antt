@@ -1,8 +1,8 @@
--- How moments go on, one event after another.
+-- How moments go on, one event after another; and a fact at each moment of some events.
 use Rattle.std.proofs.Common.{◌≡◌, ◌⊎◌, inl, inr, List, [], ◌∷◌, ◌++◌, length, refl, ◌∙◌, ap, subst, sym, arith, drop, suc, ◌-◌, append_assoc, length-append}
 use Rattle.std.proofs.lemmas.List.Prefix.{end_rest}
 use Rattle.df_base.specs.Log.{Log, Event, add}
-use Rattle.df_base.specs.Moments.{Extends, EachMoment}
+use Rattle.df_base.specs.Moments.{Extends, EachMoment, Passed, adds}
 
 same_log : (a b : Log) → a.events ≡ b.events → a.start ≡ b.start → a ≡ b
 same_log a b es st i = record { start = st i; events = es i }
@@ -65,3 +65,27 @@ from_before e entry exit P here grown later log moment = elim (last_of moment.si
       let same : some.1 ≡ e = same_end exit.events (moment.until.0 ++ some.0) grown.0 some.1 e entry.events ended grown.1 in
       later log (record { since = (some.0, events ∙ ap (λ (x : Event). some.0 ++ x ∷ entry.events) same, moment.since.2); until = moment.until })
 ]
+
+grown_from : (e : Event) (log exit : Log) → Extends exit (add e log) → Extends exit log
+grown_from e log exit more = (more.0 ++ e ∷ [], more.1 ∙ sym (append_assoc more.0 (e ∷ []) log.events), more.2)
+
+pub adds_extends : (es : List Event) (log : Log) → Extends (adds es log) log
+adds_extends [] log = extends_self log
+adds_extends (e ∷ es) log = grown_from e log (adds es (add e log)) (adds_extends es (add e log))
+
+-- at the log, and after each of these events
+abbrev pub AtEach : (Log → Type 0) → Log → List Event → Type 0
+AtEach P log [] = P log
+AtEach P log (e ∷ es) = P log × AtEach P (add e log) es
+
+pub at_weaker : (P Q : Log → Type 0) → ((log : Log) → P log → Q log) → (es : List Event) (log : Log) → AtEach P log es → AtEach Q log es
+at_weaker P Q implies [] log each = implies log each
+at_weaker P Q implies (e ∷ es) log each = (implies log each.0, at_weaker P Q implies es (add e log) each.1)
+
+-- nothing happened
+pub stands : (P : Log → Type 0) (log : Log) → P log → Passed log log P
+stands P log here = record { grew = extends_self log; moments = started log P here }
+
+-- an event, and what happened behind it
+pub goes_on : (P : Log → Type 0) (e : Event) (log exit : Log) → P log → Passed (add e log) exit P → Passed log exit P
+goes_on P e log exit here later = record { grew = grown_from e log exit later.grew; moments = from_before e log exit P here later.grew later.moments }

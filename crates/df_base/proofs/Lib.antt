@@ -1,4 +1,6 @@
 pub mod FieldBytes
 pub mod Fronts
 pub mod Goes
+pub mod Images
+pub mod Laws
 pub mod Pieces

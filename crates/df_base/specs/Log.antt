@@ -72,6 +72,13 @@ AreEvents ((Write at bytes) ∷ es) = IsPiece bytes × AreEvents es
 AreEvents (Sync ∷ es) = AreEvents es
 AreEvents ((Stop cs) ∷ es) = AreLoose es cs × AreEvents es
 
+-- syncs alone
+abbrev pub AreSyncs : List Event → Type 0
+AreSyncs [] = Unit {0}
+AreSyncs ((Write at bytes) ∷ es) = ⊥
+AreSyncs (Sync ∷ es) = AreSyncs es
+AreSyncs ((Stop cs) ∷ es) = ⊥
+
 -- a log that a disk can have
 pub record IsLog (log : Log) : Type 0 where
   pub start : IsImage log.start

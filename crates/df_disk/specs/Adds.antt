@@ -1,6 +1,7 @@
--- Which events a call adds to the log.
-use Rattle.std.specs.Prelude.{◌≡◌, ◌⊎◌, List, [], ◌∷◌, Option, Result, Ok, Err}
-use Rattle.df_base.specs.Log.{Event}
+-- Which events a call adds to the log, and what it says of its moments.
+use Rattle.std.specs.Prelude.{◌≡◌, ◌⊎◌, List, [], ◌∷◌, Option, Some, None, Result, Ok, Err}
+use Rattle.df_base.specs.Log.{Event, Log}
+use Rattle.df_base.specs.Moments.{Passed}
 use Rattle.df_disk.specs.Told.{Told, after}
 
 -- what is told after these events, in order
@@ -17,3 +18,8 @@ AddsPart (e ∷ es) old new = (new ≡ old) ⊎ AddsPart es (after e old) new
 abbrev pub Adds : {T E : Type 0} → List Event → Option Told → Option Told → Result T E → Type 0
 Adds events old new (Ok x) = new ≡ after_all events old
 Adds events old new (Err e) = AddsPart events old new
+
+-- from what was told to what is told, the log went on, and had this at each moment
+abbrev pub PassedTo : Told → Option Told → (Log → Type 0) → Type 0
+PassedTo before None P = ⊥
+PassedTo before (Some after) P = Passed before.log after.log P

@@ -2,7 +2,7 @@
 use Rattle.std.proofs.Common.{◌≡◌, ℕ, ◌+◌, ◌≤◌, List, ◌++◌, length, take, drop, sym, ◌∙◌, ap, arith, append_assoc, length-append}
 use Rattle.std.proofs.lemmas.List.{take_at, length-take-le}
 use Rattle.df_base.specs.Fields.{spelled, put_at}
-use Rattle.df_base.proofs.FieldBytes.{length-spelled}
+use Rattle.df_base.proofs.Laws.{length-spelled}
 
 -- a number behind what stands in front
 pub number_behind : (at n x : ℕ) (old new front : List ℕ) → at + n ≤ length old → new ≡ put_at n at x old → take at old ≡ front → take (at + n) new ≡ front ++ spelled n x

@@ -6,7 +6,7 @@ use Rattle.std.proofs.lemmas.Bool.{cond-true, cond-false, le-ltb, ltb-false, eq-
 use Rattle.std.specs.Str.{bytes_eq}
 use Rattle.std.proofs.lemmas.List.{take-append-drop, drop-drop, drop_at, take_all, length-take-le, length-replicate}
 use Rattle.df_base.specs.Fields.{spelled, put_at}
-use Rattle.df_base.proofs.FieldBytes.{length-spelled}
+use Rattle.df_base.proofs.Laws.{length-spelled}
 
 -- all bytes are zero where they are as many zeros
 pub all_zero : (bytes : List ℕ) (n : ℕ) → length bytes ≡ n → list_all (λ b. b == 0) bytes ≡ bytes_eq bytes (replicate n 0)

@@ -1,13 +1,12 @@
 -- A copy of the superblock is read from its spelling, and a sector that is read as a copy is its spelling.
-use Rattle.std.proofs.Common.{◌≡◌, ℕ, ◌<◌, ◌+◌, ◌≤◌, ◌^◌, ◌==◌, ◌&&◌, Bool, true, false, not, List, [], ◌∷◌, ◌++◌, length, take, drop, replicate, Option, Some, None, cond, refl, sym, ◌∙◌, ap, subst, arith, append_assoc, length-append}
+use Rattle.std.proofs.Common.{◌≡◌, ℕ, ◌<◌, ◌+◌, ◌≤◌, ◌^◌, ◌==◌, ◌&&◌, true, not, List, [], ◌∷◌, ◌++◌, length, take, drop, replicate, Option, Some, None, refl, sym, ◌∙◌, ap, subst, arith, append_assoc, length-append}
 use Rattle.std.specs.Prelude.{nat_lt, position, option_map}
-use Rattle.std.specs.Str.{bytes_eq}
 use Rattle.std.proofs.lemmas.Bool.{cond-true, and_parts, and_from, ltb-true, lt-ltb}
-use Rattle.std.proofs.lemmas.List.{take_at, take_all, drop_at, length-take-le, length-drop, length-replicate}
+use Rattle.std.proofs.lemmas.List.{take_at, length-take-le, length-drop, length-replicate}
 use Rattle.std.proofs.lemmas.Slice.Eq.{bytes_eq-Decides}
 use Rattle.df_base.specs.Fields.{AreBytes, field_at, spelled, check_of}
 use Rattle.df_base.specs.Image.{IsSector}
-use Rattle.df_base.proofs.FieldBytes.{length-check_of, AreBytes-check_of, length-spelled, AreBytes-spelled, field_spelled, field_at-lt, spelled-field_at}
+use Rattle.df_base.proofs.Laws.{length-check_of, AreBytes-check_of, length-spelled, AreBytes-spelled, field_spelled, field_at-lt, spelled-field_at}
 use Rattle.df_format.specs.declared.superblock.SuperFields.{SuperFields}
 use Rattle.df_format.specs.declared.superblock.SuperCopy.{SuperCopy}
 use Rattle.df_format.specs.Spelling.{IsCheck}

@@ -6,7 +6,7 @@ use Rattle.std.proofs.lemmas.List.{take_at, take_all, drop_at, length-take-le, l
 use Rattle.std.proofs.lemmas.Slice.Eq.{bytes_eq-Decides}
 use Rattle.std.specs.Str.{bytes_eq}
 use Rattle.df_base.specs.Fields.{AreBytes, field_at, spelled, check_of}
-use Rattle.df_base.proofs.FieldBytes.{length-check_of, length-spelled, field_spelled, field_at-lt, spelled-field_at}
+use Rattle.df_base.proofs.Laws.{length-check_of, length-spelled, field_spelled, field_at-lt, spelled-field_at}
 use Rattle.df_format.specs.declared.header.Header.{Header}
 use Rattle.df_format.specs.declared.kind.Kind.{Kind}
 use Rattle.df_format.specs.Spelling.{code_of, version_bytes, tail_bytes, spelling, spelling_rest, IsCheck}

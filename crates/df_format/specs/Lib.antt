@@ -17,5 +17,6 @@ pub mod Making
 pub mod Super
 pub mod SuperRules
 pub mod Copies
+pub mod First
 pub mod CopyPools
 pub mod CopyLaws

@@ -3,13 +3,13 @@ use Rattle.std.proofs.Common.{◌≡◌, inl, inr, ℕ, Bool, true, false, ◌||
 use Rattle.std.proofs.lemmas.Bool.{cases_eq}
 use Rattle.std.proofs.lemmas.Bool.Decides.{nat_tests}
 use Rattle.df_base.specs.Image.{Image, IsSector, IsPiece, blank, covers, written, changed}
-use Rattle.df_base.specs.Log.{Event, Write, Sync, Stop, Log, IsLog, AreLoose, add, now, loose_of, settled}
+use Rattle.df_base.specs.Log.{Event, Write, Sync, Stop, Log, IsLog, AreLoose, add, now, loose_of, settled, AreSyncs}
 use Rattle.df_format.specs.declared.wal.Wal.{Wal}
 use Rattle.df_format.specs.Unit.{Prepare, prepare_at, slot_start}
 use Rattle.df_format.specs.Chance.{InPool, NoChance}
 use Rattle.df_format.proofs.Shown.{shown_same, blank_none, blank_image, uncovered_below, uncovered_above}
 use Rattle.df_prepares.specs.Steady.{AllGrow, AllInside, IsSteady, IsSafe, IsAtRest}
-use Rattle.df_prepares.specs.Apart.{IsApart, AgreeOnRing, SameSectorsSameRing, ApartKeepsRing, ApartKeepsSafe, ApartKeepsRest, ApartKeepsLeft, SyncKeepsSafe, SyncKeepsRest, FrontIsApart, AreSyncs, SyncedBlankIsAtRest, RingWritesStayInside}
+use Rattle.df_prepares.specs.Apart.{IsApart, AgreeOnRing, SameSectorsSameRing, ApartKeepsRing, ApartKeepsSafe, ApartKeepsRest, ApartKeepsLeft, SyncKeepsSafe, SyncKeepsRest, FrontIsApart, SyncedBlankIsAtRest, RingWritesStayInside}
 use Rattle.df_prepares.proofs.Firm.{written_other, firm_safe}
 use Rattle.df_prepares.proofs.Rings.{ShowSame, ring_same, show_same_turned}
 use Rattle.df_prepares.proofs.Rests.{new_rests, rest_kept, sync_rests}

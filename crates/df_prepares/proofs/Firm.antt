@@ -9,7 +9,7 @@ use Rattle.df_format.specs.declared.wal.Wal.{Wal}
 use Rattle.df_format.specs.Unit.{Prepare}
 use Rattle.df_prepares.specs.Ring.{IsRing, IsFront, ShowsOnly}
 use Rattle.df_prepares.specs.Steady.{Grows, AllGrow, AllInside, IsSteady, IsSafe}
-use Rattle.df_prepares.proofs.Images.{now_is_image, changed_is_image}
+use Rattle.df_base.proofs.Laws.{now_is_image, changed_is_image}
 use Rattle.df_prepares.proofs.Rings.{same_ring}
 
 -- the newest of what was made durable, and what is older

@@ -2,7 +2,6 @@ pub mod Slots
 pub mod Places
 pub mod Chains
 pub mod Rings
-pub mod Images
 pub mod Firm
 pub mod Quiet
 pub mod Steps

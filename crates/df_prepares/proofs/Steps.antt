@@ -11,7 +11,7 @@ use Rattle.df_prepares.specs.Ring.{IsRing, IsFront, IsNext, ShowsOnly}
 use Rattle.df_prepares.specs.Steady.{Grows, AllGrow, AllInside, IsSteady, IsSafe, IsAtRest}
 use Rattle.df_prepares.specs.Laws.{WriteKeeps, HasOldOrNew, wrote}
 use Rattle.df_prepares.proofs.Slots.{slot_below, op_apart}
-use Rattle.df_prepares.proofs.Images.{now_is_image}
+use Rattle.df_base.proofs.Laws.{now_is_image}
 use Rattle.df_prepares.proofs.Firm.{last_of, older_of, settled_is, written_other, stop_leaves, front_self, all_grow_more, firm_safe}
 use Rattle.df_prepares.proofs.Rings.{Holds, ShowSameBut, same_ring, ring_same, ring_from_holds, only_from_holds, holds_none, holds_next, show_same_turned}
 use Rattle.df_prepares.proofs.Quiet.{last_shows, rest_holds, old_inside, none_pending}

@@ -1,7 +1,7 @@
 -- Writes that touch no sector of the ring, and syncs: what the ring's promises keep through them.
 use Rattle.std.specs.Prelude.{◌≡◌, ◌↔◌, ◌<◌, ◌+◌, ℕ, false, List, [], ◌∷◌, length}
 use Rattle.df_base.specs.Image.{Image, IsPiece, blank, covers, written}
-use Rattle.df_base.specs.Log.{Event, Write, Sync, Stop, Log, add}
+use Rattle.df_base.specs.Log.{AreSyncs, Write, Sync, Log, add}
 use Rattle.df_format.specs.declared.wal.Wal.{Wal}
 use Rattle.df_format.specs.Unit.{Prepare, IsPrepare, slot_start, slot_sectors, sectors_of}
 use Rattle.df_format.specs.Chance.{EachLeft}
@@ -51,13 +51,6 @@ SyncKeepsRest wal = (log : Log) (ps : List Prepare) → IsAtRest wal log ps → 
 -- a write of one sector in front of the ring is apart from it
 abbrev pub FrontIsApart : Wal → Type 0
 FrontIsApart wal = (n : ℕ) (bytes : List ℕ) → length bytes ≡ 4096 → n < wal.first_sector → IsApart wal n bytes
-
--- these events are syncs alone
-abbrev pub AreSyncs : List Event → Type 0
-AreSyncs [] = Unit {0}
-AreSyncs ((Write at bytes) ∷ es) = ⊥
-AreSyncs (Sync ∷ es) = AreSyncs es
-AreSyncs ((Stop cs) ∷ es) = ⊥
 
 -- a disk that began blank and was only synced has an empty ring at rest
 abbrev pub SyncedBlankIsAtRest : Wal → Type 0

@@ -1,12 +1,12 @@
 -- Logs whose copies are of one content: they are safe, and the events of a file keep them so.
-use Rattle.std.proofs.Common.{◌≡◌, ◌≢◌, ◌⊎◌, inl, inr, ℕ, ◌-◌, ◌*◌, ◌<◌, true, false, List, [], ◌∷◌, ◌++◌, length, take, drop, Some, None, refl, sym, ◌∙◌, ap, subst, arith, append_assoc}
+use Rattle.std.proofs.Common.{◌≡◌, ◌≢◌, ◌⊎◌, inl, inr, ℕ, ◌-◌, ◌*◌, ◌<◌, true, false, List, [], ◌∷◌, ◌++◌, length, take, drop, Some, None, refl, sym, ◌∙◌, ap, subst, arith}
 use Rattle.std.proofs.lemmas.Bool.{cases_eq}
 use Rattle.std.proofs.lemmas.Bool.Decides.{nat_tests}
 use Rattle.std.proofs.lemmas.List.{take_all}
-use Rattle.df_base.proofs.Goes.{extends_self, started, from_before}
+use Rattle.df_base.proofs.Laws.{adds_extends, started, from_before}
 use Rattle.df_base.specs.Image.{Image, IsImage, blank, covers, written, changed}
-use Rattle.df_base.specs.Log.{Event, Write, Sync, Stop, Log, AreLoose, add, now, now_of, settled_of}
-use Rattle.df_base.specs.Moments.{Extends, EachMoment}
+use Rattle.df_base.specs.Log.{Event, Write, Sync, Stop, Log, AreLoose, add, now, now_of, settled_of, AreSyncs}
+use Rattle.df_base.specs.Moments.{EachMoment, adds}
 use Rattle.df_format.specs.Super.{copy_bytes}
 use Rattle.df_format.specs.Copies.{Content, content_at, content_with}
 use Rattle.df_format.specs.CopyPools.{AmongImages, AmongWrites, InCopyPool, NoChanceCopy}
@@ -15,8 +15,7 @@ use Rattle.df_format.specs.declared.superblock.SuperFields.{SuperFields}
 use Rattle.df_format.proofs.Shown.{blank_image}
 use Rattle.df_format.proofs.CopyShown.{same_copy, one_sector, written_copy}
 use Rattle.df_format.proofs.CopyClasses.{blank_copy_none}
-use Rattle.df_replica.specs.OneContent.{ShowsOnly, AreFairCopies, IsSteadyOf, IsSafeOf, AreSyncs, IsUntouched, IsCopyOf, IsElsewhere, IsOfFile, AreOfFile}
-use Rattle.df_superblock.specs.Moments.{adds}
+use Rattle.df_replica.specs.OneContent.{ShowsOnly, AreFairCopies, IsSteadyOf, IsSafeOf, IsUntouched, IsCopyOf, IsElsewhere, IsOfFile, AreOfFile}
 
 pub written_other : (at : ℕ) (bytes : List ℕ) (image : Image) (sector : ℕ) → covers at bytes sector ≡ false → written at bytes image sector ≡ image sector
 unfolding written
@@ -115,12 +114,6 @@ untouched_pure log c untouched = record {
         let start : content_at log.start n ≡ content_at blank n = same_copy log.start blank n (untouched.begins n) in
         let no : content_at blank n ≡ None = blank_copy_none n in
         cc
-
-pub adds_extends : (es : List Event) (log : Log) → Extends (adds es log) log
-adds_extends [] log = extends_self log
-adds_extends (e ∷ es) log =
-    let rest = adds_extends es (add e log) in
-    (rest.0 ++ e ∷ [], rest.1 ∙ sym (append_assoc rest.0 (e ∷ []) log.events), rest.2)
 
 -- one sector of bytes covers its own sector alone
 pub covers_other : (at : ℕ) (bytes : List ℕ) (sector : ℕ) → length bytes ≡ 4096 → at ≢ sector → covers at bytes sector ≡ false

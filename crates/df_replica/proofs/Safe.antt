@@ -1,7 +1,7 @@
 -- The laws of logs whose copies are of one content, from what the format says of a copy that is written.
 use Rattle.std.proofs.Common.{◌≡◌, ◌≢◌, inl, inr, ℕ, ◌<◌, Some, refl, sym, ◌∙◌, subst, arith}
 use Rattle.std.proofs.lemmas.Bool.{cases_eq}
-use Rattle.df_base.proofs.Goes.{weaker, from_before}
+use Rattle.df_base.proofs.Laws.{weaker, from_before, adds_extends}
 use Rattle.df_base.specs.Image.{Image, written}
 use Rattle.df_base.specs.Log.{Sync, Log, add, now}
 use Rattle.df_format.specs.Super.{copy_bytes}
@@ -13,9 +13,9 @@ use Rattle.df_format.proofs.CopyShown.{same_copy, one_sector, written_copy}
 use Rattle.df_quorum.specs.Quorum.{IsChosen}
 use Rattle.df_replica.specs.OneContent.{IsSafeOf}
 use Rattle.df_replica.specs.Laws.{UntouchedIsSafe, UntouchedStaysSafe, SafeStaysSafe, StopStaysSafe, TwoCopiesStayChosen, CopiesAreApart, IsFormatted}
-use Rattle.df_superblock.specs.Moments.{adds}
+use Rattle.df_base.specs.Moments.{adds}
 use Rattle.df_superblock.specs.Events.{update_events}
-use Rattle.df_replica.proofs.OneContent.{IsPure, written_other, covers_other, pure_safe, safe_synced, safe_stopped, untouched_pure, pure_moments, adds_extends}
+use Rattle.df_replica.proofs.OneContent.{IsPure, written_other, covers_other, pure_safe, safe_synced, safe_stopped, untouched_pure, pure_moments}
 use Rattle.df_replica.proofs.TwoCopies.{KeepsTwo, two_chosen, two_moments, two_begin}
 
 pub untouched_is_safe : UntouchedIsSafe

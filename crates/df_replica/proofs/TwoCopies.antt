@@ -1,10 +1,10 @@
 -- Two copies that are shown and not written: their content is chosen in whatever a stop leaves.
 use Rattle.std.proofs.Common.{◌≡◌, ◌≢◌, inl, inr, ℕ, ◌<◌, ◌||◌, false, List, [], ◌∷◌, Some, refl, ◌∙◌, ap, arith}
 use Rattle.std.proofs.lemmas.Bool.{cases_lt}
-use Rattle.df_base.proofs.Goes.{started, from_before}
+use Rattle.df_base.proofs.Laws.{started, from_before, adds_extends}
 use Rattle.df_base.specs.Image.{written}
 use Rattle.df_base.specs.Log.{Event, Write, Sync, Stop, Log, add, now, loose}
-use Rattle.df_base.specs.Moments.{EachMoment}
+use Rattle.df_base.specs.Moments.{EachMoment, adds}
 use Rattle.df_format.specs.Copies.{Content, content_at, content_with, rank_of}
 use Rattle.df_format.specs.CopyPools.{EachLeftCopies}
 use Rattle.df_format.specs.SuperRules.{IsUsable}
@@ -13,8 +13,7 @@ use Rattle.df_format.proofs.CopyShown.{same_copy}
 use Rattle.df_quorum.specs.Quorum.{Copies, Agree, IsChosen}
 use Rattle.df_replica.specs.OneContent.{IsSafeOf, IsOfFile, AreOfFile, AreApartFrom}
 use Rattle.df_replica.specs.Laws.{TwoShow}
-use Rattle.df_superblock.specs.Moments.{adds}
-use Rattle.df_replica.proofs.OneContent.{IsPure, written_other, pool_is, safe_synced, pure_goes_on, adds_extends}
+use Rattle.df_replica.proofs.OneContent.{IsPure, written_other, pool_is, safe_synced, pure_goes_on}
 
 agree_on : (copies : Copies) (c : Content) (a b : ℕ) → a < 4 → b < 4 → a ≢ b → copies a ≡ Some c → copies b ≡ Some c → Agree copies c
 agree_on copies c a b first second apart at_first at_second = elim (cases_lt a b) [

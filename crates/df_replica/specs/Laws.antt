@@ -2,14 +2,13 @@
 use Rattle.std.specs.Prelude.{◌≡◌, ◌≢◌, ◌<◌, ℕ, Bool, false, IsTrue, List, ◌∷◌, length, get_or, Some}
 use Rattle.df_base.specs.Image.{Image, covers, changed}
 use Rattle.df_base.specs.Log.{Event, Sync, Stop, Log, AreLoose, add, now}
-use Rattle.df_base.specs.Moments.{EachMoment}
+use Rattle.df_base.specs.Moments.{EachMoment, adds}
 use Rattle.df_format.specs.Super.{copy_bytes}
 use Rattle.df_format.specs.Copies.{Content, content_at, content_with}
 use Rattle.df_format.specs.CopyPools.{NoChanceCopy, EachLeftCopies}
 use Rattle.df_format.specs.SuperRules.{IsUsable}
 use Rattle.df_format.specs.declared.superblock.SuperFields.{SuperFields}
 use Rattle.df_quorum.specs.Quorum.{IsChosen, AreMembers}
-use Rattle.df_superblock.specs.Moments.{adds}
 use Rattle.df_superblock.specs.Copies.{AreQuiet, AreEqual}
 use Rattle.df_superblock.specs.Events.{update_events, repair_events}
 use Rattle.df_replica.specs.OneContent.{IsSafeOf, IsUntouched, AreOfFile, AreApartFrom}

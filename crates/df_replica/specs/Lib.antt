@@ -1,4 +1,3 @@
-pub mod First
 pub mod Formatting
 pub mod Opening
 pub mod Found

@@ -1,7 +1,7 @@
 -- Logs in which the copies of the superblock are of one content, and the events that keep them so.
 use Rattle.std.specs.Prelude.{◌≡◌, ◌⊎◌, ◌<◌, ℕ, false, List, [], ◌∷◌}
 use Rattle.df_base.specs.Image.{Image, blank, covers, changed}
-use Rattle.df_base.specs.Log.{Event, Write, Sync, Stop, Log, AreLoose, add, now, now_of, settled}
+use Rattle.df_base.specs.Log.{Event, Write, Sync, Stop, Log, AreLoose, AreSyncs, add, now, now_of, settled}
 use Rattle.df_format.specs.Super.{copy_bytes}
 use Rattle.df_format.specs.Copies.{Content}
 use Rattle.df_format.specs.CopyPools.{AmongImages, NoChanceCopy}
@@ -29,12 +29,6 @@ pub record IsSafeOf (log : Log) (c : Content) : Type 0 where
   pub steady : IsSteadyOf log c
   pub synced : IsSteadyOf (add Sync log) c
   pub stopped : (cs : List (ℕ × List ℕ)) → AreLoose log.events cs → NoChanceCopy log (changed cs (now log)) → IsSteadyOf (add (Stop cs) log) c
-
--- syncs alone
-abbrev pub AreSyncs : List Event → Type 0
-AreSyncs [] = Unit {0}
-AreSyncs (Sync ∷ es) = AreSyncs es
-AreSyncs (e ∷ es) = ⊥
 
 -- a disk that was never written: it began blank, and nothing but syncs happened
 pub record IsUntouched (log : Log) : Type 0 where

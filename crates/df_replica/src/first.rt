@@ -1,12 +1,12 @@
 // The superblock of a new file.
 ghost use Rattle.std.specs.Prelude.{◌≡◌, ◌<◌, IfSome, IfNone};
-ghost use Rattle.df_replica.specs.First.{first_super};
+ghost use Rattle.df_format.specs.First.{first_super};
 
 use df_format::{Super, SuperFields, test_fields};
 use df_layout::Layout;
 
 // Its fields: sequence 1, and no checkpoint.
-#[tactic(auto, unfolding(crate::specs::First::first_super, df_format::specs::Spelling::no_checksum))]
+#[tactic(auto, unfolding(df_format::specs::First::first_super, df_format::specs::Spelling::no_checksum))]
 fn first_fields(layout: &Layout, cluster: u128) -> SuperFields
     ensures { result ≡ first_super layout.now cluster }
 {

@@ -3,7 +3,7 @@ ghost use Rattle.std.specs.Prelude.{◌≡◌};
 ghost use Rattle.df_base.specs.Causes.{HasCause};
 ghost use Rattle.df_disk.specs.Adds.{Adds};
 ghost use Rattle.df_superblock.specs.Events.{update_events};
-ghost use Rattle.df_replica.specs.First.{first_super};
+ghost use Rattle.df_format.specs.First.{first_super};
 ghost use Rattle.df_replica.specs.Formatting.{AddsFormat, FormatsBy, RefusesCluster, TellsBlank};
 
 use crate::FormatError;

@@ -4,3 +4,4 @@ pub mod Meanings
 pub mod Pieces
 pub mod Finding
 pub mod Texts
+pub mod Laws

@@ -2,7 +2,7 @@
 use Rattle.std.proofs.Common.{◌≡◌, ◌⊎◌, inl, inr, ◌<◌, ◌≤◌, ◌+◌, ℕ, suc, Bool, true, false, IsTrue, List, [], ◌∷◌, ◌++◌, length, get_or, Option, Some, None, refl, sym, ◌∙◌, ap, subst, arith, Result, Ok, Err, IsErr, OnOk}
 use Rattle.df_base.specs.Image.{IsImage}
 use Rattle.df_base.specs.Log.{Event, Write, Sync, Stop, Log, IsLog, now}
-use Rattle.df_theory.proofs.Sectors.{now_is_image}
+use Rattle.df_base.proofs.Laws.{now_is_image, AtEach, at_weaker}
 use Rattle.df_disk.specs.Told.{Told, did}
 use Rattle.df_disk.specs.Adds.{Adds, AddsPart, after_all}
 use Rattle.df_format.specs.Super.{copy_bytes}
@@ -13,11 +13,11 @@ use Rattle.df_quorum.specs.declared.choice.Chosen.{Chosen}
 use Rattle.df_quorum.specs.Quorum.{Agree}
 use Rattle.df_superblock.specs.Copies.{AreQuiet, AreEqual, AreSteady, IsKept, IsChoice, Spare}
 use Rattle.df_superblock.specs.Events.{mend_events, repair_events}
-use Rattle.df_superblock.specs.Moments.{adds}
+use Rattle.df_base.specs.Moments.{adds}
 use Rattle.df_superblock.specs.Calls.{KeepsMembers, RepairsSteadily, KeepsUnlessMisled, RepairsUnlessMisled, IsRepaired, EndsRepaired}
 use Rattle.df_superblock.proofs.Sights.{PutsCopy, written_other}
 use Rattle.df_superblock.proofs.Ready.{IsReady, steady_ready}
-use Rattle.df_superblock.proofs.Passing.{AtEach, adds_part, part_then, all_then, passes, at_weaker}
+use Rattle.df_disk.proofs.Laws.{adds_part, part_then, all_then, passes}
 use Rattle.df_superblock.proofs.Mends.{Spares, Writes, member_spared, other_written, repair_keeps, repair_steady, shown_stays, written_shows}
 use Rattle.df_superblock.proofs.Misleads.{AreOutside, KeepsChoice, each_stays}
 use Rattle.df_superblock.proofs.Puts.{copy_put, one_content}

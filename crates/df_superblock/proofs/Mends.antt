@@ -8,10 +8,10 @@ use Rattle.df_format.specs.Copies.{Content, content_at}
 use Rattle.df_format.specs.declared.superblock.SuperFields.{SuperFields}
 use Rattle.df_superblock.specs.Copies.{AreSteady, IsKept}
 use Rattle.df_superblock.specs.Events.{repair_events}
-use Rattle.df_superblock.specs.Moments.{adds}
+use Rattle.df_base.specs.Moments.{adds}
 use Rattle.df_superblock.proofs.Sights.{PutsCopy, seen_apart}
 use Rattle.df_superblock.proofs.Ready.{IsReady, ready_kept, ready_wrote, ready_synced}
-use Rattle.df_superblock.proofs.Passing.{AtEach}
+use Rattle.df_base.proofs.Laws.{AtEach}
 
 -- this copy isn't among those that are written, from a number on
 abbrev pub Spares : ℕ → ℕ → List Bool → Type 0

@@ -13,7 +13,7 @@ use Rattle.df_quorum.proofs.Choices.{same_content as same_copy, agree_at as agre
 use Rattle.df_superblock.proofs.Choices.{same_content, shows_content, partner}
 use Rattle.df_superblock.proofs.Sights.{PutsCopy, seen_apart}
 use Rattle.df_superblock.proofs.Ready.{Keeps, firm_shows, loose_wrote}
-use Rattle.df_superblock.proofs.Passing.{AtEach}
+use Rattle.df_base.proofs.Laws.{AtEach}
 
 -- how far the copies may have come from those before the call
 pub record IsUnder (before : Copies) (log : Log) (c : Content) : Type 0 where

@@ -12,7 +12,7 @@ use Rattle.df_quorum.proofs.Choices.{same_content as same_copy}
 use Rattle.df_superblock.proofs.Choices.{chosen_above, shows_content}
 use Rattle.df_superblock.proofs.Sights.{PutsCopy, put_is, seen_apart, none_pending}
 use Rattle.df_superblock.proofs.Ready.{Keeps, Knows, IsLow, stop_keeps, firm_shows, bounded_stop, bounded_sync, quiet_low, quiet_knows, knows_wrote, low_wrote, loose_wrote}
-use Rattle.df_superblock.proofs.Passing.{AtEach}
+use Rattle.df_base.proofs.Laws.{AtEach}
 
 -- ---- the choice among copies of which the first i are new, the next one is any, and the others are old
 

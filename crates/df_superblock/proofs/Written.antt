@@ -10,12 +10,13 @@ use Rattle.df_format.specs.declared.superblock.SuperFields.{SuperFields}
 use Rattle.df_format.specs.Copies.{Content, content_with, rank_of}
 use Rattle.df_superblock.specs.Copies.{AreQuiet, AreEqual, AreSteady, IsBounded, IsEither, IsOldOrNew, MayUpdate}
 use Rattle.df_superblock.specs.Events.{update_events}
-use Rattle.df_superblock.specs.Moments.{adds}
+use Rattle.df_base.specs.Moments.{adds}
 use Rattle.df_superblock.specs.Laws.{NewLaw, WritingLaw}
 use Rattle.df_superblock.specs.Calls.{UpdatesSafely, UpdatesSteadily, TellsLog, ShowsEqual, EndsEqual, EndsSteady}
 use Rattle.df_superblock.proofs.Sights.{PutsCopy}
 use Rattle.df_superblock.proofs.Ready.{IsLow, Knows, bounded_sync, quiet_low, quiet_knows, low_wrote, knows_wrote, equal_chosen}
-use Rattle.df_superblock.proofs.Passing.{AtEach, passes, told_log}
+use Rattle.df_base.proofs.Laws.{AtEach}
+use Rattle.df_disk.proofs.Laws.{passes, told_log}
 use Rattle.df_superblock.proofs.Turns.{IsAt, IsWithin, at_turn, at_past, wrote_turn, wrote_past, synced_at, synced_within, turn_moment, turn_either, each_turn}
 use Rattle.df_superblock.proofs.Mends.{Writes, other_written, written_shows}
 use Rattle.df_format.proofs.CopyClasses.{blank_copy_none}

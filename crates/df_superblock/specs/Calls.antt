@@ -4,7 +4,7 @@ use Rattle.df_base.specs.Causes.{Rose}
 use Rattle.df_base.specs.Image.{Image}
 use Rattle.df_base.specs.Log.{Event, Log, IsLog, IsLeft, now}
 use Rattle.df_disk.specs.Told.{Told}
-use Rattle.df_disk.specs.Adds.{AddsPart, after_all}
+use Rattle.df_disk.specs.Adds.{AddsPart, after_all, PassedTo}
 use Rattle.df_layout.specs.declared.damage.Class.{Class}
 use Rattle.df_layout.specs.declared.damage.Class.TheVariants.{Stale}
 use Rattle.df_layout.specs.declared.places.Place.{Place}
@@ -18,7 +18,6 @@ use Rattle.df_quorum.specs.declared.slot.Slot.TheVariants.{Sound, Bad}
 use Rattle.df_quorum.specs.declared.choice.Chosen.{Chosen}
 use Rattle.df_quorum.specs.Quorum.{IsChosen, copies_of, copy_of, nothing}
 use Rattle.df_superblock.specs.Copies.{AreQuiet, AreSteady, AreEqual, IsKept, IsEither, IsMisled, IsOldOrNew, MayUpdate, IsChoice}
-use Rattle.df_superblock.specs.Moments.{PassedTo}
 use Rattle.df_superblock.specs.declared.updates.UpdateError.{UpdateError}
 use Rattle.df_superblock.specs.declared.updates.UpdateError.TheVariants.{Damaged, DiskFault}
 

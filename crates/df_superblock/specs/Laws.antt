@@ -7,7 +7,7 @@ use Rattle.df_format.specs.declared.superblock.SuperFields.{SuperFields}
 use Rattle.df_format.specs.Copies.{Content, content_with}
 use Rattle.df_superblock.specs.Copies.{AreQuiet, AreSteady, AreEqual, IsBounded, IsKept}
 use Rattle.df_superblock.specs.Events.{update_events}
-use Rattle.df_superblock.specs.Moments.{adds}
+use Rattle.df_base.specs.Moments.{adds}
 
 -- a log that begins with four equal copies is steady on them
 abbrev pub BeginsLaw : Type 0

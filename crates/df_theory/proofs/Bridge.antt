@@ -1,5 +1,5 @@
 -- A log of sectors is a log of units.
-use Rattle.std.proofs.Common.{◌≡◌, inl, inr, ℕ, Bool, true, false, ◌||◌, List, [], ◌∷◌, ◌++◌, refl, sym, ◌∙◌, ap, subst, append_assoc, arith}
+use Rattle.std.proofs.Common.{◌≡◌, inl, inr, ℕ, Bool, true, false, ◌||◌, List, [], ◌∷◌, ◌++◌, refl, sym, ◌∙◌, ap, subst, arith}
 use Rattle.std.proofs.lemmas.Bool.{cases_eq}
 use Rattle.std.proofs.lemmas.Bool.Decides.{nat_tests}
 use Rattle.df_theory.specs.Units.{Place, or_else, overlay}
@@ -8,14 +8,13 @@ use Rattle.df_theory.specs.UnitLog.{IsLeftBy, UnitLog, Wrote, loose_of, now, now
 use Rattle.df_theory.specs.Grown.{IsSafe}
 use Rattle.df_theory.specs.Steady.{IsGoodLog}
 use Rattle.df_theory.specs.Runs.{AtEach, IsPartWay, Puts, Step, Syncs, after_steps}
-use Rattle.df_theory.specs.Device.{AreSteps, Format, IsGoodDisk, IsPartWayDisk, IsSafeDisk, adds, units_log, units_of}
+use Rattle.df_theory.specs.Device.{AreSteps, Format, IsGoodDisk, IsPartWayDisk, IsSafeDisk, units_log, units_of}
 use Rattle.df_theory.specs.DeviceLaws.{DiskLaw, MomentsLaw, NewDiskLaw, PutLaw, RunMomentsLaw, SafeDiskLaw, SafeMomentsLaw}
 use Rattle.df_base.specs.Image.{Image, written, changed, IsPiece}
 use Rattle.df_base.specs.Log
 use Rattle.df_base.specs.Log.{Event, Write, Sync, Stop, IsLeft, AreLoose, new_log}
-use Rattle.df_base.specs.Moments.{Extends, EachMoment}
-use Rattle.df_theory.proofs.Sectors.{now_is_image}
-use Rattle.df_base.proofs.Goes.{extends_self, started, from_before}
+use Rattle.df_base.specs.Moments.{EachMoment, adds}
+use Rattle.df_base.proofs.Laws.{now_is_image, adds_extends, started, from_before}
 
 now_units : (f : Format) (start : Image) (es : List Event) → now_of (f.unit_at start) (units_of f start es) ≡ f.unit_at (Log.now_of start es)
 now_units f start [] = refl
@@ -83,12 +82,6 @@ put_law f log at bytes put whole is = λ i. record {
 
 pub new_disk_law : NewDiskLaw
 new_disk_law f none = λ i. record { start = λ place. none place i; events = [] }
-
-adds_extends : (es : List Event) (log : Log.Log) → Extends (adds es log) log
-adds_extends [] log = extends_self log
-adds_extends (e ∷ es) log =
-    let rest = adds_extends es (Log.add e log) in
-    (rest.0 ++ e ∷ [], rest.1 ∙ sym (append_assoc rest.0 (e ∷ []) log.events), rest.2)
 
 -- what the steps have at each moment, the device calls have at each of theirs
 module _ (f : Format) (P : UnitLog → Type 0) (Q : Log.Log → Type 0) (implies : (log : Log.Log) → P (units_log f log) → Q log) where

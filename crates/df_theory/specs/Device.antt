@@ -68,8 +68,3 @@ AreSteps f [] [] = Unit {0}
 AreSteps f ((Write at bytes) ∷ es) ((Puts put) ∷ ss) = IsPut f at bytes put × AreSteps f es ss
 AreSteps f (Sync ∷ es) (Syncs ∷ ss) = AreSteps f es ss
 AreSteps f es ss = ⊥
-
--- the log after these events, in order
-abbrev pub adds : List Event → Log → Log
-adds [] log = log
-adds (e ∷ es) log = adds es (add e log)

@@ -8,11 +8,11 @@ use Rattle.df_theory.specs.Grown.{IsSafe}
 use Rattle.df_theory.specs.Steady.{IsGoodLog}
 use Rattle.df_theory.specs.Runs.{AtEach, Command, IsPartWay, Step, after_steps}
 use Rattle.df_theory.specs.MakingLaws.{blank_log}
-use Rattle.df_theory.specs.Device.{AreSteps, Format, IsGoodDisk, IsGoodWholeDisk, IsPartWayDisk, IsPut, IsSafeDisk, adds, units_log}
+use Rattle.df_theory.specs.Device.{AreSteps, Format, IsGoodDisk, IsGoodWholeDisk, IsPartWayDisk, IsPut, IsSafeDisk, units_log}
 use Rattle.df_theory.specs.TidyLaws.{IsTidy, LeadsTidily}
 use Rattle.df_base.specs.Image.{blank}
 use Rattle.df_base.specs.Log.{Event, Write, Log, IsLog, add, new_log}
-use Rattle.df_base.specs.Moments.{EachMoment}
+use Rattle.df_base.specs.Moments.{EachMoment, adds}
 
 -- a good log of units is a good log of sectors
 abbrev pub DiskLaw : Type 0

@@ -1,14 +1,13 @@
 -- A session that was just opened can be served.
-use Rattle.std.proofs.Common.{◌≡◌, ℕ, ◌+◌, ◌≤◌, ◌^◌, false, true, Bool, not, eqb, ◌&&◌, IsTrue, List, ◌∷◌, Option, Result, Ok, Err, IfOk, IfErr, sym, ◌∙◌, ap, subst, arith}
+use Rattle.std.proofs.Common.{◌≡◌, ℕ, ◌+◌, ◌≤◌, ◌^◌, false, true, Bool, not, eqb, ◌&&◌, IsTrue, List, ◌∷◌, Option, Result, Ok, Err, IfOk, IfErr, ◌∙◌, ap, arith}
 use Rattle.std.proofs.lemmas.Bool.{eq-eqb}
 use Rattle.df_base.specs.Log.{Sync}
 use Rattle.df_disk.specs.Told.{Told}
-use Rattle.df_disk.specs.Adds.{after_all}
 use Rattle.df_layout.specs.declared.layout.Layout.{Layout}
 use Rattle.df_replica.specs.declared.errors.OpenError.{OpenError}
 use Rattle.df_replica.specs.declared.errors.OpenError.TheVariants.{DiskFault}
 use Rattle.df_script.specs.Text.{Reading}
-use Rattle.df_superblock.proofs.Passing.{adds_part}
+use Rattle.df_disk.proofs.Laws.{adds_part}
 use Rattle.df_top.specs.Files.{OnFile}
 use Rattle.df_top.specs.Logs.{IsLogOf}
 use Rattle.df_top.specs.Opening.{IsOpened, OpensFile, RefusesToOpen}

@@ -2,7 +2,7 @@
 use Rattle.std.proofs.Common.{◌≡◌, ◌⊎◌, inl, inr, ℕ, ◌-◌, List, [], ◌∷◌, refl, sym, ◌∙◌, subst}
 use Rattle.df_base.specs.Image.{changed}
 use Rattle.df_base.specs.Log.{new_log, now}
-use Rattle.df_base.proofs.Goes.{extends_self}
+use Rattle.df_base.proofs.Laws.{extends_self}
 use Rattle.df_format.specs.declared.wal.Wal.{Wal}
 use Rattle.df_prepares.proofs.Rings.{one_ring}
 use Rattle.df_prepares.proofs.Rests.{new_rests, stop_rests}
@@ -10,7 +10,7 @@ use Rattle.df_replica.specs.OneContent.{IsUntouched}
 use Rattle.df_replica.proofs.Safe.{untouched_is_safe, stop_stays_safe}
 use Rattle.df_script.specs.Grammar.{Said, Says}
 use Rattle.df_script.specs.Text.{line_of, after_line, taken}
-use Rattle.df_script.proofs.Meanings.{one_said}
+use Rattle.df_script.proofs.Laws.{one_said}
 use Rattle.df_top.specs.Script.{IsAppend, Begins, IsRefused}
 use Rattle.df_top.specs.Files.{IsSafeFile, content_of_file}
 use Rattle.df_top.specs.Laws.{NewIsSafe, RunsFollow, OneScript}

@@ -1,9 +1,9 @@
 -- Events that touch no sector of the ring keep it at rest, and what is shown of it.
-use Rattle.std.proofs.Common.{◌≡◌, List, [], ◌∷◌, Option, Some, refl, sym, ◌∙◌, ap, subst}
+use Rattle.std.proofs.Common.{◌≡◌, List, [], ◌∷◌, Option, Some, ◌∙◌, ap, subst}
 use Rattle.df_base.specs.Image.{IsPiece}
 use Rattle.df_base.specs.Log.{Event, Write, Sync, Stop, Log, add}
-use Rattle.df_base.specs.Moments.{EachMoment, Extends}
-use Rattle.df_base.proofs.Goes.{more, extends_add}
+use Rattle.df_base.specs.Moments.{EachMoment, Extends, adds}
+use Rattle.df_base.proofs.Laws.{more, extends_add}
 use Rattle.df_disk.specs.Told.{Told, did, after, IsHonest}
 use Rattle.df_disk.specs.Adds.{after_all}
 use Rattle.df_format.specs.declared.wal.Wal.{Wal}
@@ -14,7 +14,6 @@ use Rattle.df_prepares.specs.Ring.{IsRing}
 use Rattle.df_prepares.specs.Steady.{IsAtRest}
 use Rattle.df_prepares.proofs.Apart.{apart_keeps_rest, apart_keeps_ring, sync_keeps_rest}
 use Rattle.df_prepares.proofs.Rests.{next_written, rest_kept}
-use Rattle.df_superblock.specs.Moments.{adds}
 use Rattle.df_top.specs.Appends.{IsGood}
 use Rattle.df_top.specs.Session.{Rests, Since}
 use Rattle.df_top.proofs.Rounds.{rest_good, honest_sync, honest_write, one_disk}

@@ -7,7 +7,7 @@ use Rattle.df_script.specs.Grammar.{Said, Append, Says, said_with}
 use Rattle.df_script.specs.Reads.{IsLine, TakesLine, RefusesNext}
 use Rattle.df_script.specs.Room.{Room, Tells}
 use Rattle.df_script.specs.Text.{line_of, unread}
-use Rattle.df_script.proofs.Meanings.{one_said}
+use Rattle.df_script.proofs.Laws.{one_said}
 use Rattle.df_top.specs.Script.{IsTaken, IsRefused}
 use Rattle.df_top.specs.Session.{State}
 use Rattle.df_top.specs.Step.{Takes, GoesOn, Ends}

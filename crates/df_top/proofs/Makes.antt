@@ -1,44 +1,32 @@
 -- What the making of a file does to a disk.
-use Rattle.std.proofs.Common.{◌≡◌, ◌≢◌, ◌⊎◌, inl, inr, ℕ, ◌<◌, ◌^◌, true, List, [], ◌∷◌, Option, Some, None, Result, Ok, Err, refl, sym, ◌∙◌, ap, subst, arith}
-use Rattle.df_base.specs.Image.{Image}
-use Rattle.df_base.specs.Log.{Event, Write, Sync, Stop, Log, now}
-use Rattle.df_base.specs.Moments.{EachMoment}
-use Rattle.df_base.proofs.Goes.{extends_self, started}
-use Rattle.df_disk.specs.Told.{Told, did, after, IsHonest}
+use Rattle.std.proofs.Common.{◌≡◌, ◌≢◌, ◌⊎◌, inl, inr, ℕ, ◌<◌, ◌^◌, List, [], ◌∷◌, Option, Some, Err, refl, sym, ◌∙◌, ap, subst, arith}
+use Rattle.df_base.specs.Log.{Event, Log}
+use Rattle.df_base.specs.Moments.{EachMoment, adds}
+use Rattle.df_base.proofs.Laws.{extends_self, started, adds_extends}
+use Rattle.df_disk.specs.Told.{Told, after, IsHonest}
 use Rattle.df_disk.specs.Adds.{AddsPart, after_all}
 use Rattle.df_format.specs.declared.superblock.SuperFields.{SuperFields}
 use Rattle.df_format.specs.declared.wal.Wal.{Wal}
-use Rattle.df_prepares.specs.Apart.{AreSyncs}
 use Rattle.df_prepares.specs.Steady.{IsAtRest}
 use Rattle.df_prepares.proofs.Apart.{synced_blank_is_at_rest}
-use Rattle.df_replica.specs.First.{first_super}
-use Rattle.df_replica.specs.Formatting.{AddsFormat, FormatsBy, IsFirstWritten, RefusesCluster, TellsBlank}
+use Rattle.df_format.specs.First.{first_super}
+use Rattle.df_replica.specs.Formatting.{AddsFormat}
 use Rattle.df_replica.specs.Laws.{IsFormatted}
-use Rattle.df_replica.specs.OneContent.{AreSyncs as AreSyncsOnly, IsUntouched, IsSafeOf, AreOfFile as AreOfContent}
+use Rattle.df_replica.specs.OneContent.{IsUntouched, AreOfFile as AreOfContent}
 use Rattle.df_replica.specs.declared.errors.FormatError.{FormatError}
 use Rattle.df_replica.specs.declared.errors.FormatError.TheVariants.{ClusterZero, NotBlank}
 use Rattle.df_replica.specs.declared.errors.FormatError.TheVariants as formats
-use Rattle.df_replica.proofs.OneContent.{adds_extends}
 use Rattle.df_replica.proofs.Safe.{untouched_stays_safe, formatted}
 use Rattle.df_superblock.specs.Events.{update_events}
-use Rattle.df_superblock.specs.Moments.{adds}
-use Rattle.df_superblock.proofs.Passing.{told_log}
+use Rattle.df_disk.proofs.Laws.{told_log}
 use Rattle.df_top.specs.Files.{IsSafeFile, content_of_file}
-use Rattle.df_top.specs.Formats.{RefusesFormat, MayFormat, Formats, IsNew, IsMade, MakesFile, PrintsLine, PrintsFormatRefusal, format_events}
+use Rattle.df_top.specs.Formats.{IsNew, IsMade, MakesFile, PrintsLine, PrintsFormatRefusal, format_events}
 use Rattle.df_top.specs.Logs.{IsLogOf}
-use Rattle.df_top.specs.Refusals.{formatted_of, format_refusal_of}
-use Rattle.df_top.specs.Serving.{Blames}
 use Rattle.df_top.specs.declared.session.DataFile.{DataFile}
 use Rattle.df_top.specs.declared.status.Status.{Status}
-use Rattle.df_top.specs.declared.status.Status.TheVariants.{Done, Words, Refused, DiskFault, ReadFault, WriteFault, Memory}
+use Rattle.df_top.specs.declared.status.Status.TheVariants.{Done, Refused, DiskFault}
 use Rattle.df_top.proofs.Fronts.{AreFront, honest_all, rest_moments, rest_all}
 use Rattle.df_top.proofs.Members.{usable, copy_is_front}
-
-same_syncs : (es : List Event) → AreSyncs es → AreSyncsOnly es
-same_syncs [] are = tt
-same_syncs ((Write at bytes) ∷ es) are = absurd are
-same_syncs (Sync ∷ es) are = same_syncs es are
-same_syncs ((Stop cs) ∷ es) are = absurd are
 
 module _ (file : DataFile) where
   abbrev f : SuperFields
@@ -77,7 +65,7 @@ module _ (file : DataFile) where
       blank_rest = synced_blank_is_at_rest wal before.log new.start new.events
 
       untouched : IsUntouched before.log
-      untouched = record { begins = new.start; syncs = same_syncs before.log.events new.events }
+      untouched = record { begins = new.start; syncs = new.events }
 
       -- at each moment of them the log is safe
       safe_moments : (es : List Event) → AreOfContent f es → AreFront wal es → EachMoment before.log (adds es before.log) (IsSafeFile file wal)

@@ -1,10 +1,12 @@
 -- What a run writes leaves the copies of the superblock that agree: they are chosen at each moment.
-use Rattle.std.proofs.Common.{◌≡◌, ◌≢◌, ◌⊎◌, inl, inr, ℕ, ◌<◌, ◌≤◌, ◌+◌, ◌^◌, false, List, [], ◌∷◌, ◌++◌, length, Option, Some, refl, sym, ◌∙◌, ap, subst, arith}
+use Rattle.std.proofs.Common.{◌≡◌, ◌≢◌, ◌⊎◌, inl, inr, ℕ, ◌<◌, ◌≤◌, ◌+◌, ◌^◌, false, List, [], ◌∷◌, ◌++◌, Option, Some, refl, sym, ◌∙◌, ap, subst, arith}
 use Rattle.df_format.proofs.Messages.{AreBytes-zeros}
+use Rattle.df_format.proofs.CopyShown.{one_sector, same_copy}
+use Rattle.df_format.proofs.SuperFaults.{obeys}
 use Rattle.df_base.specs.Image.{Image, covers}
-use Rattle.df_base.specs.Log.{Event, Write, Sync, Stop, Log, add, now}
-use Rattle.df_base.specs.Moments.{EachMoment}
-use Rattle.df_disk.specs.Told.{Told, did, after, IsHonest}
+use Rattle.df_base.specs.Log.{Event, Write, Sync, Stop, add, now}
+use Rattle.df_base.specs.Moments.{EachMoment, adds}
+use Rattle.df_disk.specs.Told.{Told, after, IsHonest}
 use Rattle.df_disk.specs.Adds.{AddsPart, after_all}
 use Rattle.df_layout.specs.declared.layout.Layout.{Layout}
 use Rattle.df_layout.specs.declared.places.Zone.TheVariants.{WalPrepares}
@@ -12,24 +14,20 @@ use Rattle.df_layout.specs.Zones.{first_sector, zone_sectors}
 use Rattle.df_format.specs.declared.wal.Wal.{Wal}
 use Rattle.df_format.specs.declared.superblock.SuperFields.{SuperFields}
 use Rattle.df_format.specs.Copies.{content_at}
-use Rattle.df_format.specs.CopyPools.{EachLeftCopies}
 use Rattle.df_format.specs.Spelling.{IsCheck, no_checksum}
 use Rattle.df_format.specs.Super.{FitsSuper, copy_bytes}
 use Rattle.df_format.specs.SuperRules.{IsUsable}
 use Rattle.df_format.specs.Unit.{slot_start, sectors_of}
-use Rattle.df_format.proofs.CopyShown.{one_sector, same_copy}
-use Rattle.df_format.proofs.SuperFaults.{obeys}
 use Rattle.df_prepares.proofs.Apart.{front_is_apart, ring_writes_stay_inside}
-use Rattle.df_quorum.specs.Quorum.{IsChosen, Agree}
-use Rattle.df_replica.specs.First.{first_super}
+use Rattle.df_quorum.specs.Quorum.{Agree}
+use Rattle.df_format.specs.First.{first_super}
 use Rattle.df_replica.specs.Laws.{TwoShow}
 use Rattle.df_replica.specs.OneContent.{IsSafeOf, AreOfFile as AreOfContent, IsOfFile as IsOfContent, AreApartFrom}
 use Rattle.df_replica.proofs.FirstSuper.{no_fault}
 use Rattle.df_replica.proofs.Safe.{safe_stays_safe, two_copies_stay_chosen, copies_are_apart}
-use Rattle.df_superblock.specs.Moments.{adds}
-use Rattle.df_top.specs.Files.{IsFile, IsSafeFile, LeavesChosen, content_of_file}
+use Rattle.df_top.specs.Files.{IsFile, LeavesChosen, content_of_file}
 use Rattle.df_top.specs.Logs.{IsLogOf}
-use Rattle.df_top.specs.Writes.{IsPrepareAt, IsRepairAt, IsRepair, AreRepairs, IsOfFile, AreOfFile, IsOfRun, AreOfRun}
+use Rattle.df_top.specs.Writes.{IsRepairAt, IsRepair, AreRepairs, IsOfFile, AreOfFile, AreOfRun}
 use Rattle.df_top.specs.declared.session.DataFile.{DataFile}
 use Rattle.df_top.proofs.Fronts.{IsFront, AreFront}
 

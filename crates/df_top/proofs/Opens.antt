@@ -9,21 +9,20 @@ use Rattle.df_layout.specs.declared.layout.Layout.{Layout}
 use Rattle.df_layout.proofs.Same.{same_layout}
 use Rattle.df_format.specs.Copies.{Content, content_at}
 use Rattle.df_format.specs.SuperRules.{first_failing}
-use Rattle.df_format.specs.declared.superblock.SuperFault.{SuperFault}
 use Rattle.df_format.specs.declared.superblock.SuperFields.{SuperFields}
 use Rattle.df_format.specs.declared.wal.Wal.{Wal}
 use Rattle.df_quorum.proofs.Choices.{one_law}
-use Rattle.df_replica.specs.First.{first_super}
-use Rattle.df_replica.specs.Found.{Answers, IsFound, IsLayoutShown, TellsFound, TellsLayout, Syncs, fault_error, OpensBy}
+use Rattle.df_format.specs.First.{first_super}
+use Rattle.df_replica.specs.Found.{Answers, IsFound, IsLayoutShown, TellsFound, TellsLayout, Syncs, fault_error}
 use Rattle.df_replica.specs.Opening.{HasSuper, Refuses, IsLayoutOf}
 use Rattle.df_replica.specs.declared.errors.OpenError.{OpenError}
 use Rattle.df_replica.specs.declared.errors.OpenError.TheVariants.{NotFormatted, NoQuorum, Version, BadField, LayoutDiffers, Damaged, DiskFault}
 use Rattle.df_replica.specs.declared.superblock.Found.{Found}
 use Rattle.df_replica.proofs.FirstSuper.{no_fault}
 use Rattle.df_replica.proofs.OneAnswer.{one_super, one_refusal, super_or_refusal}
-use Rattle.df_superblock.specs.Events.{mend_events, repair_events}
+use Rattle.df_superblock.specs.Events.{repair_events}
 use Rattle.df_top.specs.Files.{IsFile, OnFile, RefusesRun, first_tests, content_of_file}
-use Rattle.df_top.specs.Opening.{FailsFirst, IsFileOf, HasNoFile, Mends, OpensFile, RefusesToOpen, BlamesDisk, BlamesIfFailed}
+use Rattle.df_top.specs.Opening.{FailsFirst, IsFileOf, HasNoFile, OpensFile, RefusesToOpen}
 use Rattle.df_top.specs.Writes.{AreRepairs}
 use Rattle.df_top.specs.declared.session.DataFile.{DataFile}
 use Rattle.df_top.proofs.Members.{some_owner}

@@ -5,7 +5,7 @@ use Rattle.std.proofs.lemmas.List.{take-append-le, take_all}
 use Rattle.df_base.specs.Image.{Image, written, covers}
 use Rattle.df_base.specs.Log.{Event, Write, Sync, Log, add, now}
 use Rattle.df_base.specs.Moments.{EachMoment, Extends}
-use Rattle.df_base.proofs.Goes.{more, extends_add, weaker}
+use Rattle.df_base.proofs.Laws.{more, extends_add, weaker}
 use Rattle.df_disk.specs.Told.{Told, did, IsHonest}
 use Rattle.df_disk.specs.Adds.{AddsPart, after_all}
 use Rattle.df_format.specs.declared.wal.Wal.{Wal}

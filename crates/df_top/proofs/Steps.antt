@@ -10,11 +10,11 @@ use Rattle.df_format.specs.Unit.{Prepare, IsPrepare, slot_start, sectors_of}
 use Rattle.df_prepares.specs.declared.ring.Head.{Head}
 use Rattle.df_prepares.specs.Ring.{IsHead}
 use Rattle.df_prepares.proofs.Chains.{end_of-append}
+use Rattle.df_prepares.proofs.Rests.{next_written, rest_kept}
 use Rattle.df_script.specs.Grammar.{Said, Append}
 use Rattle.df_top.specs.Appends.{prepare_for, next_of, ring_after}
 use Rattle.df_top.specs.Texts.{count_after}
 use Rattle.df_top.specs.Step.{behind, append_events, IsNextHead, StepDone, StepFailed, Steps}
-use Rattle.df_prepares.proofs.Rests.{next_written, rest_kept}
 use Rattle.df_top.proofs.Rounds.{step_done, step_failed, step_refused}
 
 behind_is : (wal : Wal) (head : Head) (ps : List Prepare) (said : Said) → IsHead ps head → behind wal head said ≡ next_of wal ps said

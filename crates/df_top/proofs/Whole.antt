@@ -1,15 +1,13 @@
 -- A whole run: the barrier, the repairs, and the session behind them.
-use Rattle.std.proofs.Common.{◌≡◌, ◌⊎◌, inl, inr, ℕ, ◌+◌, false, List, [], ◌∷◌, ◌++◌, length, Option, Some, None, Result, Ok, Err, refl, sym, ◌∙◌, ap, subst, arith, append_assoc}
-use Rattle.df_base.specs.Image.{Image}
+use Rattle.std.proofs.Common.{◌≡◌, ◌⊎◌, inl, inr, ℕ, ◌+◌, false, List, [], ◌∷◌, ◌++◌, length, Option, Some, None, refl, sym, ◌∙◌, ap, subst, arith, append_assoc}
 use Rattle.df_base.specs.Log.{Event, Log, Sync, add, now}
-use Rattle.df_base.specs.Moments.{Extends, EachMoment}
+use Rattle.df_base.specs.Moments.{Extends, EachMoment, adds}
 use Rattle.df_base.specs.Streams.{Appends}
-use Rattle.df_base.proofs.Goes.{started, extends_self, extends_add, weaker, from_before, more}
+use Rattle.df_base.proofs.Laws.{started, extends_self, weaker, from_before, more}
 use Rattle.df_disk.specs.Told.{Told, did, after, IsHonest}
 use Rattle.df_disk.specs.Adds.{AddsPart, after_all}
 use Rattle.df_format.specs.declared.wal.Wal.{Wal}
 use Rattle.df_format.specs.Unit.{Prepare, slot_start}
-use Rattle.df_format.specs.Chance.{EachLeft}
 use Rattle.df_format.specs.Spelling.{no_checksum}
 use Rattle.df_format.proofs.Shown.{shown_same}
 use Rattle.df_prepares.proofs.Rings.{ring_same}
@@ -19,15 +17,13 @@ use Rattle.df_prepares.specs.Found.{IsHeadOf}
 use Rattle.df_prepares.specs.Ring.{IsRing, IsHead, end_of}
 use Rattle.df_prepares.specs.Steady.{IsSafe, IsAtRest}
 use Rattle.df_replica.specs.OneContent.{IsSafeOf}
-use Rattle.df_script.specs.Room.{Room}
 use Rattle.df_script.specs.Text.{Reading, unread}
-use Rattle.df_superblock.specs.Moments.{adds}
-use Rattle.df_superblock.proofs.Passing.{told_log}
+use Rattle.df_disk.proofs.Laws.{told_log}
 use Rattle.df_top.specs.Appends.{IsGood, LeavesSome}
-use Rattle.df_top.specs.Ending.{IsAnswered, IsAfter, Ended}
-use Rattle.df_top.specs.Files.{IsFile, IsSafeFile, LeavesChosen, OnFile, content_of_file}
+use Rattle.df_top.specs.Ending.{IsAnswered, Ended}
+use Rattle.df_top.specs.Files.{IsFile, IsSafeFile, LeavesChosen, content_of_file}
 use Rattle.df_top.specs.Logs.{IsLogOf, line_bound}
-use Rattle.df_top.specs.Opening.{IsOpened, Mends, OpensFile}
+use Rattle.df_top.specs.Opening.{IsOpened, Mends}
 use Rattle.df_top.specs.Run.{script_budget, Prints, Ran, Runs}
 use Rattle.df_top.specs.Serving.{IsFreshSession, state}
 use Rattle.df_top.specs.Session.{State, Rests, Since}
@@ -36,7 +32,7 @@ use Rattle.df_top.specs.declared.session.DataFile.{DataFile}
 use Rattle.df_top.specs.declared.session.Session.{Session}
 use Rattle.df_top.specs.declared.status.Status.{Status}
 use Rattle.df_top.specs.declared.status.Status.TheVariants.{DiskFault, Memory}
-use Rattle.df_top.proofs.Fronts.{AreFront, honest_all, shown_all, holds_all}
+use Rattle.df_top.proofs.Fronts.{shown_all, holds_all}
 use Rattle.df_top.proofs.Members.{repairs_are_front, copies_stay_safe, stays_chosen, repairs_of_file, run_of_file, both_of_file, after_both, part_of_repairs}
 use Rattle.df_top.proofs.Rounds.{rest_good, honest_sync, one_disk}
 use Rattle.df_top.proofs.Wals.{wal_of, log_of_wal, one_wal}

@@ -1,5 +1,5 @@
 -- Data files whose superblock is a first one: what an image of such a file shows, and logs over which a run may begin.
-use Rattle.std.specs.Prelude.{◌≡◌, ◌⊎◌, ◌+◌, ◌*◌, ◌==◌, max, List, [], ◌∷◌, ℕ, Option, Some}
+use Rattle.std.specs.Prelude.{◌≡◌, ◌⊎◌, ◌+◌, ◌*◌, ◌==◌, List, [], ◌∷◌, Option, Some}
 use Rattle.df_base.specs.Image.{Image}
 use Rattle.df_base.specs.Log.{Log}
 use Rattle.df_layout.specs.declared.fields.Field.TheVariants.{Sequence, Op, Head, Replies, TrailerAddress}
@@ -12,7 +12,7 @@ use Rattle.df_format.specs.CopyPools.{EachLeftCopies}
 use Rattle.df_format.specs.SuperRules.{Test, test, first_failing}
 use Rattle.df_prepares.specs.Steady.{IsSafe}
 use Rattle.df_quorum.specs.Quorum.{IsChosen}
-use Rattle.df_replica.specs.First.{first_content}
+use Rattle.df_format.specs.First.{first_content}
 use Rattle.df_replica.specs.Opening.{HasSuper, Refuses}
 use Rattle.df_replica.specs.OneContent.{IsSafeOf}
 use Rattle.df_replica.specs.declared.errors.OpenError.{OpenError}

@@ -1,7 +1,7 @@
 -- What the word `format` promises.
-use Rattle.std.specs.Prelude.{◌≡◌, ◌≢◌, ◌⊎◌, ◌<◌, ℕ, false, true, List, [], ◌∷◌, Option, Some}
-use Rattle.df_base.specs.Image.{Image, blank}
-use Rattle.df_base.specs.Log.{Event, Sync, Log, add, now}
+use Rattle.std.specs.Prelude.{◌≡◌, ◌≢◌, ◌⊎◌, ◌<◌, ℕ, true, List, [], ◌∷◌, Option, Some}
+use Rattle.df_base.specs.Image.{blank}
+use Rattle.df_base.specs.Log.{Event, Log, now, AreSyncs}
 use Rattle.df_base.specs.Moments.{EachMoment}
 use Rattle.df_base.specs.Streams.{Appends, AppendsPart}
 use Rattle.df_disk.specs.Told.{Told, IsHonest}
@@ -9,9 +9,8 @@ use Rattle.df_disk.specs.Adds.{after_all, AddsPart}
 use Rattle.df_layout.specs.Zones.{file_sectors}
 use Rattle.df_format.specs.declared.wal.Wal.{Wal}
 use Rattle.df_format.specs.Copies.{is_blank_copy}
-use Rattle.df_prepares.specs.Apart.{AreSyncs}
 use Rattle.df_prepares.specs.Steady.{IsAtRest}
-use Rattle.df_replica.specs.First.{first_super}
+use Rattle.df_format.specs.First.{first_super}
 use Rattle.df_replica.specs.Formatting.{IsFirstWritten}
 use Rattle.df_replica.specs.declared.errors.FormatError.{FormatError}
 use Rattle.df_replica.specs.declared.errors.FormatError.TheVariants.{ClusterZero, NotBlank}

@@ -1,5 +1,5 @@
 -- What the program promises of a run of a script.
-use Rattle.std.specs.Prelude.{◌≡◌, ◌⊎◌, ◌+◌, ◌^◌, ◌≤◌, ℕ, Bool, List, [], ◌∷◌, length, Option, Some, codes}
+use Rattle.std.specs.Prelude.{◌≡◌, ◌⊎◌, ◌+◌, ◌^◌, ◌≤◌, ℕ, Bool, List, [], ◌∷◌, length, Option, Some}
 use Rattle.df_base.specs.Log.{Log, Sync, add, now}
 use Rattle.df_base.specs.Moments.{EachMoment, Extends}
 use Rattle.df_base.specs.Streams.{Appends, AppendsPart}
@@ -81,7 +81,7 @@ Runs file wal told later text old new status =
     (before : Told) (opening : List Prepare) → told ≡ Some before → IsHonest before → IsSafeFile file wal before.log → IsRing wal (now before.log) opening → Ran file wal before later opening text old new status
 
 -- nothing was written to the disk or to the sink, and nothing was read of the source
-pub record IsUntouched (told later : Option Told) (left after old new : Option (List ℕ)) : Type 0 where
+pub record DidNothing (told later : Option Told) (left after old new : Option (List ℕ)) : Type 0 where
   pub disk : later ≡ told
   pub source : after ≡ left
   pub sink : new ≡ old

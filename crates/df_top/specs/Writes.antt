@@ -9,7 +9,7 @@ use Rattle.df_format.specs.declared.wal.Wal.{Wal}
 use Rattle.df_format.specs.Unit.{Prepare, IsPrepare, slot_start, sectors_of}
 use Rattle.df_format.specs.Super.{copy_bytes}
 use Rattle.df_format.specs.Copies.{content_at}
-use Rattle.df_replica.specs.First.{first_super}
+use Rattle.df_format.specs.First.{first_super}
 use Rattle.df_top.specs.Files.{content_of_file}
 use Rattle.df_top.specs.declared.session.DataFile.{DataFile}
 

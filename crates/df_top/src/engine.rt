@@ -9,7 +9,7 @@ ghost use Rattle.df_top.specs.Files.{OnFile};
 ghost use Rattle.df_top.specs.Formats.{Formats, MakesFile};
 ghost use Rattle.df_top.specs.Logs.{layout_bound};
 ghost use Rattle.df_top.specs.Refused.{PrintsRefusal, RefusesFile};
-ghost use Rattle.df_top.specs.Run.{IsUntouched, Prints, PrintsUsage, Runs};
+ghost use Rattle.df_top.specs.Run.{DidNothing, Prints, PrintsUsage, Runs};
 ghost use Rattle.df_top.specs.Serving.{Blames};
 ghost use Rattle.df_top.specs.Writes.{WritesFile};
 
@@ -106,7 +106,7 @@ fn run_script<D: Disk, S: Source, W: Sink>(
     ensures disk { Blames Status.DiskFault (D.faults disk.old) (D.faults disk.new) result }
     ensures source { Blames Status.ReadFault (S.faults source.old) (S.faults source.new) result }
     ensures sink { Blames Status.WriteFault (W.faults sink.old) (W.faults sink.new) result }
-    ensures memory { result ≡ Status.Memory → IsUntouched (D.told disk.old) (D.told disk.new)
+    ensures memory { result ≡ Status.Memory → DidNothing (D.told disk.old) (D.told disk.new)
         (S.left source.old) (S.left source.new) (W.written sink.old) (W.written sink.new) }
     ensures words { result ≡ Status.Words → ⊥ }
 {
@@ -179,7 +179,7 @@ pub fn run<D: Disk, S: Source, W: Sink>(
     ensures disk_fault { Blames Status.DiskFault (D.faults disk.old) (D.faults disk.new) result }
     ensures read_fault { Blames Status.ReadFault (S.faults source.old) (S.faults source.new) result }
     ensures write_fault { Blames Status.WriteFault (W.faults sink.old) (W.faults sink.new) result }
-    ensures memory { result ≡ Status.Memory → IsUntouched (D.told disk.old) (D.told disk.new)
+    ensures memory { result ≡ Status.Memory → DidNothing (D.told disk.old) (D.told disk.new)
         (S.left source.old) (S.left source.new) (W.written sink.old) (W.written sink.new) }
 {
     match command_of(words) {

@@ -1,7 +1,7 @@
 -- What the maker says obeys the rules of a prepare, with any body that fits.
 use Rattle.std.proofs.Common.{ℕ, ◌+◌, ◌%◌, ◌^◌, ◌<◌, ◌≤◌, refl, arith, rules}
 use Rattle.std.proofs.Math.Nat.{mod-lt}
-use Rattle.df_base.proofs.FieldBytes.{length-check_of, AreBytes-check_of}
+use Rattle.df_base.proofs.Laws.{length-check_of, AreBytes-check_of}
 use Rattle.df_top.proofs.append.header_given.Goals as goal
 
 small_slot : (op slots : ℕ) → 0 < slots → slots ≤ 1024 → op % slots < 2 ^ 32
