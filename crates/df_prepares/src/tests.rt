@@ -142,6 +142,12 @@ fn append(
 #[test]
 fn each_prepare_that_is_written_is_found(rt: HostRuntime) -> Result<(), Fail> {
     let layout = Layout::small();
+    let wal = Wal::of(&layout, 7);
+    one_ring(&wal);
+    new_is_at_rest(&wal);
+    next_may_be_written(&wal);
+    rest_is_kept(&wal);
+    safe_comes_to_rest(&wal);
     let mut board = Board::blank(rt.alloc(), 0)?;
     for turn in 0..32usize {
         let room = Raw::reserve(rt.alloc(), &layout).expect(&rt, "memory of a room");
@@ -198,14 +204,4 @@ fn a_failed_call_is_answered_once(rt: HostRuntime) -> Result<(), Fail> {
         assert_eq!(rt; again?.op, if failing == 1 { 0 } else { 1 });
     }
     Ok(())
-}
-
-#[test]
-fn the_laws_are_called(_rt: HostRuntime) {
-    let wal = Wal::of(&Layout::small(), 7);
-    one_ring(&wal);
-    new_is_at_rest(&wal);
-    next_may_be_written(&wal);
-    rest_is_kept(&wal);
-    safe_comes_to_rest(&wal);
 }
