@@ -1,9 +1,8 @@
 // Files from the command line: how they are made, which ones are refused, and how a run mends their copies.
-use crate::runs::{blank, printed, run_script, run_words, small_file};
-use crate::superblocks::copy;
 use df_base::SECTOR;
 use df_disk::Disk;
 use df_memdisk::Strike;
+use df_runs::{blank, copy, printed, run_script, run_words, small_file};
 use df_top::{Status, new_disk_is_safe, one_script, runs_follow};
 use std::test::Fail;
 

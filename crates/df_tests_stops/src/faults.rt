@@ -1,8 +1,6 @@
 // Each call of the disk, the source and the sink fails in turn: the status is the fault of that one, and what was
 // answered is kept.
-use crate::runs::{
-    blank, lines, printed, run_failing, run_script, run_words, small_file, word, words,
-};
+use df_runs::{blank, lines, printed, run_failing, run_script, run_words, small_file, word, words};
 use df_top::Status;
 use std::test::Fail;
 

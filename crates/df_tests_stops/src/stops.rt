@@ -2,10 +2,10 @@
 // filled or torn: the next run finds exactly the appends that were answered, and the one in flight where it is whole.
 ghost use Rattle.std.specs.Prelude.{◌≡◌, ◌<◌, ◌≤◌, ◌+◌, ◌^◌, length};
 
-use crate::runs::{lines, run_script, small_file};
 use df_base::SECTOR;
 use df_disk::Disk;
 use df_memdisk::{Change, MemoryDisk};
+use df_runs::{lines, run_script, small_file};
 use std::alloc::Global;
 use std::test::Fail;
 
@@ -186,14 +186,19 @@ fn cuts(alloc: Global, ring: u64, count: u64, fates: &[[Fate; 2]]) -> Result<Vec
     Ok(cuts)
 }
 
-// Cuts a run of three appends and then one of two, and asks a third run for the op of the next append.
-fn cut_twice(alloc: Global, first: Cut, second: Cut) -> Result<(Vec<u8>, u64), Fail> {
+// Cuts a run of the first script and then one of the second, and asks a third run for the op of the next append.
+fn cut_twice(
+    alloc: Global,
+    scripts: [&[u8]; 2],
+    first: Cut,
+    second: Cut,
+) -> Result<(Vec<u8>, u64), Fail> {
     // Each cut reads a slot before its run and one behind it, by two calls each.
     let call = first.call.saturating_add(2);
     let later = call.saturating_add(4).saturating_add(second.call);
     let disk = small_file(alloc, &[call, later])?;
-    let (disk, ring) = cut_off(alloc, disk, &appends(alloc, 3, b"11")?, 0, first)?;
-    let (mut disk, ring) = cut_off(alloc, disk, &appends(alloc, 2, b"22")?, ring, second)?;
+    let (disk, ring) = cut_off(alloc, disk, scripts[0], 0, first)?;
+    let (mut disk, ring) = cut_off(alloc, disk, scripts[1], ring, second)?;
     let ran = run_script(alloc, &mut disk, b"append 9 1 -\n")?;
     Ok((ran.text, ring))
 }
@@ -217,9 +222,11 @@ fn ring_after(first: Cut) -> u64
 
 #[test]
 fn stopped_twice_a_run_finds_what_was_answered(rt: HostRuntime) -> Result<(), Fail> {
+    let three = appends(rt.alloc(), 3, b"11")?;
+    let two = appends(rt.alloc(), 2, b"22")?;
     for first in cuts(rt.alloc(), 0, 3, &FATES)? {
         for second in cuts(rt.alloc(), ring_after(first), 2, &FATES[..4])? {
-            let (text, ring) = cut_twice(rt.alloc(), first, second)?;
+            let (text, ring) = cut_twice(rt.alloc(), [&three, &two], first, second)?;
             let wanted = next_answer(rt.alloc(), ring)?;
             assert_eq!(rt; text.as_slice(), wanted.as_bytes(), "{first:?} {second:?}");
         }

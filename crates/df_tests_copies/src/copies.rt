@@ -1,7 +1,6 @@
 // The copies of the superblock over disks in memory: updates, reads and repairs, and a disk that loses writes.
 ghost use Rattle.std.specs.Prelude.{◌≡◌, IfOk};
 
-use crate::runs::blank;
 use df_base::SECTOR;
 use df_buffers::ProbeRoom;
 use df_disk::Disk;
@@ -9,6 +8,7 @@ use df_format::{Super, SuperFields, encode_copy, test_fields};
 use df_layout::{Class, Place, Zone};
 use df_memdisk::{DroppingDisk, MemoryDisk};
 use df_quorum::{Chosen, Slot, choose};
+use df_runs::{blank, probe_room};
 use df_superblock::{
     UpdateError, equal_copies_begin, four_copies_become_steady, new_disk_has_no_copies,
     other_writes_keep, read_all, repair, steady_copies_are_kept, update, write_copy,
@@ -50,13 +50,6 @@ fn usable(fields: &SuperFields) -> Result<Super, Fail>
     }
 }
 
-fn room(alloc: Global) -> Result<ProbeRoom, Fail> {
-    match ProbeRoom::reserve(alloc) {
-        Ok(room) => Ok(room),
-        Err(_) => Err("no memory for the rooms of the copies".into()),
-    }
-}
-
 fn slots<D: Disk>(disk: &mut D, room: &mut ProbeRoom) -> Result<[Slot; 4], Fail> {
     match read_all(disk, room) {
         Ok(slots) => Ok(slots),
@@ -89,7 +82,10 @@ fn begun(alloc: Global, room: &mut ProbeRoom) -> Result<MemoryDisk, Fail> {
 
 #[test]
 fn an_update_leads_from_four_equal_copies_to_four(rt: HostRuntime) -> Result<(), Fail> {
-    let mut room = room(rt.alloc())?;
+    new_disk_has_no_copies();
+    equal_copies_begin();
+    four_copies_become_steady();
+    let mut room = probe_room(rt.alloc())?;
     let mut disk = begun(rt.alloc(), &mut room)?;
     for fields in [FIRST, SECOND] {
         assert_eq!(rt; update(&mut disk, &mut room, &usable(&fields)?), Ok(()));
@@ -103,7 +99,7 @@ fn an_update_leads_from_four_equal_copies_to_four(rt: HostRuntime) -> Result<(),
 
 #[test]
 fn each_place_is_read_by_its_own_copy_alone(rt: HostRuntime) -> Result<(), Fail> {
-    let mut room = room(rt.alloc())?;
+    let mut room = probe_room(rt.alloc())?;
     let mut disk = blank(rt.alloc(), &[])?;
     let content = usable(&FIRST)?;
     let mut stray = [0u8; SECTOR];
@@ -128,7 +124,9 @@ fn each_place_is_read_by_its_own_copy_alone(rt: HostRuntime) -> Result<(), Fail>
 
 #[test]
 fn a_repair_writes_the_copies_that_are_no_members(rt: HostRuntime) -> Result<(), Fail> {
-    let mut room = room(rt.alloc())?;
+    steady_copies_are_kept();
+    other_writes_keep();
+    let mut room = probe_room(rt.alloc())?;
     let mut disk = begun(rt.alloc(), &mut room)?;
     for number in [1, 3] {
         put(&mut disk, number, &[0xa5; SECTOR])?;
@@ -159,7 +157,7 @@ fn an_update_whose_copies_are_lost_is_damaged(rt: HostRuntime) -> Result<(), Fai
         (&[5, 6, 7, 8], Some((0, Class::Stale))),
         (&[7], None),
     ];
-    let mut room = room(rt.alloc())?;
+    let mut room = probe_room(rt.alloc())?;
     for (lost, answer) in rows {
         let memory = blank(rt.alloc(), &[])?;
         let mut disk = DroppingDisk::new(memory, Vec::from_slice(rt.alloc(), lost)?);
@@ -185,7 +183,7 @@ fn an_update_whose_copies_are_lost_is_damaged(rt: HostRuntime) -> Result<(), Fai
 
 #[test]
 fn each_failing_call_of_an_update_is_a_disk_fault(rt: HostRuntime) -> Result<(), Fail> {
-    let mut room = room(rt.alloc())?;
+    let mut room = probe_room(rt.alloc())?;
     // Four writes, each with its sync, and four reads.
     for call in 1..14u64 {
         let mut disk = blank(rt.alloc(), &[call])?;
@@ -198,13 +196,4 @@ fn each_failing_call_of_an_update_is_a_disk_fault(rt: HostRuntime) -> Result<(),
         assert_eq!(rt; answer, wanted, "call {call}");
     }
     Ok(())
-}
-
-#[test]
-fn the_laws_of_the_copies_are_called(_rt: HostRuntime) {
-    equal_copies_begin();
-    new_disk_has_no_copies();
-    four_copies_become_steady();
-    steady_copies_are_kept();
-    other_writes_keep();
 }

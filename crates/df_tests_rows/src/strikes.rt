@@ -1,6 +1,6 @@
 // Runs over files whose sectors were damaged, lost or swapped: the ring ends where it is hurt.
-use crate::runs::{printed, run_script, small_file};
 use df_memdisk::Strike;
+use df_runs::{printed, run_script, small_file};
 use df_top::Status;
 use std::test::Fail;
 

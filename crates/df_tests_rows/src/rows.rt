@@ -1,6 +1,6 @@
 // Worked scripts, with the text and the status that they end in.
-use crate::runs::{blank, printed, run_failing, run_script, small_file, word};
 use df_memdisk::Change;
+use df_runs::{blank, printed, run_failing, run_script, small_file, word};
 use df_top::Status;
 use std::test::Fail;
 

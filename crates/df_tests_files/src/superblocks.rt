@@ -1,8 +1,7 @@
 // Files that are made on a disk in memory, and superblocks that are looked for on one: what is written and found, each
 // refusal, and each failing call.
-use crate::runs::blank;
-use df_base::{SECTOR, check};
-use df_buffers::{ProbeRoom, Rooms};
+use df_base::SECTOR;
+use df_buffers::Rooms;
 use df_disk::Disk;
 use df_layout::{Class, Field, Layout, Place, Zone};
 use df_memdisk::{MemoryDisk, Strike};
@@ -12,30 +11,9 @@ use df_replica::{
     stop_stays_safe, super_is_written, survey_superblock, two_copies_stay_chosen,
     untouched_is_safe,
 };
+use df_runs::{FRONT, blank, copy, probe_room};
 use std::alloc::Global;
 use std::test::Fail;
-
-// The front of the first copy in layout small and cluster 7, from Python's hashlib and struct: checksum, number, zeros,
-// version, slots, message_size, clients, cluster, block_size, blocks, sequence.
-const FRONT: [u8; 80] = [
-    0xbf, 0x28, 0xac, 0xbc, 2, 0x47, 0x4e, 9, 0x79, 0x64, 0xe7, 0x49, 0x3b, 0x6c, 0x59, 0x31, 0, 0,
-    0, 0, 0, 0, 0, 0, 0, 0, 0, 0, 0, 0, 0, 0, 1, 0, 0, 0, 32, 0, 0, 0, 0, 0x20, 0, 0, 4, 0, 0, 0,
-    7, 0, 0, 0, 0, 0, 0, 0, 0, 0, 0, 0, 0, 0, 0, 0, 0, 0x40, 0, 0, 64, 0, 0, 0, 1, 0, 0, 0, 0, 0,
-    0, 0,
-];
-
-// The sector of the copy with this number, with one byte changed before the checksum is taken.
-pub fn copy(number: u8, at: usize, byte: u8) -> [u8; SECTOR] {
-    let mut bytes = [0u8; SECTOR];
-    bytes[..80].copy_from_slice(&FRONT);
-    bytes[16] = number;
-    if at < SECTOR {
-        bytes[at] = byte;
-    }
-    let sum = check(&bytes[32..]);
-    bytes[..16].copy_from_slice(&sum);
-    bytes
-}
 
 fn format_small(alloc: Global, disk: &mut MemoryDisk, cluster: u128) -> Result<Answer, Fail> {
     let Ok(mut rooms) = Rooms::reserve(alloc, &Layout::small()) else {
@@ -46,15 +24,11 @@ fn format_small(alloc: Global, disk: &mut MemoryDisk, cluster: u128) -> Result<A
 
 type Answer = Result<(), FormatError>;
 
-fn probe_room(alloc: Global) -> Result<ProbeRoom, Fail> {
-    match ProbeRoom::reserve(alloc) {
-        Ok(room) => Ok(room),
-        Err(_) => Err("no memory for the probe".into()),
-    }
-}
-
 #[test]
 fn a_new_file_has_four_copies_and_is_found(rt: HostRuntime) -> Result<(), Fail> {
+    untouched_is_safe();
+    copies_format();
+    events_are_of_file();
     let mut disk = blank(rt.alloc(), &[])?;
     assert_eq!(rt; format_small(rt.alloc(), &mut disk, 7)?, Ok(()));
     // Four writes, each with its sync.
@@ -141,6 +115,8 @@ fn bad_field(field: Field, value: u128) -> Result<Layout, OpenError> {
 
 #[test]
 fn each_superblock_that_cannot_be_used_is_refused(rt: HostRuntime) -> Result<(), Fail> {
+    one_answer();
+    super_is_written();
     let zeros = [0u8; SECTOR];
     let noise = [0xa5u8; SECTOR];
     // Byte 32 is the version, 36 the slots, 48 the cluster.
@@ -180,6 +156,9 @@ fn each_superblock_that_cannot_be_used_is_refused(rt: HostRuntime) -> Result<(),
 
 #[test]
 fn two_copies_that_are_left_are_enough(rt: HostRuntime) -> Result<(), Fail> {
+    choices_have_two_members();
+    two_copies_stay_chosen();
+    copies_are_apart();
     let later = [
         copy(0, 72, 2),
         copy(1, 72, 2),
@@ -208,6 +187,8 @@ fn two_copies_that_are_left_are_enough(rt: HostRuntime) -> Result<(), Fail> {
 
 #[test]
 fn a_failing_device_call_is_a_disk_fault(rt: HostRuntime) -> Result<(), Fail> {
+    safe_stays_safe();
+    stop_stays_safe();
     // Four reads, and for each copy a write and a sync.
     for call in 1..13u64 {
         let mut disk = blank(rt.alloc(), &[call])?;
@@ -237,18 +218,4 @@ fn a_failing_device_call_is_a_disk_fault(rt: HostRuntime) -> Result<(), Fail> {
         assert_eq!(rt; probe(&mut disk, &mut room), Ok(Layout::small()));
     }
     Ok(())
-}
-
-#[test]
-fn the_laws_of_files_are_called(_rt: HostRuntime) {
-    untouched_is_safe();
-    safe_stays_safe();
-    stop_stays_safe();
-    two_copies_stay_chosen();
-    copies_are_apart();
-    copies_format();
-    events_are_of_file();
-    choices_have_two_members();
-    one_answer();
-    super_is_written();
 }

@@ -1,0 +1,35 @@
+// The sectors of a new file's copies, as another program wrote them, and the room that copies are read into.
+use df_base::{SECTOR, check};
+use df_buffers::ProbeRoom;
+use std::alloc::Global;
+use std::test::Fail;
+
+/// The front of the first copy in layout small and cluster 7, from Python's hashlib and struct: checksum, number, zeros,
+/// version, slots, message_size, clients, cluster, block_size, blocks, sequence.
+pub const FRONT: [u8; 80] = [
+    0xbf, 0x28, 0xac, 0xbc, 2, 0x47, 0x4e, 9, 0x79, 0x64, 0xe7, 0x49, 0x3b, 0x6c, 0x59, 0x31, 0, 0,
+    0, 0, 0, 0, 0, 0, 0, 0, 0, 0, 0, 0, 0, 0, 1, 0, 0, 0, 32, 0, 0, 0, 0, 0x20, 0, 0, 4, 0, 0, 0,
+    7, 0, 0, 0, 0, 0, 0, 0, 0, 0, 0, 0, 0, 0, 0, 0, 0, 0x40, 0, 0, 64, 0, 0, 0, 1, 0, 0, 0, 0, 0,
+    0, 0,
+];
+
+/// The sector of the copy with this number, with one byte changed before the checksum is taken.
+pub fn copy(number: u8, at: usize, byte: u8) -> [u8; SECTOR] {
+    let mut bytes = [0u8; SECTOR];
+    bytes[..80].copy_from_slice(&FRONT);
+    bytes[16] = number;
+    if at < SECTOR {
+        bytes[at] = byte;
+    }
+    let sum = check(&bytes[32..]);
+    bytes[..16].copy_from_slice(&sum);
+    bytes
+}
+
+/// A room for the copies.
+pub fn probe_room(alloc: Global) -> Result<ProbeRoom, Fail> {
+    match ProbeRoom::reserve(alloc) {
+        Ok(room) => Ok(room),
+        Err(_) => Err("no memory for the room of the copies".into()),
+    }
+}

@@ -1,0 +1,9 @@
+//! Tests of the program by worked scripts: what is printed over new files, files of other words, and damaged ones.
+#![tactic(auto)]
+
+#[cfg(test)]
+mod files;
+#[cfg(test)]
+mod rows;
+#[cfg(test)]
+mod strikes;
