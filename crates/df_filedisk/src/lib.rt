@@ -4,6 +4,7 @@
 mod file;
 mod opening;
 mod positioned;
+mod streams;
 #[cfg(test)]
 mod tests;
 
