@@ -17,11 +17,13 @@ import time
 from collections import Counter
 from random import Random, SystemRandom
 
-from tries import arguments, budget, bugs, damage, faults, formats, rows, scripts, stops, streams
+from tries import (
+    arguments, budget, bugs, damage, faults, formats, reading, rows, scripts, stops, streams,
+)
 from tries.binary import Binary, Disagreement, has_strace
 from tries.common import Try
 
-PARTS = (rows, formats, scripts, damage, stops, streams, faults, budget)
+PARTS = (rows, formats, scripts, damage, reading, stops, streams, faults, budget)
 KINDS = {name: kind for part in PARTS for name, kind in part.KINDS.items()}
 TRACED = {"killed", "stand_ins", *faults.KINDS}
 
