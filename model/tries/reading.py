@@ -43,9 +43,22 @@ def forged(t: Try) -> bytes:
     return bytes(image)
 
 
+def rewritten(t: Try) -> bytes:
+    """A file in which one prepare of the ring is another one of its op, so that the next has another parent."""
+    random, home = t.random, generate.home(t.random)
+    data = generate.image(random, 12, home, 0)
+    found = script.found(data)
+    if not found:
+        return data
+    prepare, image = random.choice(found), bytearray(data)
+    other = prepare._replace(**random.choice(({"client": prepare.client % 2**127 + 1}, {"parent": random.randbytes(16)})))
+    damage.put(image, home.layout.place(prepare.op), other.encode())
+    return bytes(image)
+
+
 def read(t: Try) -> None:
     """The reader and the program agree on a refusal, or on the next op."""
-    kind = t.random.choice((tied, struck, struck, forged))
+    kind = t.random.choice((tied, struck, struck, forged, rewritten))
     data = kind(t)
     try:
         fields = reader.superblock_of(data)
