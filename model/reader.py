@@ -49,10 +49,13 @@ def class_of_copy(sector, place):
     return "Stale" if number(sector, 16, 4) == place else f"Elsewhere Superblock {number(sector, 16, 4)}"
 
 
+def content(copy):
+    return copy[:16] + copy[32:]
+
+
 def choose(sectors):
     """The sector of the lowest-numbered copy that has the chosen content; None without a choice."""
     votes = [sector for place, sector in enumerate(sectors) if is_copy(sector) and number(sector, 16, 4) == place]
-    content = lambda sector: sector[:16] + sector[32:]
     chosen = None
     for one in votes:
         agreed = sum(content(one) == content(other) for other in votes) >= 2

@@ -4,6 +4,8 @@
 mod file;
 mod opening;
 mod positioned;
+#[cfg(test)]
+mod stream_tests;
 mod streams;
 #[cfg(test)]
 mod tests;
