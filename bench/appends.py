@@ -21,7 +21,9 @@ import time
 from random import Random
 from typing import NamedTuple
 
-from tries import form, script
+sys.path.insert(0, os.path.join(os.path.dirname(os.path.dirname(os.path.abspath(__file__))), "model"))
+
+from tries import arguments, form, script
 from tries.binary import Binary, expect, has_strace
 from tries.common import named
 
@@ -117,10 +119,10 @@ def give(pipe, text: bytes) -> None:
 
 
 def run_timed(command: list, first: bytes = b"", rest: bytes = b"") -> tuple:
-    """What a command prints, the time at which each line came, and the processor's nanoseconds that it took.
+    """What a command prints, the nanoseconds from the rest of its input to its last answer, and those of the processor.
 
-    It gets the first lines of its input once it waits for them, and the rest once it has answered these. The first of the
-    times is that at which the rest was given, so that the late waking of this process counts against the command alone.
+    It gets the first lines of its input once it waits for them, and the rest once it has answered these. A late waking of
+    this process counts against the command alone.
     """
     pipe = subprocess.PIPE
     with subprocess.Popen(command, stdin=pipe, stdout=pipe, bufsize=0, preexec_fn=first_in_line) as process:
@@ -130,19 +132,19 @@ def run_timed(command: list, first: bytes = b"", rest: bytes = b"") -> tuple:
             time.sleep(0.03)
             process.stdin.write(first)
         printed = os.read(process.stdout.fileno(), 65536)
-        stamps = [time.perf_counter_ns()]
+        start = end = time.perf_counter_ns()
         if len(rest) <= held:
             give(process.stdin, rest)
         else:
             threading.Thread(target=give, args=(process.stdin, rest)).start()
         while piece := os.read(process.stdout.fileno(), 65536):
-            stamps += [time.perf_counter_ns()] * piece.count(b"\n")
+            end = time.perf_counter_ns()
             printed += piece
         _, status, usage = os.wait4(process.pid, 0)
         process.returncode = os.waitstatus_to_exitcode(status)
     if process.returncode != 0:
         raise SystemExit(f"a run failed with status {process.returncode}: {command}")
-    return printed, stamps, (usage.ru_utime + usage.ru_stime) * 1e9
+    return printed, end - start, (usage.ru_utime + usage.ru_stime) * 1e9
 
 
 class Rounds:
@@ -156,16 +158,16 @@ class Rounds:
         put(self.plan, b"".join(struct.pack("<QQ", event.at, len(event.data)) + event.data for event in writes))
 
     def program(self) -> tuple:
-        """The nanoseconds of each of the program's appends but the first, from answer to answer; the processor's."""
+        """The nanoseconds of the program's appends but the first, and the processor's."""
         command = [self.binary.program, self.binary.path, "run"]
         end = self.text.index(b"\n") + 1
         self.bench.make()
         _, _, least = run_timed(command, self.text[:end])
         self.bench.make()
-        printed, stamps, processor = run_timed(command, self.text[:end], self.text[end:])
+        printed, taken, processor = run_timed(command, self.text[:end], self.text[end:])
         expect("the answers", self.wanted.text, printed)
         expect("the file", self.wanted.data, self.binary.get())
-        return [after - before for before, after in zip(stamps, stamps[1:])], processor - least
+        return taken, processor - least
 
     def raw(self) -> tuple:
         """The same for the raw loop, measured within it."""
@@ -173,8 +175,8 @@ class Rounds:
         command = [sys.executable, "-I", "-S", RAW, self.binary.path, self.plan]
         printed, _, _ = run_timed(command)
         expect("the raw loop's file", self.wanted.data, self.binary.get())
-        processor, *times = map(int, printed.split())
-        return times, processor
+        processor, taken = map(int, printed.split())
+        return taken, processor
 
 
 def put(path: str, text: bytes) -> None:
@@ -195,10 +197,9 @@ def ratio_row(bench: Bench, random: Random, size: int, rounds: int) -> list:
     for _ in range(rounds):
         for name in random.sample(sorted(runs), len(runs)):
             seen[name].append(runs[name]())
-    own, raw, again = ([sum(times) for times, _ in seen[name]] for name in seen)
-    typical = [statistics.median(one[0]) / statistics.median(two[0]) for one, two in zip(seen["program"], seen["raw"])]
+    own, raw, again = ([taken for taken, _ in seen[name]] for name in seen)
     beyond = statistics.median(one[1] - two[1] for one, two in zip(seen["program"], seen["raw"])) / timed
-    ratios = [[one / two for one, two in zip(own, raw)], typical, [one / two for one, two in zip(again, raw)]]
+    ratios = [[one / two for one, two in zip(own, raw)], [one / two for one, two in zip(again, raw)]]
     times = [statistics.median(own) / timed, statistics.median(raw) / timed, beyond]
     return [str(size), *map(quarters, ratios), *(f"{time_ / 1e3:.0f}" for time_ in times)]
 
@@ -206,9 +207,8 @@ def ratio_row(bench: Bench, random: Random, size: int, rounds: int) -> list:
 def show_times(bench: Bench, random: Random, rounds: int) -> None:
     print(f"Time of {bench.appends - 1} appends against a raw loop of the same writes and syncs, {rounds} rounds in random order; the")
     print("median of the rounds' ratios, with its quartiles:\n")
-    print("| body | ratio of the whole | ratio of the median append | of two raw loops (what the machine adds) "
-          "| an append, us | raw, us | processor beyond raw, us |")
-    print("|---|---|---|---|---|---|---|")
+    print("| body | program to raw | raw to raw (what the machine adds) | an append, us | raw, us | processor beyond raw, us |")
+    print("|---|---|---|---|---|---|")
     sizes = bench.sizes()
     random.shuffle(sizes)
     for row in sorted((ratio_row(bench, random, size, rounds) for size in sizes), key=lambda row: int(row[0])):
@@ -217,11 +217,15 @@ def show_times(bench: Bench, random: Random, rounds: int) -> None:
 
 def main() -> None:
     parser = argparse.ArgumentParser(description="What appends cost.")
-    parser.add_argument("program", help="the built program datafile")
+    parser.add_argument("program", type=arguments.program, help="the built program datafile")
     parser.add_argument("--layout", default="small", help="the file's layout, as `format` takes it (default small)")
-    parser.add_argument("--rounds", type=int, default=40, help="rounds for each size of body (default 40)")
+    parser.add_argument(
+        "--rounds", type=arguments.at_least(2), default=40, help="rounds for each size of body, two at least (default 40)"
+    )
     parser.add_argument("--seed", type=int, default=1, help="the seed of the bodies and of the order (default 1)")
-    parser.add_argument("--folder", help="where the files stand (default: the folder for temporary files)")
+    parser.add_argument(
+        "--folder", type=arguments.folder, help="where the files stand (default: the folder for temporary files)"
+    )
     given = parser.parse_args()
     layout = script.layout_of(given.layout)
     if layout is None:

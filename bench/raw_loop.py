@@ -1,7 +1,7 @@
 """The writes and syncs of appends and nothing else, for bench/appends.py: raw_loop.py FILE PLAN.
 
 PLAN holds for each write two numbers of 8 bytes, offset and length, and its bytes. Prints the processor's nanoseconds
-of all writes and syncs but the first, then the nanoseconds that each of these took, one number a line.
+of all writes and syncs but the first, and the nanoseconds that they took, one number a line.
 """
 
 import gc
@@ -35,14 +35,13 @@ def main() -> None:
     offset, piece = writes[0]
     pwrite(file, piece, offset)
     fdatasync(file)
-    start, times = time.process_time_ns(), [clock()]
+    used, start = time.process_time_ns(), clock()
     for offset, piece in writes[1:]:
         pwrite(file, piece, offset)
         fdatasync(file)
-        times.append(clock())
-    print(time.process_time_ns() - start)
-    for before, after in zip(times, times[1:]):
-        print(after - before)
+    end = clock()
+    print(time.process_time_ns() - used)
+    print(end - start)
 
 
 if __name__ == "__main__":

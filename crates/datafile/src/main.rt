@@ -5,10 +5,8 @@ use df_base::{FromRead, ToWrite};
 use df_filedisk::FileDisk;
 use df_top::{Status, run};
 use std::env;
-use std::fs::{OpenFile, OpenOptions};
 use std::io::ErrorKind;
 use std::process::ExitCode;
-use std::rt::Files;
 
 // The words behind the program's name. Where one of them isn't UTF-8 they have no meaning, as if there were none.
 fn words(rt: &HostRuntime) -> Result<Vec<String>, Status> {
@@ -27,11 +25,6 @@ fn words(rt: &HostRuntime) -> Result<Vec<String>, Status> {
     }
 }
 
-// Opens the root folder. Its handle can be neither read from nor written to.
-fn hold<R: Files>(rt: &R) -> Option<R::File> {
-    OpenOptions::new().read(true).open(rt, "/").ok()
-}
-
 // Takes the path off the words and does what the others say. Without a path the file is never opened.
 fn act(rt: &HostRuntime) -> Status {
     let mut words = match words(rt) {
@@ -43,9 +36,6 @@ fn act(rt: &HostRuntime) -> Status {
     } else {
         words.remove(0)
     };
-    // Where the caller closed standard input or output, the next file that is opened would stand in its place, and
-    // the script would be read from the data file or the answers be written into it. These three take such places.
-    let _held = (hold(rt), hold(rt), hold(rt));
     let mut disk = FileDisk::new(rt, path);
     let mut source = FromRead::new(rt.stdin());
     let mut sink = ToWrite::new(rt.stdout());

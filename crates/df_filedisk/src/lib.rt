@@ -5,6 +5,9 @@ mod file;
 mod opening;
 mod positioned;
 #[cfg(test)]
+mod stream_tests;
+mod streams;
+#[cfg(test)]
 mod tests;
 
 pub use file::FileDisk;

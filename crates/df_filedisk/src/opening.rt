@@ -1,5 +1,6 @@
 // Opening the file, and the folder that a new file stands in: a file is durable only once its name
 // is, and the name is the folder's data.
+use crate::streams::stand_in;
 use std::fs::{OpenFile, OpenOptions};
 use std::io;
 use std::path::Path;
@@ -11,9 +12,10 @@ pub struct Opened<F> {
     pub is_new: bool,
 }
 
-/// Opens the file, and makes an empty one where there is none. An empty file counts as new: who made it may have been
-/// stopped before its name was durable.
+/// Opens the file, and makes an empty one where there is none; but touches nothing where it might get the number of a
+/// standard stream. An empty file counts as new: who made it may have been stopped before its name was durable.
 pub fn open_or_make<R: Files>(rt: &R, path: &str) -> io::Result<Opened<R::File>> {
+    let _stand_ins = stand_in(rt)?;
     let file = OpenOptions::new()
         .read(true)
         .write(true)

@@ -1,10 +1,12 @@
 """Tries of standard streams that are closed, full or of the wrong kind, and of paths that can't be a data file."""
 
 import os
+import resource
 
 from . import generate, script
 from .binary import expect
-from .common import Try, reopen, same_bytes
+from .common import Try, reopen, same_bytes, same_run
+from .plan import file_for
 from .script import REFUSED, state
 
 DISK, READ, WRITE = 5, 6, 7
@@ -80,6 +82,46 @@ def run_without_output(t: Try, what: str, text: bytes, words=("run",)):
         os.close(write)
 
 
+def closing(closed: list, numbers: int = 0):
+    """What a process does before the program starts: it closes these streams, and allows so many open files."""
+    def before():
+        for fd in closed:
+            os.close(fd)
+        if numbers:
+            resource.setrlimit(resource.RLIMIT_NOFILE, (numbers, numbers))
+    return before
+
+
+def stand_ins(t: Try) -> None:
+    """Streams are closed, and what would stand in for them can't be had, since the root folder is denied or no number is
+    left: status 5, nothing printed, nothing touched. With all three open neither matters, but for the file's own number."""
+    if t.binary.interpreted:
+        return
+    closed = t.random.sample((0, 1, 2), t.random.choice((0, 1, 1, 1, 2, 3)))
+    words = t.random.choice((["run"], ["run"], ["format", "small", "7"]))
+    data = file_for(t, words, 8)
+    text = generate.good_script(t.random, generate.home_of(data).layout)
+    t.binary.put(data)
+    if t.random.random() < 0.5:
+        what, sure = "the root folder is denied", not closed
+        got = t.binary.denied("/", text, words, closing(closed))
+    else:
+        # One number at least is for the program's loader; a new file's folder is opened beside it.
+        left = t.random.choice((1, 2)) if not closed else t.random.randint(len(closed), 3)
+        what, sure = "no number is left", not closed and left == 2
+        got = t.binary.run(text, words, before=closing(closed, 3 + left - len(closed)))
+    what = f"{what}, {len(closed)} streams closed"
+    if sure:
+        wanted = script.command(data, words, text)
+        same_run(what, wanted, got)
+        same_bytes(what, wanted.data, t.binary.get())
+    else:
+        expect(f"{what}, {words}: status", DISK, got.status)
+        expect(f"{what}, {words}: text", b"", got.text)
+        same_bytes(what, data, t.binary.get())
+    t.counts[f"streams: {what}"] += 1
+
+
 def no_file(t: Try) -> None:
     """Paths that can't be a data file: status 5, nothing printed, the script unread. Cluster 0 is refused before that."""
     missing = os.path.join(t.binary.folder, "missing", "file")
@@ -104,4 +146,7 @@ def no_file(t: Try) -> None:
     t.counts["paths without a data file"] += 1
 
 
-KINDS = {"streams": (streams, 4), "format_without_output": (format_without_output, 2), "no_file": (no_file, 2)}
+KINDS = {
+    "streams": (streams, 4), "format_without_output": (format_without_output, 2), "stand_ins": (stand_ins, 3),
+    "no_file": (no_file, 2),
+}

@@ -1,6 +1,6 @@
 """Tries the built program against an independent model of its file and its words, that of docs/FORMAT.md and docs/SCRIPT.md.
 
-    python3 bench/model.py PATH-TO-datafile [--seconds N] [--seed N] [--kind NAME] [--first N] [--folder PATH]
+    python3 model/model.py PATH-TO-datafile [--seconds N] [--seed N] [--kind NAME] [--first N] [--folder PATH]
 
 Prints what was tried, with counts, or the first disagreement and the command that tries it again. Ends with status 1
 where the two disagree. See docs/MODEL-TRIES.md.
@@ -17,24 +17,32 @@ import time
 from collections import Counter
 from random import Random, SystemRandom
 
-from tries import budget, damage, faults, formats, rows, scripts, stops, streams
+from tries import (
+    arguments, budget, bugs, damage, faults, formats, reading, rows, scripts, stops, streams,
+)
 from tries.binary import Binary, Disagreement, has_strace
 from tries.common import Try
 
-PARTS = (rows, formats, scripts, damage, stops, streams, faults, budget)
+PARTS = (rows, formats, scripts, damage, reading, stops, streams, faults, budget)
 KINDS = {name: kind for part in PARTS for name, kind in part.KINDS.items()}
-TRACED = {"killed", *faults.KINDS}
+TRACED = {"killed", "stand_ins", *faults.KINDS}
 
 
 def words() -> argparse.Namespace:
     parser = argparse.ArgumentParser(description="Tries the built program against an independent model.")
-    parser.add_argument("program", help="the built program datafile")
-    parser.add_argument("--seconds", type=float, default=60, help="how long to try (default 60)")
+    parser.add_argument("program", type=arguments.program, help="the built program datafile, or imitation.py")
+    parser.add_argument("--seconds", type=arguments.seconds, default=60, help="how long to try (default 60)")
     parser.add_argument("--seed", type=int, help="the seed (default: a new one)")
     parser.add_argument("--kind", choices=sorted(KINDS), action="append", help="this kind alone; may be repeated")
-    parser.add_argument("--first", type=int, default=0, help="the number of the first try")
-    parser.add_argument("--folder", help="where the files stand (default: the folder for temporary files)")
-    return parser.parse_args()
+    parser.add_argument("--first", type=arguments.at_least(0), default=0, help="the number of the first try")
+    parser.add_argument(
+        "--folder", type=arguments.folder, help="where the files stand (default: the folder for temporary files)"
+    )
+    given = parser.parse_args()
+    bugs.refuse_unknown()
+    if bugs.BUG and not given.program.endswith("imitation.py"):
+        parser.error("BUG is set, which only imitation.py looks at")
+    return given
 
 
 def attempt(given, kinds: list, number: int, binary: Binary, counts: Counter) -> str:
@@ -68,7 +76,8 @@ def main() -> int:
             except Disagreement as error:
                 print(f"DISAGREEMENT, {error}")
                 chosen = "".join(f" --kind {name}" for name in given.kind or ())
-                print(f"again: python3 bench/model.py {given.program} --seed {given.seed} --first {number}{chosen}")
+                bug = f'BUG="{bugs.BUG}" ' if bugs.BUG else ""
+                print(f"again: {bug}python3 model/model.py {given.program} --seed {given.seed} --first {number}{chosen}")
                 return 1
             number += 1
     for name, count in sorted(counts.items()):

@@ -157,7 +157,7 @@ def short(t: Try) -> None:
     events = plan.wanted.events[:at] + [rest] + plan.wanted.events[at + 1 :]
     expect(f"a short {name}: text", script.answers(events), got.text)
     expect(f"a short {name}: status", plan.wanted.status, got.status)
-    same_bytes(f"a short {name}", state(plan.data or b"", events), t.binary.get())
+    same_bytes(f"a short {name}", state(plan.data or b"", events), t.binary.get() or b"")
     t.counts[f"short {name}"] += 1
 
 

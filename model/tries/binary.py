@@ -117,6 +117,11 @@ class Binary:
             result = self.call(command, None, before, {"stdin": stdin})
         return result, self.calls()
 
+    def denied(self, path: str, text: bytes, words, before=None) -> Result:
+        """One run, by strace, that may not open this path."""
+        command = ["strace", "-f", "-o", self.log, "-P", path, "-e", "trace=openat", "-e", "inject=openat:error=EACCES"]
+        return self.call([*command, self.program, self.path, *words], text, before)
+
     def calls(self) -> list:
         """The calls of the last traced run, from its start on."""
         found, counts = [], {}

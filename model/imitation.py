@@ -1,7 +1,7 @@
 #!/usr/bin/env python3
 """The model as a program, with one bug where one is named, so that the tries themselves can be tried.
 
-    BUG=NAME python3 bench/model.py bench/imitation.py
+    BUG=NAME python3 model/model.py model/imitation.py
 
 Reads, writes, syncs and answers with the calls that the built program makes, in its order. Without BUG it has none.
 """
@@ -15,9 +15,9 @@ import os
 sys.path.insert(0, os.path.dirname(os.path.abspath(__file__)))
 
 from tries import form, script, superblock
+from tries.bugs import has, refuse_unknown
 from tries.form import COPIES, SECTOR
 
-BUG = os.environ.get("BUG", "")
 DONE, WORDS, SCRIPT, REFUSED, DISK, READ, WRITE = 0, 2, 3, 4, 5, 6, 7
 
 
@@ -58,7 +58,7 @@ class File:
             taken = self.asked(os.pwrite, self.opened(), data, at)
             if not taken:
                 raise End(DISK)
-            if BUG == "a short write isn't gone on with":
+            if has("a short write isn't gone on with"):
                 return
             at, data = at + taken, data[taken:]
 
@@ -66,9 +66,9 @@ class File:
         try:
             os.fdatasync(self.opened())
         except OSError:
-            if BUG != "a fault of a sync is passed over":
+            if not has("a fault of a sync is passed over"):
                 raise End(DISK) from None
-        if self.new and BUG != "the folder isn't synced":
+        if self.new and not has("the folder isn't synced"):
             folder = self.asked(os.open, os.path.dirname(self.path) or b".", os.O_RDONLY | os.O_CLOEXEC)
             self.asked(os.fsync, folder)
             os.close(folder)
@@ -95,27 +95,27 @@ def refuse(words: str) -> None:
 def copies_of(file: File) -> list:
     """The four copies."""
     sectors = [file.read(SECTOR * place, SECTOR) for place in range(COPIES)]
-    if BUG == "a copy counts at any place":
+    if has("a copy counts at any place"):
         decoded = [superblock.decode(sector) for sector in sectors]
         return [each[1] if each else superblock.seen(sector, 0) for each, sector in zip(decoded, sectors)]
-    if BUG == "bytes behind the number aren't tested":
+    if has("bytes behind the number aren't tested"):
         sectors = [sector[:20] + bytes(12) + sector[32:] for sector in sectors]
-    if BUG == "a copy is blank by its front":
+    if has("a copy is blank by its front"):
         sectors = [sector if any(sector[:256]) else bytes(SECTOR) for sector in sectors]
-    if BUG == "a number of 4 counts":
+    if has("a number of 4 counts"):
         sectors = [sector[:16] + bytes([place]) + sector[17:] if sector[16] == 4 else sector
                    for place, sector in enumerate(sectors)]
     return [superblock.seen(sector, place) for place, sector in enumerate(sectors)]
 
 
 def choose(copies: list):
-    if BUG == "one vote is enough":
+    if has("one vote is enough"):
         return max((c for c in copies if not isinstance(c, str)), key=lambda c: c.sequence, default=None)
-    if BUG == "the last of equals is chosen":
+    if has("the last of equals is chosen"):
         copies = copies[::-1]
-    if BUG == "the sequence isn't looked at":
+    if has("the sequence isn't looked at"):
         return next((c for c in copies if not isinstance(c, str) and copies.count(c) >= 2), None)
-    if BUG == "three votes are needed":
+    if has("three votes are needed"):
         return next((c for c in copies if not isinstance(c, str) and copies.count(c) >= 3), None)
     return superblock.choose(copies)
 
@@ -134,40 +134,40 @@ def tested(file: File) -> tuple:
 
 def test_fields(content: superblock.Content) -> None:
     """The field tests; a refusal ends the run."""
-    if content.version != 1 and BUG != "Version isn't tested":
+    if content.version != 1 and not has("Version isn't tested"):
         refuse(f"Version found {content.version}")
     for field, value, fails in superblock.tests(content):
-        if fails and BUG != f"a field isn't tested: {field}":
+        if fails and not has(f"a field isn't tested: {field}"):
             refuse(f"BadField {field} {value}")
 
 
 def repair(file: File, copies: list, content) -> None:
     places = [place for place, copy in enumerate(copies) if copy != content]
-    if BUG == "all copies are repaired" and places:
+    if has("all copies are repaired") and places:
         places = list(range(COPIES))
-    if BUG == "repairs go from the last to the first":
+    if has("repairs go from the last to the first"):
         places = places[::-1]
-    if BUG == "nothing is repaired":
+    if has("nothing is repaired"):
         return
     for place in places:
-        file.write(SECTOR * place, content.encode(0 if BUG == "a repaired copy has number 0" else place))
-        if BUG != "repairs aren't synced":
+        file.write(SECTOR * place, content.encode(0 if has("a repaired copy has number 0") else place))
+        if not has("repairs aren't synced"):
             file.sync()
 
 
 def make(file: File, home: form.Home) -> None:
     """The word `format`."""
-    if home.cluster == 0 and BUG != "cluster 0 is taken":
+    if home.cluster == 0 and not has("cluster 0 is taken"):
         refuse("ClusterZero")
     for place in range(COPIES):
         sector = file.read(SECTOR * place, SECTOR)
-        if any(sector[:160] if BUG == "format looks at the fields alone" else sector):
+        if any(sector[:160] if has("format looks at the fields alone") else sector):
             refuse(f"NotBlank copy {place}")
-        if BUG == "format looks at copy 0 alone":
+        if has("format looks at copy 0 alone"):
             break
     for place in range(COPIES):
         file.write(SECTOR * place, superblock.first(home).encode(place))
-        if BUG != "format syncs once" or place == COPIES - 1:
+        if not has("format syncs once") or place == COPIES - 1:
             file.sync()
     tell(b"formatted %d\n" % home.layout.sectors())
 
@@ -199,7 +199,7 @@ def ring_of(file: File, home: form.Home) -> list:
         at = home.layout.place(op)
         unit = file.read(at, home.layout.message_size)
         prepare = shown(unit, home, op)
-        if prepare is None or prepare.op != op or (prepare.parent != parent and BUG != "parents aren't compared"):
+        if prepare is None or prepare.op != op or (prepare.parent != parent and not has("parents aren't compared")):
             break
         found.append(prepare)
         parent = prepare.checksum()
@@ -225,43 +225,43 @@ class Shifted:
 def run(file: File) -> None:
     """The word `run`."""
     tested(file)
-    if BUG != "there is no barrier":
+    if not has("there is no barrier"):
         file.sync()
     copies, content = tested(file)
     words = superblock.beyond_first(content)
-    if words and BUG != "a later superblock opens":
+    if words and not has("a later superblock opens"):
         refuse(words)
-    if BUG != "repairs come last":
+    if not has("repairs come last"):
         repair(file, copies, content)
     home = content.home()
-    if BUG == "the layout is always small":
+    if has("the layout is always small"):
         home = home._replace(layout=form.SMALL)
-    if BUG == "the cluster is always 7":
+    if has("the cluster is always 7"):
         home = home._replace(cluster=7)
     ring = ring_of(file, home)
     execute(file, home, ring)
-    if BUG == "repairs come last":
+    if has("repairs come last"):
         repair(file, copies, content)
 
 
 def execute(file: File, home: form.Home, ring: list) -> None:
     head, parent = len(ring), ring[-1].checksum() if ring else bytes(16)
-    longest = 32832 if BUG == "lines are bounded as for small" else home.layout.line_max()
+    longest = 32832 if has("lines are bounded as for small") else home.layout.line_max()
     for index, line in enumerate(lines_of(longest), 1):
         request = script.parse(line, home.layout) if len(line) <= longest else None
         if request is None:
             tell(b"script %d\n" % index)
             raise End(SCRIPT)
         if head == home.layout.slots:
-            tell(b"refused WalFull op 33 checkpoint_op 0\n" if BUG == "the ring is full at 32" else script.full(home.layout).data)
+            tell(b"refused WalFull op 33 checkpoint_op 0\n" if has("the ring is full at 32") else script.full(home.layout).data)
             continue
         prepare = form.Prepare(home, parent, request[0], head + 1, *request[1:])
         file.write(home.layout.place(head + 1), form.whole_sectors(prepare.encode()))
-        if BUG == "an answer comes before its sync":
+        if has("an answer comes before its sync"):
             tell(b"appended %d\n" % (head + 1))
             file.sync()
         else:
-            if BUG != "an append isn't synced":
+            if not has("an append isn't synced"):
                 file.sync()
             tell(b"appended %d\n" % (head + 1))
         head, parent = head + 1, prepare.checksum()
@@ -277,6 +277,7 @@ def fill_streams() -> None:
 
 
 def main() -> int:
+    refuse_unknown()
     fill_streams()
     words = [os.fsencode(word) for word in sys.argv[1:]]
     try:
@@ -284,7 +285,7 @@ def main() -> int:
         asked = script.meaning(words[1:]) if words else None
     except UnicodeDecodeError:
         asked = None
-    if BUG == "leading zeros are taken" and asked is None and len(words) == 4:
+    if has("leading zeros are taken") and asked is None and len(words) == 4:
         asked = script.meaning([words[1], words[2], words[3].lstrip(b"0") or b"0"])
     try:
         if asked is None:
