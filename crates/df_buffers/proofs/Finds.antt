@@ -1,6 +1,6 @@
 -- What the tests of a unit find, and that a room is sound where they pass.
 use Rattle.std.proofs.Common.{◌≡◌, ◌≢◌, ◌≤◌, ◌*◌, ℕ, List, [], length, take, Option, Some, None, refl, sym, ◌∙◌, ap, subst, arith}
-use Rattle.std.specs.Prelude.{Result, Ok}
+use Rattle.std.specs.Prelude.{Result, Ok, Err}
 use Rattle.std.proofs.lemmas.List.{length-take-le}
 use Rattle.df_base.specs.Fields.{AreBytes}
 use Rattle.df_layout.specs.declared.damage.Class.{Class}
@@ -9,7 +9,7 @@ use Rattle.df_layout.specs.declared.layout.Layout.{Layout}
 use Rattle.df_layout.specs.declared.places.Place.{Place}
 use Rattle.df_layout.specs.declared.places.Zone.{Zone}
 use Rattle.df_layout.specs.declared.places.Zone.TheVariants.{Superblock, WalHeaders, WalPrepares, ClientReplies, Grid}
-use Rattle.df_layout.specs.Spans.{place_sectors}
+use Rattle.df_layout.specs.Spans.{place_sectors, span_of}
 use Rattle.df_format.specs.declared.header.Header.{Header}
 use Rattle.df_format.specs.declared.kind.Kind.{Kind}
 use Rattle.df_format.specs.declared.kind.Kind.TheVariants.{Reserved, Prepare, Reply, Block, Trailer}
@@ -21,9 +21,14 @@ use Rattle.df_format.specs.Wanted.{IsWanted, Wanted as Words, Any as AnyOne, Op 
 use Rattle.df_format.specs.UnitLaws.{place_size}
 use Rattle.df_format.proofs.Wholes.{one_unit, valid_stale, body_follows, ring_has_no_body}
 use Rattle.df_buffers.specs.declared.identity.Identity.{Identity}
+use Rattle.df_buffers.specs.declared.identity.Wanted.{Wanted}
+use Rattle.df_buffers.specs.declared.identity.Wanted.TheVariants.{Any}
 use Rattle.df_buffers.specs.Rooms.{StandsIn, FillsRoom, room_size}
-use Rattle.df_buffers.specs.Found.{words_of, Finds, FindsKind, IsThere, class_for}
-use Rattle.df_buffers.specs.Sounds.{Holding, IsSound, AreWhole, unit_with}
+use Rattle.df_buffers.specs.Found.{words_of, Finds, FindsKind, IsThere, class_for, shown_in}
+use Rattle.df_format.specs.Brings.{Brings}
+use Rattle.df_format.specs.UnitLaws.{AreForPlace}
+use Rattle.df_format.proofs.Laws.{count_is, front_brings}
+use Rattle.df_buffers.specs.Sounds.{BringsOwn, Holding, IsSound, AreWhole, unit_with}
 
 ok_same : {h k : Header} → (let one : Result Header Class = Ok h in one ≡ Ok k) → h ≡ k
 ok_same is = cc
@@ -161,3 +166,30 @@ found_in kind kind2 identity bytes bytes2 h same here found =
 
 pub there_in : (identity : Identity) (bytes bytes2 : List ℕ) (h : Header) → bytes ≡ bytes2 → IsThere identity (unit_with h bytes) → IsThere identity (unit_with h bytes2)
 there_in identity bytes bytes2 h here there = subst (λ (x : List ℕ). IsThere identity (unit_with h x)) here there
+
+-- and they bring its unit
+pub sectors_bring : (zone : Zone) (kind : Kind) (holding : Holding) (lent : List ℕ) → StandsIn kind zone → IsSound zone kind holding → lent ≡ take (sectors_end holding.unit.header.size) holding.bytes → AreBytes lent
+    → BringsOwn zone holding lent
+sectors_bring zone kind holding lent stands is same each =
+    let e = ends zone kind holding stands is in
+    let whole = are_whole zone kind holding lent stands is same in
+    let alone : is.place.zone ≢ WalHeaders = subst (λ (z : Zone). z ≢ WalHeaders) (sym is.in_zone) (is_no_ring kind zone stands) in
+    let room : length lent ≤ 4096 * place_sectors holding.layout is.place.zone = subst (λ (z : Zone). length lent ≤ 4096 * place_sectors holding.layout z) (sym is.in_zone) whole.fits in
+    let for : AreForPlace holding.layout is.place lent =
+    record { piece = record { some = whole.some; whole = whole.whole; each = each }; fits = omega (arith, room, count_is holding.layout is.place) } in
+    record {
+      place = is.place;
+      in_zone = is.in_zone;
+      is = is.is;
+      brings = subst (λ (l : List ℕ). Brings holding.layout holding.unit.header.cluster is.place holding.unit l) (sym same)
+          (front_brings holding.layout holding.unit.header.cluster is.place holding.bytes (sectors_end holding.unit.header.size) holding.unit alone is.is is.valid (omega arith) e.sectors
+          (subst (λ (l : List ℕ). AreForPlace holding.layout is.place l) same for));
+    }
+
+-- where any unit is wanted and none is found, the place shows none
+pub none_any : (identity : Identity) (bytes : List ℕ) (class : Class) → identity.wanted ≡ Any → ((u : Message) → Finds identity bytes u → ⊥) → class ≡ class_for identity bytes → Err class ≡ shown_in identity bytes
+none_any identity bytes class any none is = by (unit_in identity.layout identity.cluster identity.place bytes) refl
+  where
+    by : (o : Option Message) → unit_in identity.layout identity.cluster identity.place bytes ≡ o → Err class ≡ header_or_class o (class_for identity bytes)
+    by None shown = ap Err is
+    by (Some u) shown = absurd (none u (record { valid = shown; wanted = subst (λ (w : Wanted). IsWanted (words_of w) u) (sym any) tt }))

@@ -1,9 +1,10 @@
 -- The unit that is wanted at a place, and the class of what is there in its stead.
-use Rattle.std.specs.Prelude.{◌≡◌, ℕ, List, Some}
+use Rattle.std.specs.Prelude.{◌≡◌, ℕ, List, Some, Result}
 use Rattle.df_layout.specs.declared.damage.Class.{Class}
 use Rattle.df_format.specs.declared.kind.Kind.{Kind}
 use Rattle.df_format.specs.Message.{Message}
-use Rattle.df_format.specs.Shown.{unit_in, class_of}
+use Rattle.df_format.specs.declared.header.Header.{Header}
+use Rattle.df_format.specs.Shown.{unit_in, class_of, header_or_class}
 use Rattle.df_format.specs.Valid.{IsUnit}
 use Rattle.df_format.specs.Wanted.{IsWanted, Wanted as Words, Any as AnyOne, Op as WithOp, Checksum as WithChecksum, Answer as AnswerTo}
 use Rattle.df_buffers.specs.declared.identity.Identity.{Identity}
@@ -34,3 +35,7 @@ IsThere identity u = IsUnit identity.layout identity.cluster identity.place u
 -- the class of bytes that aren't the unit wanted at the place
 abbrev pub class_for : Identity → List ℕ → Class
 class_for identity bytes = class_of identity.layout identity.cluster identity.place bytes
+
+-- the header of the unit that is valid at the place, whatever is wanted, or the class of its bytes
+abbrev pub shown_in : Identity → List ℕ → Result Header Class
+shown_in identity bytes = header_or_class (unit_in identity.layout identity.cluster identity.place bytes) (class_for identity bytes)

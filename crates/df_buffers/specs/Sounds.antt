@@ -8,6 +8,7 @@ use Rattle.df_format.specs.declared.kind.Kind.{Kind}
 use Rattle.df_format.specs.Message.{Message}
 use Rattle.df_format.specs.Shown.{unit_in}
 use Rattle.df_format.specs.Valid.{IsUnit}
+use Rattle.df_format.specs.Brings.{Brings}
 use Rattle.df_buffers.specs.Rooms.{FillsRoom, room_size}
 
 -- what a sound room is seen as: the layout that it was reserved for, its unit, and its bytes
@@ -38,3 +39,10 @@ pub record AreWhole (zone : Zone) (layout : Layout) (bytes : List ℕ) : Type 0 
   pub some : 0 < length bytes
   pub whole : length bytes % 4096 ≡ 0
   pub fits : length bytes ≤ room_size layout zone
+
+-- the bytes bring the room's unit to its own place in the zone
+pub record BringsOwn (zone : Zone) (holding : Holding) (bytes : List ℕ) : Type 0 where
+  pub place : Place
+  pub in_zone : place.zone ≡ zone
+  pub is : IsUnit holding.layout holding.unit.header.cluster place holding.unit
+  pub brings : Brings holding.layout holding.unit.header.cluster place holding.unit bytes

@@ -2,10 +2,10 @@
 ghost use Rattle.std.specs.Prelude.{◌≡◌, ◌<◌, [], length, IfOk, IfErr};
 ghost use Rattle.df_format.specs.Message.{Message};
 ghost use Rattle.df_buffers.specs.Rooms.{header_bytes};
-ghost use Rattle.df_buffers.specs.Found.{Finds, IsThere, class_for};
+ghost use Rattle.df_buffers.specs.Found.{Finds, IsThere, class_for, shown_in};
 
 use crate::find::find;
-use crate::{HeaderSector, Identity, Raw};
+use crate::{HeaderSector, Identity, Raw, Wanted};
 use df_base::HEADER;
 use df_format::Header;
 use df_layout::{Class, Zone};
@@ -29,6 +29,7 @@ fn find_header(identity: &Identity, bytes: &[u8]) -> Result<Header, Class>
     ensures there { IfOk result (λ h. IsThere identity.now (record { header = h; body = [] })) }
     ensures unwanted { IfErr result (λ _. (u : Message) → ¬ Finds identity.now bytes.now u) }
     ensures class { IfErr result (λ class. class ≡ class_for identity.now bytes.now) }
+    ensures any { identity.now.wanted ≡ Wanted.Any → result ≡ shown_in identity.now bytes.now }
 {
     let header = find(identity, bytes)?;
     Ok(header)
@@ -44,6 +45,7 @@ impl Raw<HeaderSector> {
         ensures there { IfOk result (λ h. IsThere identity.now (record { header = h; body = [] })) }
         ensures unwanted { IfErr result (λ _. (u : Message) → ¬ Finds identity.now (header_bytes place self.now.bytes) u) }
         ensures class { IfErr result (λ class. class ≡ class_for identity.now (header_bytes place self.now.bytes)) }
+        ensures any { identity.now.wanted ≡ Wanted.Any → result ≡ shown_in identity.now (header_bytes place self.now.bytes) }
     {
         find_header(identity, header_bytes(&self.bytes, place))
     }

@@ -17,6 +17,7 @@ mod probe;
 mod prove;
 mod raw;
 mod rooms;
+mod slots;
 mod sound;
 #[cfg(test)]
 mod tests;
@@ -26,4 +27,5 @@ pub use kinds::{Block, HeaderSector, Prepare, Reply, RoomKind, SuperSector, Trai
 pub use probe::ProbeRoom;
 pub use raw::Raw;
 pub use rooms::Rooms;
+pub use slots::SlotSeen;
 pub use sound::Sound;

@@ -1,7 +1,8 @@
 // Sound rooms: their bytes are a unit that is valid at its own place. They lend its parts without copying.
 ghost use Rattle.std.specs.Prelude.{◌≡◌, ◌≤◌, ◌-◌, length, take, drop};
+ghost use Rattle.df_base.specs.Fields.{AreBytes};
 ghost use Rattle.df_format.specs.Message.{sectors_end};
-ghost use Rattle.df_buffers.specs.Sounds.{AreWhole, IsSound};
+ghost use Rattle.df_buffers.specs.Sounds.{AreWhole, BringsOwn, IsSound};
 
 use crate::{Raw, UnitKind};
 use df_base::{HEADER, SECTOR};
@@ -40,7 +41,8 @@ fn body_in(bytes: &[u8], size: u32) -> &[u8]
 // The whole sectors that so many bytes cover.
 fn sectors_in(bytes: &[u8], size: u32) -> &[u8]
     requires { sectors_end size ≤ length bytes.now }
-    ensures { result.now ≡ take (sectors_end size) bytes.now }
+    ensures value { result.now ≡ take (sectors_end size) bytes.now }
+    ensures each { AreBytes result.now }
 {
     &bytes[..SECTOR * ((size as usize + SECTOR - 1) / SECTOR)]
 }
@@ -65,6 +67,7 @@ impl<K: UnitKind> Sound<K> {
     pub fn sectors(&self) -> &[u8]
         ensures value { result.now ≡ take (sectors_end self.now.unit.header.size) self.now.bytes }
         ensures whole { AreWhole K.ZONE self.now.layout result.now }
+        ensures brings { BringsOwn K.ZONE self.now result.now }
     {
         sectors_in(&self.bytes, self.header.size)
     }

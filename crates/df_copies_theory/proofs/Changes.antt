@@ -3,8 +3,7 @@ use Rattle.std.proofs.Common.{◌≡◌, ◌⊎◌, inl, inr, ℕ, ◌<◌, ◌|
 use Rattle.df_theory.specs.Units.{CopyPlace, Content, CopyUnit, Units, is_some}
 use Rattle.df_theory.specs.Copies.{rank_of}
 use Rattle.df_theory.specs.UnitLog.{UnitLog, Synced, Stopped, add, now, loose, wrote, PutsOne}
-use Rattle.df_theory.proofs.Choices.{chosen_above}
-use Rattle.df_theory.proofs.Keeps.{four}
+use Rattle.df_theory.proofs.Laws.{chosen_above, four}
 use Rattle.df_copies_theory.specs.Copies.{LeavesCopies, KnowsCopies, AreSteady, IsEither, AreEqual}
 use Rattle.df_copies_theory.specs.CopyLaws.{UpdateCopiesLaw}
 use Rattle.df_copies_theory.proofs.Equal.{shows_content}
@@ -100,29 +99,29 @@ module _ (log : UnitLog) (old new : Content) (put0 put1 : Units) (steady : AreSt
   }
 
 pub update_copies_law : UpdateCopiesLaw
-update_copies_law log old new put0 put1 put2 put3 steady equal less one0 one1 one2 one3 =
-    let l1 : UnitLog = add Synced (wrote put0 log) in
-    let l2 : UnitLog = add Synced (wrote put1 l1) in
-    let l3 : UnitLog = add Synced (wrote put2 l2) in
-    let r2 : IsReady l2 new 0 1 = ready2 log old new put0 put1 steady equal less one0 one1 in
-    let w2 : IsReady (wrote put2 l2) new 0 1 = ready_wrote l2 new 0 1 put2 2 one2 (λ e. omega arith) (λ e. omega arith) r2 in
-    let r3 : IsReady l3 new 0 1 = ready_synced (wrote put2 l2) new 0 1 w2 in
-    let w3 : IsReady (wrote put3 l3) new 0 1 = ready_wrote l3 new 0 1 put3 3 one3 (λ e. omega arith) (λ e. omega arith) r3 in
-    let r4 : IsReady (add Synced (wrote put3 l3)) new 0 1 = ready_synced (wrote put3 l3) new 0 1 w3 in
+update_copies_law log old new puts steady equal less =
+    let l1 : UnitLog = add Synced (wrote puts.put0 log) in
+    let l2 : UnitLog = add Synced (wrote puts.put1 l1) in
+    let l3 : UnitLog = add Synced (wrote puts.put2 l2) in
+    let r2 : IsReady l2 new 0 1 = ready2 log old new puts.put0 puts.put1 steady equal less puts.one0 puts.one1 in
+    let w2 : IsReady (wrote puts.put2 l2) new 0 1 = ready_wrote l2 new 0 1 puts.put2 2 puts.one2 (λ e. omega arith) (λ e. omega arith) r2 in
+    let r3 : IsReady l3 new 0 1 = ready_synced (wrote puts.put2 l2) new 0 1 w2 in
+    let w3 : IsReady (wrote puts.put3 l3) new 0 1 = ready_wrote l3 new 0 1 puts.put3 3 puts.one3 (λ e. omega arith) (λ e. omega arith) r3 in
+    let r4 : IsReady (add Synced (wrote puts.put3 l3)) new 0 1 = ready_synced (wrote puts.put3 l3) new 0 1 w3 in
     record {
-      before = ready_kept log old 2 3 (ready0 log old new put0 put1 steady equal less one0 one1);
-      first_loose = ready_kept (wrote put0 log) old 2 3 (ready_first log old new put0 put1 steady equal less one0 one1);
-      first = ready_kept l1 old 2 3 (ready1 log old new put0 put1 steady equal less one0 one1);
-      second_loose = second_either log old new put0 put1 steady equal less one0 one1;
+      before = ready_kept log old 2 3 (ready0 log old new puts.put0 puts.put1 steady equal less puts.one0 puts.one1);
+      first_loose = ready_kept (wrote puts.put0 log) old 2 3 (ready_first log old new puts.put0 puts.put1 steady equal less puts.one0 puts.one1);
+      first = ready_kept l1 old 2 3 (ready1 log old new puts.put0 puts.put1 steady equal less puts.one0 puts.one1);
+      second_loose = second_either log old new puts.put0 puts.put1 steady equal less puts.one0 puts.one1;
       second = ready_kept l2 new 0 1 r2;
-      third_loose = ready_kept (wrote put2 l2) new 0 1 w2;
+      third_loose = ready_kept (wrote puts.put2 l2) new 0 1 w2;
       third = ready_kept l3 new 0 1 r3;
-      fourth_loose = ready_kept (wrote put3 l3) new 0 1 w3;
-      steady = ready_steady (wrote put3 l3) new 0 1 r4;
+      fourth_loose = ready_kept (wrote puts.put3 l3) new 0 1 w3;
+      steady = ready_steady (wrote puts.put3 l3) new 0 1 r4;
       equal = λ n below. elim (four n below) [
-        | inl is ↦ subst (λ (k : ℕ). now (add Synced (wrote put3 l3)) (CopyPlace k) ≡ Some (CopyUnit new)) (sym is) r4.firm.at_first
-        | inr (inl is) ↦ subst (λ (k : ℕ). now (add Synced (wrote put3 l3)) (CopyPlace k) ≡ Some (CopyUnit new)) (sym is) r4.firm.at_second
-        | inr (inr (inl is)) ↦ subst (λ (k : ℕ). now (add Synced (wrote put3 l3)) (CopyPlace k) ≡ Some (CopyUnit new)) (sym is) (over_else put3 (now l3) 3 2 new one3 (λ e. omega arith) ∙ over_here put2 (now l2) 2 new one2)
-        | inr (inr (inr is)) ↦ subst (λ (k : ℕ). now (add Synced (wrote put3 l3)) (CopyPlace k) ≡ Some (CopyUnit new)) (sym is) (over_here put3 (now l3) 3 new one3)
+        | inl is ↦ subst (λ (k : ℕ). now (add Synced (wrote puts.put3 l3)) (CopyPlace k) ≡ Some (CopyUnit new)) (sym is) r4.firm.at_first
+        | inr (inl is) ↦ subst (λ (k : ℕ). now (add Synced (wrote puts.put3 l3)) (CopyPlace k) ≡ Some (CopyUnit new)) (sym is) r4.firm.at_second
+        | inr (inr (inl is)) ↦ subst (λ (k : ℕ). now (add Synced (wrote puts.put3 l3)) (CopyPlace k) ≡ Some (CopyUnit new)) (sym is) (over_else puts.put3 (now l3) 3 2 new puts.one3 (λ e. omega arith) ∙ over_here puts.put2 (now l2) 2 new puts.one2)
+        | inr (inr (inr is)) ↦ subst (λ (k : ℕ). now (add Synced (wrote puts.put3 l3)) (CopyPlace k) ≡ Some (CopyUnit new)) (sym is) (over_here puts.put3 (now l3) 3 new puts.one3)
       ];
     }

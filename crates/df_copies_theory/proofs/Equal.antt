@@ -35,25 +35,40 @@ same_first c d = both _ _ (cases_eq c.version d.version) (both _ _ (cases_eq c.c
 same_second : (c d : Content) → Decided ((c.head ≡ d.head) × ((c.replies ≡ d.replies) × ((c.trailer ≡ d.trailer) × ((c.trailer_checksum ≡ d.trailer_checksum) × ((c.trailer_size ≡ d.trailer_size) × (c.rest ≡ d.rest))))))
 same_second c d = both _ _ (cases_eq c.head d.head) (both _ _ (cases_eq c.replies d.replies) (both _ _ (cases_eq c.trailer d.trailer) (both _ _ (cases_eq c.trailer_checksum d.trailer_checksum) (both _ _ (cases_eq c.trailer_size d.trailer_size) (same_list c.rest d.rest)))))
 
+same_third : (c d : Content) → Decided ((c.boot ≡ d.boot) × ((c.pin ≡ d.pin) × ((c.pin_checksum ≡ d.pin_checksum) × ((c.answered ≡ d.answered) × (c.reply_checksums ≡ d.reply_checksums)))))
+same_third c d = both _ _ (cases_eq c.boot d.boot) (both _ _ (cases_eq c.pin d.pin) (both _ _ (cases_eq c.pin_checksum d.pin_checksum) (both _ _ (cases_eq c.answered d.answered) (same_list c.reply_checksums d.reply_checksums))))
+
 pub same_content : (c d : Content) → (c ≡ d) ⊎ (c ≡ d → ⊥)
-same_content c d = elim (both _ _ (same_first c d) (same_second c d)) [
+same_content c d = elim (both _ _ (cases_eq c.checksum d.checksum) (both _ _ (same_first c d) (both _ _ (same_second c d) (same_third c d)))) [
   | inl is ↦ inl (λ i. record {
-    version = is.0.0 i;
-    cluster = is.0.1.0 i;
-    layout = is.0.1.1.0 i;
-    sequence = is.0.1.1.1.0 i;
-    op = is.0.1.1.1.1.0 i;
-    op_checksum = is.0.1.1.1.1.1 i;
-    head = is.1.0 i;
-    replies = is.1.1.0 i;
-    trailer = is.1.1.1.0 i;
-    trailer_checksum = is.1.1.1.1.0 i;
-    trailer_size = is.1.1.1.1.1.0 i;
-    rest = is.1.1.1.1.1.1 i;
+    checksum = is.0 i;
+    version = is.1.0.0 i;
+    cluster = is.1.0.1.0 i;
+    layout = is.1.0.1.1.0 i;
+    sequence = is.1.0.1.1.1.0 i;
+    op = is.1.0.1.1.1.1.0 i;
+    op_checksum = is.1.0.1.1.1.1.1 i;
+    head = is.1.1.0.0 i;
+    replies = is.1.1.0.1.0 i;
+    trailer = is.1.1.0.1.1.0 i;
+    trailer_checksum = is.1.1.0.1.1.1.0 i;
+    trailer_size = is.1.1.0.1.1.1.1.0 i;
+    rest = is.1.1.0.1.1.1.1.1 i;
+    boot = is.1.1.1.0 i;
+    pin = is.1.1.1.1.0 i;
+    pin_checksum = is.1.1.1.1.1.0 i;
+    answered = is.1.1.1.1.1.1.0 i;
+    reply_checksums = is.1.1.1.1.1.1.1 i;
   })
   | inr differ ↦ inr (λ e. differ (
-    (ap (λ (x : Content). x.version) e, (ap (λ (x : Content). x.cluster) e, (ap (λ (x : Content). x.layout) e, (ap (λ (x : Content). x.sequence) e, (ap (λ (x : Content). x.op) e, ap (λ (x : Content). x.op_checksum) e))))),
-    (ap (λ (x : Content). x.head) e, (ap (λ (x : Content). x.replies) e, (ap (λ (x : Content). x.trailer) e, (ap (λ (x : Content). x.trailer_checksum) e, (ap (λ (x : Content). x.trailer_size) e, ap (λ (x : Content). x.rest) e))))),
+    ap (λ (x : Content). x.checksum) e,
+    (
+      (ap (λ (x : Content). x.version) e, (ap (λ (x : Content). x.cluster) e, (ap (λ (x : Content). x.layout) e, (ap (λ (x : Content). x.sequence) e, (ap (λ (x : Content). x.op) e, ap (λ (x : Content). x.op_checksum) e))))),
+      (
+        (ap (λ (x : Content). x.head) e, (ap (λ (x : Content). x.replies) e, (ap (λ (x : Content). x.trailer) e, (ap (λ (x : Content). x.trailer_checksum) e, (ap (λ (x : Content). x.trailer_size) e, ap (λ (x : Content). x.rest) e))))),
+        (ap (λ (x : Content). x.boot) e, (ap (λ (x : Content). x.pin) e, (ap (λ (x : Content). x.pin_checksum) e, (ap (λ (x : Content). x.answered) e, ap (λ (x : Content). x.reply_checksums) e)))),
+      ),
+    ),
   ))
 ]
 

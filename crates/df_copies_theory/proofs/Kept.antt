@@ -6,9 +6,7 @@ use Rattle.df_theory.specs.UnitLog.{UnitLog, Synced, Stopped, add, now, loose, s
 use Rattle.df_theory.specs.Chance.{InImages, InWrites, InPool}
 use Rattle.df_theory.specs.Runs.{after_steps, AtEach}
 use Rattle.df_theory.specs.MendLaws.{AllPutCopy, copy_steps}
-use Rattle.df_theory.proofs.Choices.{same_copy, chosen_above}
-use Rattle.df_theory.proofs.Steps.{old_agrees, cases_bool}
-use Rattle.df_theory.proofs.Mends.{copies_shown}
+use Rattle.df_theory.proofs.Laws.{same_copy, chosen_above, old_agrees, cases_bool, copies_shown}
 use Rattle.df_copies_theory.specs.Copies.{LeavesCopies, KnowsCopies, AreIdle, IsBounded, AreSteady, IsKept}
 use Rattle.df_copies_theory.specs.CopyLaws.{ViewLaw, RepairLaw, TwoSufficeLaw, BeginsLaw}
 
@@ -219,21 +217,21 @@ begins_law start c equal = record {
 }
 
 pub view_law : ViewLaw
-view_law sh log v steady = record {
+view_law sh log v rests = record {
   idle = record {
     dry = λ n below. elim (cases_bool (loose log (CopyPlace n))) [
-      | inl wet ↦ absurd ((steady.calm (CopyPlace n) wet).no_copy tt)
+      | inl wet ↦ absurd ((rests.calm (CopyPlace n) wet).no_copy tt)
       | inr dry ↦ dry
     ];
-    idle = λ n d below is. (steady.calm (CopyPlace n) (steady.pending (CopyPlace n) (CopyUnit d) is).0).no_copy tt;
+    idle = λ n d below is. (rests.calm (CopyPlace n) (rests.pending (CopyPlace n) (CopyUnit d) is).0).no_copy tt;
   };
-  chosen = steady.holds.chosen;
+  chosen = rests.holds.chosen;
   bounded = λ n d above below is.
-      let a = old_agrees sh (settled log) v steady.grows (CopyPlace n) (CopyUnit d) is in
+      let a = old_agrees sh (settled log) v rests.grows (CopyPlace n) (CopyUnit d) is in
       let same : a.0 ≡ d = (let e = a.1 in cc) in
       subst (λ (x : Content). (x ≡ v.checkpoint.content) ⊎ (rank_of x < rank_of v.checkpoint.content)) same (a.2 (λ zero_is. omega arith));
-  known = λ n d below is. elim (steady.knows (CopyPlace n) (CopyUnit d) is) [
+  known = λ n d below is. elim (rests.pooled (CopyPlace n) (CopyUnit d) is) [
     | inl old ↦ old
-    | inr pending ↦ absurd ((steady.calm (CopyPlace n) (steady.pending (CopyPlace n) (CopyUnit d) pending).0).no_copy tt)
+    | inr pending ↦ absurd ((rests.calm (CopyPlace n) (rests.pending (CopyPlace n) (CopyUnit d) pending).0).no_copy tt)
   ];
 }

@@ -6,8 +6,7 @@ use Rattle.df_theory.specs.Copies.{rank_of, Agree, IsChosen}
 use Rattle.df_theory.specs.UnitLog.{UnitLog, Synced, add, now, loose, wrote, PutsOne}
 use Rattle.df_theory.specs.Runs.{AtEach}
 use Rattle.df_theory.specs.MendLaws.{copy_steps}
-use Rattle.df_theory.proofs.Choices.{same_copy}
-use Rattle.df_theory.proofs.Steps.{cases_bool}
+use Rattle.df_theory.proofs.Laws.{same_copy, cases_bool}
 use Rattle.df_copies_theory.specs.Copies.{LeavesCopies, AllPut, AreOutside, IsMisled}
 use Rattle.df_copies_theory.specs.CopyLaws.{RepairUnlessMisledLaw}
 use Rattle.df_copies_theory.proofs.Equal.{same_content, shows_content}

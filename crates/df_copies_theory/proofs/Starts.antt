@@ -4,9 +4,7 @@ use Rattle.df_theory.specs.Units.{CopyPlace, HeaderPlace, PreparePlace, ReplyPla
 use Rattle.df_theory.specs.Copies.{rank_of, IsNextContent, Agree, IsChosen}
 use Rattle.df_theory.specs.UnitLog.{UnitLog, Synced, Stopped, add, now, loose, wrote, put_one}
 use Rattle.df_theory.specs.Chance.{InImages}
-use Rattle.df_theory.proofs.Choices.{same_copy, chosen_above}
-use Rattle.df_theory.proofs.Writes.{put_one_law}
-use Rattle.df_theory.proofs.Keeps.{four}
+use Rattle.df_theory.proofs.Laws.{same_copy, chosen_above, put_one_law, four}
 use Rattle.df_copies_theory.specs.Copies.{LeavesCopies, KnowsCopies}
 use Rattle.df_copies_theory.specs.CopyLaws.{GrowFrom, MisleadsLaw}
 
@@ -14,7 +12,7 @@ abbrev layout : Layout
 layout = record { slots = 16; message_size = 4096; clients = 4; block_size = 4096; blocks = 1024 }
 
 abbrev content : ℕ → ℕ → Content
-content s h = record { version = 1; cluster = 3; layout = layout; sequence = s; op = 0; op_checksum = 0; head = h; replies = 0; trailer = 0; trailer_checksum = 0; trailer_size = 0; rest = [] }
+content s h = record { checksum = h; version = 1; cluster = 3; layout = layout; sequence = s; boot = 0; op = 0; op_checksum = 0; head = h; replies = 0; pin = 0; pin_checksum = 0; answered = 0; reply_checksums = []; trailer = 0; trailer_checksum = 0; trailer_size = 0; rest = [] }
 
 abbrev first : Content
 first = content 1 0
@@ -66,7 +64,7 @@ log5 = add (Stopped torn) (wrote (put 1 third) log4)
 abbrev bad : Units
 bad = copies again again
 
-low : (a : Content) → a ≡ first → rank_of a < 2
+low : (a : Content) → a ≡ first → rank_of a < rank_of again
 low a same = omega (arith, ap rank_of same)
 
 -- copies 2 and 3 show the first content, and copies 0 and 1 don't agree on another
@@ -99,7 +97,7 @@ module _ (base : List Units) (image : Units) (x : Content) (next : IsNextContent
   usual : (n : ℕ) (d : Content) → n < 4 → image (CopyPlace n) ≡ Some (CopyUnit d) → InImages base (CopyPlace n) (CopyUnit d) ⊎ ((d ≡ first) ⊎ ((n ≡ 0) × IsNextContent first d))
   usual n d below shown = elim (four n below) [
     | inl is ↦ elim zeroth [
-      | inl z ↦ inr (inr (is, ap rank_of (content_of x d (sym z ∙ at 0 is)) ∙ next))
+      | inl z ↦ inr (inr (is, subst (λ (c : Content). IsNextContent first c) (sym (content_of x d (sym z ∙ at 0 is))) next))
       | inr z ↦ inr (inl (content_of first d (sym z ∙ at 0 is)))
     ]
     | inr (inl is) ↦ inr (inl (content_of first d (sym one ∙ at 1 is)))
@@ -115,7 +113,7 @@ module _ (base : List Units) (image : Units) (x : Content) (next : IsNextContent
 
 torn_known : (n : ℕ) (d : Content) → n < 4 → torn (CopyPlace n) ≡ Some (CopyUnit d) → InImages (now log4 ∷ now log3 ∷ now log2 ∷ now log1 ∷ log0.start ∷ []) (CopyPlace n) (CopyUnit d) ⊎ ((d ≡ first) ⊎ ((n ≡ 0) × IsNextContent first d))
 torn_known n d below shown = elim (four n below) [
-  | inl is ↦ inr (inr (is, ap rank_of (content_of third d (at 0 is))))
+  | inl is ↦ inr (inr (is, subst (λ (c : Content). IsNextContent first c) (sym (content_of third d (at 0 is))) (inl (refl, refl))))
   | inr (inl is) ↦ inl (inr (inr (inr (inr (inl (ap (λ (i : ℕ). log0.start (CopyPlace i)) is ∙ ap (λ (c : Content). Some (CopyUnit c)) (content_of d again (sym (at 1 is)))))))))
   | inr (inr (inl is)) ↦ inr (inl (content_of first d (at 2 is)))
   | inr (inr (inr is)) ↦ inr (inl (content_of first d (at 3 is)))
@@ -134,16 +132,16 @@ grew = (
 )
   where
     grew1 : GrowFrom (log0.start ∷ []) first (now log1 ∷ []) first
-    grew1 = (usual_chosen (log0.start ∷ []) (now log1) third refl (inr refl) refl refl refl, (first, (refl, (inl refl, usual (log0.start ∷ []) (now log1) third refl (inr refl) refl refl refl))))
+    grew1 = (usual_chosen (log0.start ∷ []) (now log1) third (inl (refl, refl)) (inr refl) refl refl refl, (first, (refl, (inl refl, usual (log0.start ∷ []) (now log1) third (inl (refl, refl)) (inr refl) refl refl refl))))
 
     grew2 : GrowFrom (log0.start ∷ []) first (now log2 ∷ now log1 ∷ []) first
-    grew2 = (usual_chosen (log0.start ∷ []) (now log2) again refl (inl refl) refl refl refl, (first, (grew1, (inl refl, usual (now log1 ∷ log0.start ∷ []) (now log2) again refl (inl refl) refl refl refl))))
+    grew2 = (usual_chosen (log0.start ∷ []) (now log2) again (inl (refl, refl)) (inl refl) refl refl refl, (first, (grew1, (inl refl, usual (now log1 ∷ log0.start ∷ []) (now log2) again (inl (refl, refl)) (inl refl) refl refl refl))))
 
     grew3 : GrowFrom (log0.start ∷ []) first (now log3 ∷ now log2 ∷ now log1 ∷ []) first
-    grew3 = (usual_chosen (log0.start ∷ []) (now log3) third refl (inr refl) refl refl refl, (first, (grew2, (inl refl, usual (now log2 ∷ now log1 ∷ log0.start ∷ []) (now log3) third refl (inr refl) refl refl refl))))
+    grew3 = (usual_chosen (log0.start ∷ []) (now log3) third (inl (refl, refl)) (inr refl) refl refl refl, (first, (grew2, (inl refl, usual (now log2 ∷ now log1 ∷ log0.start ∷ []) (now log3) third (inl (refl, refl)) (inr refl) refl refl refl))))
 
     grew4 : GrowFrom (log0.start ∷ []) first (now log4 ∷ now log3 ∷ now log2 ∷ now log1 ∷ []) first
-    grew4 = (usual_chosen (log0.start ∷ []) (now log4) third refl (inl refl) refl refl refl, (first, (grew3, (inl refl, usual (now log3 ∷ now log2 ∷ now log1 ∷ log0.start ∷ []) (now log4) third refl (inl refl) refl refl refl))))
+    grew4 = (usual_chosen (log0.start ∷ []) (now log4) third (inl (refl, refl)) (inl refl) refl refl refl, (first, (grew3, (inl refl, usual (now log3 ∷ now log2 ∷ now log1 ∷ log0.start ∷ []) (now log4) third (inl (refl, refl)) (inl refl) refl refl refl))))
 
 bad_left : LeavesCopies (wrote (put 0 first) log5) bad
 bad_left n below firm = elim (four n below) [

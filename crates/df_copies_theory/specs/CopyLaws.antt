@@ -1,38 +1,38 @@
 -- What the two ways of writing copies keep, at every moment and wherever a stop falls.
 use Rattle.std.specs.Prelude.{◌≡◌, ◌⊎◌, ◌<◌, ℕ, List, [], ◌∷◌, ◌++◌, take, Some}
+use Rattle.df_theory.specs.CopyPuts.{PutsCopies}
 use Rattle.df_theory.specs.Units.{CopyPlace, Content, CopyUnit, Units}
 use Rattle.df_theory.specs.Shape.{Shape}
 use Rattle.df_theory.specs.Copies.{rank_of, IsNextContent, Agree, IsChosen}
 use Rattle.df_theory.specs.View.{View}
 use Rattle.df_theory.specs.UnitLog.{UnitLog, Synced, Stopped, add, now, settled, wrote, PutsOne}
 use Rattle.df_theory.specs.Chance.{InImages}
-use Rattle.df_theory.specs.Steady.{IsSteady}
+use Rattle.df_theory.specs.Rests.{RestsOn}
 use Rattle.df_theory.specs.Runs.{after_steps, AtEach}
 use Rattle.df_theory.specs.MendLaws.{AllPutCopy, IsNumber, copy_steps}
 use Rattle.df_copies_theory.specs.Copies.{LeavesCopies, KnowsCopies, AreIdle, AreSteady, IsKept, IsEither, AreEqual, AllPut, AreOutside, IsMisled}
 
--- a log that is steady on a view has steady copies
+-- a log that rests on a view has steady copies
 abbrev pub ViewLaw : Type 0
-ViewLaw = (sh : Shape) (log : UnitLog) (v : View) → IsSteady sh log v → AreSteady log v.checkpoint.content
+ViewLaw = (sh : Shape) (log : UnitLog) (v : View) → RestsOn sh log v → AreSteady log v.checkpoint.content
 
 -- each moment of an update of four equal copies to a content above theirs: until copy 1 is written the old one is kept, and from its sync on the new one
-pub record Updates (log : UnitLog) (old new : Content) (put0 put1 put2 put3 : Units) : Type 0 where
+pub record Updates (log : UnitLog) (old new : Content) (puts : PutsCopies new) : Type 0 where
   pub before : IsKept log old
-  pub first_loose : IsKept (wrote put0 log) old
-  pub first : IsKept (add Synced (wrote put0 log)) old
-  pub second_loose : IsEither (wrote put1 (add Synced (wrote put0 log))) old new
-  pub second : IsKept (add Synced (wrote put1 (add Synced (wrote put0 log)))) new
-  pub third_loose : IsKept (wrote put2 (add Synced (wrote put1 (add Synced (wrote put0 log))))) new
-  pub third : IsKept (add Synced (wrote put2 (add Synced (wrote put1 (add Synced (wrote put0 log)))))) new
-  pub fourth_loose : IsKept (wrote put3 (add Synced (wrote put2 (add Synced (wrote put1 (add Synced (wrote put0 log))))))) new
-  pub steady : AreSteady (add Synced (wrote put3 (add Synced (wrote put2 (add Synced (wrote put1 (add Synced (wrote put0 log)))))))) new
-  pub equal : AreEqual (now (add Synced (wrote put3 (add Synced (wrote put2 (add Synced (wrote put1 (add Synced (wrote put0 log))))))))) new
+  pub first_loose : IsKept (wrote puts.put0 log) old
+  pub first : IsKept (add Synced (wrote puts.put0 log)) old
+  pub second_loose : IsEither (wrote puts.put1 (add Synced (wrote puts.put0 log))) old new
+  pub second : IsKept (add Synced (wrote puts.put1 (add Synced (wrote puts.put0 log)))) new
+  pub third_loose : IsKept (wrote puts.put2 (add Synced (wrote puts.put1 (add Synced (wrote puts.put0 log))))) new
+  pub third : IsKept (add Synced (wrote puts.put2 (add Synced (wrote puts.put1 (add Synced (wrote puts.put0 log)))))) new
+  pub fourth_loose : IsKept (wrote puts.put3 (add Synced (wrote puts.put2 (add Synced (wrote puts.put1 (add Synced (wrote puts.put0 log))))))) new
+  pub steady : AreSteady (add Synced (wrote puts.put3 (add Synced (wrote puts.put2 (add Synced (wrote puts.put1 (add Synced (wrote puts.put0 log)))))))) new
+  pub equal : AreEqual (now (add Synced (wrote puts.put3 (add Synced (wrote puts.put2 (add Synced (wrote puts.put1 (add Synced (wrote puts.put0 log))))))))) new
 
 abbrev pub UpdateCopiesLaw : Type 0
 UpdateCopiesLaw =
-    (log : UnitLog) (old new : Content) (put0 put1 put2 put3 : Units) → AreSteady log old → AreEqual (now log) old → rank_of old < rank_of new
-    → PutsOne put0 (CopyPlace 0) (CopyUnit new) → PutsOne put1 (CopyPlace 1) (CopyUnit new) → PutsOne put2 (CopyPlace 2) (CopyUnit new) → PutsOne put3 (CopyPlace 3) (CopyUnit new)
-    → Updates log old new put0 put1 put2 put3
+    (log : UnitLog) (old new : Content) (puts : PutsCopies new) → AreSteady log old → AreEqual (now log) old → rank_of old < rank_of new
+    → Updates log old new puts
 
 -- each moment of a repair of copies beside two that agree on the choice, whatever was left of earlier updates; where all others are written, the four are equal at its end
 abbrev pub RepairLaw : Type 0

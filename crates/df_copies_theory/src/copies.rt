@@ -2,7 +2,7 @@
 
 ghost use Rattle.df_copies_theory.specs.CopyLaws.{ViewLaw, BeginsLaw, UpdateCopiesLaw, RepairLaw, AttemptsLaw, RepairUnlessMisledLaw, TwoSufficeLaw, MisleadsLaw};
 
-/// A log that is steady on a view has steady copies.
+/// A log that rests on a view has steady copies.
 pub fn view_has_steady_copies()
     ensures { ViewLaw }
 {}

@@ -12,10 +12,11 @@ use Rattle.df_layout.specs.declared.places.Zone.TheVariants.{Superblock}
 use Rattle.df_format.specs.Own.{place_in}
 use Rattle.df_format.specs.declared.superblock.SuperCopy.{SuperCopy}
 use Rattle.df_format.specs.Copies.{copy_in, if_here, copy_at, content_of, is_blank_copy, class_of_sound, class_of_copy, copy_or_class, own_copy}
-use Rattle.df_format.specs.CopyLaws.{ValidCopyIsStale, BlankShowsNoCopy}
+use Rattle.df_format.specs.CopyLaws.{ValidCopyIsStale, StaleIsCopy, BlankShowsNoCopy}
 use Rattle.df_format.proofs.Digest.{check_of-zeros}
 use Rattle.df_format.proofs.Shown.{none_unless}
 use Rattle.df_format.proofs.CopySpelled.{read_as}
+use Rattle.df_format.proofs.Wholes.{unless_blank}
 
 zeros_have_a_sum : (bytes : List ℕ) → bytes ≡ replicate 4096 0 → take 16 bytes ≡ check_of (drop 32 bytes) → ⊥
 zeros_have_a_sum bytes zeros sum =
@@ -54,6 +55,19 @@ unfolding copy_at
 valid_is_stale image number copy is =
     let found = is_here number (copy_in (image number)) copy is in
     class_of_found number (image number) copy found.0 ∙ cond-true (copy.number == number) Stale (Elsewhere (place_in Superblock copy.number)) (eq-eqb copy.number number found.1)
+
+here_by : (b : Bool) (other : Class) → other ≢ Stale → cond b Stale other ≡ Stale → b ≡ true
+here_by true other differs is = refl
+here_by false other differs is = absurd (differs is)
+
+sound_stale : (number : ℕ) (o : Option SuperCopy) → class_of_sound number o ≡ Stale → (copy : SuperCopy) × (if_here number o ≡ Some copy)
+sound_stale number None is = absurd (cc)
+sound_stale number (Some copy) is =
+    (copy, cond-true (copy.number == number) (Some copy) None (here_by (copy.number == number) (Elsewhere (place_in Superblock copy.number)) (λ same. cc) is))
+
+pub stale_copy : StaleIsCopy
+unfolding class_of_copy copy_at
+stale_copy image number is = sound_stale number (copy_in (image number)) (unless_blank (is_blank_copy (image number)) (class_of_sound number (copy_in (image number))) is)
 
 blank_is_blank : (number : ℕ) → is_blank_copy (blank number) ≡ true
 unfolding is_blank_copy blank

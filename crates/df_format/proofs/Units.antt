@@ -67,7 +67,7 @@ part_whole WalPrepares index bytes other = refl
 part_whole ClientReplies index bytes other = refl
 part_whole Grid index bytes other = refl
 
-count_is : (layout : Layout) (place : Place) → (span_of layout place).count ≡ place_sectors layout place.zone
+pub count_is : (layout : Layout) (place : Place) → (span_of layout place).count ≡ place_sectors layout place.zone
 unfolding span_of
 count_is layout place = refl
 

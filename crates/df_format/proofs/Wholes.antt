@@ -21,7 +21,7 @@ use Rattle.df_format.specs.Own.{own_place}
 use Rattle.df_format.specs.Whole.{Whole, greatest_size, body_in, has_body, is_unit, with_own, if_unit, whole_in}
 use Rattle.df_format.specs.Shown.{same_place, if_own, unit_in, is_blank, class_of_whole, class_of}
 use Rattle.df_format.specs.Valid.{IsBodyOf, HasBody, Begins}
-use Rattle.df_format.specs.UnitLaws.{place_size, UnitsHaveOneSpelling, BodyFollows, RingHasNoBody, ValidIsStale, ElsewhereIsOther}
+use Rattle.df_format.specs.UnitLaws.{place_size, UnitsHaveOneSpelling, BodyFollows, RingHasNoBody, ValidIsStale, StaleIsValid, ElsewhereIsOther}
 use Rattle.df_format.proofs.Parts.{bytes-take, bytes-drop}
 use Rattle.df_format.proofs.Codes.{some-eq}
 use Rattle.df_format.proofs.Spelled.{guard_is, read_as, reads, was_spelled, length-spelling}
@@ -259,6 +259,24 @@ valid_stale layout cluster place bytes u is =
     cond-false _ Blank _ (whole_is_not_blank layout cluster place.zone bytes _ whole)
     ∙ ap (λ (o : Option Whole). class_of_whole place o) whole
     ∙ cond-true _ Stale (Elsewhere place) (same_place-self place)
+
+stale_by : (b : Bool) (own : Place) → cond b Stale (Elsewhere own) ≡ Stale → b ≡ true
+stale_by true own is = refl
+stale_by false own is = absurd (cc)
+
+whole_stale : (place : Place) (o : Option Whole) → class_of_whole place o ≡ Stale → (u : Message) × (if_own place o ≡ Some u)
+whole_stale place None is = absurd (cc)
+whole_stale place (Some w) is = (w.unit, cond-true (same_place w.own place) (Some w.unit) None (stale_by (same_place w.own place) w.own is))
+
+-- the class of what isn't blank
+pub unless_blank : (b : Bool) (class : Class) → cond b Blank class ≡ Stale → class ≡ Stale
+unless_blank true class is = absurd (cc)
+unless_blank false class is = is
+
+pub stale_valid : StaleIsValid
+unfolding class_of unit_in
+stale_valid layout cluster place bytes is =
+    whole_stale place (whole_in layout cluster place.zone bytes) (unless_blank (is_blank bytes) (class_of_whole place (whole_in layout cluster place.zone bytes)) is)
 
 elsewhere_by : (b : Bool) (own other : Place) → cond b Stale (Elsewhere own) ≡ Elsewhere other → (b ≡ false) × (own ≡ other)
 elsewhere_by true own other is = absurd (cc)

@@ -51,6 +51,10 @@ SameSectorSameCopy = (one two : Image) (number : ℕ) → one number ≡ two num
 abbrev pub ValidCopyIsStale : Type 0
 ValidCopyIsStale = (image : Image) (number : ℕ) (copy : SuperCopy) → copy_at image number ≡ Some copy → class_of_copy number (image number) ≡ Stale
 
+-- and what is stale is a copy that is valid there
+abbrev pub StaleIsCopy : Type 0
+StaleIsCopy = (image : Image) (number : ℕ) → class_of_copy number (image number) ≡ Stale → (copy : SuperCopy) × (copy_at image number ≡ Some copy)
+
 -- a blank image shows no copy
 abbrev pub BlankShowsNoCopy : Type 0
 BlankShowsNoCopy = (number : ℕ) → content_at blank number ≡ None

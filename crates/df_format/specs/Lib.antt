@@ -20,3 +20,4 @@ pub mod Copies
 pub mod First
 pub mod CopyPools
 pub mod CopyLaws
+pub mod Brings

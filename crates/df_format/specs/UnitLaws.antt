@@ -69,6 +69,10 @@ RingHasNoBody = (layout : Layout) (cluster : ℕ) (place : Place) (bytes : List 
 abbrev pub ValidIsStale : Type 0
 ValidIsStale = (layout : Layout) (cluster : ℕ) (place : Place) (bytes : List ℕ) (u : Message) → unit_in layout cluster place bytes ≡ Some u → class_of layout cluster place bytes ≡ Stale
 
+-- and what is stale is a unit that is valid there
+abbrev pub StaleIsValid : Type 0
+StaleIsValid = (layout : Layout) (cluster : ℕ) (place : Place) (bytes : List ℕ) → class_of layout cluster place bytes ≡ Stale → (u : Message) × (unit_in layout cluster place bytes ≡ Some u)
+
 abbrev pub ElsewhereIsOther : Type 0
 ElsewhereIsOther =
     (layout : Layout) (cluster : ℕ) (place other : Place) (bytes : List ℕ) → class_of layout cluster place bytes ≡ Elsewhere other → HasPlace layout other × (other ≢ place)

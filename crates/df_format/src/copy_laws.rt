@@ -1,5 +1,5 @@
 // Laws of every copy of the superblock, sector and image, each the clause of a function that does nothing.
-ghost use Rattle.df_format.specs.CopyLaws.{CopiesHaveOneSpelling, WrittenCopyIsShown, OtherSectorsStay, OtherCopiesStay, CopyIsOneSector, SameSectorSameCopy, ValidCopyIsStale, BlankShowsNoCopy};
+ghost use Rattle.df_format.specs.CopyLaws.{CopiesHaveOneSpelling, WrittenCopyIsShown, OtherSectorsStay, OtherCopiesStay, CopyIsOneSector, SameSectorSameCopy, ValidCopyIsStale, StaleIsCopy, BlankShowsNoCopy};
 
 /// A sector is read as a copy with zeros behind its fields exactly where it is that copy's spelling.
 pub fn copies_have_one_spelling()
@@ -19,9 +19,11 @@ pub fn same_sector_same_copy()
     ensures { SameSectorSameCopy }
 {}
 
-/// A copy that is valid at its place is neither blank nor elsewhere.
+/// A copy that is valid at its place is stale where it isn't the one wanted, neither blank nor elsewhere; and nothing else
+/// is stale.
 pub fn valid_copy_is_stale()
-    ensures { ValidCopyIsStale }
+    ensures valid { ValidCopyIsStale }
+    ensures stale { StaleIsCopy }
 {}
 
 /// A blank image shows no copy.

@@ -1,5 +1,6 @@
 // Laws of every unit, place and image of a layout, each the clause of a function that does nothing.
-ghost use Rattle.df_format.specs.UnitLaws.{UnitsHaveOneSpelling, ShownBelongs, ShownIsUnit, ReadBelongs, ValidBelongs, BodyFollows, RingHasNoBody, ValidIsStale, ElsewhereIsOther, SameIsShown, ReadIsShown, WrittenIsShown, SectorsFitPlace, WrittenIsApart, LeftIsApart, LeftIsOldOrNew, SectorIsShown, HeadersFillSector, HeaderIsShown, BlankShowsNone, PreparesAreUnits, SlotsArePlaces, UnitsArePrepares};
+ghost use Rattle.df_format.specs.Brings.{MadeBrings, FrontBrings};
+ghost use Rattle.df_format.specs.UnitLaws.{UnitsHaveOneSpelling, ShownBelongs, ShownIsUnit, ReadBelongs, ValidBelongs, BodyFollows, RingHasNoBody, ValidIsStale, StaleIsValid, ElsewhereIsOther, SameIsShown, ReadIsShown, WrittenIsShown, SectorsFitPlace, WrittenIsApart, LeftIsApart, LeftIsOldOrNew, SectorIsShown, HeadersFillSector, HeaderIsShown, BlankShowsNone, PreparesAreUnits, SlotsArePlaces, UnitsArePrepares};
 
 /// A place shows a unit exactly where its bytes begin with one that is valid there.
 pub fn units_have_one_spelling()
@@ -21,9 +22,11 @@ pub fn bodies_follow_headers()
     ensures ring { RingHasNoBody }
 {}
 
-/// A valid unit that isn't the one wanted is stale; what is elsewhere belongs at another place of the layout.
+/// What is valid and isn't the unit wanted is stale, and nothing else is; what is elsewhere belongs at another place of
+/// the layout.
 pub fn classes_tell()
     ensures valid { ValidIsStale }
+    ensures stale { StaleIsValid }
     ensures elsewhere { ElsewhereIsOther }
 {}
 
@@ -37,6 +40,12 @@ pub fn places_show_their_sectors()
 pub fn written_unit_is_shown()
     ensures shown { WrittenIsShown }
     ensures fits { SectorsFitPlace }
+{}
+
+/// The sectors of a unit as they are made bring it to its place, and so does the front of what is read as that unit.
+pub fn sectors_bring_units()
+    ensures made { MadeBrings }
+    ensures front { FrontBrings }
 {}
 
 /// A header sector that is written shows at each of its sixteen slots what is in it; sixteen headers fill it.

@@ -2,3 +2,4 @@ pub mod Same
 pub mod Sizes
 pub mod Spans
 pub mod Zones
+pub mod Laws

@@ -3,14 +3,14 @@
 
 mod damage;
 mod fields;
-mod laws;
 mod layout;
+mod order;
 mod places;
 
 pub use damage::{Class, Finding, Mend};
 pub use fields::Field;
-pub use laws::{layouts_are_numbers, places_are_apart, places_are_inside, zones_in_order};
 pub use layout::Layout;
+pub use order::{layouts_are_numbers, places_are_apart, places_are_inside, zones_in_order};
 pub use places::{Place, Span, Zone};
 
 #[cfg(test)]

@@ -9,10 +9,10 @@ use Rattle.df_format.specs.Unit.{Prepare, prepare_at, slot_start}
 use Rattle.df_format.specs.Chance.{InPool, NoChance}
 use Rattle.df_format.proofs.Shown.{shown_same, blank_none, blank_image, uncovered_below, uncovered_above}
 use Rattle.df_prepares.specs.Steady.{AllGrow, AllInside, IsSteady, IsSafe, IsAtRest}
-use Rattle.df_prepares.specs.Apart.{IsApart, AgreeOnRing, SameSectorsSameRing, ApartKeepsRing, ApartKeepsSafe, ApartKeepsRest, ApartKeepsLeft, SyncKeepsSafe, SyncKeepsRest, FrontIsApart, SyncedBlankIsAtRest, RingWritesStayInside}
-use Rattle.df_prepares.proofs.Firm.{written_other, firm_safe}
+use Rattle.df_prepares.specs.Apart.{IsApart, AgreeOnRing, SameSectorsSameRing, ApartKeepsRing, ApartKeepsRest, SyncKeepsRest, FrontIsApart, SyncedBlankIsAtRest, RingWritesStayInside}
+use Rattle.df_prepares.proofs.Firm.{written_other}
 use Rattle.df_prepares.proofs.Rings.{ShowSame, ring_same, show_same_turned}
-use Rattle.df_prepares.proofs.Rests.{new_rests, rest_kept, sync_rests}
+use Rattle.df_prepares.proofs.Rests.{new_rests, sync_rests}
 
 -- images with the same bytes in each slot show the same
 agree_shows : (wal : Wal) (one two : Image) → AgreeOnRing wal one two → ShowSame wal one two
@@ -142,24 +142,15 @@ module _ (wal : Wal) (log : Log) (at : ℕ) (bytes : List ℕ) (piece : IsPiece 
     stopped = stopped;
   }
 
-pub apart_keeps_safe : (wal : Wal) → ApartKeepsSafe wal
-apart_keeps_safe wal log at bytes piece apart safe = wrote_safe wal log at bytes piece apart safe
-
 or_false : (a b : Bool) → a ≡ false → b ≡ false → (a || b) ≡ false
 or_false a b one two = cc (one, two)
 
 pub apart_keeps_rest : (wal : Wal) → ApartKeepsRest wal
 apart_keeps_rest wal log ps at bytes piece apart rest = record {
-  safe = apart_keeps_safe wal log at bytes piece apart rest.safe;
+  safe = wrote_safe wal log at bytes piece apart rest.safe;
   quiet = λ slot k below inside. or_false _ _ (apart slot k below inside) (rest.quiet slot k below inside);
   ring = apart_keeps_ring wal at bytes (now log) ps apart rest.ring;
 }
-
-pub apart_keeps_left : (wal : Wal) → ApartKeepsLeft wal
-apart_keeps_left wal log ps at bytes piece apart rest = rest_kept wal (add (Write at bytes) log) ps (apart_keeps_rest wal log ps at bytes piece apart rest)
-
-pub sync_keeps_safe : (wal : Wal) → SyncKeepsSafe wal
-sync_keeps_safe wal log safe = firm_safe wal (add Sync log) (settled log) safe.synced (λ sector. refl) refl
 
 pub sync_keeps_rest : (wal : Wal) → SyncKeepsRest wal
 sync_keeps_rest wal log ps rest = sync_rests wal log ps rest.safe rest.ring

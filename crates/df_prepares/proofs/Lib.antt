@@ -9,3 +9,4 @@ pub mod Rests
 pub mod Finds
 pub mod Heads
 pub mod Apart
+pub mod Written

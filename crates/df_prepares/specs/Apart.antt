@@ -4,7 +4,6 @@ use Rattle.df_base.specs.Image.{Image, IsPiece, blank, covers, written}
 use Rattle.df_base.specs.Log.{AreSyncs, Write, Sync, Log, add}
 use Rattle.df_format.specs.declared.wal.Wal.{Wal}
 use Rattle.df_format.specs.Unit.{Prepare, IsPrepare, slot_start, slot_sectors, sectors_of}
-use Rattle.df_format.specs.Chance.{EachLeft}
 use Rattle.df_format.specs.Laws.{AgreeIn}
 use Rattle.df_prepares.specs.Ring.{IsRing}
 use Rattle.df_prepares.specs.Steady.{IsSafe, IsAtRest}
@@ -25,26 +24,12 @@ SameSectorsSameRing wal = (one two : Image) (ps : List Prepare) → AgreeOnRing 
 abbrev pub ApartKeepsRing : Wal → Type 0
 ApartKeepsRing wal = (at : ℕ) (bytes : List ℕ) (image : Image) (ps : List Prepare) → IsApart wal at bytes → IsRing wal image ps → IsRing wal (written at bytes image) ps
 
--- it leaves a safe log safe, whatever is pending
-abbrev pub ApartKeepsSafe : Wal → Type 0
-ApartKeepsSafe wal = (log : Log) (at : ℕ) (bytes : List ℕ) → IsPiece bytes → IsApart wal at bytes → IsSafe wal log → IsSafe wal (add (Write at bytes) log)
-
--- it leaves a ring at rest
+-- it leaves a ring at rest, whatever else is pending
 abbrev pub ApartKeepsRest : Wal → Type 0
 ApartKeepsRest wal =
     (log : Log) (ps : List Prepare) (at : ℕ) (bytes : List ℕ) → IsPiece bytes → IsApart wal at bytes → IsAtRest wal log ps → IsAtRest wal (add (Write at bytes) log) ps
 
--- so whatever a stop leaves then has that ring
-abbrev pub ApartKeepsLeft : Wal → Type 0
-ApartKeepsLeft wal =
-    (log : Log) (ps : List Prepare) (at : ℕ) (bytes : List ℕ) → IsPiece bytes → IsApart wal at bytes → IsAtRest wal log ps
-    → EachLeft wal (add (Write at bytes) log) (λ image. IsRing wal image ps)
-
--- a sync leaves a safe log safe
-abbrev pub SyncKeepsSafe : Wal → Type 0
-SyncKeepsSafe wal = (log : Log) → IsSafe wal log → IsSafe wal (add Sync log)
-
--- it leaves a ring at rest
+-- a sync leaves a ring at rest
 abbrev pub SyncKeepsRest : Wal → Type 0
 SyncKeepsRest wal = (log : Log) (ps : List Prepare) → IsAtRest wal log ps → IsAtRest wal (add Sync log) ps
 

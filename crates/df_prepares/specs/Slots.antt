@@ -9,6 +9,10 @@ use Rattle.df_format.specs.Message.{Message, sectors_end}
 use Rattle.df_format.specs.Own.{place_in}
 use Rattle.df_format.specs.Valid.{IsUnit}
 use Rattle.df_buffers.specs.Sounds.{Holding}
+use Rattle.df_theory.specs.Units.{PreparePlace, PrepareUnit}
+use Rattle.df_theory.specs.UnitLog.{put_one}
+use Rattle.df_theory.specs.Runs.{Puts, Step, Syncs}
+use Rattle.df_units.specs.Meaning.{message_of}
 
 -- the place of a slot
 abbrev pub slot_place : ℕ → Place
@@ -25,3 +29,7 @@ IsInOwnSlot layout u = IsUnit layout u.header.cluster (slot_place u.header.slot)
 -- the events of a write: the whole sectors that a unit covers go into the slot that its header names, and are synced
 abbrev pub write_events : Layout → Holding → List Event
 write_events layout held = Write (slot_first layout held.unit.header.slot) (take (sectors_end held.unit.header.size) held.bytes) ∷ Sync ∷ []
+
+-- what they are in the words of the model: the prepare is put into its slot, and synced
+abbrev pub write_steps : Message → List Step
+write_steps u = Puts (put_one (PreparePlace u.header.slot) (PrepareUnit (message_of u))) ∷ Syncs ∷ []

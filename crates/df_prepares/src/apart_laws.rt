@@ -1,5 +1,5 @@
 // The laws of writes that touch no sector of the ring and of syncs, each the clause of a function that does nothing.
-ghost use Rattle.df_prepares.specs.Apart.{SameSectorsSameRing, ApartKeepsRing, ApartKeepsSafe, ApartKeepsRest, ApartKeepsLeft, SyncKeepsSafe, SyncKeepsRest, FrontIsApart, SyncedBlankIsAtRest, RingWritesStayInside};
+ghost use Rattle.df_prepares.specs.Apart.{SameSectorsSameRing, ApartKeepsRing, ApartKeepsRest, SyncKeepsRest, FrontIsApart, SyncedBlankIsAtRest, RingWritesStayInside};
 
 use df_format::Wal;
 
@@ -13,24 +13,9 @@ pub fn apart_keeps_ring(wal: &Wal)
     ensures { ApartKeepsRing wal.now }
 {}
 
-/// Such a write leaves a safe log safe, whatever else is pending.
-pub fn apart_keeps_safe(wal: &Wal)
-    ensures { ApartKeepsSafe wal.now }
-{}
-
-/// Such a write leaves a ring at rest.
+/// Such a write leaves a ring at rest, whatever else is pending.
 pub fn apart_keeps_rest(wal: &Wal)
     ensures { ApartKeepsRest wal.now }
-{}
-
-/// Whatever a stop leaves after such a write has the ring that was at rest before it.
-pub fn apart_keeps_left(wal: &Wal)
-    ensures { ApartKeepsLeft wal.now }
-{}
-
-/// A sync leaves a safe log safe.
-pub fn sync_keeps_safe(wal: &Wal)
-    ensures { SyncKeepsSafe wal.now }
 {}
 
 /// A sync leaves a ring at rest.

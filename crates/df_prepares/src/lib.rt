@@ -9,9 +9,8 @@ mod slot;
 mod tests;
 
 pub use apart_laws::{
-    apart_keeps_left, apart_keeps_rest, apart_keeps_ring, apart_keeps_safe, front_is_apart,
-    ring_writes_stay_inside, same_sectors_same_ring, sync_keeps_rest, sync_keeps_safe,
-    synced_blank_is_at_rest,
+    apart_keeps_rest, apart_keeps_ring, front_is_apart, ring_writes_stay_inside,
+    same_sectors_same_ring, sync_keeps_rest, synced_blank_is_at_rest,
 };
 pub use laws::{new_is_at_rest, next_may_be_written, one_ring, rest_is_kept, safe_comes_to_rest};
 pub use ring::{Head, find_ring};

@@ -4,7 +4,9 @@ ghost use Rattle.df_base.specs.Causes.{HasCause};
 ghost use Rattle.df_disk.specs.Told.{Shows};
 ghost use Rattle.df_disk.specs.Adds.{Adds};
 ghost use Rattle.df_buffers.specs.Rooms.{FillsRoom};
-ghost use Rattle.df_prepares.specs.Slots.{slot_place, slot_first, IsInOwnSlot, write_events};
+ghost use Rattle.df_prepares.specs.Slots.{slot_place, slot_first, IsInOwnSlot, write_events, write_steps};
+ghost use Rattle.df_theory.specs.Device.{AreSteps};
+ghost use Rattle.df_units.specs.Format.{format_of};
 
 use df_base::Failed;
 use df_buffers::{Prepare, Raw, Sound};
@@ -39,6 +41,7 @@ pub fn write_prepare<D: Disk>(
 ) -> Result<(), Failed>
     requires layout { unit.now.layout ≡ layout.now }
     ensures events { Adds (write_events layout.now unit.now) (D.told disk.old) (D.told disk.new) result }
+    ensures steps { AreSteps (format_of layout.now unit.now.unit.header.cluster) (write_events layout.now unit.now) (write_steps unit.now.unit) }
     ensures own { IsInOwnSlot layout.now unit.now.unit }
     ensures cause { HasCause (D.faults disk.old) (D.faults disk.new) result }
 {

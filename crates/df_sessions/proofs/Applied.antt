@@ -6,7 +6,7 @@ use Rattle.df_sessions.specs.Table.{Table, IsTable, IsKnown, has_client, request
 use Rattle.df_sessions.specs.Changes.{Change, changed, sessions_after}
 use Rattle.df_sessions.specs.Changes.Change.{Request, Reply}
 use Rattle.df_sessions.proofs.Kept.{request_keeps, reply_keeps}
-use Rattle.df_sessions.proofs.Latest.{one_more}
+use Rattle.df_sessions.proofs.Noted.{one_more}
 use Rattle.df_sessions.proofs.Places.{IsFirst, first_place, request_known, request_new, place_known, place_new, reply_at, get_set_same, get_set_other, get_push_last, get_push_other}
 
 -- the request of a client is at this place, and nothing else has changed

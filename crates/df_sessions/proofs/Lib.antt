@@ -1,5 +1,6 @@
 pub mod Applied
 pub mod Each
 pub mod Kept
-pub mod Latest
+pub mod Noted
 pub mod Places
+pub mod Laws

@@ -5,6 +5,9 @@ ghost use Rattle.std.specs.List.{position};
 ghost use Rattle.df_sessions.specs.Table.{IsTable, IsKnown, has_client, requested, with_request, with_reply};
 ghost use Rattle.df_sessions.specs.Changes.{Change, sessions_after};
 ghost use Rattle.df_sessions.specs.Changes.Change.{Request, Reply};
+ghost use Rattle.df_sessions.specs.Requests.{sessions_of};
+ghost use Rattle.df_theory.specs.Sessions.{noted, session_of};
+ghost use Rattle.df_theory.specs.Units.{Header};
 
 use crate::Session;
 use arrayvec::ArrayVec;
@@ -84,6 +87,8 @@ impl SessionTable {
         ensures others { (k : ℕ) → k ≢ result → slice_get self.new.sessions k ≡ slice_get self.old.sessions k }
         ensures history { (changes : List Change) → self.old.sessions ≡ sessions_after changes
             → self.new.sessions ≡ sessions_after (changes ++ Request client request op ∷ []) }
+        ensures noted { (h : Header) → session_of h ≡ record { client = client; request = request; op = op }
+            → sessions_of self.new.sessions ≡ noted h (sessions_of self.old.sessions) }
     {
         let session = Session {
             client,
@@ -112,6 +117,7 @@ impl SessionTable {
         ensures others { (k : ℕ) → k ≢ place → slice_get self.new.sessions k ≡ slice_get self.old.sessions k }
         ensures history { (changes : List Change) → self.old.sessions ≡ sessions_after changes
             → self.new.sessions ≡ sessions_after (changes ++ Reply place reply ∷ []) }
+        ensures unnoted { sessions_of self.new.sessions ≡ sessions_of self.old.sessions }
     {
         let mut session = self.sessions[place as usize];
         session.reply = Some(reply);

@@ -8,3 +8,4 @@ pub mod Puts
 pub mod Written
 pub mod Mended
 pub mod Verdicts
+pub mod Stepped

@@ -6,6 +6,7 @@ ghost use Rattle.df_disk.specs.Adds.{Adds};
 ghost use Rattle.df_format.specs.Copies.{own_copy};
 ghost use Rattle.df_superblock.specs.Calls.{ShowsSector, ShowsSlot, ShowsSlots, ShowsCopies, slot_of};
 ghost use Rattle.df_superblock.specs.Events.{copy_written};
+ghost use Rattle.df_superblock.specs.Steps.{AreStepsOfCopies, write_steps};
 
 use df_base::Failed;
 use df_buffers::{ProbeRoom, Raw, SuperSector};
@@ -75,6 +76,7 @@ pub fn write_copy<D: Disk>(
 ) -> Result<(), Failed>
     requires { number < 4 }
     ensures events { Adds (copy_written number content.now ∷ Sync ∷ []) (D.told disk.old) (D.told disk.new) result }
+    ensures steps { AreStepsOfCopies (copy_written number content.now ∷ Sync ∷ []) (write_steps number content.now) }
     ensures cause { HasCause (D.faults disk.old) (D.faults disk.new) result }
 {
     let bytes = room.sector_mut(number).bytes_mut();

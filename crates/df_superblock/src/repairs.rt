@@ -4,6 +4,7 @@ ghost use Rattle.df_base.specs.Causes.{HasCause};
 ghost use Rattle.df_disk.specs.Adds.{Adds};
 ghost use Rattle.df_superblock.specs.Calls.{KeepsMembers, RepairsSteadily, RepairsUnlessMisled, EndsRepaired};
 ghost use Rattle.df_superblock.specs.Events.{mend_events, repair_events};
+ghost use Rattle.df_superblock.specs.Steps.{AreStepsOfCopies, repair_steps};
 
 use crate::copies::write_copy;
 use df_base::Failed;
@@ -59,6 +60,7 @@ pub fn repair<D: Disk>(
 ) -> Result<(), Failed>
     requires { content.now ≡ chosen.now.content }
     ensures events { Adds (repair_events content.now 0 chosen.now.members) (D.told disk.old) (D.told disk.new) result }
+    ensures steps { AreStepsOfCopies (repair_events content.now 0 chosen.now.members) (repair_steps content.now chosen.now.members) }
     ensures members { KeepsMembers chosen.now.members (D.told disk.old) (D.told disk.new) }
     ensures history { RepairsSteadily chosen.now (D.told disk.old) (D.told disk.new) }
     ensures unless_misled { RepairsUnlessMisled chosen.now (D.told disk.old) (D.told disk.new) }

@@ -4,6 +4,9 @@ ghost use Rattle.df_base.specs.Causes.{HasCause};
 ghost use Rattle.df_disk.specs.Adds.{Adds};
 ghost use Rattle.df_superblock.specs.Calls.{Holds, IsRead, IsFirstMissing, IsVerdict, IsJudged, IsUndamaged, AddsUpdate, IsCausedBy, UpdatesSafely, UpdatesSteadily, ShowsEqual, EndsEqual, EndsSteady, class_of_slot};
 ghost use Rattle.df_superblock.specs.Events.{update_events};
+ghost use Rattle.df_superblock.specs.Steps.{AreStepsOfCopies};
+ghost use Rattle.df_theory.specs.CopyPuts.{update_steps};
+ghost use Rattle.df_units.specs.Puts.{put_copies};
 
 use crate::copies::{read_all, write_copy};
 use df_base::Failed;
@@ -37,6 +40,7 @@ fn write_each<D: Disk>(disk: &mut D, room: &mut ProbeRoom, content: &Super) -> R
 // The same, and what that means for the copies.
 fn write_all<D: Disk>(disk: &mut D, room: &mut ProbeRoom, content: &Super) -> Result<(), Failed>
     ensures events { Adds (update_events content.now) (D.told disk.old) (D.told disk.new) result }
+    ensures steps { AreStepsOfCopies (update_events content.now) (update_steps (put_copies content.now)) }
     ensures moments { UpdatesSafely content.now (D.told disk.old) (D.told disk.new) }
     ensures history { UpdatesSteadily content.now (D.told disk.old) (D.told disk.new) }
     ensures shown { OnOk result (ShowsEqual content.now (D.told disk.new)) }
@@ -122,6 +126,7 @@ pub fn update<D: Disk>(
     content: &Super,
 ) -> Result<(), UpdateError>
     ensures events { AddsUpdate (update_events content.now) (D.told disk.old) (D.told disk.new) result }
+    ensures steps { AreStepsOfCopies (update_events content.now) (update_steps (put_copies content.now)) }
     ensures read_back { IsJudged (D.told disk.new) content.now result }
     ensures undamaged { IsUndamaged (D.told disk.new) result }
     ensures moments { UpdatesSafely content.now (D.told disk.old) (D.told disk.new) }

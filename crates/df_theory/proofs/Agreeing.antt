@@ -2,23 +2,41 @@
 use Rattle.std.proofs.Common.{◌≡◌, ◌⊎◌, inl, inr, ℕ, ◌==◌, Bool, true, false, if◌then◌else◌, ◌+◌, ◌%◌, ◌<◌, ◌≤◌, Option, Some, None, refl, sym, ◌∙◌, ap, subst, arith}
 use Rattle.std.proofs.lemmas.Bool.{cases_eq, cases_lt}
 use Rattle.std.proofs.lemmas.Bool.Decides.{nat_tests}
-use Rattle.df_theory.specs.Units.{AnyUnit, BlockUnit, CopyUnit, Header, HeaderPlace, HeaderUnit, Message, Place, PreparePlace, PrepareUnit, ReplyPlace, ReplyUnit, Units}
+use Rattle.df_theory.specs.Units.{AnyUnit, BlockUnit, Content, CopyUnit, Header, HeaderPlace, HeaderUnit, Message, Place, PreparePlace, PrepareUnit, ReplyPlace, ReplyUnit, Units}
 use Rattle.df_theory.specs.Tails.{In}
 use Rattle.df_theory.specs.Shape.{Shape}
-use Rattle.df_theory.specs.View.{View, head}
+use Rattle.df_theory.specs.View.{View, boot_of, head}
 use Rattle.df_theory.specs.Shows.{Agrees, AgreesHeader, AgreesPrepare, AgreesReply}
 use Rattle.df_theory.specs.Holds.{Sound}
-use Rattle.df_theory.specs.Cases.{Current, IsEmpty, IsTake, Lost, Nothing, Old, Seen, Take, Takes, case, seen, seen_header, seen_prepare}
+use Rattle.df_theory.specs.Cases.{Current, Far, IsEmpty, IsTake, Lost, Nothing, Old, Seen, Take, Takes, case, seen, seen_header, seen_prepare}
 use Rattle.df_theory.proofs.Tails.{chain_ops, in_one}
 use Rattle.df_theory.proofs.Slots.{mod_apart}
 
 -- ---- the table
 
-pub seen_now : (o : ℕ) (h : Header) → h.op ≡ o → seen o h ≡ Current h.checksum
-seen_now o h is = grind (arith, nat_tests)
+pub seen_now : (b o : ℕ) (h : Header) → h.op ≡ o → h.boot ≡ b → seen b o h ≡ Current h.checksum
+seen_now b o h is of = grind (arith, nat_tests)
 
-pub seen_old : (o : ℕ) (h : Header) → h.op < o → seen o h ≡ Old
-seen_old o h is = grind (arith, nat_tests)
+pub seen_old : (b o : ℕ) (h : Header) → h.op < o → seen b o h ≡ Old
+seen_old b o h is = grind (arith, nat_tests)
+
+pub seen_past : (b o : ℕ) (h : Header) → h.op ≡ o → (h.boot ≡ b → ⊥) → seen b o h ≡ Old
+seen_past b o h is not = grind (arith, nat_tests)
+
+-- a lower op, or this one of another boot
+abbrev pub IsBelow : ℕ → ℕ → Header → Type 0
+IsBelow b o h = (h.op < o) ⊎ ((h.op ≡ o) × (h.boot ≡ b → ⊥))
+
+seen_below : (b o : ℕ) (h : Header) → IsBelow b o h → seen b o h ≡ Old
+seen_below b o h (inl less) = seen_old b o h less
+seen_below b o h (inr past) = seen_past b o h past.0 past.1
+
+-- no old prepare is taken
+pub take_old : (x : Seen) → IsTake (case x Old) → ⊥
+take_old Nothing take = take
+take_old Old take = take
+take_old (Current a) take = take
+take_old Far take = take
 
 pub same_take : (a b : ℕ) → a ≡ b → IsTake (case (Current a) (Current b))
 same_take a b is = go (a == b) (eq_true a b is)
@@ -46,21 +64,31 @@ take_same a b is = elim (cases_eq a b) [
 -- ---- the slots
 
 -- what a ring shows at the slot of an op above the head is old, or nothing
-pub old_header : (o : ℕ) (x : Option AnyUnit) → ((h : Header) → x ≡ Some (HeaderUnit h) → h.op < o) → (seen_header o x ≡ Old) ⊎ (seen_header o x ≡ Nothing)
-old_header o None low = inr refl
-old_header o (Some (HeaderUnit h)) low = inl (seen_old o h (low h refl))
-old_header o (Some (CopyUnit c)) low = inr refl
-old_header o (Some (PrepareUnit p)) low = inr refl
-old_header o (Some (ReplyUnit r)) low = inr refl
-old_header o (Some (BlockUnit b)) low = inr refl
+pub old_header : (b o : ℕ) (x : Option AnyUnit) → ((h : Header) → x ≡ Some (HeaderUnit h) → IsBelow b o h) → (seen_header b o x ≡ Old) ⊎ (seen_header b o x ≡ Nothing)
+old_header b o None low = inr refl
+old_header b o (Some (HeaderUnit h)) low = inl (seen_below b o h (low h refl))
+old_header b o (Some (CopyUnit c)) low = inr refl
+old_header b o (Some (PrepareUnit p)) low = inr refl
+old_header b o (Some (ReplyUnit r)) low = inr refl
+old_header b o (Some (BlockUnit d)) low = inr refl
 
-pub old_prepare : (o : ℕ) (x : Option AnyUnit) → ((p : Message) → x ≡ Some (PrepareUnit p) → p.header.op < o) → (seen_prepare o x ≡ Old) ⊎ (seen_prepare o x ≡ Nothing)
-old_prepare o None low = inr refl
-old_prepare o (Some (PrepareUnit p)) low = inl (seen_old o p.header (low p refl))
-old_prepare o (Some (CopyUnit c)) low = inr refl
-old_prepare o (Some (HeaderUnit h)) low = inr refl
-old_prepare o (Some (ReplyUnit r)) low = inr refl
-old_prepare o (Some (BlockUnit b)) low = inr refl
+pub old_prepare : (b o : ℕ) (x : Option AnyUnit) → ((p : Message) → x ≡ Some (PrepareUnit p) → IsBelow b o p.header) → (seen_prepare b o x ≡ Old) ⊎ (seen_prepare b o x ≡ Nothing)
+old_prepare b o None low = inr refl
+old_prepare b o (Some (PrepareUnit p)) low = inl (seen_below b o p.header (low p refl))
+old_prepare b o (Some (CopyUnit c)) low = inr refl
+old_prepare b o (Some (HeaderUnit h)) low = inr refl
+old_prepare b o (Some (ReplyUnit r)) low = inr refl
+old_prepare b o (Some (BlockUnit d)) low = inr refl
+
+-- a prepare that is taken above the pin is of the content's boot
+pub take_boot : (n : ℕ) (image : Units) (c : Content) (p : Message) → Takes n image c p → c.pin < p.header.op → p.header.boot ≡ c.boot
+take_boot n image c p takes above = elim (cases_eq p.header.boot c.boot) [
+  | inl same ↦ same
+  | inr differs ↦
+      let at : IsTake (case (seen_header c.boot p.header.op (image (HeaderPlace (p.header.op % n)))) (seen c.boot p.header.op p.header)) =
+      subst (λ (y : Option AnyUnit). IsTake (case (seen_header c.boot p.header.op (image (HeaderPlace (p.header.op % n)))) (seen_prepare c.boot p.header.op y))) takes.shown (takes.take above) in
+      absurd (take_old (seen_header c.boot p.header.op (image (HeaderPlace (p.header.op % n)))) (subst (λ (s : Seen). IsTake (case (seen_header c.boot p.header.op (image (HeaderPlace (p.header.op % n)))) s)) (seen_past c.boot p.header.op p.header refl differs) at))
+]
 
 pub empty_case : (a b : Seen) → (a ≡ Old) ⊎ (a ≡ Nothing) → (b ≡ Old) ⊎ (b ≡ Nothing) → IsEmpty (case a b)
 empty_case a b (inl is) (inl at) = subst (λ (s : Seen). IsEmpty (case s b)) (sym is) (subst (λ (s : Seen). IsEmpty (case Old s)) (sym at) tt)
@@ -93,30 +121,53 @@ module _ (sh : Shape) (image : Units) (v : View) (sound : Sound sh v) (all : (pl
   head_room = omega (arith, sound.room)
 
   -- the header beside a prepare of the tail
-  take_at : (p : Message) → In p v.tail → (o : Option AnyUnit) → image (HeaderPlace (p.header.op % sh.layout.slots)) ≡ o → IsTake (case (seen_header p.header.op o) (Current p.header.checksum))
-  take_at p at None is = tt
-  take_at p at (Some (CopyUnit c)) is = tt
-  take_at p at (Some (PrepareUnit q)) is = tt
-  take_at p at (Some (ReplyUnit r)) is = tt
-  take_at p at (Some (BlockUnit c)) is = tt
-  take_at p at (Some (HeaderUnit x)) is =
+  take_at : (p : Message) → In p v.tail → v.checkpoint.content.pin < p.header.op → (o : Option AnyUnit) → image (HeaderPlace (p.header.op % sh.layout.slots)) ≡ o → IsTake (case (seen_header (boot_of v) p.header.op o) (Current p.header.checksum))
+  take_at p at above None is = tt
+  take_at p at above (Some (CopyUnit c)) is = tt
+  take_at p at above (Some (PrepareUnit q)) is = tt
+  take_at p at above (Some (ReplyUnit r)) is = tt
+  take_at p at above (Some (BlockUnit c)) is = tt
+  take_at p at above (Some (HeaderUnit x)) is =
       let a = header_agrees (p.header.op % sh.layout.slots) x is in
       let ops = chain_ops sh.layout.clients (v.checkpoint.content.op + 1) v.checkpoint.content.op_checksum 0 v.checkpoint.parts.sessions v.tail p sound.chain at in
       elim (cases_eq x.op p.header.op) [
-        | inl same ↦
-            let q = a.known (omega (arith, ops.0)) in
-            let one : q.0 ≡ p = in_one sh.layout.clients (v.checkpoint.content.op + 1) v.checkpoint.content.op_checksum 0 v.checkpoint.parts.sessions v.tail q.0 p sound.chain q.1 at (q.2 ∙ same) in
-            let checksum : x.checksum ≡ p.header.checksum = sym q.3 ∙ ap (λ (w : Message). w.header.checksum) one in
-            subst (λ (s : Seen). IsTake (case s (Current p.header.checksum))) (sym (seen_now p.header.op x same)) (same_take x.checksum p.header.checksum checksum)
+        | inl same ↦ elim (cases_eq x.boot (boot_of v)) [
+          | inl of ↦
+              let q = a.in_tail of (omega arith) in
+              let one : q.0 ≡ p = in_one sh.layout.clients (v.checkpoint.content.op + 1) v.checkpoint.content.op_checksum 0 v.checkpoint.parts.sessions v.tail q.0 p sound.chain q.1 at (q.2 ∙ same) in
+              let checksum : x.checksum ≡ p.header.checksum = sym q.3 ∙ ap (λ (w : Message). w.header.checksum) one in
+              subst (λ (s : Seen). IsTake (case s (Current p.header.checksum))) (sym (seen_now (boot_of v) p.header.op x same of)) (same_take x.checksum p.header.checksum checksum)
+          | inr past ↦ subst (λ (s : Seen). IsTake (case s (Current p.header.checksum))) (sym (seen_past (boot_of v) p.header.op x same past)) tt
+        ]
         | inr differs ↦ elim (cases_lt x.op p.header.op) [
-          | inl less ↦ subst (λ (s : Seen). IsTake (case s (Current p.header.checksum))) (sym (seen_old p.header.op x less)) tt
-          | inr more ↦ absurd (mod_apart sh.layout.slots p.header.op x.op sh.some (omega arith) (omega (arith, a.op, head_room, ops.0)) (a.slot (omega arith)))
+          | inl less ↦ subst (λ (s : Seen). IsTake (case s (Current p.header.checksum))) (sym (seen_old (boot_of v) p.header.op x less)) tt
+          | inr more ↦ absurd (mod_apart sh.layout.slots p.header.op x.op sh.some (omega arith) (omega (arith, a.ring, ops.0)) (a.slot (omega arith)))
         ]
       ]
 
-  pub takes_if : (p : Message) → In p v.tail → image (PreparePlace (p.header.op % sh.layout.slots)) ≡ Some (PrepareUnit p) → Takes sh.layout.slots image p
+  pub takes_if : (p : Message) → In p v.tail → image (PreparePlace (p.header.op % sh.layout.slots)) ≡ Some (PrepareUnit p) → Takes sh.layout.slots image v.checkpoint.content p
   takes_if p at shown = record {
     shown = shown;
-    take = subst (λ (y : Option AnyUnit). IsTake (case (seen_header p.header.op (image (HeaderPlace (p.header.op % sh.layout.slots)))) (seen_prepare p.header.op y))) (sym shown)
-        (subst (λ (s : Seen). IsTake (case (seen_header p.header.op (image (HeaderPlace (p.header.op % sh.layout.slots)))) s)) (sym (seen_now p.header.op p.header refl)) (take_at p at (image (HeaderPlace (p.header.op % sh.layout.slots))) refl));
+    take = λ above. subst (λ (y : Option AnyUnit). IsTake (case (seen_header (boot_of v) p.header.op (image (HeaderPlace (p.header.op % sh.layout.slots)))) (seen_prepare (boot_of v) p.header.op y))) (sym shown)
+        (subst (λ (s : Seen). IsTake (case (seen_header (boot_of v) p.header.op (image (HeaderPlace (p.header.op % sh.layout.slots)))) s)) (sym (seen_now (boot_of v) p.header.op p.header refl (sound.records.tail p at above))) (take_at p at above (image (HeaderPlace (p.header.op % sh.layout.slots))) refl));
   }
+  -- above the head nothing of this boot is shown
+
+-- what agrees with a view is below the ops above its head
+pub below_header : (sh : Shape) (v : View) (o : ℕ) (x : Header) → AgreesHeader sh v (o % sh.layout.slots) x → head v < o → o ≤ v.checkpoint.content.op + sh.layout.slots → IsBelow (boot_of v) o x
+below_header sh v o x a above within = elim (cases_lt x.op o) [
+  | inl less ↦ inl less
+  | inr not ↦ elim (cases_eq x.op o) [
+    | inl same ↦ inr (same, λ of. omega (arith, a.op of))
+    | inr differs ↦ absurd (mod_apart sh.layout.slots o x.op sh.some (omega arith) (omega (arith, a.ring)) (a.slot (omega arith)))
+  ]
+]
+
+pub below_prepare : (sh : Shape) (v : View) (o : ℕ) (x : Message) → AgreesPrepare sh v (o % sh.layout.slots) x → head v < o → o ≤ v.checkpoint.content.op + sh.layout.slots → IsBelow (boot_of v) o x.header
+below_prepare sh v o x a above within = elim (cases_lt x.header.op o) [
+  | inl less ↦ inl less
+  | inr not ↦ elim (cases_eq x.header.op o) [
+    | inl same ↦ inr (same, λ of. omega (arith, a.op of))
+    | inr differs ↦ absurd (mod_apart sh.layout.slots o x.header.op sh.some (omega arith) (omega (arith, a.ring)) a.slot)
+  ]
+]

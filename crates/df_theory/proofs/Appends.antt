@@ -56,12 +56,14 @@ append_step sh v p sound later may =
         refl,
         record {
           some = omega arith;
-          op = omega (arith, length-append v.tail (p ∷ []));
+          op = λ same. omega (arith, length-append v.tail (p ∷ []));
+          ring = omega (arith, may.room);
           checkpoint = omega (arith, stamped.checkpoint);
+          boot = omega (arith, stamped.boot);
           slot = refl;
-          known = λ above. in_back p v.tail (p ∷ []) (inl refl);
+          in_tail = λ same above. in_back p v.tail (p ∷ []) (inl refl);
         },
       );
-      known = (p, refl, in_back p v.tail (p ∷ []) (inl refl));
+      history = (p, refl, in_back p v.tail (p ∷ []) (inl refl));
       needs = append_needs sh v p;
     }

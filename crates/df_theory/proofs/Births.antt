@@ -1,6 +1,7 @@
 -- A file as it is made.
 use Rattle.std.proofs.Common.{◌≡◌, inl, inr, ℕ, ◌<◌, ◌||◌, List, [], ◌∷◌, Option, Some, None, refl, sym, ◌∙◌, ap, subst, arith}
 use Rattle.std.proofs.lemmas.Bool.{cases_eq}
+use Rattle.df_theory.specs.CopyPuts.{PutsCopies, update_steps}
 use Rattle.df_theory.specs.Units.{AnyUnit, Content, CopyPlace, CopyUnit, Place, Units, is_some, or_else, overlay}
 use Rattle.df_theory.specs.Shape.{Shape}
 use Rattle.df_theory.specs.Copies.{IsSplit}
@@ -10,11 +11,11 @@ use Rattle.df_theory.specs.UnitLog.{IsLeftBy, PutsOne, Stopped, Synced, UnitLog,
 use Rattle.df_theory.specs.Chance.{EachLeft, InImages, InPool, NoChance}
 use Rattle.df_theory.specs.First.{AreMade, IsFirst, IsMade, ShowsMade}
 use Rattle.df_theory.specs.Grown.{Begins, Grown, HasGrown, IsSafe}
-use Rattle.df_theory.specs.Steady.{IsDry, IsSteady}
-use Rattle.df_theory.specs.Runs.{AtEach, Puts, Step, Syncs, after_steps}
-use Rattle.df_theory.specs.MakingLaws.{AllReserved, BirthLaw, BlankLaw, FormatLaw, IsMaking, MayHold, PutsReserved, all_puts, blank_log}
-use Rattle.df_theory.proofs.Updates.{agree_beside}
-use Rattle.df_theory.proofs.Steps.{synced_steady, steady_safe}
+use Rattle.df_theory.specs.Rests.{IsDry, RestsOn}
+use Rattle.df_theory.specs.Runs.{AtEach, Step, Syncs, after_steps}
+use Rattle.df_theory.specs.MakingLaws.{AllReserved, SecondCopyLaw, BlankLaw, FormatLaw, IsMaking, MakingSyncLaw, MayHold, PutsReserved, all_puts, blank_log}
+use Rattle.df_theory.proofs.CopyVotes.{agree_beside}
+use Rattle.df_theory.proofs.Steps.{synced_rests, rests_safe}
 use Rattle.df_theory.proofs.Writes.{put_else, copy_law, quiet_synced}
 use Rattle.df_theory.proofs.Runs.{each_append, after_append}
 use Rattle.df_theory.proofs.FirstViews.{first_holds}
@@ -42,7 +43,7 @@ split_blank image blank d a = let both : Some (CopyUnit d) ≡ None = sym a.at_s
 
 module _ (sh : Shape) (log : UnitLog) (c : Content) (m : IsMaking sh log c) where
   left_made : (image : Units) → ((place : Place) (x : AnyUnit) → image place ≡ Some x → InPool log place x) → ShowsMade c image
-  left_made image known place x is = elim (known place x is) [
+  left_made image history place x is = elim (history place x is) [
     | inl old ↦ made_images c (settled log) m.being.made place x old
     | inr new ↦ m.pending place x new
   ]
@@ -57,7 +58,7 @@ module _ (sh : Shape) (log : UnitLog) (c : Content) (m : IsMaking sh log c) wher
   making_safe = record {
     grown = inr (c, m.being);
     synced = inr (c, record { fair = m.being.fair; first = m.being.first; made = made_more c (now log) (settled log) m.being.made m.shows now_split });
-    stopped = λ image left chance. inr (c, record { fair = (left, chance, m.being.fair); first = m.being.first; made = made_more c image (settled log) m.being.made (left_made image chance.known) (left_split image left) });
+    stopped = λ image left chance. inr (c, record { fair = (left, chance, m.being.fair); first = m.being.first; made = made_more c image (settled log) m.being.made (left_made image chance.pooled) (left_split image left) });
   }
 
   pub making_synced : IsMaking sh (add Synced log) c
@@ -136,7 +137,7 @@ module _ (sh : Shape) (log : UnitLog) (v : View) (put : Units) (first : IsFirst 
   either image left shows (Some x) some = inl (holds_if image left shows x some)
 
   shows_left : (image : Units) → NoChance (wrote put log) image → ShowsMade v.checkpoint.content image
-  shows_left image chance place x is = pool_made place x (chance.known place x is)
+  shows_left image chance place x is = pool_made place x (chance.pooled place x is)
 
   shows_now : ShowsMade v.checkpoint.content (now (wrote put log))
   shows_now place x is = go (put place) refl
@@ -160,15 +161,15 @@ module _ (sh : Shape) (log : UnitLog) (v : View) (put : Units) (first : IsFirst 
     | inr split ↦ inr (v.checkpoint.content, record { fair = (left, chance, m.being.fair); first = m.being.first; made = made_more v.checkpoint.content image (settled log) m.being.made (shows_left image chance) split })
   ]
 
-  pub born : IsSafe sh (wrote put log) × EachLeft (wrote put log) (λ image. MayHold sh image v) × IsSteady sh (add Synced (wrote put log)) v
+  pub born : IsSafe sh (wrote put log) × EachLeft (wrote put log) (λ image. MayHold sh image v) × RestsOn sh (add Synced (wrote put log)) v
   born = (
     record { grown = inr (v.checkpoint.content, record { fair = m.being.fair; first = m.being.first; made = m.being.made }); synced = inl (v, now_grown); stopped = stop_grown },
     λ image left chance. either image left (shows_left image chance) (image (CopyPlace 1)) refl,
-    synced_steady sh (wrote put log) v now_grown,
+    synced_rests sh (wrote put log) v now_grown,
   )
 
-pub birth_law : BirthLaw
-birth_law sh log v put first m dry zeroth one = born sh log v put first m dry zeroth one
+pub second_copy_law : SecondCopyLaw
+second_copy_law sh log v put first m dry zeroth one = born sh log v put first m dry zeroth one
 
 -- ---- the whole of it
 
@@ -176,7 +177,7 @@ headers_made : (c : Content) (put : Units) → PutsReserved put → PutsMade c p
 headers_made c put reserved = record {
   made = λ place y is.
       let e = reserved place y is in
-      subst (λ (p : Place). IsMade c p y) (sym e.2) (e.1, e.3, e.4, e.5);
+      subst (λ (p : Place). IsMade c p y) (sym e.2) (e.1, e.3, e.4);
   copies = λ n above. go n (put (CopyPlace n)) refl;
 }
   where
@@ -202,64 +203,64 @@ headers_all sh c (put ∷ puts) log m all =
     let rest = headers_all sh c puts (wrote put log) (making_wrote sh log c m put (headers_made c put all.0)) all.1 in
     ((making_safe sh log c m, rest.0), rest.1)
 
-module _ (sh : Shape) (v : View) (copy0 copy1 copy2 copy3 : Units) (first : IsFirst sh v)
-    (one0 : PutsOne copy0 (CopyPlace 0) (CopyUnit v.checkpoint.content)) (one1 : PutsOne copy1 (CopyPlace 1) (CopyUnit v.checkpoint.content))
-    (one2 : PutsOne copy2 (CopyPlace 2) (CopyUnit v.checkpoint.content)) (one3 : PutsOne copy3 (CopyPlace 3) (CopyUnit v.checkpoint.content)) where
+module _ (sh : Shape) (v : View) (puts : PutsCopies v.checkpoint.content) (first : IsFirst sh v) where
   abbrev c : Content
   c = v.checkpoint.content
 
   abbrev copy_steps : List Step
-  copy_steps = Syncs ∷ Puts copy0 ∷ Syncs ∷ Puts copy1 ∷ Syncs ∷ Puts copy2 ∷ Syncs ∷ Puts copy3 ∷ Syncs ∷ []
+  copy_steps = Syncs ∷ update_steps puts
 
   at_put : (put image : Units) (n : ℕ) → PutsOne put (CopyPlace n) (CopyUnit c) → overlay put image (CopyPlace n) ≡ Some (CopyUnit c)
   at_put put image n one = ap (λ (o : Option AnyUnit). or_else o (image (CopyPlace n))) one.at
 
-  pub copies_all : (log : UnitLog) → IsMaking sh log c → AtEach (IsSafe sh) log copy_steps × IsSteady sh (after_steps copy_steps log) v
+  pub copies_all : (log : UnitLog) → IsMaking sh log c → AtEach (IsSafe sh) log copy_steps × RestsOn sh (after_steps copy_steps log) v
   copies_all log m =
       let log0 : UnitLog = add Synced log in
       let m0 : IsMaking sh log0 c = making_synced sh log c m in
-      let w0 : IsMaking sh (wrote copy0 log0) c = making_wrote sh log0 c m0 copy0 (copy_made c copy0 one0) in
-      let log1 : UnitLog = add Synced (wrote copy0 log0) in
-      let m1 : IsMaking sh log1 c = making_synced sh (wrote copy0 log0) c w0 in
-      let zeroth : now log1 (CopyPlace 0) ≡ Some (CopyUnit c) = at_put copy0 (now log0) 0 one0 in
-      let birth = born sh log1 v copy1 first m1 (λ place. refl) zeroth one1 in
-      let log2 : UnitLog = add Synced (wrote copy1 log1) in
-      let zero2 : now log2 (CopyPlace 0) ≡ Some (CopyUnit c) = put_else copy1 (now log1) (CopyPlace 1) (CopyPlace 0) (CopyUnit c) one1 (λ same. cc (same)) ∙ zeroth in
-      let one_2 : now log2 (CopyPlace 1) ≡ Some (CopyUnit c) = at_put copy1 (now log1) 1 one1 in
-      let third = copy_law sh log2 v copy2 2 birth.2 (quiet_synced (wrote copy1 log1)) one2 (agree_beside (now log2) c 0 1 2 (omega arith) (omega arith) (λ e. omega arith) (λ e. omega arith) zero2 one_2) in
-      let log3 : UnitLog = add Synced (wrote copy2 log2) in
-      let zero3 : now log3 (CopyPlace 0) ≡ Some (CopyUnit c) = put_else copy2 (now log2) (CopyPlace 2) (CopyPlace 0) (CopyUnit c) one2 (λ same. cc (same)) ∙ zero2 in
-      let one_3 : now log3 (CopyPlace 1) ≡ Some (CopyUnit c) = put_else copy2 (now log2) (CopyPlace 2) (CopyPlace 1) (CopyUnit c) one2 (λ same. cc (same)) ∙ one_2 in
-      let fourth = copy_law sh log3 v copy3 3 third.steady (quiet_synced (wrote copy2 log2)) one3 (agree_beside (now log3) c 0 1 3 (omega arith) (omega arith) (λ e. omega arith) (λ e. omega arith) zero3 one_3) in
-      let log4 : UnitLog = add Synced (wrote copy3 log3) in (
+      let w0 : IsMaking sh (wrote puts.put0 log0) c = making_wrote sh log0 c m0 puts.put0 (copy_made c puts.put0 puts.one0) in
+      let log1 : UnitLog = add Synced (wrote puts.put0 log0) in
+      let m1 : IsMaking sh log1 c = making_synced sh (wrote puts.put0 log0) c w0 in
+      let zeroth : now log1 (CopyPlace 0) ≡ Some (CopyUnit c) = at_put puts.put0 (now log0) 0 puts.one0 in
+      let birth = born sh log1 v puts.put1 first m1 (λ place. refl) zeroth puts.one1 in
+      let log2 : UnitLog = add Synced (wrote puts.put1 log1) in
+      let zero2 : now log2 (CopyPlace 0) ≡ Some (CopyUnit c) = put_else puts.put1 (now log1) (CopyPlace 1) (CopyPlace 0) (CopyUnit c) puts.one1 (λ same. cc (same)) ∙ zeroth in
+      let one_2 : now log2 (CopyPlace 1) ≡ Some (CopyUnit c) = at_put puts.put1 (now log1) 1 puts.one1 in
+      let third = copy_law sh log2 v puts.put2 2 birth.2 (quiet_synced (wrote puts.put1 log1)) puts.one2 (agree_beside (now log2) c 0 1 2 (omega arith) (omega arith) (λ e. omega arith) (λ e. omega arith) zero2 one_2) in
+      let log3 : UnitLog = add Synced (wrote puts.put2 log2) in
+      let zero3 : now log3 (CopyPlace 0) ≡ Some (CopyUnit c) = put_else puts.put2 (now log2) (CopyPlace 2) (CopyPlace 0) (CopyUnit c) puts.one2 (λ same. cc (same)) ∙ zero2 in
+      let one_3 : now log3 (CopyPlace 1) ≡ Some (CopyUnit c) = put_else puts.put2 (now log2) (CopyPlace 2) (CopyPlace 1) (CopyUnit c) puts.one2 (λ same. cc (same)) ∙ one_2 in
+      let fourth = copy_law sh log3 v puts.put3 3 third.rests (quiet_synced (wrote puts.put2 log2)) puts.one3 (agree_beside (now log3) c 0 1 3 (omega arith) (omega arith) (λ e. omega arith) (λ e. omega arith) zero3 one_3) in
+      let log4 : UnitLog = add Synced (wrote puts.put3 log3) in (
         (
           making_safe sh log c m,
           (
             making_safe sh log0 c m0,
             (
-              making_safe sh (wrote copy0 log0) c w0,
+              making_safe sh (wrote puts.put0 log0) c w0,
               (
                 making_safe sh log1 c m1,
                 (
                   birth.0,
                   (
-                    steady_safe sh log2 v birth.2,
-                    (third.good.safe, (steady_safe sh log3 v third.steady, (fourth.good.safe, steady_safe sh log4 v fourth.steady))),
+                    rests_safe sh log2 v birth.2,
+                    (third.good.safe, (rests_safe sh log3 v third.rests, (fourth.good.safe, rests_safe sh log4 v fourth.rests))),
                   ),
                 ),
               ),
             ),
           ),
         ),
-        fourth.steady,
+        fourth.rests,
       )
 
 pub format_law : FormatLaw
-format_law sh v headers copy0 copy1 copy2 copy3 first reserved one0 one1 one2 one3 =
-    let blank = blank_law sh v.checkpoint.content first.content in
-    let made = headers_all sh v.checkpoint.content headers blank_log blank.0 reserved in
-    let rest = copies_all sh v copy0 copy1 copy2 copy3 first one0 one1 one2 one3 (after_steps (all_puts headers) blank_log) made.1 in
-    let steps : List Step = Syncs ∷ Puts copy0 ∷ Syncs ∷ Puts copy1 ∷ Syncs ∷ Puts copy2 ∷ Syncs ∷ Puts copy3 ∷ Syncs ∷ [] in (
-      each_append (IsSafe sh) (all_puts headers) steps blank_log made.0 rest.0,
-      subst (λ (l : UnitLog). IsSteady sh l v) (sym (after_append (all_puts headers) steps blank_log)) rest.1,
+format_law sh log v headers puts m first reserved =
+    let made = headers_all sh v.checkpoint.content headers log m reserved in
+    let rest = copies_all sh v puts first (after_steps (all_puts headers) log) made.1 in
+    let steps : List Step = Syncs ∷ update_steps puts in (
+      each_append (IsSafe sh) (all_puts headers) steps log made.0 rest.0,
+      subst (λ (l : UnitLog). RestsOn sh l v) (sym (after_append (all_puts headers) steps log)) rest.1,
     )
+
+pub making_sync_law : MakingSyncLaw
+making_sync_law sh log c m = (making_synced sh log c m, making_safe sh log c m)

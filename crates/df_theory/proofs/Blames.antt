@@ -1,32 +1,34 @@
 -- At rest a refusal blames what is hurt, and a read gives what was written.
 use Rattle.std.proofs.Common.{◌≡◌, inl, inr, ℕ, ◌+◌, ◌-◌, ◌%◌, ◌<◌, List, [], ◌∷◌, ◌++◌, length, Some, refl, sym, ◌∙◌, ap, subst, arith, length-append}
 use Rattle.std.specs.List.{slice_get}
-use Rattle.df_theory.specs.Units.{AnyUnit, Block, BlockPlace, BlockUnit, Content, Message, Place, PreparePlace, PrepareUnit, ReplyPlace, ReplyUnit, Session, Units}
+use Rattle.df_theory.specs.Units.{AnyUnit, Block, BlockPlace, BlockUnit, Content, Message, Place, PreparePlace, ReplyPlace, Session, Units}
 use Rattle.df_theory.specs.Tails.{In}
 use Rattle.df_theory.specs.Shape.{Shape}
 use Rattle.df_theory.specs.Copies.{Agree}
-use Rattle.df_theory.specs.Trailer.{InChain, Links, Says}
+use Rattle.df_theory.specs.Trailer.{InChain, Links}
 use Rattle.df_theory.specs.View.{Checkpoint, View, sessions}
 use Rattle.df_theory.specs.UnitLog.{UnitLog, now}
 use Rattle.df_theory.specs.Chance.{Distinct, NoChance}
-use Rattle.df_theory.specs.Steady.{IsSteady}
-use Rattle.df_theory.specs.Found.{IsTail, NotLost}
-use Rattle.df_theory.specs.Opens.{Damaged, Found, IsReadable, IsShown, Opens, OpensFields, OpensReplies, OpensTail, OpensTraces, OpensTrailer, ReadsTo, Refusal, Refused}
+use Rattle.df_theory.specs.Rests.{RestsOn}
+use Rattle.df_theory.specs.Found.{IsTail, NotLost, slot_behind}
+use Rattle.df_theory.specs.Opens.{Damaged, Found, IsReadable, IsShown, ReadsTo, Refusal, Refused}
 use Rattle.df_theory.specs.DamageLaws.{BlameLaw, BlamesHurt, IsHurt, ReadLaw}
 use Rattle.df_theory.proofs.Choices.{one_chosen}
-use Rattle.df_theory.proofs.OneView.{same_says}
+use Rattle.df_theory.proofs.OneView.{same_parts}
 use Rattle.df_theory.proofs.Once.{same_links}
 use Rattle.df_theory.proofs.Fields.{front_of}
-use Rattle.df_theory.proofs.OneAnswer.{count_one, in_behind, all_shown}
+use Rattle.df_theory.proofs.Layers.{Answers, AnswersFields, AnswersReplies, AnswersTail, AnswersTraces, AnswersTrailer, answers_of}
+use Rattle.df_theory.proofs.OneAnswer.{count_one, in_behind}
+use Rattle.df_theory.proofs.BadFields.{all_shown}
 use Rattle.df_theory.proofs.Hurts.{pool_pools, chosen_still, not_behind, lost_is_hurt_law, missing_is_hurt_law, reply_is_hurt_law}
 
-module _ (sh : Shape) (log : UnitLog) (v : View) (shown : Units) (steady : IsSteady sh log v) (chance : NoChance log shown) where
+module _ (sh : Shape) (log : UnitLog) (v : View) (shown : Units) (rests : RestsOn sh log v) (chance : NoChance log shown) where
   -- what is shown and what stands are of the pools
   pub distinct_now : (place other : Place) (x y : AnyUnit) → now log place ≡ Some x → shown other ≡ Some y → Distinct x y
-  distinct_now place other x y one two = chance.distinct place other x y (pool_pools log.start log.events place x (steady.knows place x one)) (pool_pools log.start log.events other y (chance.known other y two))
+  distinct_now place other x y one two = chance.distinct place other x y (pool_pools log.start log.events place x (rests.pooled place x one)) (pool_pools log.start log.events other y (chance.pooled other y two))
 
   chain_now : (a : ℕ) (b : Block) → InChain a b v.checkpoint.chain → now log (BlockPlace a) ≡ Some (BlockUnit b)
-  chain_now a b at = steady.holds.bears.needs (BlockPlace a) (BlockUnit b) (b, at, refl)
+  chain_now a b at = rests.holds.bears.needs (BlockPlace a) (BlockUnit b) (b, at, refl)
 
   pub same_block : (e : ℕ) (b d : Block) → InChain e b v.checkpoint.chain → shown (BlockPlace e) ≡ Some (BlockUnit d) → b.checksum ≡ d.checksum → b ≡ d
   same_block e b d at is checksum = distinct_now (BlockPlace e) (BlockPlace e) (BlockUnit b) (BlockUnit d) (chain_now e b at) is checksum
@@ -38,77 +40,74 @@ module _ (sh : Shape) (log : UnitLog) (v : View) (shown : Units) (steady : IsSte
     d.1,
     ap (λ (e : ℕ). now log (BlockPlace e)) (sym links.1) ∙ chain_now d.0 d.1 (subst (λ (l : List (ℕ × Block)). InChain d.0 d.1 l) (sym split) (in_behind d.0 d.1 read (d ∷ ds) (inl (refl, refl)))),
     links.2,
+    links.6,
   )
 
   -- a block of the trailer that is not shown is hurt
   wanted_hurt : (a k : ℕ) → ReadsTo sh shown v.checkpoint.content a k → (IsShown shown a k → ⊥) → IsHurt log shown (BlockPlace a)
   wanted_hurt a k reads none unhurt =
-      let front = front_of (sh.layout.block_size - 256) v.checkpoint.content shown v.checkpoint.chain reads.read v.checkpoint.content.trailer v.checkpoint.content.trailer_checksum a k steady.holds.bears.sound.checkpoint.trailer.links reads.arrives same_block in
-      let count = count_one (sh.layout.block_size - 256) v.checkpoint.content.trailer_size reads.count (length v.checkpoint.chain) reads.counts steady.holds.bears.sound.checkpoint.trailer.count in
+      let front = front_of (sh.layout.block_size - 256) v.checkpoint.content shown v.checkpoint.chain reads.read v.checkpoint.content.trailer v.checkpoint.content.trailer_checksum a k rests.holds.bears.sound.checkpoint.trailer.links reads.arrives same_block in
+      let count = count_one (sh.layout.block_size - 256) v.checkpoint.content.trailer_size reads.count (length v.checkpoint.chain) reads.counts rests.holds.bears.sound.checkpoint.trailer.count in
       let there = wanted_now reads.read front.0 a k front.1 front.2 (omega (arith, reads.more, count)) in
-      none (there.0, unhurt ∙ there.1, there.2)
+      none (there.0, unhurt ∙ there.1, there.2, there.3)
 
   -- a checkpoint that can be read is the file's
   readable_is : Agree shown v.checkpoint.content → (b : Checkpoint) → IsReadable sh shown b → b ≡ v.checkpoint
   readable_is agreed b readable = λ i. record { content = content i; chain = chain i; parts = parts i }
     where
       content : b.content ≡ v.checkpoint.content
-      content = one_chosen shown b.content v.checkpoint.content readable.chosen (chosen_still sh log v shown steady chance.known agreed)
+      content = one_chosen shown b.content v.checkpoint.content readable.chosen (chosen_still sh log v shown rests chance.pooled agreed)
 
       chain : b.chain ≡ v.checkpoint.chain
       chain = same_links (sh.layout.block_size - 256) v.checkpoint.content b.chain v.checkpoint.chain v.checkpoint.content.trailer v.checkpoint.content.trailer_checksum
-          (subst (λ (c : Content). Links (sh.layout.block_size - 256) c b.chain c.trailer c.trailer_checksum) content readable.sound.trailer.links) steady.holds.bears.sound.checkpoint.trailer.links
+          (subst (λ (c : Content). Links (sh.layout.block_size - 256) c b.chain c.trailer c.trailer_checksum) content readable.sound.trailer.links) rests.holds.bears.sound.checkpoint.trailer.links
           (λ a e x y at there checksum. sym (distinct_now (BlockPlace e) (BlockPlace a) (BlockUnit y) (BlockUnit x) (chain_now e y there) (readable.shown a x at) (sym checksum)))
 
       parts : b.parts ≡ v.checkpoint.parts
-      parts = same_says sh v.checkpoint.chain b.parts v.checkpoint.parts (subst (λ (l : List (ℕ × Block)). Says sh l b.parts) chain readable.sound.trailer.says) steady.holds.bears.sound.checkpoint.trailer.says
+      parts = same_parts sh b.content v.checkpoint.content b.chain v.checkpoint.chain b.parts v.checkpoint.parts content chain readable.sound.trailer.says rests.holds.bears.sound.checkpoint.trailer.says
 
 pub read_law : ReadLaw
-read_law sh log v shown steady chance = (
-  λ s p q here there checksum. sym (distinct_now sh log v shown steady chance (PreparePlace s) (PreparePlace s) (PrepareUnit p) (PrepareUnit q) here there (sym checksum)),
-  λ k r q here there checksum. sym (distinct_now sh log v shown steady chance (ReplyPlace k) (ReplyPlace k) (ReplyUnit r) (ReplyUnit q) here there (sym checksum)),
-  λ a b d here there checksum. sym (distinct_now sh log v shown steady chance (BlockPlace a) (BlockPlace a) (BlockUnit b) (BlockUnit d) here there (sym checksum)),
-)
+read_law log shown place other x y chance at is = chance.distinct place other x y at (pool_pools log.start log.events other y (chance.pooled other y is))
 
 -- ---- step by step
 
-module _ (sh : Shape) (log : UnitLog) (v : View) (shown : Units) (steady : IsSteady sh log v) (chance : NoChance log shown) (agreed : Agree shown v.checkpoint.content) (r : Refusal) where
-  blame_replies : (tail : List Message) → IsTail sh shown v.checkpoint tail → NotLost shown v.checkpoint.content (v.checkpoint.content.op + length tail) → OpensReplies shown v.checkpoint tail (Refused r) → BlamesHurt sh log v shown r
+module _ (sh : Shape) (log : UnitLog) (v : View) (shown : Units) (rests : RestsOn sh log v) (chance : NoChance log shown) (agreed : Agree shown v.checkpoint.content) (r : Refusal) where
+  blame_replies : (tail : List Message) → IsTail sh shown v.checkpoint tail → NotLost shown v.checkpoint.content (v.checkpoint.content.op + length tail) → AnswersReplies shown v.checkpoint tail (Refused r) → BlamesHurt sh log v shown r
   blame_replies tail is_tail not_lost (n, counted, inl p) = subst (λ (x : Refusal). BlamesHurt sh log v shown x) (let both : Refused r ≡ Refused (Damaged (ReplyPlace p.0)) = p.2 in let one : Damaged (ReplyPlace p.0) ≡ r = cc in one) (λ unhurt. blamed unhurt)
     where
-      blamed : shown (ReplyPlace p.0) ≡ now log (ReplyPlace p.0) → (s : Session) × (q : Message) × (slice_get (sessions v) p.0 ≡ Some s) × In q v.tail × (q.header.client ≡ s.client) × IsHurt log shown (PreparePlace (q.header.op % sh.layout.slots))
-      blamed unhurt = elim (reply_is_hurt_law sh log v shown tail n p.0 p.1.session steady chance.known is_tail counted p.1.at p.1.stored unhurt) [
+      blamed : shown (ReplyPlace p.0) ≡ now log (ReplyPlace p.0) → (s : Session) × (q : Message) × (found : List Message) × (slice_get (sessions v) p.0 ≡ Some s) × In q v.tail × (q.header.client ≡ s.client) × IsTail sh shown v.checkpoint found × (v.checkpoint.content.op + length found < q.header.op) × IsHurt log shown (PreparePlace (q.header.op % sh.layout.slots))
+      blamed unhurt = elim (reply_is_hurt_law sh log v shown tail n p.0 p.1.session rests chance is_tail counted p.1.at p.1.stored unhurt) [
         | inl answered ↦ absurd (p.1.lacks answered)
-        | inr later ↦ (later.0, later.1, later.2, later.3, later.4, missing_is_hurt_law sh log v shown (v.checkpoint.content.op + length tail) steady not_lost later.1 later.3 later.5)
+        | inr later ↦ (later.0, later.1, tail, later.2, later.3, later.4, is_tail, later.5, missing_is_hurt_law sh log v shown (v.checkpoint.content.op + length tail) rests not_lost later.1 later.3 later.5)
       ]
   blame_replies tail is_tail not_lost (n, counted, inr p) = absurd (let both : Refused r ≡ Found p.0 = p.5 in cc)
 
-  blame_tail : OpensTail sh shown v.checkpoint (Refused r) → BlamesHurt sh log v shown r
+  blame_tail : AnswersTail sh shown v.checkpoint (Refused r) → BlamesHurt sh log v shown r
   blame_tail (tail, is_tail, inl p) = subst (λ (x : Refusal). BlamesHurt sh log v shown x)
-      (let both : Refused r ≡ Refused (Damaged (PreparePlace ((v.checkpoint.content.op + length tail + 1) % sh.layout.slots))) = p.1 in let one : Damaged (PreparePlace ((v.checkpoint.content.op + length tail + 1) % sh.layout.slots)) ≡ r = cc in one)
-      (λ unhurt. p.0 (lost_is_hurt_law sh log v shown tail steady chance.known agreed is_tail unhurt))
+      (let both : Refused r ≡ Refused (Damaged (PreparePlace (slot_behind sh v.checkpoint tail))) = p.1 in let one : Damaged (PreparePlace (slot_behind sh v.checkpoint tail)) ≡ r = cc in one)
+      (λ unhurt. p.0 (lost_is_hurt_law sh log v shown tail rests chance agreed is_tail unhurt))
   blame_tail (tail, is_tail, inr p) = blame_replies tail is_tail p.0 p.1
 
-  blame_traces : OpensTraces sh shown v.checkpoint (Refused r) → BlamesHurt sh log v shown r
-  blame_traces (inl p) = absurd (p.1 (not_behind sh log v shown steady chance.known))
+  blame_traces : AnswersTraces sh shown v.checkpoint (Refused r) → BlamesHurt sh log v shown r
+  blame_traces (inl p) = absurd (p.1 (not_behind sh log v shown rests chance.pooled))
   blame_traces (inr p) = blame_tail p.1
 
-  blame_trailer : OpensTrailer sh shown v.checkpoint.content (Refused r) → BlamesHurt sh log v shown r
-  blame_trailer (inl p) = subst (λ (x : Refusal). BlamesHurt sh log v shown x) (let both : Refused r ≡ Refused (Damaged (BlockPlace p.0)) = p.4 in let one : Damaged (BlockPlace p.0) ≡ r = cc in one) (wanted_hurt sh log v shown steady chance p.0 p.1 p.2 p.3)
+  blame_trailer : AnswersTrailer sh shown v.checkpoint.content (Refused r) → BlamesHurt sh log v shown r
+  blame_trailer (inl p) = subst (λ (x : Refusal). BlamesHurt sh log v shown x) (let both : Refused r ≡ Refused (Damaged (BlockPlace p.0)) = p.4 in let one : Damaged (BlockPlace p.0) ≡ r = cc in one) (wanted_hurt sh log v shown rests chance p.0 p.1 p.2 p.3)
   blame_trailer (inr (inl p)) = absurd (p.1 v.checkpoint refl (record {
-    chosen = chosen_still sh log v shown steady chance.known agreed;
-    sound = steady.holds.bears.sound.checkpoint;
-    shown = all_shown sh shown v.checkpoint steady.holds.bears.sound.checkpoint p.0 (same_block sh log v shown steady chance);
+    chosen = chosen_still sh log v shown rests chance.pooled agreed;
+    sound = rests.holds.bears.sound.checkpoint;
+    shown = all_shown sh shown v.checkpoint rests.holds.bears.sound.checkpoint p.0 (same_block sh log v shown rests chance);
   }))
-  blame_trailer (inr (inr p)) = blame_traces (subst (λ (b : Checkpoint). OpensTraces sh shown b (Refused r)) (readable_is sh log v shown steady chance agreed p.0 p.2) p.3)
+  blame_trailer (inr (inr p)) = blame_traces (subst (λ (b : Checkpoint). AnswersTraces sh shown b (Refused r)) (readable_is sh log v shown rests chance agreed p.0 p.2) p.3)
 
-  blame_fields : OpensFields sh shown v.checkpoint.content (Refused r) → BlamesHurt sh log v shown r
-  blame_fields (inl p) = absurd (p.0 steady.holds.bears.sound.checkpoint.tests steady.holds.bears.sound.checkpoint.trailer.reference)
+  blame_fields : AnswersFields sh shown v.checkpoint.content (Refused r) → BlamesHurt sh log v shown r
+  blame_fields (inl p) = absurd (p.0 rests.holds.bears.sound.checkpoint.tests rests.holds.bears.sound.checkpoint.trailer.reference)
   blame_fields (inr p) = blame_trailer p.2
 
-  pub blame : Opens sh shown (Refused r) → BlamesHurt sh log v shown r
+  pub blame : Answers sh shown (Refused r) → BlamesHurt sh log v shown r
   blame (inl p) = absurd (p.0 v.checkpoint.content agreed)
-  blame (inr p) = blame_fields (subst (λ (c : Content). OpensFields sh shown c (Refused r)) (one_chosen shown p.0 v.checkpoint.content p.1 (chosen_still sh log v shown steady chance.known agreed)) p.2)
+  blame (inr p) = blame_fields (subst (λ (c : Content). AnswersFields sh shown c (Refused r)) (one_chosen shown p.0 v.checkpoint.content p.1 (chosen_still sh log v shown rests chance.pooled agreed)) p.2)
 
 pub blame_law : BlameLaw
-blame_law sh log v shown r steady chance agreed opens = blame sh log v shown steady chance agreed r opens
+blame_law sh log v shown r rests chance agreed opens = blame sh log v shown rests chance agreed r (answers_of sh shown (Refused r) opens)

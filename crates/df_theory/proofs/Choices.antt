@@ -4,7 +4,7 @@ use Rattle.std.proofs.lemmas.Bool.{cases_eq}
 use Rattle.df_theory.specs.Units.{Content, CopyPlace, CopyUnit, Units}
 use Rattle.df_theory.specs.Copies.{Agree, IsChosen, IsNextContent, rank_of}
 use Rattle.df_theory.specs.View.{Checkpoint, View}
-use Rattle.df_theory.specs.Next.{IsFinish}
+use Rattle.df_theory.specs.Next.{IsBoot, IsFinish}
 
 pub same_copy : (image : Units) (n : ℕ) (c d : Content) → image (CopyPlace n) ≡ Some (CopyUnit c) → image (CopyPlace n) ≡ Some (CopyUnit d) → c ≡ d
 same_copy image n c d one two = let both : Some (CopyUnit c) ≡ Some (CopyUnit d) = sym one ∙ two in cc
@@ -43,13 +43,20 @@ one_chosen image c d x y =
 
 -- the next content is a higher one, and a finished checkpoint has the next one: where the order of contents changes, these change
 pub next_higher : (c d : Content) → IsNextContent c d → rank_of c < rank_of d
-next_higher c d next = omega arith
+next_higher c d (inl next) = omega (arith, next)
+next_higher c d (inr next) = omega (arith, next)
 
 pub finish_next : (v : View) (c : Checkpoint) → IsFinish v c → IsNextContent v.checkpoint.content c.content
-finish_next v c is = omega (arith, is.sequence)
+finish_next v c is = inl (is.sequence, is.boot)
 
 pub finish_higher : (v : View) (c : Checkpoint) → IsFinish v c → rank_of v.checkpoint.content < rank_of c.content
 finish_higher v c is = next_higher v.checkpoint.content c.content (finish_next v c is)
 
-pub same_rank : (c d : Content) → c.sequence ≡ d.sequence → rank_of c ≡ rank_of d
-same_rank c d same = omega arith
+pub boot_next : (v : View) (d : Content) → IsBoot v d → IsNextContent v.checkpoint.content d
+boot_next v d is = inr (is.same.sequence, is.boot)
+
+pub boot_higher : (v : View) (d : Content) → IsBoot v d → rank_of v.checkpoint.content < rank_of d
+boot_higher v d is = next_higher v.checkpoint.content d (boot_next v d is)
+
+pub rank_low : (c d : Content) → c.sequence ≤ d.sequence → c.boot ≤ d.boot → rank_of c ≤ rank_of d
+rank_low c d one two = omega arith

@@ -17,7 +17,7 @@ front_of room c shown [] (b ∷ bs) address checksum a k links arrives same = ab
 front_of room c shown (d ∷ cs) (b ∷ bs) address checksum a k links arrives same =
     let place : d.0 ≡ b.0 = links.1 ∙ sym arrives.1 in
     let block : d.1 ≡ b.1 = same d.0 d.1 b.1 (inl (refl, refl)) (ap (λ (e : ℕ). shown (BlockPlace e)) links.1 ∙ arrives.3) (links.2 ∙ sym arrives.2) in
-    let rest = front_of room c shown cs bs b.1.before b.1.before_checksum a k (subst (λ (x : Block). Links room c cs x.before x.before_checksum) block links.6) arrives.4 (λ e x y at is. same e x y (inr at) is) in
+    let rest = front_of room c shown cs bs b.1.before b.1.before_checksum a k (subst (λ (x : Block). Links room c cs x.before x.before_checksum) block links.7) arrives.5 (λ e x y at is. same e x y (inr at) is) in
     (rest.0, λ i. (place i, block i) ∷ rest.1 i, rest.2)
 
 pub fields_hold_law : FieldsHoldLaw

@@ -1,9 +1,9 @@
 -- The first view is sound, and an image of a file that was just made holds it.
-use Rattle.std.proofs.Common.{◌≡◌, inl, ℕ, ◌+◌, List, [], length, Some, None, refl, sym, ◌∙◌, ap, subst, arith}
+use Rattle.std.proofs.Common.{◌≡◌, inl, ℕ, ◌+◌, ◌-◌, List, take, [], length, Some, None, refl, sym, ◌∙◌, ap, subst, arith}
 use Rattle.std.specs.List.{slice_get}
 use Rattle.df_theory.specs.Units.{AnyUnit, Block, BlockPlace, CopyPlace, CopyUnit, HeaderPlace, Message, Parts, Place, PreparePlace, ReplyPlace, Session, Units}
 use Rattle.df_theory.specs.Sessions.{sessions_after}
-use Rattle.df_theory.specs.Tails.{Chain, In, last_mark}
+use Rattle.df_theory.specs.Tails.{Chain, In, last_checksum, last_mark}
 use Rattle.df_theory.specs.Shape.{Shape}
 use Rattle.df_theory.specs.Trailer.{InChain, IsTrailer, no_parts}
 use Rattle.df_theory.specs.View.{View, sessions}
@@ -11,7 +11,7 @@ use Rattle.df_theory.specs.Shows.{Needs}
 use Rattle.df_theory.specs.Holds.{Holds, Sound}
 use Rattle.df_theory.specs.First.{IsFirst, ShowsMade}
 use Rattle.df_theory.proofs.Choices.{chosen_above}
-use Rattle.df_theory.proofs.Updates.{agree_at}
+use Rattle.df_theory.proofs.CopyVotes.{agree_at}
 use Rattle.df_theory.proofs.Steps.{made_agrees}
 
 module _ (sh : Shape) (v : View) (first : IsFirst sh v) where
@@ -65,6 +65,14 @@ module _ (sh : Shape) (v : View) (first : IsFirst sh v) where
     replies_from = (omega (arith, first.content.numbers), omega (arith, ap (λ (l : List Message). last_mark 0 l) first.tail));
     answered = λ k r is. absurd (let both : None ≡ Some r = sym (first.stored k) ∙ is in cc);
     stores = λ k s at low. absurd (no_session k s at);
+    records = record {
+      pin_to = omega (arith, first.content.pin.1);
+      checksum =
+          let none : v.checkpoint.content.pin - v.checkpoint.content.op ≡ 0 = omega (arith, first.content.pin.1) in
+          ap (λ (k : ℕ). last_checksum v.checkpoint.content.op_checksum (take k v.tail)) none ∙ first.content.numbers.1 ∙ sym first.content.pin.2;
+      tail = λ p at. absurd (subst (λ (l : List Message). In p l) first.tail at);
+      stored = λ k r is. absurd (let both : None ≡ Some r = sym (first.stored k) ∙ is in cc);
+    };
   }
 
   first_needs : (place : Place) (x : AnyUnit) → Needs sh v place x → ⊥

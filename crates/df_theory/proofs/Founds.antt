@@ -5,17 +5,17 @@ use Rattle.df_theory.specs.Units.{AnyUnit, BlockPlace, BlockUnit, CopyPlace, Hea
 use Rattle.df_theory.specs.Sessions.{Answers, Tracks, noted}
 use Rattle.df_theory.specs.Tails.{Chain, In, last_mark}
 use Rattle.df_theory.specs.Shape.{Shape, clients}
-use Rattle.df_theory.specs.View.{View, head, sessions}
+use Rattle.df_theory.specs.View.{View, boot_of, head, sessions}
 use Rattle.df_theory.specs.Shows.{Agrees, AgreesHeader, AgreesPrepare, AgreesReply, Needs}
-use Rattle.df_theory.specs.Holds.{Holds, Sound}
+use Rattle.df_theory.specs.Holds.{Holds, IsNamed, Sound}
 use Rattle.df_theory.specs.Cases.{Current, IsTake, Seen, Takes, case, decision, seen, seen_header, seen_prepare}
 use Rattle.df_theory.specs.Found.{AreOfPlaces, IsClean, IsFound, IsOfPlace}
 use Rattle.df_theory.specs.ViewLaws.{SlotLaw}
 use Rattle.df_theory.proofs.Sessions.{tracks_chain}
-use Rattle.df_theory.proofs.Agreeing.{seen_now, take_same, old_header, old_prepare, empty_case, header_agrees, prepare_agrees, reply_agrees, head_room, takes_if}
+use Rattle.df_theory.proofs.Agreeing.{seen_now, take_same, take_boot, below_header, below_prepare, old_header, old_prepare, empty_case, header_agrees, prepare_agrees, reply_agrees, head_room, takes_if}
 
 -- each op of a chain has a prepare
-chain_at : (clients op parent mark : ℕ) (ss : List Session) (ps : List Message) (o : ℕ) → Chain clients op parent mark ss ps → op ≤ o → o < op + length ps → (p : Message) × In p ps × (p.header.op ≡ o)
+pub chain_at : (clients op parent mark : ℕ) (ss : List Session) (ps : List Message) (o : ℕ) → Chain clients op parent mark ss ps → op ≤ o → o < op + length ps → (p : Message) × In p ps × (p.header.op ≡ o)
 chain_at clients op parent mark ss [] o chain from to = absurd (omega arith)
 chain_at clients op parent mark ss (p ∷ ps) o chain from to = elim (cases_eq o op) [
   | inl here ↦ (p, inl refl, chain.0.op_is ∙ sym here)
@@ -45,7 +45,7 @@ module _ (sh : Shape) (image : Units) (v : View) (places : AreOfPlaces sh image)
   replies_to = elim f.replies.reached [
     | inl base ↦ omega (arith, f.checkpoint.tests.replies.0, f.not_lost.superblock)
     | inr (inl mark) ↦ omega (arith, mark_below sh.layout.clients (v.checkpoint.content.op + 1) v.checkpoint.content.op_checksum 0 0 v.checkpoint.parts.sessions v.tail f.tail.chain (omega arith))
-    | inr (inr reply) ↦ omega (arith, (f.not_lost.reply reply.0 reply.1 reply.2).0, reply.3)
+    | inr (inr reply) ↦ omega (arith, (f.not_lost.reply reply.0 reply.1 reply.2 reply.4).0, reply.3)
   ]
 
   -- the prepare of the tail with this op
@@ -58,7 +58,7 @@ module _ (sh : Shape) (image : Units) (v : View) (places : AreOfPlaces sh image)
         let p = tail_at (head v) (omega arith) (omega arith) in
         let of = places (PreparePlace (p.0.header.op % sh.layout.slots)) (PrepareUnit p.0) (f.tail.takes p.0 p.1).shown in
         let same : of.0 ≡ p.0 = (let e = of.1 in cc) in
-        omega (arith, of.4, ap (λ (w : Message). w.header.op) same, p.2)
+        omega (arith, of.3.op.1, ap (λ (w : Message). w.header.op) same, p.2)
     | inr none ↦ omega (arith, f.checkpoint.tests.head)
   ]
 
@@ -84,40 +84,68 @@ module _ (sh : Shape) (image : Units) (v : View) (places : AreOfPlaces sh image)
         let same : there.0 ≡ r = (let two : Some there.0 ≡ Some r = sym there.1 ∙ is in cc) in
         (s.0, s.1, s.2, subst (λ (w : Message). Answers s.0 w) same there.3);
     stores = λ k s at low. let there = f.stored.shown k s at low in (there.0, there.1);
+    records = record {
+      pin_to = f.tail.reaches;
+      checksum = f.tail.pinned;
+      tail = λ p at above. take_boot sh.layout.slots image v.checkpoint.content p (f.tail.takes p at) above;
+      stored = λ k r is.
+          let s = f.stored.no_more k r is in
+          let there = f.stored.shown k s.0 s.1 s.2 in
+          let same : there.0 ≡ r = (let two : Some there.0 ≡ Some r = sym there.1 ∙ is in cc) in
+          subst (λ (w : Message). IsNamed v.checkpoint.content k w) same there.4;
+    };
   }
 
-  taken_header : (h : Header) (p : Message) → (hd pr : Option AnyUnit) → hd ≡ Some (HeaderUnit h) → pr ≡ Some (PrepareUnit p) → h.op ≡ p.header.op → IsTake (case (seen_header p.header.op hd) (seen_prepare p.header.op pr)) → h.checksum ≡ p.header.checksum
-  taken_header h p hd pr hd_is pr_is same take =
-      let at : IsTake (case (seen p.header.op h) (seen p.header.op p.header)) = subst (λ (x : Option AnyUnit). IsTake (case (seen_header p.header.op x) (seen p.header.op p.header))) hd_is (subst (λ (y : Option AnyUnit). IsTake (case (seen_header p.header.op hd) (seen_prepare p.header.op y))) pr_is take) in
-      let one : IsTake (case (Current h.checksum) (seen p.header.op p.header)) = subst (λ (s : Seen). IsTake (case s (seen p.header.op p.header))) (seen_now p.header.op h same) at in
-      take_same h.checksum p.header.checksum (subst (λ (s : Seen). IsTake (case (Current h.checksum) s)) (seen_now p.header.op p.header refl) one)
+  taken_header : (b : ℕ) (h : Header) (p : Message) → (hd pr : Option AnyUnit) → hd ≡ Some (HeaderUnit h) → pr ≡ Some (PrepareUnit p) → h.op ≡ p.header.op → h.boot ≡ b → p.header.boot ≡ b → IsTake (case (seen_header b p.header.op hd) (seen_prepare b p.header.op pr)) → h.checksum ≡ p.header.checksum
+  taken_header b h p hd pr hd_is pr_is same h_of p_of take =
+      let at : IsTake (case (seen b p.header.op h) (seen b p.header.op p.header)) = subst (λ (x : Option AnyUnit). IsTake (case (seen_header b p.header.op x) (seen b p.header.op p.header))) hd_is (subst (λ (y : Option AnyUnit). IsTake (case (seen_header b p.header.op hd) (seen_prepare b p.header.op y))) pr_is take) in
+      let one : IsTake (case (Current h.checksum) (seen b p.header.op p.header)) = subst (λ (s : Seen). IsTake (case s (seen b p.header.op p.header))) (seen_now b p.header.op h same h_of) at in
+      take_same h.checksum p.header.checksum (subst (λ (s : Seen). IsTake (case (Current h.checksum) s)) (seen_now b p.header.op p.header refl p_of) one)
 
-  pub header_known : (s : ℕ) (h : Header) → image (HeaderPlace s) ≡ Some (HeaderUnit h) → (0 < h.op → s ≡ h.op % sh.layout.slots) → v.checkpoint.content.op < h.op → (p : Message) × In p v.tail × (p.header.op ≡ h.op) × (p.header.checksum ≡ h.checksum)
-  header_known s h is slot above =
-      let p = tail_at h.op above (f.not_lost.header s h is) in
+  pub header_in_tail : (s : ℕ) (h : Header) → image (HeaderPlace s) ≡ Some (HeaderUnit h) → (0 < h.op → s ≡ h.op % sh.layout.slots) → h.boot ≡ boot_of v → v.checkpoint.content.pin < h.op → (p : Message) × In p v.tail × (p.header.op ≡ h.op) × (p.header.checksum ≡ h.checksum)
+  header_in_tail s h is slot of above =
+      let p = tail_at h.op (omega (arith, f.checkpoint.tests.pin.0)) (f.not_lost.header s h is of) in
       let takes = f.tail.takes p.0 p.1 in
+      let higher : v.checkpoint.content.pin < p.0.header.op = omega (arith, p.2) in
       let place : image (HeaderPlace (p.0.header.op % sh.layout.slots)) ≡ Some (HeaderUnit h) = ap (λ (o : ℕ). image (HeaderPlace (o % sh.layout.slots))) p.2 ∙ ap (λ (n : ℕ). image (HeaderPlace n)) (sym (slot (omega arith))) ∙ is in
-      (p.0, p.1, p.2, sym (taken_header h p.0 _ _ place takes.shown (sym p.2) takes.take))
+      (p.0, p.1, p.2, sym (taken_header (boot_of v) h p.0 _ _ place takes.shown (sym p.2) of (take_boot sh.layout.slots image v.checkpoint.content p.0 takes higher) (takes.take higher)))
 
-  prepare_known : (s : ℕ) (q : Message) → image (PreparePlace s) ≡ Some (PrepareUnit q) → s ≡ q.header.op % sh.layout.slots → v.checkpoint.content.op < q.header.op → In q v.tail
-  prepare_known s q is slot above =
-      let p = tail_at q.header.op above (f.not_lost.prepare s q is) in
+  prepare_in_tail : (s : ℕ) (q : Message) → image (PreparePlace s) ≡ Some (PrepareUnit q) → s ≡ q.header.op % sh.layout.slots → q.header.boot ≡ boot_of v → v.checkpoint.content.pin < q.header.op → In q v.tail
+  prepare_in_tail s q is slot of above =
+      let p = tail_at q.header.op (omega (arith, f.checkpoint.tests.pin.0)) (f.not_lost.prepare s q is of) in
       let takes = f.tail.takes p.0 p.1 in
       let place : image (PreparePlace (p.0.header.op % sh.layout.slots)) ≡ Some (PrepareUnit q) = ap (λ (o : ℕ). image (PreparePlace (o % sh.layout.slots))) p.2 ∙ ap (λ (n : ℕ). image (PreparePlace n)) (sym slot) ∙ is in
       let one : p.0 ≡ q = (let two : Some (PrepareUnit p.0) ≡ Some (PrepareUnit q) = sym takes.shown ∙ place in cc) in
       subst (λ (w : Message). In w v.tail) one p.1
 
+  pub header_found : (s : ℕ) (h : Header) → image (HeaderPlace s) ≡ Some (HeaderUnit h) → AgreesHeader sh v s h
+  header_found s h is =
+      let of = places (HeaderPlace s) (HeaderUnit h) is in
+      let slot : 0 < h.op → s ≡ h.op % sh.layout.slots = subst (λ (x : Header). 0 < x.op → s ≡ x.op % sh.layout.slots) (let same : of.0 ≡ h = (let e = of.1 in cc) in same) (λ some. (of.3 some).0) in
+      record { op = f.not_lost.header s h is; ring = (f.not_behind.header s h is).1; checkpoint = (f.not_behind.header s h is).0; boot = (f.not_behind.header s h is).2; slot = slot; in_tail = λ own above. header_in_tail s h is slot own above }
+
+  pub prepare_found : (s : ℕ) (p : Message) → image (PreparePlace s) ≡ Some (PrepareUnit p) → AgreesPrepare sh v s p
+  prepare_found s p is =
+      let of = places (PreparePlace s) (PrepareUnit p) is in
+      let same : of.0 ≡ p = (let e = of.1 in cc) in
+      let slot : s ≡ p.header.op % sh.layout.slots = subst (λ (x : Message). s ≡ x.header.op % sh.layout.slots) same of.2 in
+      record {
+        some = subst (λ (x : Message). 0 < x.header.op) same of.3.op.0;
+        op = f.not_lost.prepare s p is;
+        ring = (f.not_behind.prepare s p is).1;
+        checkpoint = (f.not_behind.prepare s p is).0;
+        boot = (f.not_behind.prepare s p is).2;
+        slot = slot;
+        in_tail = λ own above. prepare_in_tail s p is slot own above;
+      }
+
   found_agrees : IsClean image v → (place : Place) (x : AnyUnit) → image place ≡ Some x → IsOfPlace sh place x → Agrees sh v place x
   found_agrees clean (CopyPlace n) x is of = (of.0, of.1, clean n of.0 (is ∙ ap Some of.1))
-  found_agrees clean (HeaderPlace s) x is of =
-      let at : image (HeaderPlace s) ≡ Some (HeaderUnit of.0) = is ∙ ap Some of.1 in
-      (of.0, of.1, record { op = f.not_lost.header s of.0 at; checkpoint = (f.not_behind.header s of.0 at).0; slot = of.2; known = λ above. header_known s of.0 at of.2 above })
-  found_agrees clean (PreparePlace s) x is of =
-      let at : image (PreparePlace s) ≡ Some (PrepareUnit of.0) = is ∙ ap Some of.1 in
-      (of.0, of.1, record { some = of.3; op = f.not_lost.prepare s of.0 at; checkpoint = (f.not_behind.prepare s of.0 at).0; slot = of.2; known = λ above. prepare_known s of.0 at of.2 above })
+  found_agrees clean (HeaderPlace s) x is of = (of.0, of.1, header_found s of.0 (is ∙ ap Some of.1))
+  found_agrees clean (PreparePlace s) x is of = (of.0, of.1, prepare_found s of.0 (is ∙ ap Some of.1))
   found_agrees clean (ReplyPlace k) x is of =
       let at : image (ReplyPlace k) ≡ Some (ReplyUnit of.0) = is ∙ ap Some of.1 in
-      (of.0, of.1, record { op = f.replies.reply k of.0 at; mark = (f.not_lost.reply k of.0 at).1; checkpoint = f.not_behind.reply k of.0 at })
+      (of.0, of.1, record { op = f.replies.reply k of.0 at; mark = λ own. (f.not_lost.reply k of.0 at own).1; checkpoint = (f.not_behind.reply k of.0 at).0; boot = (f.not_behind.reply k of.0 at).1; alone = of.3 })
   found_agrees clean (BlockPlace a) x is of = tt
 
   found_needs : (place : Place) (x : AnyUnit) → Needs sh v place x → image place ≡ Some x
@@ -155,7 +183,7 @@ module _ (sh : Shape) (image : Units) (v : View) (h : Holds sh image v) where
   room_is : head v ≤ v.checkpoint.content.op + sh.layout.slots
   room_is = head_room sh image v h.bears.sound h.bears.agrees
 
-  takes : (p : Message) → In p v.tail → Takes sh.layout.slots image p
+  takes : (p : Message) → In p v.tail → Takes sh.layout.slots image v.checkpoint.content p
   takes p at = takes_if sh image v h.bears.sound h.bears.agrees p at (h.bears.needs (PreparePlace (p.header.op % sh.layout.slots)) (PrepareUnit p) (p, at, refl, refl))
 
   tracks_view : Tracks v.replies (head v) (sessions v)
@@ -164,7 +192,7 @@ module _ (sh : Shape) (image : Units) (v : View) (h : Holds sh image v) where
   stored_shown : (k : ℕ) (r : Message) → v.stored k ≡ Some r → image (ReplyPlace k) ≡ Some (ReplyUnit r)
   stored_shown k r is = h.bears.needs (ReplyPlace k) (ReplyUnit r) (r, is, refl)
 
-  reached : (v.checkpoint.content.replies ≡ v.replies) ⊎ (last_mark 0 v.tail ≡ v.replies) ⊎ ((k : ℕ) × (r : Message) × (image (ReplyPlace k) ≡ Some (ReplyUnit r)) × (r.header.op ≡ v.replies))
+  reached : (v.checkpoint.content.replies ≡ v.replies) ⊎ (last_mark 0 v.tail ≡ v.replies) ⊎ ((k : ℕ) × (r : Message) × (image (ReplyPlace k) ≡ Some (ReplyUnit r)) × (r.header.op ≡ v.replies) × (r.header.boot ≡ v.checkpoint.content.boot))
   reached = elim (cases_lt v.checkpoint.content.replies v.replies) [
     | inl above ↦ elim (cases_lt (last_mark 0 v.tail) v.replies) [
       | inl higher ↦
@@ -173,7 +201,7 @@ module _ (sh : Shape) (image : Units) (v : View) (h : Holds sh image v) where
           let r = sound.stores has.0 has.1 has.2 (omega (arith, has.3)) in
           let s = sound.answered has.0 r.0 r.1 in
           let one : s.0 ≡ has.1 = (let two : Some s.0 ≡ Some has.1 = sym s.1 ∙ has.2 in cc) in
-          inr (inr (has.0, r.0, stored_shown has.0 r.0 r.1, s.3.op ∙ ap (λ (w : Session). w.op) one ∙ has.3))
+          inr (inr (has.0, r.0, stored_shown has.0 r.0 r.1, s.3.op ∙ ap (λ (w : Session). w.op) one ∙ has.3, (sound.records.stored has.0 r.0 r.1).new (omega (arith, sound.checkpoint.tests.answered, s.3.op, ap (λ (w : Session). w.op) one, has.3))))
       | inr not ↦ inr (inl (omega (arith, sound.replies_from.1)))
     ]
     | inr not ↦ inl (omega (arith, sound.replies_from.0))
@@ -185,22 +213,24 @@ module _ (sh : Shape) (image : Units) (v : View) (h : Holds sh image v) where
     checkpoint = sound.checkpoint;
     chain_shown = λ a c is. h.bears.needs (BlockPlace a) (BlockUnit c) (c, is, refl);
     not_behind = record {
-      header = λ s x is. let a = agrees_header s x is in (a.checkpoint, omega (arith, a.op, room_is));
-      prepare = λ s x is. let a = agrees_prepare s x is in (a.checkpoint, omega (arith, a.op, room_is));
-      reply = λ k x is. (agrees_reply k x is).checkpoint;
+      header = λ s x is. let a = agrees_header s x is in (a.checkpoint, a.ring, a.boot);
+      prepare = λ s x is. let a = agrees_prepare s x is in (a.checkpoint, a.ring, a.boot);
+      reply = λ k x is. let a = agrees_reply k x is in (a.checkpoint, a.boot);
     };
     tail = record {
       chain = sound.chain;
       takes = takes;
       room = sound.room;
       groups = sound.groups;
-      longest = λ p room taken fits. omega (arith, (agrees_prepare (p.header.op % sh.layout.slots) p taken.shown).op, fits.op_is);
+      reaches = sound.records.pin_to;
+      pinned = sound.records.checksum;
+      longest = λ p room taken fits. omega (arith, (agrees_prepare (p.header.op % sh.layout.slots) p taken.shown).op (take_boot sh.layout.slots image v.checkpoint.content p taken (omega (arith, fits.op_is, sound.records.pin_to))), fits.op_is);
     };
     not_lost = record {
       header = λ s x is. (agrees_header s x is).op;
       prepare = λ s x is. (agrees_prepare s x is).op;
       superblock = sound.head_from;
-      reply = λ k x is. let a = agrees_reply k x is in (omega (arith, a.op, sound.pipeline.0), a.mark);
+      reply = λ k x is own. let a = agrees_reply k x is in (omega (arith, a.op own, sound.pipeline.0), a.mark own);
     };
     replies = record {
       superblock = sound.replies_from.0;
@@ -213,17 +243,17 @@ module _ (sh : Shape) (image : Units) (v : View) (h : Holds sh image v) where
           let r = sound.stores k s at low in
           let t = sound.answered k r.0 r.1 in
           let same : t.0 ≡ s = (let two : Some t.0 ≡ Some s = sym t.1 ∙ at in cc) in
-          (r.0, r.1, stored_shown k r.0 r.1, subst (λ (w : Session). Answers w r.0) same t.3);
+          (r.0, r.1, stored_shown k r.0 r.1, subst (λ (w : Session). Answers w r.0) same t.3, sound.records.stored k r.0 r.1);
       no_more = λ k r is. let t = sound.answered k r is in (t.0, t.1, t.2);
     };
   }
 
 pub slot_law : SlotLaw
-slot_law sh image v o h above within = (
-  λ low.
-      let p = chain_at sh.layout.clients (v.checkpoint.content.op + 1) v.checkpoint.content.op_checksum 0 v.checkpoint.parts.sessions v.tail o h.bears.sound.chain (omega arith) (omega arith) in
-      subst (λ (n : ℕ). IsTake (decision sh.layout.slots image n)) p.2 (takes sh image v h p.0 p.1).take,
-  λ high. empty_case (seen_header o (image (HeaderPlace (o % sh.layout.slots)))) (seen_prepare o (image (PreparePlace (o % sh.layout.slots))))
-      (old_header o (image (HeaderPlace (o % sh.layout.slots))) (λ x is. omega (arith, (agrees_header sh image v h (o % sh.layout.slots) x is).op)))
-      (old_prepare o (image (PreparePlace (o % sh.layout.slots))) (λ x is. omega (arith, (agrees_prepare sh image v h (o % sh.layout.slots) x is).op))),
+slot_law sh image v o places f above within = (
+  λ pinned low.
+      let p = chain_at sh.layout.clients (v.checkpoint.content.op + 1) v.checkpoint.content.op_checksum 0 v.checkpoint.parts.sessions v.tail o f.tail.chain (omega arith) (omega arith) in
+      subst (λ (n : ℕ). IsTake (decision sh.layout.slots (boot_of v) image n)) p.2 ((f.tail.takes p.0 p.1).take (omega (arith, p.2))),
+  λ high. empty_case (seen_header (boot_of v) o (image (HeaderPlace (o % sh.layout.slots)))) (seen_prepare (boot_of v) o (image (PreparePlace (o % sh.layout.slots))))
+      (old_header (boot_of v) o (image (HeaderPlace (o % sh.layout.slots))) (λ x is. below_header sh v o x (header_found sh image v places f (o % sh.layout.slots) x is) high within))
+      (old_prepare (boot_of v) o (image (PreparePlace (o % sh.layout.slots))) (λ x is. below_prepare sh v o x (prepare_found sh image v places f (o % sh.layout.slots) x is) high within)),
 )

@@ -4,11 +4,11 @@ use Rattle.df_theory.specs.Units.{AnyUnit, BlockPlace, Content, CopyPlace, Heade
 use Rattle.df_theory.specs.Tails.{In}
 use Rattle.df_theory.specs.Shape.{Shape}
 use Rattle.df_theory.specs.Copies.{rank_of}
-use Rattle.df_theory.specs.View.{Checkpoint, View, head, sequence}
+use Rattle.df_theory.specs.View.{Checkpoint, View, boot_of, head, sequence}
 use Rattle.df_theory.specs.Shows.{Agrees, AgreesCopy}
 use Rattle.df_theory.specs.Holds.{Sound}
-use Rattle.df_theory.specs.Next.{Append, Finish, Next, Reply, Same}
-use Rattle.df_theory.proofs.Choices.{finish_higher}
+use Rattle.df_theory.specs.Next.{Append, Boot, Finish, Next, Reply, Same}
+use Rattle.df_theory.proofs.Choices.{boot_higher, finish_higher}
 use Rattle.df_theory.proofs.Tails.{in_front, in_drop}
 
 -- what later views keep of an earlier one
@@ -16,6 +16,8 @@ pub record Grew (v u : View) : Type 0 where
   pub head : head v ≤ head u
   pub checkpoint : (v.checkpoint ≡ u.checkpoint) ⊎ (rank_of v.checkpoint.content < rank_of u.checkpoint.content)
   pub sequence : sequence v ≤ sequence u
+  pub boot : boot_of v ≤ boot_of u
+  pub pin : (v.checkpoint.content.pin ≤ u.checkpoint.content.pin) × (u.checkpoint.content.op ≤ u.checkpoint.content.pin)
   pub op : v.checkpoint.content.op ≤ u.checkpoint.content.op
   pub replies : v.replies ≤ u.replies
   pub tail : (p : Message) → In p v.tail → u.checkpoint.content.op < p.header.op → In p u.tail
@@ -33,12 +35,14 @@ agrees_grew sh v u g (HeaderPlace s) x a = (
   a.0,
   a.1,
   record {
-    op = omega (arith, a.2.op, g.head);
+    op = λ same. omega (arith, a.2.op (omega (arith, a.2.boot, g.boot)), g.head);
+    ring = omega (arith, a.2.ring, g.op);
     checkpoint = omega (arith, a.2.checkpoint, g.sequence);
+    boot = omega (arith, a.2.boot, g.boot);
     slot = a.2.slot;
-    known = λ above.
-        let old = a.2.known (omega (arith, g.op)) in
-        (old.0, g.tail old.0 old.1 (omega (arith, old.2)), old.2, old.3);
+    in_tail = λ same above.
+        let old = a.2.in_tail (omega (arith, a.2.boot, g.boot)) (omega (arith, g.pin.0)) in
+        (old.0, g.tail old.0 old.1 (omega (arith, old.2, g.pin.1)), old.2, old.3);
   },
 )
 agrees_grew sh v u g (PreparePlace s) x a = (
@@ -46,39 +50,57 @@ agrees_grew sh v u g (PreparePlace s) x a = (
   a.1,
   record {
     some = a.2.some;
-    op = omega (arith, a.2.op, g.head);
+    op = λ same. omega (arith, a.2.op (omega (arith, a.2.boot, g.boot)), g.head);
+    ring = omega (arith, a.2.ring, g.op);
     checkpoint = omega (arith, a.2.checkpoint, g.sequence);
+    boot = omega (arith, a.2.boot, g.boot);
     slot = a.2.slot;
-    known = λ above. g.tail a.0 (a.2.known (omega (arith, g.op))) above;
+    in_tail = λ same above. g.tail a.0 (a.2.in_tail (omega (arith, a.2.boot, g.boot)) (omega (arith, g.pin.0))) (omega (arith, g.pin.1));
   },
 )
 agrees_grew sh v u g (ReplyPlace k) x a = (
   a.0,
   a.1,
   record {
-    op = omega (arith, a.2.op, g.replies);
-    mark = omega (arith, a.2.mark, g.head);
+    op = λ same. omega (arith, a.2.op (omega (arith, a.2.boot, g.boot)), g.replies);
+    mark = λ same. omega (arith, a.2.mark (omega (arith, a.2.boot, g.boot)), g.head);
     checkpoint = omega (arith, a.2.checkpoint, g.sequence);
+    boot = omega (arith, a.2.boot, g.boot);
+    alone = a.2.alone;
   },
 )
 agrees_grew sh v u g (BlockPlace a) x b = b
 
 pub next_grew : (sh : Shape) (v u : View) → Sound sh v → Next v u → Grew v u
-next_grew sh v _ sound Same = record { head = omega arith; checkpoint = inl refl; sequence = omega arith; op = omega arith; replies = omega arith; tail = λ p at above. at }
+next_grew sh v _ sound Same = record { head = omega arith; checkpoint = inl refl; sequence = omega arith; boot = omega arith; pin = (omega arith, sound.checkpoint.tests.pin.0); op = omega arith; replies = omega arith; tail = λ p at above. at }
 next_grew sh v _ sound (Append ps is) = record {
   head = omega (arith, length-append v.tail ps);
   checkpoint = inl refl;
   sequence = omega arith;
+  boot = omega arith;
+  pin = (omega arith, sound.checkpoint.tests.pin.0);
   op = omega arith;
   replies = omega arith;
   tail = λ q at above. in_front q v.tail ps at;
 }
-next_grew sh v _ sound (Reply place r is) = record { head = omega arith; checkpoint = inl refl; sequence = omega arith; op = omega arith; replies = omega arith; tail = λ p at above. at }
+next_grew sh v _ sound (Reply place r is) = record { head = omega arith; checkpoint = inl refl; sequence = omega arith; boot = omega arith; pin = (omega arith, sound.checkpoint.tests.pin.0); op = omega arith; replies = omega arith; tail = λ p at above. at }
 next_grew sh v _ sound (Finish c is) = record {
   head = omega (arith, length-drop (c.content.op - v.checkpoint.content.op) v.tail, is.op_from, is.op_to);
   checkpoint = inr (finish_higher v c is);
   sequence = omega (arith, is.sequence);
+  boot = omega (arith, is.boot);
+  pin = is.records.pin_from;
   op = is.op_from;
   replies = omega arith;
   tail = λ p at above. in_drop (c.content.op - v.checkpoint.content.op) sh.layout.clients (v.checkpoint.content.op + 1) v.checkpoint.content.op_checksum 0 v.checkpoint.parts.sessions v.tail p sound.chain at (omega (arith, is.op_from));
+}
+next_grew sh v _ sound (Boot d is) = record {
+  head = omega (arith, is.same.op.0);
+  checkpoint = inr (boot_higher v d is);
+  sequence = omega (arith, is.same.sequence);
+  boot = omega (arith, is.boot);
+  pin = is.records.pin_from;
+  op = omega (arith, is.same.op.0);
+  replies = omega arith;
+  tail = λ p at above. at;
 }

@@ -2,12 +2,12 @@
 use Rattle.std.proofs.Common.{◌≡◌, ◌⊎◌, inl, inr, ℕ, ◌+◌, ◌-◌, ◌%◌, ◌<◌, ◌≤◌, List, length, Option, Some, None, refl, sym, ◌∙◌, ap, subst, arith}
 use Rattle.std.specs.List.{slice_get}
 use Rattle.std.proofs.lemmas.Bool.{cases_lt}
-use Rattle.df_theory.specs.Units.{AnyUnit, Block, BlockPlace, BlockUnit, Content, CopyPlace, CopyUnit, Message, Place, PreparePlace, PrepareUnit, ReplyPlace, ReplyUnit, Session, Units}
+use Rattle.df_theory.specs.Units.{AnyUnit, BlockPlace, BlockUnit, Content, CopyPlace, CopyUnit, Message, Place, PreparePlace, PrepareUnit, ReplyPlace, ReplyUnit, Session, Units}
 use Rattle.df_theory.specs.Sessions.{sessions_after}
 use Rattle.df_theory.specs.Tails.{Chain, last_mark}
 use Rattle.df_theory.specs.Shape.{Shape}
 use Rattle.df_theory.specs.Copies.{rank_of}
-use Rattle.df_theory.specs.Trailer.{Links, Says}
+use Rattle.df_theory.specs.Trailer.{Links}
 use Rattle.df_theory.specs.View.{Checkpoint, View, head, sessions}
 use Rattle.df_theory.specs.Holds.{Sound}
 use Rattle.df_theory.specs.Chance.{Distinct, InImages}
@@ -15,8 +15,8 @@ use Rattle.df_theory.specs.Grown.{Grows}
 use Rattle.df_theory.specs.Found.{IsFound}
 use Rattle.df_theory.specs.Past.{FromEmpty, Was}
 use Rattle.df_theory.specs.HistoryLaws.{FoundWasLaw, OneContentLaw, OneReplyLaw}
-use Rattle.df_theory.proofs.Choices.{same_rank}
-use Rattle.df_theory.proofs.OneView.{same_says}
+use Rattle.df_theory.proofs.Choices.{rank_low}
+use Rattle.df_theory.proofs.OneView.{same_parts as parts_same}
 use Rattle.df_theory.proofs.Past.{settled_was, was_one, stamp_law}
 use Rattle.df_theory.proofs.Settled.{settled_content, settled_reply, after_append, after_reply, after_base}
 use Rattle.df_theory.proofs.Once.{was_base, was_sound, was_reply, was_chain, same_links, same_chains, last_of, no_mark}
@@ -32,44 +32,44 @@ module _ (sh : Shape) (images : List Units) (v : View) (grows : Grows sh images 
       let same : a.0.checkpoint.content ≡ w.checkpoint.content = ap (λ (b : Checkpoint). b.content) a.2 ∙ sym z.2 in
       (a.0, a.1, same, a.3 ∙ ap (λ (c : Content). c.head) same, a.4 ∙ ap (λ (c : Content). c.replies) same)
 
-  append_event : 0 < length w.tail → (b : View) × Was sh images v grows b × (b.checkpoint.content.sequence ≤ w.checkpoint.content.sequence) × (head b ≡ head w) × (b.replies ≡ last_mark 0 w.tail)
+  append_event : 0 < length w.tail → (b : View) × Was sh images v grows b × (rank_of b.checkpoint.content ≤ rank_of w.checkpoint.content) × (head b ≡ head w) × (b.replies ≡ last_mark 0 w.tail)
   append_event some =
       let p = last_of sh.layout.clients (w.checkpoint.content.op + 1) w.checkpoint.content.op_checksum 0 0 w.checkpoint.parts.sessions w.tail f.tail.chain some in
       let place = (f.tail.takes p.0 p.1).shown in
       let z = settled_was sh images v grows empty (p.0.header.op % sh.layout.slots) p.0 (of (PreparePlace (p.0.header.op % sh.layout.slots)) (PrepareUnit p.0) place) in
       let b = after_append sh images v grows empty z.0 p.0 z.1 z.2 in
-      (b.0, b.1, omega (arith, b.4, (f.not_behind.prepare (p.0.header.op % sh.layout.slots) p.0 place).0), omega (arith, b.2, p.2, p.4, f.tail.groups p.0 p.1), b.3 ∙ p.3)
+      (b.0, b.1, (let low = f.not_behind.prepare (p.0.header.op % sh.layout.slots) p.0 place in rank_low b.0.checkpoint.content w.checkpoint.content (omega (arith, b.4, low.0)) (omega (arith, b.5, low.2))), omega (arith, b.2, p.2, p.4, f.tail.groups p.0 p.1), b.3 ∙ p.3)
 
-  reply_event : (k : ℕ) (x : Message) → shown (ReplyPlace k) ≡ Some (ReplyUnit x) → (b : View) × Was sh images v grows b × (b.checkpoint.content.sequence ≤ w.checkpoint.content.sequence) × (head b ≤ head w) × (b.replies ≡ x.header.op)
-  reply_event k x at =
+  reply_event : (k : ℕ) (x : Message) → shown (ReplyPlace k) ≡ Some (ReplyUnit x) → x.header.boot ≡ w.checkpoint.content.boot → (b : View) × Was sh images v grows b × (rank_of b.checkpoint.content ≤ rank_of w.checkpoint.content) × (head b ≤ head w) × (b.replies ≡ x.header.op)
+  reply_event k x at own =
       let z = settled_reply sh images v grows empty k x (of (ReplyPlace k) (ReplyUnit x) at) in
       let b = after_reply sh images v grows empty z.0 k x z.1 z.2 in
-      (b.0, b.1, omega (arith, b.4, f.not_behind.reply k x at), omega (arith, b.3, (f.not_lost.reply k x at).1), b.2)
+      (b.0, b.1, (let low = f.not_behind.reply k x at in rank_low b.0.checkpoint.content w.checkpoint.content (omega (arith, b.4, low.0)) (omega (arith, b.5, low.1))), omega (arith, b.3, (f.not_lost.reply k x at own).1), b.2)
 
   abbrev Stamped : View → Type 0
-  Stamped z = Was sh images v grows z × (z.checkpoint.content.sequence ≡ w.checkpoint.content.sequence) × (head z ≡ head w) × (z.replies ≡ w.replies)
+  Stamped z = Was sh images v grows z × (rank_of z.checkpoint.content ≡ rank_of w.checkpoint.content) × (head z ≡ head w) × (z.replies ≡ w.replies)
 
   all_three : (z : View) × Stamped z
   all_three =
       let a = checkpoint_event in
-      let s : a.0.checkpoint.content.sequence ≡ w.checkpoint.content.sequence = ap (λ (c : Content). c.sequence) a.2 in
+      let s : rank_of a.0.checkpoint.content ≡ rank_of w.checkpoint.content = ap rank_of a.2 in
       let b = top_event a.0 a.1 s a.3 a.4 in
       let c = replies_event a.0 a.1 s a.3 a.4 f.replies.reached in
-      let z = stamp_law sh images v grows w.checkpoint.content.sequence (head w) w.replies a.0 b.0 c.0
+      let z = stamp_law sh images v grows (rank_of w.checkpoint.content) (head w) w.replies a.0 b.0 c.0
       a.1 (s, omega (arith, a.3, f.not_lost.superblock), omega (arith, a.4, f.replies.superblock))
       b.1 (b.2, b.3, b.4)
       c.1 (c.2, c.3, c.4) in
       (z.0, (z.1, z.2, z.3, z.4))
     where
-      top_event : (a : View) → Was sh images v grows a → a.checkpoint.content.sequence ≡ w.checkpoint.content.sequence → head a ≡ w.checkpoint.content.head → a.replies ≡ w.checkpoint.content.replies → (b : View) × Was sh images v grows b × (b.checkpoint.content.sequence ≤ w.checkpoint.content.sequence) × (head b ≡ head w) × (b.replies ≤ w.replies)
+      top_event : (a : View) → Was sh images v grows a → rank_of a.checkpoint.content ≡ rank_of w.checkpoint.content → head a ≡ w.checkpoint.content.head → a.replies ≡ w.checkpoint.content.replies → (b : View) × Was sh images v grows b × (rank_of b.checkpoint.content ≤ rank_of w.checkpoint.content) × (head b ≡ head w) × (b.replies ≤ w.replies)
       top_event a was s top replies = elim (cases_lt 0 (length w.tail)) [
         | inl some ↦ let b = append_event some in (b.0, b.1, b.2, b.3, omega (arith, b.4, f.replies.mark))
         | inr none ↦ (a, was, omega arith, omega (arith, f.checkpoint.tests.head, f.not_lost.superblock), omega (arith, f.replies.superblock))
       ]
 
-      replies_event : (a : View) → Was sh images v grows a → a.checkpoint.content.sequence ≡ w.checkpoint.content.sequence → head a ≡ w.checkpoint.content.head → a.replies ≡ w.checkpoint.content.replies
-          → (w.checkpoint.content.replies ≡ w.replies) ⊎ (last_mark 0 w.tail ≡ w.replies) ⊎ ((k : ℕ) × (r : Message) × (shown (ReplyPlace k) ≡ Some (ReplyUnit r)) × (r.header.op ≡ w.replies))
-          → (c : View) × Was sh images v grows c × (c.checkpoint.content.sequence ≤ w.checkpoint.content.sequence) × (head c ≤ head w) × (c.replies ≡ w.replies)
+      replies_event : (a : View) → Was sh images v grows a → rank_of a.checkpoint.content ≡ rank_of w.checkpoint.content → head a ≡ w.checkpoint.content.head → a.replies ≡ w.checkpoint.content.replies
+          → (w.checkpoint.content.replies ≡ w.replies) ⊎ (last_mark 0 w.tail ≡ w.replies) ⊎ ((k : ℕ) × (r : Message) × (shown (ReplyPlace k) ≡ Some (ReplyUnit r)) × (r.header.op ≡ w.replies) × (r.header.boot ≡ w.checkpoint.content.boot))
+          → (c : View) × Was sh images v grows c × (rank_of c.checkpoint.content ≤ rank_of w.checkpoint.content) × (head c ≤ head w) × (c.replies ≡ w.replies)
       replies_event a was s top replies (inl base) = (a, was, omega arith, omega (arith, f.not_lost.superblock), replies ∙ base)
       replies_event a was s top replies (inr (inl mark)) = elim (cases_lt 0 (length w.tail)) [
         | inl some ↦ let b = append_event some in (b.0, b.1, b.2, omega (arith, b.3), b.4 ∙ mark)
@@ -77,16 +77,16 @@ module _ (sh : Shape) (images : List Units) (v : View) (grows : Grows sh images 
             let zero_is : last_mark 0 w.tail ≡ 0 = no_mark w.tail (omega arith) in
             (a, was, omega arith, omega (arith, f.not_lost.superblock), omega (arith, f.replies.superblock))
       ]
-      replies_event a was s top replies (inr (inr reply)) = let b = reply_event reply.0 reply.1 reply.2 in (b.0, b.1, b.2, b.3, b.4 ∙ reply.3)
+      replies_event a was s top replies (inr (inr reply)) = let b = reply_event reply.0 reply.1 reply.2 reply.4 in (b.0, b.1, b.2, b.3, b.4 ∙ reply.3)
 
-  module _ (z : View) (was : Was sh images v grows z) (s : z.checkpoint.content.sequence ≡ w.checkpoint.content.sequence) (top : head z ≡ head w) (r : z.replies ≡ w.replies) where
+  module _ (z : View) (was : Was sh images v grows z) (s : rank_of z.checkpoint.content ≡ rank_of w.checkpoint.content) (top : head z ≡ head w) (r : z.replies ≡ w.replies) where
     pub sound : Sound sh z
     sound = was_sound sh images v grows z was
 
     pub same_content : z.checkpoint.content ≡ w.checkpoint.content
     same_content =
         let a = checkpoint_event in
-        ap (λ (b : Checkpoint). b.content) (was_base sh images v grows z a.0 was a.1 (same_rank z.checkpoint.content a.0.checkpoint.content (s ∙ ap (λ (c : Content). c.sequence) (sym a.2)))) ∙ a.2
+        ap (λ (b : Checkpoint). b.content) (was_base sh images v grows z a.0 was a.1 (s ∙ ap rank_of (sym a.2))) ∙ a.2
 
     pub same_chain : z.checkpoint.chain ≡ w.checkpoint.chain
     same_chain = same_links (sh.layout.block_size - 256) w.checkpoint.content z.checkpoint.chain w.checkpoint.chain w.checkpoint.content.trailer w.checkpoint.content.trailer_checksum
@@ -94,7 +94,7 @@ module _ (sh : Shape) (images : List Units) (v : View) (grows : Grows sh images 
         (λ a e b d at there checksum. distinct (BlockPlace a) (BlockPlace e) (BlockUnit b) (BlockUnit d) (was_chain sh images v grows z was a b at) (of (BlockPlace e) (BlockUnit d) (f.chain_shown e d there)) checksum)
 
     pub same_parts : z.checkpoint.parts ≡ w.checkpoint.parts
-    same_parts = same_says sh w.checkpoint.chain z.checkpoint.parts w.checkpoint.parts (subst (λ (l : List (ℕ × Block)). Says sh l z.checkpoint.parts) same_chain sound.checkpoint.trailer.says) f.checkpoint.trailer.says
+    same_parts = parts_same sh z.checkpoint.content w.checkpoint.content z.checkpoint.chain w.checkpoint.chain z.checkpoint.parts w.checkpoint.parts same_content same_chain sound.checkpoint.trailer.says f.checkpoint.trailer.says
 
     pub same_tail : z.tail ≡ w.tail
     same_tail =

@@ -7,34 +7,34 @@ use Rattle.df_theory.specs.Holds.{Holds}
 use Rattle.df_theory.specs.UnitLog.{IsLeftBy, Synced, UnitLog, add, now, settled}
 use Rattle.df_theory.specs.Chance.{EachLeft, NoChance}
 use Rattle.df_theory.specs.Grown.{IsSafe}
-use Rattle.df_theory.specs.Steady.{IsGoodLog, IsSteady}
+use Rattle.df_theory.specs.Rests.{IsGoodLog, RestsOn}
 use Rattle.df_theory.specs.Runs.{after_steps}
 use Rattle.df_theory.specs.HeadlineLaws.{BarrierLaw, CleanStartLaw, HeadlineLaw, Survives}
-use Rattle.df_theory.proofs.Steps.{grows_holds, synced_steady, steady_safe, steady_holds}
+use Rattle.df_theory.proofs.Steps.{grows_holds, synced_rests, rests_safe, rests_holds}
 use Rattle.df_theory.proofs.Founds.{holds_found, found_holds}
 use Rattle.df_theory.proofs.OneFound.{one_found_law}
 use Rattle.df_theory.proofs.Writes.{stop_law, anew_law, no_choice}
 use Rattle.df_theory.proofs.Runs.{each_weaker}
 
 pub survives : (sh : Shape) (log : UnitLog) (image : Units) (w : View) → IsSafe sh log → IsLeftBy log image → NoChance log image → Holds sh image w → Survives sh log image w
-survives sh log image w safe left chance holds = record { found = holds_found sh image w holds; steady = stop_law sh log w image safe left chance holds }
+survives sh log image w safe left chance holds = record { found = holds_found sh image w holds; rests = stop_law sh log w image (safe.stopped image left chance) holds }
 
 pub headline_law : HeadlineLaw
-headline_law sh log v [] steady lead = λ image left chance. survives sh log image v (steady_safe sh log v steady) left chance (steady_holds sh log v steady image left chance)
-headline_law sh log v (c ∷ cs) steady lead = (
+headline_law sh log v [] rests lead = λ image left chance. survives sh log image v (rests_safe sh log v rests) left chance (rests_holds sh log v rests image left chance)
+headline_law sh log v (c ∷ cs) rests lead = (
   each_weaker (IsGoodLog sh v c.view) (λ l. EachLeft l (λ image. Survives sh l image v ⊎ Survives sh l image c.view)) (λ l good image left chance. elim (good.left image left chance) [
     | inl holds ↦ inl (survives sh l image v good.safe left chance holds)
     | inr holds ↦ inr (survives sh l image c.view good.safe left chance holds)
   ]) c.steps log lead.0.moments,
-  headline_law sh (after_steps c.steps log) c.view cs lead.0.steady lead.1,
+  headline_law sh (after_steps c.steps log) c.view cs lead.0.rests lead.1,
 )
 
 pub barrier_law : BarrierLaw
-barrier_law sh log v safe found = elim safe.synced [
+barrier_law sh log v was found = elim was [
   | inl grown ↦
       let holds = grows_holds sh (now log) (settled log) grown.0 grown.1.grows in
       let same : grown.0 ≡ v = one_found_law sh (now log) grown.0 v (holds_found sh (now log) grown.0 holds) found in
-      subst (λ (x : View). IsSteady sh (add Synced log) x) same (synced_steady sh log grown.0 grown.1)
+      subst (λ (x : View). RestsOn sh (add Synced log) x) same (synced_rests sh log grown.0 grown.1)
   | inr made ↦ absurd (no_choice made.0 (now log) (settled log) made.1.made v.checkpoint.content found.chosen.agreed)
 ]
 

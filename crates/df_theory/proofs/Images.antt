@@ -12,15 +12,15 @@ pub record IsOpen (sh : Shape) (v : View) (j : Units) (place : Place) : Type 0 w
   pub needless : (x : AnyUnit) → Needs sh v place x → ⊥
   pub agrees : (x : AnyUnit) → j place ≡ Some x → Agrees sh v place x
 
-pub rests_open : (sh : Shape) (v : View) (i j : Units) → Bears sh i v → ((place : Place) → (j place ≡ i place) ⊎ IsOpen sh v j place) → Bears sh j v
-rests_open sh v i j rests each = record {
-  sound = rests.sound;
+pub bears_open : (sh : Shape) (v : View) (i j : Units) → Bears sh i v → ((place : Place) → (j place ≡ i place) ⊎ IsOpen sh v j place) → Bears sh j v
+bears_open sh v i j bears each = record {
+  sound = bears.sound;
   agrees = λ place x is. elim (each place) [
-    | inl same ↦ rests.agrees place x (sym same ∙ is)
+    | inl same ↦ bears.agrees place x (sym same ∙ is)
     | inr calm ↦ calm.agrees x is
   ];
   needs = λ place x need. elim (each place) [
-    | inl same ↦ same ∙ rests.needs place x need
+    | inl same ↦ same ∙ bears.needs place x need
     | inr calm ↦ absurd (calm.needless x need)
   ];
 }

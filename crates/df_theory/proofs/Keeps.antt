@@ -132,22 +132,22 @@ four n below = elim (cases_eq n 0) [
 ]
 
 pub whole_update_law : WholeUpdateLaw
-whole_update_law sh image v c put0 put1 put2 put3 one0 one1 one2 one3 whole =
-    let i0 : Units = overlay put0 image in
-    let i1 : Units = overlay put1 i0 in
-    let i2 : Units = overlay put2 i1 in
-    let i3 : Units = overlay put3 i2 in
+whole_update_law sh image v c puts whole =
+    let i0 : Units = overlay puts.put0 image in
+    let i1 : Units = overlay puts.put1 i0 in
+    let i2 : Units = overlay puts.put2 i1 in
+    let i3 : Units = overlay puts.put3 i2 in
     record {
       copies = λ n below. elim (four n below) [
-        | inl is ↦ subst (λ (k : ℕ). i3 (CopyPlace k) ≡ Some (CopyUnit c.content)) (sym is) (copy_over put3 i2 3 0 c.content one3 (λ e. omega arith) ∙ copy_over put2 i1 2 0 c.content one2 (λ e. omega arith) ∙ copy_over put1 i0 1 0 c.content one1 (λ e. omega arith) ∙ copy_here put0 image 0 c.content one0)
-        | inr (inl is) ↦ subst (λ (k : ℕ). i3 (CopyPlace k) ≡ Some (CopyUnit c.content)) (sym is) (copy_over put3 i2 3 1 c.content one3 (λ e. omega arith) ∙ copy_over put2 i1 2 1 c.content one2 (λ e. omega arith) ∙ copy_here put1 i0 1 c.content one1)
-        | inr (inr (inl is)) ↦ subst (λ (k : ℕ). i3 (CopyPlace k) ≡ Some (CopyUnit c.content)) (sym is) (copy_over put3 i2 3 2 c.content one3 (λ e. omega arith) ∙ copy_here put2 i1 2 c.content one2)
-        | inr (inr (inr is)) ↦ subst (λ (k : ℕ). i3 (CopyPlace k) ≡ Some (CopyUnit c.content)) (sym is) (copy_here put3 i2 3 c.content one3)
+        | inl is ↦ subst (λ (k : ℕ). i3 (CopyPlace k) ≡ Some (CopyUnit c.content)) (sym is) (copy_over puts.put3 i2 3 0 c.content puts.one3 (λ e. omega arith) ∙ copy_over puts.put2 i1 2 0 c.content puts.one2 (λ e. omega arith) ∙ copy_over puts.put1 i0 1 0 c.content puts.one1 (λ e. omega arith) ∙ copy_here puts.put0 image 0 c.content puts.one0)
+        | inr (inl is) ↦ subst (λ (k : ℕ). i3 (CopyPlace k) ≡ Some (CopyUnit c.content)) (sym is) (copy_over puts.put3 i2 3 1 c.content puts.one3 (λ e. omega arith) ∙ copy_over puts.put2 i1 2 1 c.content puts.one2 (λ e. omega arith) ∙ copy_here puts.put1 i0 1 c.content puts.one1)
+        | inr (inr (inl is)) ↦ subst (λ (k : ℕ). i3 (CopyPlace k) ≡ Some (CopyUnit c.content)) (sym is) (copy_over puts.put3 i2 3 2 c.content puts.one3 (λ e. omega arith) ∙ copy_here puts.put2 i1 2 c.content puts.one2)
+        | inr (inr (inr is)) ↦ subst (λ (k : ℕ). i3 (CopyPlace k) ≡ Some (CopyUnit c.content)) (sym is) (copy_here puts.put3 i2 3 c.content puts.one3)
       ];
       headers = λ s below.
           let old = whole.headers s below in (
             old.0,
-            away put3 i2 3 one3 s ∙ away put2 i1 2 one2 s ∙ away put1 i0 1 one1 s ∙ away put0 image 0 one0 s ∙ old.1,
+            away puts.put3 i2 3 puts.one3 s ∙ away puts.put2 i1 2 puts.one2 s ∙ away puts.put1 i0 1 puts.one1 s ∙ away puts.put0 image 0 puts.one0 s ∙ old.1,
             λ p at mine. old.2 p (in_dropped (c.content.op - v.checkpoint.content.op) p v.tail at) mine,
           );
     }
@@ -160,13 +160,13 @@ whole_update_law sh image v c put0 put1 put2 put3 one0 one1 one2 one3 whole =
 standing_left : (log : UnitLog) (v : View) → IsStanding log v → EachLeft log (λ image. Stands image v)
 standing_left log v standing image left chance a c is =
     let b = standing.shown a c is in
-    (b.0, left (BlockPlace a) (standing.firm a c is) ∙ b.1, b.2)
+    (b.0, left (BlockPlace a) (standing.firm a c is) ∙ b.1, b.2, b.3)
 
 standing_wrote : (log : UnitLog) (v : View) (put : Units) → Spares v put → IsStanding log v → IsStanding (wrote put log) v
 standing_wrote log v put spares standing = record {
   shown = λ a c is.
       let b = standing.shown a c is in
-      (b.0, ap (λ (o : Option AnyUnit). or_else o (now log (BlockPlace a))) (spares a c is) ∙ b.1, b.2);
+      (b.0, ap (λ (o : Option AnyUnit). or_else o (now log (BlockPlace a))) (spares a c is) ∙ b.1, b.2, b.3);
   firm = λ a c is. (λ i. is_some (spares a c is i) || standing.firm a c is i);
 }
 

@@ -1,23 +1,22 @@
 -- An open's mending, step by step.
-use Rattle.std.proofs.Common.{◌≡◌, ◌⊎◌, inl, inr, ℕ, ◌%◌, ◌<◌, List, [], ◌∷◌, ◌++◌, Option, Some, None, refl, sym, ◌∙◌, ap, subst}
+use Rattle.std.proofs.Common.{◌≡◌, ◌⊎◌, inl, inr, ℕ, ◌<◌, List, [], ◌∷◌, ◌++◌, Option, Some, None, refl, sym, ◌∙◌, ap, subst}
 use Rattle.std.proofs.lemmas.Bool.{cases_eq}
-use Rattle.df_theory.specs.Units.{AnyUnit, Content, CopyPlace, CopyUnit, Header, HeaderPlace, HeaderUnit, Message, Place, Units, or_else, overlay}
-use Rattle.df_theory.specs.Tails.{In}
+use Rattle.df_theory.specs.Units.{AnyUnit, Content, CopyPlace, CopyUnit, Header, HeaderPlace, HeaderUnit, Place, Units, or_else, overlay}
 use Rattle.df_theory.specs.Shape.{Shape}
 use Rattle.df_theory.specs.View.{View}
 use Rattle.df_theory.specs.UnitLog.{PutsOne, Synced, UnitLog, add, now, wrote}
-use Rattle.df_theory.specs.Steady.{IsGoodLog, IsQuiet, IsSteady}
+use Rattle.df_theory.specs.Rests.{IsGoodLog, IsQuiet, RestsOn}
 use Rattle.df_theory.specs.Runs.{AtEach, Puts, Step, Syncs, after_steps}
 use Rattle.df_theory.specs.WriterLaws.{IsHeaderMend}
 use Rattle.df_theory.specs.MakingLaws.{all_puts}
-use Rattle.df_theory.specs.MendLaws.{AllPutCopy, AllPutTable, IsNumber, IsTable, MendLaw, MendsWholeLaw, PutsTable, Reaches, copy_steps, header_steps, mend_steps}
-use Rattle.df_theory.proofs.Steps.{steady_safe}
-use Rattle.df_theory.proofs.Writes.{good_steady, sync_law, header_law, copy_law, quiet_synced, put_else}
+use Rattle.df_theory.specs.MendLaws.{AllPutCopy, AllPutTable, IsNumber, IsTable, MendLaw, MendsWholeLaw, PutsTable, Reaches, copy_steps, header_steps, mend_steps, IsFromSlot}
+use Rattle.df_theory.proofs.Steps.{rests_safe}
+use Rattle.df_theory.proofs.Writes.{good_rests, sync_law, header_law, copy_law, quiet_synced, put_else}
 use Rattle.df_theory.proofs.Runs.{each_append, after_append}
 
 -- what the table says of the slots still holds after some of its sectors were written
 pub record IsUnderWay (sh : Shape) (image : Units) (v : View) (table : ℕ → Header) : Type 0 where
-  pub each : (s : ℕ) → (image (HeaderPlace s) ≡ Some (HeaderUnit (table s))) ⊎ ((p : Message) × In p v.tail × (p.header ≡ table s) × (s ≡ (table s).op % sh.layout.slots)) ⊎ (((table s).op ≡ 0) × ((table s).checkpoint ≡ 0))
+  pub each : (s : ℕ) → IsFromSlot sh image v s (table s)
 
 -- a slot that shows the table's header still does so
 shown_still : (table : ℕ → Header) (put image : Units) → PutsTable table put → (s : ℕ) → image (HeaderPlace s) ≡ Some (HeaderUnit (table s)) → overlay put image (HeaderPlace s) ≡ Some (HeaderUnit (table s))
@@ -40,7 +39,7 @@ under_way_still : (sh : Shape) (v : View) (table : ℕ → Header) (put image : 
 under_way_still sh v table put image puts way = record {
   each = λ s. elim (way.each s) [
     | inl shown ↦ inl (shown_still table put image puts s shown)
-    | inr known ↦ inr known
+    | inr history ↦ inr history
   ];
 }
 
@@ -52,15 +51,15 @@ is_mend sh v table put image puts way = record {
 }
 
 -- the header sectors
-headers_steady : (sh : Shape) (v : View) (table : ℕ → Header) (puts : List Units) (log : UnitLog) → IsSteady sh log v → IsUnderWay sh (now log) v table → AllPutTable table puts → AtEach (IsGoodLog sh v v) log (all_puts puts) × IsSteady sh (after_steps (all_puts puts) log) v
-headers_steady sh v table [] log steady way all = (good_steady sh log v v v steady (inl refl), steady)
-headers_steady sh v table (put ∷ puts) log steady way all =
-    let wrote_one = header_law sh log v put steady (is_mend sh v table put (now log) all.0 way) in
-    let rest = headers_steady sh v table puts (wrote put log) wrote_one.0 (under_way_still sh v table put (now log) all.0 way) all.1 in
-    ((good_steady sh log v v v steady (inl refl), rest.0), rest.1)
+headers_rests : (sh : Shape) (v : View) (table : ℕ → Header) (puts : List Units) (log : UnitLog) → RestsOn sh log v → IsUnderWay sh (now log) v table → AllPutTable table puts → AtEach (IsGoodLog sh v v) log (all_puts puts) × RestsOn sh (after_steps (all_puts puts) log) v
+headers_rests sh v table [] log rests way all = (good_rests sh log v v v rests (inl refl), rests)
+headers_rests sh v table (put ∷ puts) log rests way all =
+    let wrote_one = header_law sh log v put rests (is_mend sh v table put (now log) all.0 way) in
+    let rest = headers_rests sh v table puts (wrote put log) wrote_one.0 (under_way_still sh v table put (now log) all.0 way) all.1 in
+    ((good_rests sh log v v v rests (inl refl), rest.0), rest.1)
 
-synced_after : (sh : Shape) (v : View) (log : UnitLog) → IsSteady sh log v → IsSteady sh (add Synced log) v
-synced_after sh v log steady = sync_law sh log v (steady_safe sh log v steady) steady.holds
+pub synced_after : (sh : Shape) (v : View) (log : UnitLog) → RestsOn sh log v → RestsOn sh (add Synced log) v
+synced_after sh v log rests = sync_law sh log v (rests_safe sh log v rests).synced rests.holds
 
 -- ---- what stays as it was
 
@@ -108,46 +107,47 @@ copies_miss c m n (k ∷ ks) all s = (no_header c k.0 k.1 all.0 s, copies_miss c
 
 -- ---- the copies
 
-copies_steady : (sh : Shape) (v : View) (m n : ℕ) (ks : List (ℕ × Units)) (log : UnitLog) → m < n → n < 4 → now log (CopyPlace m) ≡ Some (CopyUnit v.checkpoint.content) → now log (CopyPlace n) ≡ Some (CopyUnit v.checkpoint.content)
-    → IsSteady sh log v → IsQuiet log → AllPutCopy v.checkpoint.content m n ks → AtEach (IsGoodLog sh v v) log (copy_steps ks) × IsSteady sh (after_steps (copy_steps ks) log) v
-copies_steady sh v m n [] log apart inside one two steady quiet all = (good_steady sh log v v v steady (inl refl), steady)
-copies_steady sh v m n (k ∷ ks) log apart inside one two steady quiet all =
-    let stepped = copy_law sh log v k.1 k.0 steady quiet all.0 (record { agreed = record { first = m; second = n; apart = apart; inside = inside; at_first = one; at_second = two }; no_first = all.1; no_second = all.2 }) in
+copies_rests : (sh : Shape) (v : View) (m n : ℕ) (ks : List (ℕ × Units)) (log : UnitLog) → m < n → n < 4 → now log (CopyPlace m) ≡ Some (CopyUnit v.checkpoint.content) → now log (CopyPlace n) ≡ Some (CopyUnit v.checkpoint.content)
+    → RestsOn sh log v → IsQuiet log → AllPutCopy v.checkpoint.content m n ks → AtEach (IsGoodLog sh v v) log (copy_steps ks) × RestsOn sh (after_steps (copy_steps ks) log) v
+copies_rests sh v m n [] log apart inside one two rests quiet all = (good_rests sh log v v v rests (inl refl), rests)
+copies_rests sh v m n (k ∷ ks) log apart inside one two rests quiet all =
+    let stepped = copy_law sh log v k.1 k.0 rests quiet all.0 (record { agreed = record { first = m; second = n; apart = apart; inside = inside; at_first = one; at_second = two }; no_first = all.1; no_second = all.2 }) in
     let next : UnitLog = add Synced (wrote k.1 log) in
     let first : now next (CopyPlace m) ≡ Some (CopyUnit v.checkpoint.content) = put_else k.1 (now log) (CopyPlace k.0) (CopyPlace m) (CopyUnit v.checkpoint.content) all.0 (λ same. all.1 (let at : CopyPlace m ≡ CopyPlace k.0 = same in cc)) ∙ one in
     let second : now next (CopyPlace n) ≡ Some (CopyUnit v.checkpoint.content) = put_else k.1 (now log) (CopyPlace k.0) (CopyPlace n) (CopyUnit v.checkpoint.content) all.0 (λ same. all.2 (let at : CopyPlace n ≡ CopyPlace k.0 = same in cc)) ∙ two in
-    let rest = copies_steady sh v m n ks next apart inside first second stepped.steady (quiet_synced (wrote k.1 log)) all.3 in
-    ((good_steady sh log v v v steady (inl refl), (stepped.good, rest.0)), rest.1)
+    let rest = copies_rests sh v m n ks next apart inside first second stepped.rests (quiet_synced (wrote k.1 log)) all.3 in
+    ((good_rests sh log v v v rests (inl refl), (stepped.good, rest.0)), rest.1)
 
 -- ---- all of it
 
 -- where the header sectors lead
-record IsHalfWay (sh : Shape) (log : UnitLog) (v : View) (headers : List Units) : Type 0 where
+pub record IsHalfWay (sh : Shape) (log : UnitLog) (v : View) (headers : List Units) : Type 0 where
   pub moments : AtEach (IsGoodLog sh v v) log (header_steps headers)
-  pub steady : IsSteady sh (after_steps (header_steps headers) log) v
+  pub rests : RestsOn sh (after_steps (header_steps headers) log) v
   pub quiet : IsQuiet (after_steps (header_steps headers) log)
 
-half_way : (sh : Shape) (log : UnitLog) (v : View) (table : ℕ → Header) (headers : List Units) → IsSteady sh log v → IsQuiet log → IsTable sh (now log) v table → AllPutTable table headers → IsHalfWay sh log v headers
-half_way sh log v table [] steady quiet is all = record { moments = good_steady sh log v v v steady (inl refl); steady = steady; quiet = quiet }
-half_way sh log v table (put ∷ puts) steady quiet is all =
-    let written = headers_steady sh v table (put ∷ puts) log steady (record { each = is.each }) all in
+pub half_way : (sh : Shape) (log : UnitLog) (v : View) (table : ℕ → Header) (headers : List Units) → RestsOn sh log v → IsQuiet log → IsTable sh (now log) v table → AllPutTable table headers → IsHalfWay sh log v headers
+half_way sh log v table [] rests quiet is all = record { moments = good_rests sh log v v v rests (inl refl); rests = rests; quiet = quiet }
+half_way sh log v table (put ∷ puts) rests quiet is all =
+    let written = headers_rests sh v table (put ∷ puts) log rests (record { each = λ s. (is s).from }) all in
     let after : UnitLog = after_steps (all_puts (put ∷ puts)) log in
-    let synced : IsSteady sh (add Synced after) v = synced_after sh v after written.1 in
+    let synced : RestsOn sh (add Synced after) v = synced_after sh v after written.1 in
     let same : after_steps (header_steps (put ∷ puts)) log ≡ add Synced after = after_append (all_puts (put ∷ puts)) (Syncs ∷ []) log in
     record {
-      moments = each_append (IsGoodLog sh v v) (all_puts (put ∷ puts)) (Syncs ∷ []) log written.0 (good_steady sh after v v v written.1 (inl refl), good_steady sh (add Synced after) v v v synced (inl refl));
-      steady = subst (λ (l : UnitLog). IsSteady sh l v) (sym same) synced;
+      moments = each_append (IsGoodLog sh v v) (all_puts (put ∷ puts)) (Syncs ∷ []) log written.0 (good_rests sh after v v v written.1 (inl refl), good_rests sh (add Synced after) v v v synced (inl refl));
+      rests = subst (λ (l : UnitLog). RestsOn sh l v) (sym same) synced;
       quiet = subst IsQuiet (sym same) (quiet_synced after);
     }
 
 pub mend_law : MendLaw
-mend_law sh log v table headers copies agreed steady quiet is all_headers all_copies =
-    let half = half_way sh log v table headers steady quiet is all_headers in
+mend_law sh log v table headers copies may =
+    let half = half_way sh log v table headers may.rests may.quiet may.tells may.puts_headers in
     let mid : UnitLog = after_steps (header_steps headers) log in
-    let stays : (n : ℕ) → now mid (CopyPlace n) ≡ now log (CopyPlace n) = λ n. missed (CopyPlace n) (header_steps headers) log (header_steps_miss table headers all_headers n) in
-    let rest = copies_steady sh v agreed.first agreed.second copies mid agreed.apart agreed.inside (stays agreed.first ∙ agreed.at_first) (stays agreed.second ∙ agreed.at_second) half.steady half.quiet all_copies in (
+    let stays : (n : ℕ) → now mid (CopyPlace n) ≡ now log (CopyPlace n) = λ n. missed (CopyPlace n) (header_steps headers) log (header_steps_miss table headers may.puts_headers n) in
+    let agreed = may.agreed in
+    let rest = copies_rests sh v agreed.first agreed.second copies mid agreed.apart agreed.inside (stays agreed.first ∙ agreed.at_first) (stays agreed.second ∙ agreed.at_second) half.rests half.quiet may.puts_copies in (
       each_append (IsGoodLog sh v v) (header_steps headers) (copy_steps copies) log half.moments rest.0,
-      subst (λ (l : UnitLog). IsSteady sh l v) (sym (after_append (header_steps headers) (copy_steps copies) log)) rest.1,
+      subst (λ (l : UnitLog). RestsOn sh l v) (sym (after_append (header_steps headers) (copy_steps copies) log)) rest.1,
     )
 
 -- ---- nothing is left
@@ -177,18 +177,18 @@ copies_shown c m n (j ∷ ks) log all k either = copies_shown c m n ks (add Sync
 ])
 
 pub mends_whole_law : MendsWholeLaw
-mends_whole_law sh log v table headers copies m n is all_headers all_copies slots_are copies_are =
+mends_whole_law sh log v table headers copies may =
     let mid : UnitLog = after_steps (header_steps headers) log in
     let done : after_steps (mend_steps headers copies) log ≡ after_steps (copy_steps copies) mid = after_append (header_steps headers) (copy_steps copies) log in
     record {
       copies = λ k below.
-          ap (λ (l : UnitLog). now l (CopyPlace k)) done ∙ copies_shown v.checkpoint.content m n copies mid all_copies k (elim (copies_are k below) [
-            | inl shown ↦ inl (missed (CopyPlace k) (header_steps headers) log (header_steps_miss table headers all_headers k) ∙ shown)
+          ap (λ (l : UnitLog). now l (CopyPlace k)) done ∙ copies_shown v.checkpoint.content may.agreed.first may.agreed.second copies mid may.puts_copies k (elim (may.each_copy k below) [
+            | inl shown ↦ inl (missed (CopyPlace k) (header_steps headers) log (header_steps_miss table headers may.puts_headers k) ∙ shown)
             | inr number ↦ inr number
           ]);
       headers = λ s below. (
         table s,
-        ap (λ (l : UnitLog). now l (HeaderPlace s)) done ∙ missed (HeaderPlace s) (copy_steps copies) mid (copies_miss v.checkpoint.content m n copies all_copies s) ∙ steps_shown table headers log all_headers s (slots_are s below),
-        is.tail s,
+        ap (λ (l : UnitLog). now l (HeaderPlace s)) done ∙ missed (HeaderPlace s) (copy_steps copies) mid (copies_miss v.checkpoint.content may.agreed.first may.agreed.second copies may.puts_copies s) ∙ steps_shown table headers log may.puts_headers s (may.each_slot s below),
+        (may.tells s).tail,
       );
     }

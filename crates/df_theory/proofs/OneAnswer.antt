@@ -1,5 +1,5 @@
 -- An open gives one answer, and a state exactly where no step refuses.
-use Rattle.std.proofs.Common.{◌≡◌, ◌⊎◌, inl, inr, ℕ, suc, ◌+◌, ◌-◌, ◌*◌, ◌%◌, ◌<◌, ◌≤◌, List, [], ◌∷◌, ◌++◌, length, Some, refl, sym, ◌∙◌, ap, subst, arith, length-append, append_assoc}
+use Rattle.std.proofs.Common.{◌≡◌, ◌⊎◌, inl, inr, ℕ, ◌+◌, ◌-◌, ◌*◌, ◌<◌, ◌≤◌, List, [], ◌∷◌, ◌++◌, length, Some, refl, sym, ◌∙◌, ap, subst, arith, length-append}
 use Rattle.std.specs.List.{slice_get}
 use Rattle.std.proofs.lemmas.Bool.{cases_lt}
 use Rattle.std.proofs.Math.Nat.{mul-le-mul_left}
@@ -7,17 +7,17 @@ use Rattle.df_theory.specs.Units.{Block, BlockPlace, BlockUnit, Content, CopyPla
 use Rattle.df_theory.specs.Sessions.{sessions_after}
 use Rattle.df_theory.specs.Shape.{Shape}
 use Rattle.df_theory.specs.Copies.{IsChosen}
-use Rattle.df_theory.specs.Trailer.{InChain, IsCount, IsReference, Links, Says}
-use Rattle.df_theory.specs.View.{Checkpoint, IsSoundCheckpoint, PassesTests, View, sessions}
-use Rattle.df_theory.specs.Found.{IsFound, IsReplies, IsStored, IsTail, NotBehind, NotLost}
-use Rattle.df_theory.specs.Opens.{Answer, AreLinks, Arrives, BadField, Damaged, Found, IsLink, IsLowest, IsReadable, IsShown, LacksReply, NoQuorum, Opens, OpensFields, OpensReplies, OpensTail, OpensTraces, OpensTrailer, ReadsTo, Refused}
+use Rattle.df_theory.specs.Trailer.{InChain, IsCount, Links}
+use Rattle.df_theory.specs.View.{Checkpoint, IsSoundCheckpoint, View, sessions}
+use Rattle.df_theory.specs.Holds.{IsNamed}
+use Rattle.df_theory.specs.Found.{IsFound, IsReplies, IsStored, IsTail, NotBehind, NotLost, slot_behind}
+use Rattle.df_theory.specs.Opens.{Answer, Arrives, BadField, Damaged, Found, IsLowest, IsReadable, IsShown, LacksReply, NoQuorum, Opened, ReadsTo, Refused}
 use Rattle.df_theory.specs.ViewLaws.{FoundAnswerLaw, OneAnswerLaw}
-use Rattle.df_theory.specs.DamageLaws.{NoBadFieldLaw}
 use Rattle.df_theory.proofs.Choices.{one_chosen}
-use Rattle.df_theory.proofs.OneView.{same_chain, same_says}
+use Rattle.df_theory.proofs.OneView.{same_chain, same_parts}
 use Rattle.df_theory.proofs.OneFound.{one_tail, not_more, one_stored}
-use Rattle.df_theory.proofs.Fields.{front_of, fields_hold_law}
-use Rattle.df_theory.proofs.Once.{was_chain}
+use Rattle.df_theory.proofs.Fields.{front_of}
+use Rattle.df_theory.proofs.Layers.{Answers, AnswersFields, AnswersReplies, AnswersTail, AnswersTraces, AnswersTrailer, answers_of}
 
 -- ---- one number of pieces, one checkpoint
 
@@ -46,7 +46,7 @@ readable_one sh image b d one two = λ i. record { content = content i; chain = 
         (subst (λ (c : Content). Links (sh.layout.block_size - 256) c d.chain c.trailer c.trailer_checksum) (sym content) two.sound.trailer.links) one.shown two.shown
 
     parts : b.parts ≡ d.parts
-    parts = same_says sh d.chain b.parts d.parts (subst (λ (l : List (ℕ × Block)). Says sh l b.parts) chain one.sound.trailer.says) two.sound.trailer.says
+    parts = same_parts sh b.content d.content b.chain d.chain b.parts d.parts content chain one.sound.trailer.says two.sound.trailer.says
 
 -- ---- the trailer
 
@@ -61,6 +61,7 @@ next_shown image room c chain read (d ∷ ds) a k shown split links more = (
   d.1,
   ap (λ (e : ℕ). image (BlockPlace e)) (sym links.1) ∙ shown d.0 d.1 (subst (λ (l : List (ℕ × Block)). InChain d.0 d.1 l) (sym split) (in_behind d.0 d.1 read (d ∷ ds) (inl (refl, refl)))),
   links.2,
+  links.6,
 )
 
 -- a checkpoint that can be read has every block that is wanted
@@ -74,29 +75,29 @@ readable_reads sh image b a k readable reads =
 -- two blocks that are wanted and not shown are one
 same_wanted : (image : Units) (bs ds : List (ℕ × Block)) (address checksum a k e m : ℕ) → Arrives image bs address checksum a k → Arrives image ds address checksum e m → (IsShown image a k → ⊥) → (IsShown image e m → ⊥) → a ≡ e
 same_wanted image [] [] address checksum a k e m one two none no_more = one.0 ∙ sym two.0
-same_wanted image [] (d ∷ ds) address checksum a k e m one two none no_more = absurd (none (d.1, ap (λ (x : ℕ). image (BlockPlace x)) one.0 ∙ two.3, two.2 ∙ sym one.1))
-same_wanted image (b ∷ bs) [] address checksum a k e m one two none no_more = absurd (no_more (b.1, ap (λ (x : ℕ). image (BlockPlace x)) two.0 ∙ one.3, one.2 ∙ sym two.1))
+same_wanted image [] (d ∷ ds) address checksum a k e m one two none no_more = absurd (none (d.1, ap (λ (x : ℕ). image (BlockPlace x)) one.0 ∙ two.3, two.2 ∙ sym one.1, two.4))
+same_wanted image (b ∷ bs) [] address checksum a k e m one two none no_more = absurd (no_more (b.1, ap (λ (x : ℕ). image (BlockPlace x)) two.0 ∙ one.3, one.2 ∙ sym two.1, one.4))
 same_wanted image (b ∷ bs) (d ∷ ds) address checksum a k e m one two none no_more =
     let block : d.1 ≡ b.1 = (let both : Some (BlockUnit d.1) ≡ Some (BlockUnit b.1) = sym two.3 ∙ one.3 in cc) in
-    same_wanted image bs ds b.1.before b.1.before_checksum a k e m one.4 (subst (λ (x : Block). Arrives image ds x.before x.before_checksum e m) block two.4) none no_more
+    same_wanted image bs ds b.1.before b.1.before_checksum a k e m one.5 (subst (λ (x : Block). Arrives image ds x.before x.before_checksum e m) block two.5) none no_more
 
 -- ---- step by step
 
-not_first : (image : Units) (ss : List Session) (n j k : ℕ) → LacksReply image ss n j → LacksReply image ss n k → j < k → ⊥
-not_first image ss n j k one two less = one.lacks (two.first j one.session less one.at one.stored)
+not_first : (image : Units) (c : Content) (ss : List Session) (n j k : ℕ) → LacksReply image c ss n j → LacksReply image c ss n k → j < k → ⊥
+not_first image c ss n j k one two less = one.lacks (two.first j one.session less one.at one.stored)
 
-same_first : (image : Units) (ss : List Session) (n j k : ℕ) → LacksReply image ss n j → LacksReply image ss n k → j ≡ k
-same_first image ss n j k one two = elim (cases_lt j k) [
-  | inl less ↦ absurd (not_first image ss n j k one two less)
-  | inr more ↦ elim (cases_lt k j) [ inl less ↦ absurd (not_first image ss n k j two one less) | inr same ↦ omega arith ]
+same_first : (image : Units) (c : Content) (ss : List Session) (n j k : ℕ) → LacksReply image c ss n j → LacksReply image c ss n k → j ≡ k
+same_first image c ss n j k one two = elim (cases_lt j k) [
+  | inl less ↦ absurd (not_first image c ss n j k one two less)
+  | inr more ↦ elim (cases_lt k j) [ inl less ↦ absurd (not_first image c ss n k j two one less) | inr same ↦ omega arith ]
 ]
 
 -- a state with this checkpoint, tail and number of replies lacks none
-none_lacks : (image : Units) (b : Checkpoint) (tail : List Message) (n k : ℕ) (v : View) → LacksReply image (sessions_after b.parts.sessions tail) n k → v.checkpoint ≡ b → v.tail ≡ tail → v.replies ≡ n → IsStored image v → ⊥
+none_lacks : (image : Units) (b : Checkpoint) (tail : List Message) (n k : ℕ) (v : View) → LacksReply image b.content (sessions_after b.parts.sessions tail) n k → v.checkpoint ≡ b → v.tail ≡ tail → v.replies ≡ n → IsStored image v → ⊥
 none_lacks image b tail n k v lack base same count stored =
     let sessions_are : sessions v ≡ sessions_after b.parts.sessions tail = λ i. sessions_after (base i).parts.sessions (same i) in
     let there = stored.shown k lack.session (ap (λ (l : List Session). slice_get l k) sessions_are ∙ lack.at) (omega (arith, lack.stored)) in
-    lack.lacks (there.0, there.2, there.3)
+    lack.lacks (there.0, there.2, there.3, subst (λ (d : Checkpoint). IsNamed d.content k there.0) base there.4)
 
 same_state : (image : Units) (b : Checkpoint) (tail : List Message) (n : ℕ) (v w : View) → v.checkpoint ≡ b → w.checkpoint ≡ b → v.tail ≡ tail → w.tail ≡ tail → v.replies ≡ n → w.replies ≡ n → IsStored image v → IsStored image w → v ≡ w
 same_state image b tail n v w base_v base_w tail_v tail_w count_v count_w stored_v stored_w = λ i. record { checkpoint = base i; tail = same i; replies = count i; stored = λ k. stored k i }
@@ -116,7 +117,7 @@ same_state image b tail n v w base_v base_w tail_v tail_w count_v count_w stored
     stored : (k : ℕ) → v.stored k ≡ w.stored k
     stored k = one_stored image v w stored_v stored_w sessions_are count k (v.stored k) (w.stored k) refl refl
 
-replies_one : (image : Units) (b : Checkpoint) (tail : List Message) (x y : Answer) → OpensReplies image b tail x → OpensReplies image b tail y → x ≡ y
+replies_one : (image : Units) (b : Checkpoint) (tail : List Message) (x y : Answer) → AnswersReplies image b tail x → AnswersReplies image b tail y → x ≡ y
 replies_one image b tail x y one two = go one.2 two.2
   where
     same : two.0 ≡ one.0
@@ -125,23 +126,23 @@ replies_one image b tail x y one two = go one.2 two.2
         let down = not_more image b.content tail two.0 one.0 two.1 one.1 in
         omega arith
 
-    go : (((k : ℕ) × LacksReply image (sessions_after b.parts.sessions tail) one.0 k × (x ≡ Refused (Damaged (ReplyPlace k)))) ⊎ ((v : View) × (v.checkpoint ≡ b) × (v.tail ≡ tail) × (v.replies ≡ one.0) × IsStored image v × (x ≡ Found v)))
-        → (((k : ℕ) × LacksReply image (sessions_after b.parts.sessions tail) two.0 k × (y ≡ Refused (Damaged (ReplyPlace k)))) ⊎ ((v : View) × (v.checkpoint ≡ b) × (v.tail ≡ tail) × (v.replies ≡ two.0) × IsStored image v × (y ≡ Found v))) → x ≡ y
+    go : (((k : ℕ) × LacksReply image b.content (sessions_after b.parts.sessions tail) one.0 k × (x ≡ Refused (Damaged (ReplyPlace k)))) ⊎ ((v : View) × (v.checkpoint ≡ b) × (v.tail ≡ tail) × (v.replies ≡ one.0) × IsStored image v × (x ≡ Found v)))
+        → (((k : ℕ) × LacksReply image b.content (sessions_after b.parts.sessions tail) two.0 k × (y ≡ Refused (Damaged (ReplyPlace k)))) ⊎ ((v : View) × (v.checkpoint ≡ b) × (v.tail ≡ tail) × (v.replies ≡ two.0) × IsStored image v × (y ≡ Found v))) → x ≡ y
     go (inl p) (inl q) =
-        let k = same_first image (sessions_after b.parts.sessions tail) one.0 p.0 q.0 p.1 (subst (λ (n : ℕ). LacksReply image (sessions_after b.parts.sessions tail) n q.0) same q.1) in
+        let k = same_first image b.content (sessions_after b.parts.sessions tail) one.0 p.0 q.0 p.1 (subst (λ (n : ℕ). LacksReply image b.content (sessions_after b.parts.sessions tail) n q.0) same q.1) in
         p.2 ∙ ap (λ (n : ℕ). Refused (Damaged (ReplyPlace n))) k ∙ sym q.2
     go (inl p) (inr q) = absurd (none_lacks image b tail one.0 p.0 q.0 p.1 q.1 q.2 (q.3 ∙ same) q.4)
     go (inr p) (inl q) = absurd (none_lacks image b tail two.0 q.0 p.0 q.1 p.1 p.2 (p.3 ∙ sym same) p.4)
     go (inr p) (inr q) = p.5 ∙ ap Found (same_state image b tail one.0 p.0 q.0 p.1 q.1 p.2 q.2 p.3 (q.3 ∙ same) p.4 q.4) ∙ sym q.5
 
-tail_one : (sh : Shape) (image : Units) (b : Checkpoint) (x y : Answer) → OpensTail sh image b x → OpensTail sh image b y → x ≡ y
-tail_one sh image b x y one two = go one.2 (subst (λ (l : List Message). ((NotLost image b.content (b.content.op + length l) → ⊥) × (y ≡ Refused (Damaged (PreparePlace ((b.content.op + length l + 1) % sh.layout.slots))))) ⊎ (NotLost image b.content (b.content.op + length l) × OpensReplies image b l y)) same two.2)
+tail_one : (sh : Shape) (image : Units) (b : Checkpoint) (x y : Answer) → AnswersTail sh image b x → AnswersTail sh image b y → x ≡ y
+tail_one sh image b x y one two = go one.2 (subst (λ (l : List Message). ((NotLost image b.content (b.content.op + length l) → ⊥) × (y ≡ Refused (Damaged (PreparePlace (slot_behind sh b l))))) ⊎ (NotLost image b.content (b.content.op + length l) × AnswersReplies image b l y)) same two.2)
   where
     same : two.0 ≡ one.0
     same = one_tail sh image b two.0 one.0 two.1 one.1
 
-    go : ((NotLost image b.content (b.content.op + length one.0) → ⊥) × (x ≡ Refused (Damaged (PreparePlace ((b.content.op + length one.0 + 1) % sh.layout.slots))))) ⊎ (NotLost image b.content (b.content.op + length one.0) × OpensReplies image b one.0 x)
-        → ((NotLost image b.content (b.content.op + length one.0) → ⊥) × (y ≡ Refused (Damaged (PreparePlace ((b.content.op + length one.0 + 1) % sh.layout.slots))))) ⊎ (NotLost image b.content (b.content.op + length one.0) × OpensReplies image b one.0 y) → x ≡ y
+    go : ((NotLost image b.content (b.content.op + length one.0) → ⊥) × (x ≡ Refused (Damaged (PreparePlace (slot_behind sh b one.0))))) ⊎ (NotLost image b.content (b.content.op + length one.0) × AnswersReplies image b one.0 x)
+        → ((NotLost image b.content (b.content.op + length one.0) → ⊥) × (y ≡ Refused (Damaged (PreparePlace (slot_behind sh b one.0))))) ⊎ (NotLost image b.content (b.content.op + length one.0) × AnswersReplies image b one.0 y) → x ≡ y
     go (inl p) (inl q) = p.1 ∙ sym q.1
     go (inl p) (inr q) = absurd (p.0 q.0)
     go (inr p) (inl q) = absurd (q.0 p.0)
@@ -153,13 +154,13 @@ same_lowest image c n m one two = elim (cases_lt n m) [
   | inr more ↦ elim (cases_lt m n) [ inl less ↦ absurd (one.lowest m less two.shows) | inr same ↦ omega arith ]
 ]
 
-traces_one : (sh : Shape) (image : Units) (b : Checkpoint) (x y : Answer) → OpensTraces sh image b x → OpensTraces sh image b y → x ≡ y
+traces_one : (sh : Shape) (image : Units) (b : Checkpoint) (x y : Answer) → AnswersTraces sh image b x → AnswersTraces sh image b y → x ≡ y
 traces_one sh image b x y (inl p) (inl q) = p.3 ∙ ap (λ (n : ℕ). Refused (Damaged (CopyPlace n))) (same_lowest image b.content p.0 q.0 p.2 q.2) ∙ sym q.3
 traces_one sh image b x y (inl p) (inr q) = absurd (p.1 q.0)
 traces_one sh image b x y (inr p) (inl q) = absurd (q.1 p.0)
 traces_one sh image b x y (inr p) (inr q) = tail_one sh image b x y p.1 q.1
 
-trailer_one : (sh : Shape) (image : Units) (c : Content) (x y : Answer) → OpensTrailer sh image c x → OpensTrailer sh image c y → x ≡ y
+trailer_one : (sh : Shape) (image : Units) (c : Content) (x y : Answer) → AnswersTrailer sh image c x → AnswersTrailer sh image c y → x ≡ y
 trailer_one sh image c x y (inl p) (inl q) = p.4 ∙ ap (λ (n : ℕ). Refused (Damaged (BlockPlace n))) (same_wanted image p.2.read q.2.read c.trailer c.trailer_checksum p.0 p.1 q.0 q.1 p.2.arrives q.2.arrives p.3 q.3) ∙ sym q.4
 trailer_one sh image c x y (inl p) (inr (inl q)) = absurd (p.3 (q.0 p.0 p.1 p.2))
 trailer_one sh image c x y (inl p) (inr (inr q)) = absurd (p.3 (readable_reads sh image q.0 p.0 p.1 q.2 (subst (λ (d : Content). ReadsTo sh image d p.0 p.1) (sym q.1) p.2)))
@@ -168,29 +169,32 @@ trailer_one sh image c x y (inr (inl p)) (inr (inl q)) = p.2 ∙ sym q.2
 trailer_one sh image c x y (inr (inl p)) (inr (inr q)) = absurd (p.1 q.0 q.1 q.2)
 trailer_one sh image c x y (inr (inr p)) (inl q) = absurd (q.3 (readable_reads sh image p.0 q.0 q.1 p.2 (subst (λ (d : Content). ReadsTo sh image d q.0 q.1) (sym p.1) q.2)))
 trailer_one sh image c x y (inr (inr p)) (inr (inl q)) = absurd (q.1 p.0 p.1 p.2)
-trailer_one sh image c x y (inr (inr p)) (inr (inr q)) = traces_one sh image p.0 x y p.3 (subst (λ (b : Checkpoint). OpensTraces sh image b y) (readable_one sh image q.0 p.0 q.2 p.2) q.3)
+trailer_one sh image c x y (inr (inr p)) (inr (inr q)) = traces_one sh image p.0 x y p.3 (subst (λ (b : Checkpoint). AnswersTraces sh image b y) (readable_one sh image q.0 p.0 q.2 p.2) q.3)
 
-fields_one : (sh : Shape) (image : Units) (c : Content) (x y : Answer) → OpensFields sh image c x → OpensFields sh image c y → x ≡ y
+fields_one : (sh : Shape) (image : Units) (c : Content) (x y : Answer) → AnswersFields sh image c x → AnswersFields sh image c y → x ≡ y
 fields_one sh image c x y (inl p) (inl q) = p.1 ∙ sym q.1
 fields_one sh image c x y (inl p) (inr q) = absurd (p.0 q.0 q.1)
 fields_one sh image c x y (inr p) (inl q) = absurd (q.0 p.0 p.1)
 fields_one sh image c x y (inr p) (inr q) = trailer_one sh image c x y p.2 q.2
 
+answers_one : (sh : Shape) (image : Units) (x y : Answer) → Answers sh image x → Answers sh image y → x ≡ y
+answers_one sh image x y (inl p) (inl q) = p.1 ∙ sym q.1
+answers_one sh image x y (inl p) (inr q) = absurd (p.0 q.0 q.1.agreed)
+answers_one sh image x y (inr p) (inl q) = absurd (q.0 p.0 p.1.agreed)
+answers_one sh image x y (inr p) (inr q) = fields_one sh image p.0 x y p.2 (subst (λ (c : Content). AnswersFields sh image c y) (one_chosen image q.0 p.0 q.1 p.1) q.2)
+
 pub one_answer_law : OneAnswerLaw
-one_answer_law sh image x y (inl p) (inl q) = p.1 ∙ sym q.1
-one_answer_law sh image x y (inl p) (inr q) = absurd (p.0 q.0 q.1.agreed)
-one_answer_law sh image x y (inr p) (inl q) = absurd (q.0 p.0 p.1.agreed)
-one_answer_law sh image x y (inr p) (inr q) = fields_one sh image p.0 x y p.2 (subst (λ (c : Content). OpensFields sh image c y) (one_chosen image q.0 p.0 q.1 p.1) q.2)
+one_answer_law sh image x y one two = answers_one sh image x y (answers_of sh image x one) (answers_of sh image y two)
 
 -- ---- a state
 
-to_found : (sh : Shape) (image : Units) (v : View) → Opens sh image (Found v) → IsFound sh image v
+to_found : (sh : Shape) (image : Units) (v : View) → Answers sh image (Found v) → IsFound sh image v
 to_found sh image v (inl p) = absurd (let both : Found v ≡ Refused NoQuorum = p.1 in cc)
 to_found sh image v (inr (c, chosen, inl p)) = absurd (let both : Found v ≡ Refused BadField = p.1 in cc)
 to_found sh image v (inr (c, chosen, inr (tests, reference, inl p))) = absurd (let both : Found v ≡ Refused (Damaged (BlockPlace p.0)) = p.4 in cc)
 to_found sh image v (inr (c, chosen, inr (tests, reference, inr (inl p)))) = absurd (let both : Found v ≡ Refused BadField = p.2 in cc)
 to_found sh image v (inr (c, chosen, inr (tests, reference, inr (inr (b, content, readable, inl p))))) = absurd (let both : Found v ≡ Refused (Damaged (CopyPlace p.0)) = p.3 in cc)
-to_found sh image v (inr (c, chosen, inr (tests, reference, inr (inr (b, content, readable, inr (not_behind, (tail, is_tail, inl p))))))) = absurd (let both : Found v ≡ Refused (Damaged (PreparePlace ((b.content.op + length tail + 1) % sh.layout.slots))) = p.1 in cc)
+to_found sh image v (inr (c, chosen, inr (tests, reference, inr (inr (b, content, readable, inr (not_behind, (tail, is_tail, inl p))))))) = absurd (let both : Found v ≡ Refused (Damaged (PreparePlace (slot_behind sh b tail))) = p.1 in cc)
 to_found sh image v (inr (c, chosen, inr (tests, reference, inr (inr (b, content, readable, inr (not_behind, (tail, is_tail, inr (not_lost, (n, counted, inl p))))))))) = absurd (let both : Found v ≡ Refused (Damaged (ReplyPlace p.0)) = p.2 in cc)
 to_found sh image v (inr (c, chosen, inr (tests, reference, inr (inr (b, content, readable, inr (not_behind, (tail, is_tail, inr (not_lost, (n, counted, inr (w, base, same, count, stored, is))))))))))
     = subst (λ (z : View). IsFound sh image z) (let both : Found v ≡ Found w = is in let one : w ≡ v = cc in one) (record {
@@ -204,70 +208,5 @@ to_found sh image v (inr (c, chosen, inr (tests, reference, inr (inr (b, content
       stored = stored;
     })
 
-from_found : (sh : Shape) (image : Units) (v : View) → IsFound sh image v → Opens sh image (Found v)
-from_found sh image v f =
-    let readable : IsReadable sh image v.checkpoint = record { chosen = f.chosen; sound = f.checkpoint; shown = f.chain_shown } in
-    inr (v.checkpoint.content, f.chosen, inr (f.checkpoint.tests, f.checkpoint.trailer.reference, inr (inr (v.checkpoint, refl, readable, inr (f.not_behind, (v.tail, f.tail, inr (f.not_lost, (v.replies, f.replies, inr (v, refl, refl, refl, f.stored, refl)))))))))
-
 pub found_answer_law : FoundAnswerLaw
-found_answer_law sh image v = (to_found sh image v, from_found sh image v)
-
--- ---- no field is ever bad
-
-arrives_more : (image : Units) (bs : List (ℕ × Block)) (d : ℕ × Block) (address checksum a k : ℕ) → Arrives image bs address checksum a k → 0 < a → d.0 ≡ a → d.1.checksum ≡ k → image (BlockPlace a) ≡ Some (BlockUnit d.1) → Arrives image (bs ++ d ∷ []) address checksum d.1.before d.1.before_checksum
-arrives_more image [] d address checksum a k arrives above place sum shown =
-    (omega (arith, arrives.0), place ∙ arrives.0, sum ∙ arrives.1, ap (λ (e : ℕ). image (BlockPlace e)) (sym arrives.0) ∙ shown, (refl, refl))
-arrives_more image (b ∷ bs) d address checksum a k arrives above place sum shown = (arrives.0, arrives.1, arrives.2, arrives.3, arrives_more image bs d b.1.before b.1.before_checksum a k arrives.4 above place sum shown)
-
-links_more : (sh : Shape) (c : Content) (n i : ℕ) (bs : List (ℕ × Block)) (d : ℕ × Block) → AreLinks sh c n bs → n ≡ length bs + (i + 1) → IsLink sh c i d.1 → AreLinks sh c n (bs ++ d ∷ [])
-links_more sh c n i [] d are count link = (i, omega arith, link, tt)
-links_more sh c n i (b ∷ bs) d are count link = (are.0, are.1, are.2, links_more sh c are.0 i bs d are.3 (omega (arith, are.1)) link)
-
--- a block of a chain that passes its tests is a link
-link_of : (sh : Shape) (c : Content) (d : ℕ × Block) (ds : List (ℕ × Block)) (a k : ℕ) → Links (sh.layout.block_size - 256) c (d ∷ ds) a k → ((e : ℕ) (x : Block) → InChain e x ds → e ≤ sh.layout.blocks) → IsLink sh c (length ds) d.1
-link_of sh c d [] a k links inside = record { sequence = links.3; place = links.4; size = links.5; before = λ above. absurd (omega arith) }
-link_of sh c d (e ∷ ds) a k links inside = record { sequence = links.3; place = links.4; size = links.5; before = λ above. (links.6.0, omega (arith, inside e.0 e.1 (inl (refl, refl)), links.6.1)) }
-
-module _ (sh : Shape) (shown : Units) (w : Checkpoint) (sound : IsSoundCheckpoint sh w)
-    (wanted : (a k : ℕ) → ReadsTo sh shown w.content a k → IsShown shown a k) (same : (e : ℕ) (x y : Block) → InChain e x w.chain → shown (BlockPlace e) ≡ Some (BlockUnit y) → x.checksum ≡ y.checksum → x ≡ y) where
-  -- from what was read on all is shown
-  rest_shown : (bs ds : List (ℕ × Block)) (a k : ℕ) → w.chain ≡ bs ++ ds → Arrives shown bs w.content.trailer w.content.trailer_checksum a k → AreLinks sh w.content (length w.chain) bs → Links (sh.layout.block_size - 256) w.content ds a k
-      → (e : ℕ) (x : Block) → InChain e x ds → shown (BlockPlace e) ≡ Some (BlockUnit x)
-  rest_shown bs [] a k split arrives are links e x at = absurd at
-  rest_shown bs (d ∷ ds) a k split arrives are links e x at =
-      let size : length w.chain ≡ length bs + suc (length ds) = ap length split ∙ length-append bs (d ∷ ds) in
-      let there = wanted a k (record { count = length w.chain; read = bs; counts = sound.trailer.count; arrives = arrives; links = are; more = omega arith }) in
-      let in_chain : InChain d.0 d.1 w.chain = subst (λ (l : List (ℕ × Block)). InChain d.0 d.1 l) (sym split) (in_behind d.0 d.1 bs (d ∷ ds) (inl (refl, refl))) in
-      let one : d.1 ≡ there.0 = same d.0 d.1 there.0 in_chain (ap (λ (n : ℕ). shown (BlockPlace n)) links.1 ∙ there.1) (links.2 ∙ sym there.2) in
-      let here : shown (BlockPlace a) ≡ Some (BlockUnit d.1) = there.1 ∙ ap (λ (z : Block). Some (BlockUnit z)) (sym one) in
-      let link : IsLink sh w.content (length ds) d.1 = link_of sh w.content d ds a k links (λ f z in_rest. sound.trailer.inside f z (subst (λ (l : List (ℕ × Block)). InChain f z l) (sym split) (in_behind f z bs (d ∷ ds) (inr in_rest)))) in
-      elim at [
-        | inl first ↦ ap (λ (n : ℕ). shown (BlockPlace n)) (first.0 ∙ links.1) ∙ here ∙ ap (λ (z : Block). Some (BlockUnit z)) (sym first.1)
-        | inr later ↦ rest_shown (bs ++ d ∷ []) ds d.1.before d.1.before_checksum (split ∙ sym (append_assoc bs (d ∷ []) ds)) (arrives_more shown bs d w.content.trailer w.content.trailer_checksum a k arrives links.0 links.1 links.2 here)
-            (links_more sh w.content (length w.chain) (length ds) bs d are (omega arith) link) links.6 e x later
-      ]
-
-  pub all_shown : (e : ℕ) (x : Block) → InChain e x w.chain → shown (BlockPlace e) ≡ Some (BlockUnit x)
-  all_shown = rest_shown [] w.chain w.content.trailer w.content.trailer_checksum refl (refl, refl) tt sound.trailer.links
-
-pub no_bad_field_law : NoBadFieldLaw
-no_bad_field_law sh images v grows empty distinct shown of (inl p) = let both : Refused BadField ≡ Refused NoQuorum = p.1 in cc
-no_bad_field_law sh images v grows empty distinct shown of (inr (c, chosen, inl p)) =
-    let w = fields_hold_law sh images v grows empty distinct shown of c chosen.agreed in
-    p.0 (subst (λ (d : Content). PassesTests sh d) w.2 w.3.tests) (subst (λ (d : Content). IsReference sh.layout d) w.2 w.3.trailer.reference)
-no_bad_field_law sh images v grows empty distinct shown of (inr (c, chosen, inr (tests, reference, inl p))) = let both : Refused BadField ≡ Refused (Damaged (BlockPlace p.0)) = p.4 in cc
-no_bad_field_law sh images v grows empty distinct shown of (inr (c, chosen, inr (tests, reference, inr (inl p)))) =
-    let w = fields_hold_law sh images v grows empty distinct shown of c chosen.agreed in
-    p.1 w.0.checkpoint w.2 (record {
-      chosen = subst (λ (d : Content). IsChosen shown d) (sym w.2) chosen;
-      sound = w.3;
-      shown = all_shown sh shown w.0.checkpoint w.3 (λ a k reads. p.0 a k (subst (λ (d : Content). ReadsTo sh shown d a k) w.2 reads))
-          (λ e x y at is checksum. distinct (BlockPlace e) (BlockPlace e) (BlockUnit x) (BlockUnit y) (was_chain sh images v grows w.0 w.1 e x at) (of (BlockPlace e) (BlockUnit y) is) checksum);
-    })
-no_bad_field_law sh images v grows empty distinct shown of (inr (c, chosen, inr (tests, reference, inr (inr (b, content, readable, inl p))))) = let both : Refused BadField ≡ Refused (Damaged (CopyPlace p.0)) = p.3 in cc
-no_bad_field_law sh images v grows empty distinct shown of (inr (c, chosen, inr (tests, reference, inr (inr (b, content, readable, inr (not_behind, (tail, is_tail, inl p))))))) =
-    let both : Refused BadField ≡ Refused (Damaged (PreparePlace ((b.content.op + length tail + 1) % sh.layout.slots))) = p.1 in cc
-no_bad_field_law sh images v grows empty distinct shown of (inr (c, chosen, inr (tests, reference, inr (inr (b, content, readable, inr (not_behind, (tail, is_tail, inr (not_lost, (n, counted, inl p))))))))) =
-    let both : Refused BadField ≡ Refused (Damaged (ReplyPlace p.0)) = p.2 in cc
-no_bad_field_law sh images v grows empty distinct shown of (inr (c, chosen, inr (tests, reference, inr (inr (b, content, readable, inr (not_behind, (tail, is_tail, inr (not_lost, (n, counted, inr p))))))))) =
-    let both : Refused BadField ≡ Found p.0 = p.5 in cc
+found_answer_law sh image v = (λ opens. to_found sh image v (answers_of sh image (Found v) opens), λ found. Opened v found)

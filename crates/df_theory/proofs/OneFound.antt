@@ -2,18 +2,18 @@
 use Rattle.std.proofs.Common.{◌≡◌, inl, inr, ℕ, suc, ◌+◌, ◌-◌, ◌%◌, ◌<◌, ◌≤◌, List, [], ◌∷◌, length, Option, Some, None, refl, sym, ◌∙◌, ap, subst, arith}
 use Rattle.std.specs.List.{slice_get}
 use Rattle.std.proofs.lemmas.Bool.{cases_lt}
-use Rattle.df_theory.specs.Units.{Block, Content, Message, PreparePlace, PrepareUnit, ReplyUnit, Session, Units}
+use Rattle.df_theory.specs.Units.{Content, Message, PreparePlace, PrepareUnit, ReplyUnit, Session, Units}
 use Rattle.df_theory.specs.Sessions.{noted, sessions_after}
 use Rattle.df_theory.specs.Tails.{Chain, Fits, In, last_checksum, last_mark}
 use Rattle.df_theory.specs.Shape.{Shape, clients}
-use Rattle.df_theory.specs.Trailer.{Links, Says}
+use Rattle.df_theory.specs.Trailer.{Links}
 use Rattle.df_theory.specs.View.{Checkpoint, View, sessions}
 use Rattle.df_theory.specs.Cases.{Takes}
 use Rattle.df_theory.specs.Found.{IsReplies, IsStored, IsTail}
 use Rattle.df_theory.specs.ViewLaws.{FoundLaw, OneChosenLaw, OneFoundLaw, OneViewLaw}
 use Rattle.df_theory.proofs.Choices.{one_chosen}
 use Rattle.df_theory.proofs.Founds.{holds_found, found_holds}
-use Rattle.df_theory.proofs.OneView.{one_view, same_tail, same_chain, same_says}
+use Rattle.df_theory.proofs.OneView.{one_view, same_tail, same_chain, same_parts}
 
 -- of two chains that show the same, the longer one has a prepare that fits the shorter one's end
 abbrev pub HasNext : ℕ → ℕ → ℕ → ℕ → List Session → List Message → List Message → Type 0
@@ -33,12 +33,12 @@ next_of clients op parent mark ss (p ∷ ps) (q ∷ qs) one two same less =
     (rest.0, inr rest.1, subst (λ (k : ℕ). Fits clients k (last_checksum p.header.checksum ps) (last_mark p.header.mark ps) (sessions_after (noted p.header ss) ps) rest.0.header) more rest.2)
 
 -- prepares of one op that are taken are one
-same_taken : (n : ℕ) (image : Units) (p q : Message) → Takes n image p → Takes n image q → p.header.op ≡ q.header.op → p ≡ q
-same_taken n image p q one two op = let both : Some (PrepareUnit p) ≡ Some (PrepareUnit q) = sym one.shown ∙ ap (λ (o : ℕ). image (PreparePlace (o % n))) op ∙ two.shown in cc
+same_taken : (n : ℕ) (image : Units) (c : Content) (p q : Message) → Takes n image c p → Takes n image c q → p.header.op ≡ q.header.op → p ≡ q
+same_taken n image c p q one two op = let both : Some (PrepareUnit p) ≡ Some (PrepareUnit q) = sym one.shown ∙ ap (λ (o : ℕ). image (PreparePlace (o % n))) op ∙ two.shown in cc
 
 not_longer : (sh : Shape) (image : Units) (b : Checkpoint) (ps qs : List Message) → IsTail sh image b ps → IsTail sh image b qs → length ps < length qs → ⊥
 not_longer sh image b ps qs one two less =
-    let next = next_of sh.layout.clients (b.content.op + 1) b.content.op_checksum 0 b.parts.sessions ps qs one.chain two.chain (λ p q at there op. same_taken sh.layout.slots image p q (one.takes p at) (two.takes q there) op) less in
+    let next = next_of sh.layout.clients (b.content.op + 1) b.content.op_checksum 0 b.parts.sessions ps qs one.chain two.chain (λ p q at there op. same_taken sh.layout.slots image b.content p q (one.takes p at) (two.takes q there) op) less in
     one.longest next.0 (omega (arith, two.room)) (two.takes next.0 next.1) next.2
 
 pub one_tail : (sh : Shape) (image : Units) (b : Checkpoint) (ps qs : List Message) → IsTail sh image b ps → IsTail sh image b qs → ps ≡ qs
@@ -56,7 +56,7 @@ pub not_more : (image : Units) (c : Content) (tail : List Message) (n m : ℕ) �
 not_more image c tail n m one two = elim one.reached [
   | inl is ↦ omega (arith, two.superblock)
   | inr (inl is) ↦ omega (arith, two.mark)
-  | inr (inr is) ↦ omega (arith, two.reply is.0 is.1 is.2, is.3)
+  | inr (inr is) ↦ omega (arith, two.reply is.0 is.1 is.2 is.4, is.3)
 ]
 
 pub one_stored : (image : Units) (v u : View) → IsStored image v → IsStored image u → sessions v ≡ sessions u → v.replies ≡ u.replies → (k : ℕ) (o p : Option Message) → v.stored k ≡ o → u.stored k ≡ p → o ≡ p
@@ -91,7 +91,7 @@ one_found_law sh image v u one two = λ i. record { checkpoint = base i; tail = 
         one.chain_shown two.chain_shown
 
     parts : v.checkpoint.parts ≡ u.checkpoint.parts
-    parts = same_says sh u.checkpoint.chain v.checkpoint.parts u.checkpoint.parts (subst (λ (l : List (ℕ × Block)). Says sh l v.checkpoint.parts) chain one.checkpoint.trailer.says) two.checkpoint.trailer.says
+    parts = same_parts sh v.checkpoint.content u.checkpoint.content v.checkpoint.chain u.checkpoint.chain v.checkpoint.parts u.checkpoint.parts content chain one.checkpoint.trailer.says two.checkpoint.trailer.says
 
     base : v.checkpoint ≡ u.checkpoint
     base = λ i. record { content = content i; chain = chain i; parts = parts i }

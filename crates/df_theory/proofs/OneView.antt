@@ -33,13 +33,17 @@ same_chain room content image (c ∷ cs) [] address checksum one two shown there
 same_chain room content image (c ∷ cs) (d ∷ ds) address checksum one two shown there =
     let place : c.0 ≡ d.0 = one.1 ∙ sym two.1 in
     let block : c.1 ≡ d.1 = (let both : Some (BlockUnit c.1) ≡ Some (BlockUnit d.1) = sym (shown c.0 c.1 (inl (refl, refl))) ∙ ap (λ (a : ℕ). image (BlockPlace a)) place ∙ there d.0 d.1 (inl (refl, refl)) in cc) in
-    let rest : cs ≡ ds = same_chain room content image cs ds c.1.before c.1.before_checksum one.6 (subst (λ (b : Block). Links room content ds b.before b.before_checksum) (sym block) two.6) (λ a b at. shown a b (inr at)) (λ a b at. there a b (inr at)) in
+    let rest : cs ≡ ds = same_chain room content image cs ds c.1.before c.1.before_checksum one.7 (subst (λ (b : Block). Links room content ds b.before b.before_checksum) (sym block) two.7) (λ a b at. shown a b (inr at)) (λ a b at. there a b (inr at)) in
     λ i. (place i, block i) ∷ rest i
 
 -- one chain says one thing
-pub same_says : (sh : Shape) (cs : List (ℕ × Block)) (p q : Parts) → Says sh cs p → Says sh cs q → p ≡ q
-same_says sh [] p q one two = one ∙ sym two
-same_says sh (c ∷ cs) p q one two = let both : Some p ≡ Some q = sym one ∙ two in cc
+same_says : (sh : Shape) (op : ℕ) (cs : List (ℕ × Block)) (p q : Parts) → Says sh op cs p → Says sh op cs q → p ≡ q
+same_says sh op [] p q one two = one ∙ sym two
+same_says sh op (c ∷ cs) p q one two = let both : Some p ≡ Some q = sym one ∙ two in cc
+
+pub same_parts : (sh : Shape) (c d : Content) (cs ds : List (ℕ × Block)) (p q : Parts) → c ≡ d → cs ≡ ds → Says sh c.op cs p → Says sh d.op ds q → p ≡ q
+same_parts sh c d cs ds p q content chain one two =
+    same_says sh d.op ds p q (subst (λ (n : ℕ). Says sh n ds p) (ap (λ (x : Content). x.op) content) (subst (λ (l : List (ℕ × Block)). Says sh c.op l p) chain one)) two
 
 pub last_in : (clients op parent mark : ℕ) (ss : List Session) (ps : List Message) → Chain clients op parent mark ss ps → 0 < length ps → (p : Message) × In p ps × (p.header.op + 1 ≡ op + length ps)
 last_in clients op parent mark ss [] chain some = absurd (omega arith)
@@ -48,11 +52,12 @@ last_in clients op parent mark ss (p ∷ q ∷ ps) chain some =
     let rest = last_in clients (op + 1) p.header.checksum p.header.mark (noted p.header ss) (q ∷ ps) chain.1 (omega arith) in
     (rest.0, inr rest.1, omega (arith, rest.2))
 
-not_longer : (sh : Shape) (image : Units) (v u : View) → Holds sh image v → Holds sh image u → v.checkpoint.content.op ≡ u.checkpoint.content.op → length v.tail < length u.tail → ⊥
+not_longer : (sh : Shape) (image : Units) (v u : View) → Holds sh image v → Holds sh image u → v.checkpoint.content ≡ u.checkpoint.content → length v.tail < length u.tail → ⊥
 not_longer sh image v u one two same less =
     let last = last_in sh.layout.clients (u.checkpoint.content.op + 1) u.checkpoint.content.op_checksum 0 u.checkpoint.parts.sessions u.tail two.bears.sound.chain (omega arith) in
     let shown = two.bears.needs (PreparePlace (last.0.header.op % sh.layout.slots)) (PrepareUnit last.0) (last.0, last.1, refl, refl) in
-    omega (arith, (agrees_prepare sh image v one (last.0.header.op % sh.layout.slots) last.0 shown).op, last.2)
+    let own : last.0.header.boot ≡ u.checkpoint.content.boot = two.bears.sound.records.tail last.0 last.1 (omega (arith, last.2, one.bears.sound.records.pin_to, ap (λ (c : Content). c.pin) same, ap (λ (c : Content). c.op) same)) in
+    omega (arith, (agrees_prepare sh image v one (last.0.header.op % sh.layout.slots) last.0 shown).op (own ∙ ap (λ (c : Content). c.boot) (sym same)), last.2, ap (λ (c : Content). c.op) same)
 
 not_more : (sh : Shape) (image : Units) (v u : View) → Holds sh image v → Holds sh image u → v.checkpoint.content ≡ u.checkpoint.content → v.tail ≡ u.tail → v.replies ≤ u.replies
 not_more sh image v u one two same_base same_tail_is =
@@ -60,10 +65,10 @@ not_more sh image v u one two same_base same_tail_is =
     let g = (holds_found sh image u two).replies in
     go f g f.reached
   where
-    go : IsReplies image v.checkpoint.content v.tail v.replies → IsReplies image u.checkpoint.content u.tail u.replies → (v.checkpoint.content.replies ≡ v.replies) ⊎ (last_mark 0 v.tail ≡ v.replies) ⊎ ((k : ℕ) × (r : Message) × (image (ReplyPlace k) ≡ Some (ReplyUnit r)) × (r.header.op ≡ v.replies)) → v.replies ≤ u.replies
+    go : IsReplies image v.checkpoint.content v.tail v.replies → IsReplies image u.checkpoint.content u.tail u.replies → (v.checkpoint.content.replies ≡ v.replies) ⊎ (last_mark 0 v.tail ≡ v.replies) ⊎ ((k : ℕ) × (r : Message) × (image (ReplyPlace k) ≡ Some (ReplyUnit r)) × (r.header.op ≡ v.replies) × (r.header.boot ≡ v.checkpoint.content.boot)) → v.replies ≤ u.replies
     go f g (inl is) = omega (arith, g.superblock, ap (λ (c : Content). c.replies) same_base)
     go f g (inr (inl is)) = omega (arith, g.mark, ap (λ (l : List Message). last_mark 0 l) same_tail_is)
-    go f g (inr (inr is)) = omega (arith, g.reply is.0 is.1 is.2, is.3)
+    go f g (inr (inr is)) = omega (arith, g.reply is.0 is.1 is.2 (is.4 ∙ ap (λ (c : Content). c.boot) same_base), is.3)
 
 same_stored : (sh : Shape) (image : Units) (v u : View) → Holds sh image v → Holds sh image u → sessions v ≡ sessions u → v.replies ≡ u.replies → (k : ℕ) (o p : Option Message) → v.stored k ≡ o → u.stored k ≡ p → o ≡ p
 same_stored sh image v u one two ss rs k None None is at = refl
@@ -93,7 +98,7 @@ one_view sh image v u one two = λ i. record { checkpoint = base i; tail = tail 
         (λ a b at. one.bears.needs (BlockPlace a) (BlockUnit b) (b, at, refl)) (λ a b at. two.bears.needs (BlockPlace a) (BlockUnit b) (b, at, refl))
 
     parts : v.checkpoint.parts ≡ u.checkpoint.parts
-    parts = same_says sh u.checkpoint.chain v.checkpoint.parts u.checkpoint.parts (subst (λ (l : List (ℕ × Block)). Says sh l v.checkpoint.parts) chain one.bears.sound.checkpoint.trailer.says) two.bears.sound.checkpoint.trailer.says
+    parts = same_parts sh v.checkpoint.content u.checkpoint.content v.checkpoint.chain u.checkpoint.chain v.checkpoint.parts u.checkpoint.parts content chain one.bears.sound.checkpoint.trailer.says two.bears.sound.checkpoint.trailer.says
 
     base : v.checkpoint ≡ u.checkpoint
     base = λ i. record { content = content i; chain = chain i; parts = parts i }
@@ -103,9 +108,9 @@ one_view sh image v u one two = λ i. record { checkpoint = base i; tail = tail 
 
     size : length v.tail ≡ length u.tail
     size = elim (cases_lt (length v.tail) (length u.tail)) [
-      | inl less ↦ absurd (not_longer sh image v u one two op less)
+      | inl less ↦ absurd (not_longer sh image v u one two content less)
       | inr more ↦ elim (cases_lt (length u.tail) (length v.tail)) [
-        | inl less ↦ absurd (not_longer sh image u v two one (sym op) less)
+        | inl less ↦ absurd (not_longer sh image u v two one (sym content) less)
         | inr same ↦ omega arith
       ]
     ]

@@ -9,10 +9,10 @@ use Rattle.df_theory.specs.Holds.{Sound}
 use Rattle.df_theory.specs.Next.{Next, Same}
 use Rattle.df_theory.specs.UnitLog.{PutsOne, UnitLog, now, settled, wrote}
 use Rattle.df_theory.specs.Chance.{InImages}
-use Rattle.df_theory.specs.Grown.{Known}
-use Rattle.df_theory.specs.Steady.{IsBlock, IsCalmPut, IsCopy, IsQuiet, IsSteady, Stepped}
+use Rattle.df_theory.specs.Grown.{InView}
+use Rattle.df_theory.specs.Rests.{IsBlock, IsCalmPut, IsCopy, IsQuiet, RestsOn, Stepped}
 use Rattle.df_theory.proofs.Grew.{Grew, agrees_grew}
-use Rattle.df_theory.proofs.Images.{IsOpen, rests_open, chosen_same}
+use Rattle.df_theory.proofs.Images.{IsOpen, bears_open, chosen_same}
 use Rattle.df_theory.proofs.Torn.{Tear, Kept, Loose, Touched, Torn, TornView}
 use Rattle.df_theory.proofs.Steps.{step, calm_rest}
 
@@ -23,12 +23,12 @@ block_agrees sh v (PreparePlace s) x block = absurd block
 block_agrees sh v (ReplyPlace k) x block = absurd block
 block_agrees sh v (BlockPlace a) x block = tt
 
-pub block_known : (v : View) (place : Place) (x : AnyUnit) → IsBlock place → Known v place x
-block_known v (CopyPlace n) x block = absurd block
-block_known v (HeaderPlace s) x block = absurd block
-block_known v (PreparePlace s) x block = absurd block
-block_known v (ReplyPlace k) x block = absurd block
-block_known v (BlockPlace a) x block = tt
+pub block_in_view : (v : View) (place : Place) (x : AnyUnit) → IsBlock place → InView v place x
+block_in_view v (CopyPlace n) x block = absurd block
+block_in_view v (HeaderPlace s) x block = absurd block
+block_in_view v (PreparePlace s) x block = absurd block
+block_in_view v (ReplyPlace k) x block = absurd block
+block_in_view v (BlockPlace a) x block = tt
 
 -- the write itself is one that is torn nowhere
 overlay_at : (sh : Shape) (log : UnitLog) (v : View) (put : Units) (place : Place) → (o : Option AnyUnit) → put place ≡ o → Tear sh log v put (overlay put (now log)) place
@@ -40,7 +40,7 @@ overlay_torn sh log v put place = overlay_at sh log v put place (put place) refl
 
 -- ---- a write that the view doesn't see: header sectors, free blocks, mending
 
-module _ (sh : Shape) (log : UnitLog) (v : View) (put : Units) (rest : IsSteady sh log v) (calm : IsCalmPut sh (settled log) v put) where
+module _ (sh : Shape) (log : UnitLog) (v : View) (put : Units) (rest : RestsOn sh log v) (calm : IsCalmPut sh (settled log) v put) where
   calm_at : (j : Units) (place : Place) → Tear sh log v put j place → (j place ≡ now log place) ⊎ IsOpen sh v j place
   calm_at j place (Kept none same) = inl same
   calm_at j place (Loose wet place_calm shows) = inr (record {
@@ -65,10 +65,10 @@ module _ (sh : Shape) (log : UnitLog) (v : View) (put : Units) (rest : IsSteady 
 
   pub calm_torn : (j : Units) → Torn sh log v put j → TornView sh log v put j v
   calm_torn j torn = record {
-    holds = record { bears = rests_open sh v (now log) j rest.holds.bears (λ place. calm_at j place (torn place)); chosen = chosen_same (now log) j v.checkpoint.content (λ n. calm_copy j n (torn (CopyPlace n))) rest.holds.chosen };
-    known = λ place y is shown. elim is [
-      | inl may ↦ may.1.known
-      | inr new ↦ (calm place y new).1.known
+    holds = record { bears = bears_open sh v (now log) j rest.holds.bears (λ place. calm_at j place (torn place)); chosen = chosen_same (now log) j v.checkpoint.content (λ n. calm_copy j n (torn (CopyPlace n))) rest.holds.chosen };
+    history = λ place y is shown. elim is [
+      | inl may ↦ may.1.history
+      | inr new ↦ (calm place y new).1.history
     ];
   }
 
@@ -76,7 +76,7 @@ module _ (sh : Shape) (log : UnitLog) (v : View) (put : Units) (rest : IsSteady 
   calm_step = step sh log v put rest v Same (λ j torn. inl (calm_torn j torn)) (calm_torn (overlay put (now log)) (overlay_torn sh log v put))
 
   -- it may stay loose
-  pub calm_stays : IsSteady sh (wrote put log) v
+  pub calm_stays : RestsOn sh (wrote put log) v
   calm_stays = calm_rest sh log v put rest calm (calm_torn (overlay put (now log)) (overlay_torn sh log v put)).holds
 
 -- ---- a write of one unit that leads to the next view
@@ -90,10 +90,10 @@ pub record IsOneStep (sh : Shape) (v u : View) (place : Place) (x : AnyUnit) : T
   pub no_block : IsBlock place → ⊥
   pub needless : (y : AnyUnit) → Needs sh v place y → ⊥
   pub agrees : Agrees sh u place x
-  pub known : Known u place x
+  pub history : InView u place x
   pub needs : (other : Place) (y : AnyUnit) → Needs sh u other y → Needs sh v other y ⊎ ((other ≡ place) × (y ≡ x))
 
-module _ (sh : Shape) (log : UnitLog) (v u : View) (put : Units) (place : Place) (x : AnyUnit) (rest : IsSteady sh log v) (quiet : IsQuiet log) (one : PutsOne put place x) (leads : IsOneStep sh v u place x) where
+module _ (sh : Shape) (log : UnitLog) (v u : View) (put : Units) (place : Place) (x : AnyUnit) (rest : RestsOn sh log v) (quiet : IsQuiet log) (one : PutsOne put place x) (leads : IsOneStep sh v u place x) where
   one_copy : (j : Units) (n : ℕ) → Tear sh log v put j (CopyPlace n) → j (CopyPlace n) ≡ now log (CopyPlace n)
   one_copy j n (Kept none same) = same
   one_copy j n (Loose wet place_calm shows) = absurd (place_calm.no_copy tt)
@@ -107,9 +107,9 @@ module _ (sh : Shape) (log : UnitLog) (v u : View) (put : Units) (place : Place)
 
   one_before : (j : Units) → Torn sh log v put j → ((y : AnyUnit) → j place ≡ Some y → InImages (settled log) place y × Agrees sh v place y) → TornView sh log v put j v
   one_before j torn old = record {
-    holds = record { bears = rests_open sh v (now log) j rest.holds.bears (λ other. before_at j (λ y shown. (old y shown).1) other (torn other)); chosen = chosen_same (now log) j v.checkpoint.content (λ n. one_copy j n (torn (CopyPlace n))) rest.holds.chosen };
-    known = λ other y is shown. elim is [
-      | inl may ↦ may.1.known
+    holds = record { bears = bears_open sh v (now log) j rest.holds.bears (λ other. before_at j (λ y shown. (old y shown).1) other (torn other)); chosen = chosen_same (now log) j v.checkpoint.content (λ n. one_copy j n (torn (CopyPlace n))) rest.holds.chosen };
+    history = λ other y is shown. elim is [
+      | inl may ↦ may.1.history
       | inr new ↦
           let at = (one.only other y new).0 in
           inl (subst (λ (p : Place). InImages (settled log) p y) (sym at) (old y (ap j (sym at) ∙ shown)).0)
@@ -144,11 +144,11 @@ module _ (sh : Shape) (log : UnitLog) (v u : View) (put : Units) (place : Place)
       bears = record { sound = leads.sound; agrees = λ other y is. after_agrees j other y is (torn other); needs = after_needs j torn shown };
       chosen = subst (λ (c : Checkpoint). IsChosen j c.content) (sym leads.checkpoint) (chosen_same (now log) j v.checkpoint.content (λ n. one_copy j n (torn (CopyPlace n))) rest.holds.chosen);
     };
-    known = λ other y is there. elim is [
-      | inl may ↦ inr (block_known u other y (quiet other may.0))
+    history = λ other y is there. elim is [
+      | inl may ↦ inr (block_in_view u other y (quiet other may.0))
       | inr new ↦
           let at = one.only other y new in
-          inr (subst (λ (p : Place). Known u p y) (sym at.0) (subst (λ (w : AnyUnit). Known u place w) (sym at.1) leads.known))
+          inr (subst (λ (p : Place). InView u p y) (sym at.0) (subst (λ (w : AnyUnit). InView u place w) (sym at.1) leads.history))
     ];
   }
 

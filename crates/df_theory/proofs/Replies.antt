@@ -50,11 +50,13 @@ reply_step sh v place r sound later is = record {
     r,
     refl,
     record {
-      op = omega (arith, is.op);
-      mark = omega (arith, is.mark);
+      op = λ same. omega (arith, is.op);
+      mark = λ same. omega (arith, is.mark);
       checkpoint = omega (arith, is.checkpoint);
+      boot = omega (arith, is.boot);
+      alone = is.alone;
     },
   );
-  known = (r, refl, stored_at place place r (v.stored place) refl);
+  history = (r, refl, stored_at place place r (v.stored place) refl);
   needs = reply_needs sh v place r;
 }

@@ -5,10 +5,10 @@ use Rattle.df_theory.specs.Shape.{Shape}
 use Rattle.df_theory.specs.View.{View}
 use Rattle.df_theory.specs.Holds.{Holds}
 use Rattle.df_theory.specs.UnitLog.{UnitLog}
-use Rattle.df_theory.specs.Steady.{IsGoodLog, IsSteady}
+use Rattle.df_theory.specs.Rests.{IsGoodLog, RestsOn}
 use Rattle.df_theory.specs.Runs.{AtEach, Command, HoldsPart, IsPartWay, Step, after_step, after_steps, steps_of, view_after}
 use Rattle.df_theory.specs.WriterLaws.{CommandsLaw}
-use Rattle.df_theory.proofs.Steps.{steady_safe, steady_holds}
+use Rattle.df_theory.proofs.Steps.{rests_safe, rests_holds}
 
 pub after_append : (ss ts : List Step) (log : UnitLog) → after_steps (ss ++ ts) log ≡ after_steps ts (after_steps ss log)
 after_append [] ts log = refl
@@ -28,14 +28,14 @@ part_none sh image v [] holds = holds
 part_none sh image v (c ∷ cs) holds = inl holds
 
 pub commands_law : CommandsLaw
-commands_law sh log v [] steady lead = (record { safe = steady_safe sh log v steady; left = steady_holds sh log v steady }, steady)
-commands_law sh log v (c ∷ cs) steady lead =
-    let rest = commands_law sh (after_steps c.steps log) c.view cs lead.0.steady lead.1 in (
+commands_law sh log v [] rests lead = (record { safe = rests_safe sh log v rests; left = rests_holds sh log v rests }, rests)
+commands_law sh log v (c ∷ cs) rests lead =
+    let rest = commands_law sh (after_steps c.steps log) c.view cs lead.0.rests lead.1 in (
       each_append (IsPartWay sh v (c ∷ cs)) c.steps (steps_of cs) log
           (each_weaker (IsGoodLog sh v c.view) (IsPartWay sh v (c ∷ cs)) (λ l good. record {
             safe = good.safe;
             left = λ image left chance. elim (good.left image left chance) [ inl is ↦ inl is | inr is ↦ inr (part_none sh image c.view cs is) ];
           }) c.steps log lead.0.moments)
           (each_weaker (IsPartWay sh c.view cs) (IsPartWay sh v (c ∷ cs)) (λ l part. record { safe = part.safe; left = λ image left chance. inr (part.left image left chance) }) (steps_of cs) (after_steps c.steps log) rest.0),
-      subst (λ (l : UnitLog). IsSteady sh l (view_after c.view cs)) (sym (after_append c.steps (steps_of cs) log)) rest.1,
+      subst (λ (l : UnitLog). RestsOn sh l (view_after c.view cs)) (sym (after_append c.steps (steps_of cs) log)) rest.1,
     )

@@ -1,6 +1,6 @@
 -- Each next view is sound.
 use Rattle.std.proofs.Common.{◌≡◌, ◌⊎◌, inl, inr, ℕ, Bool, true, false, if◌then◌else◌, ◌+◌, ◌-◌, ◌<◌, ◌≤◌, List, ◌++◌, length, take, drop, slice_index, nat_lt, Option, Some, None, refl, sym, ◌∙◌, ap, subst, arith, length-append, length-drop}
-use Rattle.std.proofs.lemmas.List.{length-take}
+use Rattle.std.proofs.lemmas.List.{length-take, take-append-le}
 use Rattle.std.specs.List.{slice_get}
 use Rattle.std.proofs.lemmas.Bool.{cases_eq}
 use Rattle.std.proofs.lemmas.Bool.Decides.{nat_tests}
@@ -9,7 +9,7 @@ use Rattle.df_theory.specs.Sessions.{Answers, Tracks, sessions_after}
 use Rattle.df_theory.specs.Tails.{AreWholeGroups, Chain, In, last_checksum, last_mark}
 use Rattle.df_theory.specs.Shape.{Shape}
 use Rattle.df_theory.specs.View.{Checkpoint, PassesTests, View, head, sessions}
-use Rattle.df_theory.specs.Holds.{Sound}
+use Rattle.df_theory.specs.Holds.{IsNamed, Sound}
 use Rattle.df_theory.specs.Next.{IsFinish, IsReply, MayAppend, MayFinish, appended, checkpointed, kept, replied}
 use Rattle.df_theory.proofs.Tails.{in_either, in_dropped, turn_ops, turn_chain}
 use Rattle.df_theory.proofs.Sessions.{chain_append, last_mark-append, last_mark-each, after_get, sessions-append, chain_drop, last_mark-drop, sessions-drop, tracks_chain, chain_take, last_mark-take}
@@ -66,7 +66,7 @@ module _ (sh : Shape) (v : View) (ps : List Message) (sound : Sound sh v) (may :
         | inr new ↦ absurd (kept_op s (head v) (v.stored k) r is new)
       ]
 
-  stores : (k : ℕ) (s : Session) → slice_get (sessions u) k ≡ Some s → s.op ≤ v.replies → (r : Message) × (u.stored k ≡ Some r)
+  pub stores : (k : ℕ) (s : Session) → slice_get (sessions u) k ≡ Some s → s.op ≤ v.replies → (r : Message) × (u.stored k ≡ Some r)
   stores k s at low =
       let low_head : s.op ≤ head v = omega (arith, sound.pipeline.0) in
       elim (session_is k s at) [
@@ -76,7 +76,7 @@ module _ (sh : Shape) (v : View) (ps : List Message) (sound : Sound sh v) (may :
         | inr new ↦ absurd (omega arith)
       ]
 
-  groups : AreWholeGroups (head u) (v.tail ++ ps)
+  pub groups : AreWholeGroups (head u) (v.tail ++ ps)
   groups p at = elim (in_either p v.tail ps at) [
     | inl old ↦ omega (arith, sound.groups p old, head_is)
     | inr new ↦ omega (arith, (may.is.stamped p new).group_last, head_is)
@@ -99,6 +99,12 @@ module _ (sh : Shape) (v : View) (ps : List Message) (sound : Sound sh v) (may :
     replies_from = (sound.replies_from.0, omega (arith, mark_is));
     answered = λ k r is. answered_at k r (slice_get (sessions u) k) refl is;
     stores = stores;
+    records = record {
+      pin_to = omega (arith, sound.records.pin_to, head_is);
+      checksum = ap (λ (l : List Message). last_checksum v.checkpoint.content.op_checksum l) (take-append-le (v.checkpoint.content.pin - v.checkpoint.content.op) v.tail ps (omega (arith, sound.records.pin_to))) ∙ sound.records.checksum;
+      tail = λ p at above. elim (in_either p v.tail ps at) [ inl old ↦ sound.records.tail p old above | inr new ↦ (may.is.stamped p new).boot ];
+      stored = λ k r is. sound.records.stored k r (kept_some (slice_get (sessions u) k) (head v) (v.stored k) r is);
+    };
   }
 
 module _ (sh : Shape) (v : View) (place : ℕ) (r : Message) (sound : Sound sh v) (is : IsReply v place r) (waits : v.replies < head v) where
@@ -135,10 +141,21 @@ module _ (sh : Shape) (v : View) (place : ℕ) (r : Message) (sound : Sound sh v
     replies_from = (omega (arith, sound.replies_from.0), omega (arith, sound.replies_from.1));
     answered = reply_answered;
     stores = reply_stores;
+    records = record {
+      pin_to = sound.records.pin_to;
+      checksum = sound.records.checksum;
+      tail = sound.records.tail;
+      stored = λ k q at. elim (cases_eq k place) [
+        | inl here ↦
+            let one : r ≡ q = (let two : Some r ≡ Some q = sym (stored_at k place r (v.stored k) here) ∙ at in cc) in
+            subst (λ (w : Message). IsNamed v.checkpoint.content k w) one (record { old = λ low. absurd (omega (arith, is.op, sound.checkpoint.tests.answered, sound.replies_from.0)); new = λ above. is.boot })
+        | inr away ↦ sound.records.stored k q (sym (stored_else k place r (v.stored k) away) ∙ at)
+      ];
+    };
   }
 
 module _ (sh : Shape) (v : View) (c : Checkpoint) (sound : Sound sh v) (may : MayFinish sh v c) where
-  is : IsFinish v c
+  pub is : IsFinish v c
   is = may.is
 
   abbrev n : ℕ
@@ -184,6 +201,9 @@ module _ (sh : Shape) (v : View) (c : Checkpoint) (sound : Sound sh v) (may : Ma
         op_checksum = no_checksum;
         head = (omega (arith, is.head, is.op_to), omega (arith, is.head, is.op_from, sound.room), omega (arith, is.head, sound.head_to));
         replies = (omega (arith, is.head, is.replies, sound.pipeline.0), omega (arith, is.head, is.replies, sound.pipeline.1));
+        pin = (is.records.pin_from.1, omega (arith, is.records.pin_to, is.head));
+        answered = omega (arith, is.records.answered.1, is.replies);
+        of = is.of;
         rest = λ i. ap (λ (l : List ℕ). slice_index l i) is.file.3 ∙ tests.rest i;
       }
 
@@ -201,6 +221,12 @@ module _ (sh : Shape) (v : View) (c : Checkpoint) (sound : Sound sh v) (may : Ma
         let before = sound.answered k r at in
         (before.0, ap (λ (l : List Session). slice_get l k) same_sessions ∙ before.1, before.2, before.3);
     stores = λ k s at low. sound.stores k s (old k (Some s) at) low;
+    records = record {
+      pin_to = omega (arith, is.records.pin_to, head_same);
+      checksum = is.records.checksum;
+      tail = λ p at above. sound.records.tail p (in_dropped n p v.tail at) (omega (arith, is.records.pin_from.0)) ∙ sym is.boot;
+      stored = λ k r at. record { old = is.records.stored k r at; new = λ above. (sound.records.stored k r at).new (omega (arith, is.records.answered.0)) ∙ sym is.boot };
+    };
   }
     where
       old : (k : ℕ) (o : Option Session) → slice_get (sessions (checkpointed v c)) k ≡ o → slice_get (sessions v) k ≡ o

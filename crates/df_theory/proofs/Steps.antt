@@ -10,10 +10,10 @@ use Rattle.df_theory.specs.UnitLog.{IsLeftBy, Synced, UnitLog, add, loose, now, 
 use Rattle.df_theory.specs.Chance.{AreFair, EachLeft, InImages, InPool}
 use Rattle.df_theory.specs.First.{AreMade, IsMade}
 use Rattle.df_theory.specs.Grown.{Begins, Grows, HasGrown, IsSafe}
-use Rattle.df_theory.specs.Steady.{IsCalm, IsCalmPut, IsSteady, Stepped}
+use Rattle.df_theory.specs.Rests.{IsCalm, IsCalmPut, RestsOn, Stepped}
 use Rattle.df_theory.proofs.Grew.{agrees_grew, next_grew}
-use Rattle.df_theory.proofs.Images.{rests_open, chosen_same}
-use Rattle.df_theory.proofs.Torn.{Knows, Outcome, Tear, Kept, Loose, Touched, Torn, TornView}
+use Rattle.df_theory.proofs.Images.{bears_open, chosen_same}
+use Rattle.df_theory.proofs.Torn.{IsPooled, Outcome, Tear, Kept, Loose, Touched, Torn, TornView}
 
 pub grows_holds : (sh : Shape) (image : Units) (images : List Units) (v : View) → Grows sh (image ∷ images) v → Holds sh image v
 grows_holds sh image images v grows = grows.0
@@ -24,10 +24,12 @@ made_agrees sh v (HeaderPlace s) x made = (
   made.0,
   made.1,
   record {
-    op = omega (arith, made.2);
-    checkpoint = omega (arith, made.3);
-    slot = λ above. absurd (omega (arith, made.2));
-    known = λ above. absurd (omega (arith, made.2));
+    op = λ same. omega (arith, made.2.op);
+    ring = omega (arith, made.2.op);
+    checkpoint = omega (arith, made.2.checkpoint);
+    boot = omega (arith, made.2.boot);
+    slot = λ above. absurd (omega (arith, made.2.op));
+    in_tail = λ same above. absurd (omega (arith, made.2.op));
   },
 )
 made_agrees sh v (PreparePlace s) x made = absurd made
@@ -59,30 +61,31 @@ old_agrees sh (image ∷ images) v grows place x (inr there) = elim grows.1 [
 ]
 
 pub grows_more : (sh : Shape) (images : List Units) (v : View) (j : Units) → Grows sh images v → (o : Outcome sh images v j) → Grows sh (j ∷ images) o.view
-grows_more sh images v j grows o = (o.holds, inr (o.known, (v, o.next, grows)))
+grows_more sh images v j grows o = (o.holds, inr (o.history, (v, o.next, grows)))
 
 -- A log is safe where each image that a stop may leave has a next view.
-pub safe_if : (sh : Shape) (log : UnitLog) (v : View) → AreFair log.start log.events → Grows sh (settled log) v → Knows log (now log)
-    → ((j : Units) → IsLeftBy log j → Knows log j → Outcome sh (settled log) v j) → IsSafe sh log
+pub safe_if : (sh : Shape) (log : UnitLog) (v : View) → AreFair log.start log.events → Grows sh (settled log) v → IsPooled log (now log)
+    → ((j : Units) → IsLeftBy log j → IsPooled log j → Outcome sh (settled log) v j) → IsSafe sh log
 safe_if sh log v fair grows here each =
     let o = each (now log) (λ place firm. refl) here in
     record {
       grown = inl (v, record { fair = fair; grows = grows });
       synced = inl (o.view, record { fair = fair; grows = grows_more sh (settled log) v (now log) grows o });
       stopped = λ image left chance.
-          let p = each image left chance.known in
+          let p = each image left chance.pooled in
           inl (p.view, record { fair = (left, chance, fair); grows = grows_more sh (settled log) v image grows p });
     }
 
 -- a log that has just been synced is at rest
-pub synced_steady : (sh : Shape) (log : UnitLog) (v : View) → HasGrown sh (add Synced log) v → IsSteady sh (add Synced log) v
-synced_steady sh log v g = record {
+pub synced_rests : (sh : Shape) (log : UnitLog) (v : View) → HasGrown sh (add Synced log) v → RestsOn sh (add Synced log) v
+synced_rests sh log v g = record {
   fair = g.fair;
   grows = g.grows;
+  old = old_agrees sh (settled (add Synced log)) v g.grows;
   holds = grows_holds sh (now log) (settled log) v g.grows;
   calm = λ place is. absurd (cc);
   pending = λ place x none. absurd none;
-  knows = λ place x is. inl (inl is);
+  pooled = λ place x is. inl (inl is);
 }
 
 pub cases_bool : (b : Bool) → (b ≡ true) ⊎ (b ≡ false)
@@ -90,16 +93,16 @@ cases_bool true = inl refl
 cases_bool false = inr refl
 
 -- nothing that is loose matters: each image left has the view
-pub steady_left : (sh : Shape) (log : UnitLog) (v : View) → IsSteady sh log v → (j : Units) → IsLeftBy log j → Knows log j → Outcome sh (settled log) v j
-steady_left sh log v rest j left knows = record {
+pub rests_left : (sh : Shape) (log : UnitLog) (v : View) → RestsOn sh log v → (j : Units) → IsLeftBy log j → IsPooled log j → Outcome sh (settled log) v j
+rests_left sh log v rest j left pooled = record {
   view = v;
   next = Same;
   holds = record {
-    bears = rests_open sh v (now log) j rest.holds.bears (λ place. elim (cases_bool (loose log place)) [
+    bears = bears_open sh v (now log) j rest.holds.bears (λ place. elim (cases_bool (loose log place)) [
       | inl is ↦ inr (record {
         needless = (rest.calm place is).needless;
-        agrees = λ x shown. elim (knows place x shown) [
-          | inl old ↦ old_agrees sh (settled log) v rest.grows place x old
+        agrees = λ x shown. elim (pooled place x shown) [
+          | inl old ↦ rest.old place x old
           | inr new ↦ (rest.pending place x new).1.agrees
         ];
       })
@@ -110,94 +113,95 @@ steady_left sh log v rest j left knows = record {
       | inr firm ↦ left (CopyPlace n) firm
     ]) rest.holds.chosen;
   };
-  known = λ place x is. elim (knows place x is) [
+  history = λ place x is. elim (pooled place x is) [
     | inl old ↦ inl old
-    | inr new ↦ (rest.pending place x new).1.known
+    | inr new ↦ (rest.pending place x new).1.history
   ];
 }
 
-pub steady_safe : (sh : Shape) (log : UnitLog) (v : View) → IsSteady sh log v → IsSafe sh log
-steady_safe sh log v rest = safe_if sh log v rest.fair rest.grows rest.knows (steady_left sh log v rest)
+pub rests_safe : (sh : Shape) (log : UnitLog) (v : View) → RestsOn sh log v → IsSafe sh log
+rests_safe sh log v rest = safe_if sh log v rest.fair rest.grows rest.pooled (rests_left sh log v rest)
 
-pub steady_holds : (sh : Shape) (log : UnitLog) (v : View) → IsSteady sh log v → EachLeft log (λ j. Holds sh j v)
-unfolding steady_left
-steady_holds sh log v rest j left chance = (steady_left sh log v rest j left chance.known).holds
+pub rests_holds : (sh : Shape) (log : UnitLog) (v : View) → RestsOn sh log v → EachLeft log (λ j. Holds sh j v)
+unfolding rests_left
+rests_holds sh log v rest j left chance = (rests_left sh log v rest j left chance.pooled).holds
 
 -- THE STEP: a write of whole units.
-module _ (sh : Shape) (log : UnitLog) (v : View) (put : Units) (rest : IsSteady sh log v) where
+module _ (sh : Shape) (log : UnitLog) (v : View) (put : Units) (rest : RestsOn sh log v) where
   shown_put : (place : Place) (x : AnyUnit) → or_else (put place) (now log place) ≡ Some x → (o : Option AnyUnit) → put place ≡ o → InPool (wrote put log) place x
   shown_put place x is (Some y) at = inr (inl (at ∙ sym (ap (λ (o : Option AnyUnit). or_else o (now log place)) at) ∙ is))
-  shown_put place x is None at = elim (rest.knows place x (sym (ap (λ (o : Option AnyUnit). or_else o (now log place)) at) ∙ is)) [
+  shown_put place x is None at = elim (rest.pooled place x (sym (ap (λ (o : Option AnyUnit). or_else o (now log place)) at) ∙ is)) [
     | inl old ↦ inl old
     | inr new ↦ inr (inr new)
   ]
 
-  pub wrote_knows : Knows (wrote put log) (now (wrote put log))
-  wrote_knows place x is = shown_put place x is (put place) refl
+  pub wrote_pooled : IsPooled (wrote put log) (now (wrote put log))
+  wrote_pooled place x is = shown_put place x is (put place) refl
 
   kept_same : (j : Units) → IsLeftBy (wrote put log) j → (place : Place) → loose log place ≡ false → put place ≡ None → j place ≡ now log place
   kept_same j left place firm none = left place (λ i. is_some (none i) || firm i) ∙ (λ i. or_else (none i) (now log place))
 
-  tear_at : (j : Units) → IsLeftBy (wrote put log) j → Knows (wrote put log) j → (place : Place) → (o : Option AnyUnit) → put place ≡ o → (b : Bool) → loose log place ≡ b → Tear sh log v put j place
-  tear_at j left knows place o is true wet = Loose wet (rest.calm place wet) (λ x shown. elim (knows place x shown) [
-    | inl old ↦ inl (record { agrees = old_agrees sh (settled log) v rest.grows place x old; known = inl old })
+  tear_at : (j : Units) → IsLeftBy (wrote put log) j → IsPooled (wrote put log) j → (place : Place) → (o : Option AnyUnit) → put place ≡ o → (b : Bool) → loose log place ≡ b → Tear sh log v put j place
+  tear_at j left pooled place o is true wet = Loose wet (rest.calm place wet) (λ x shown. elim (pooled place x shown) [
+    | inl old ↦ inl (record { agrees = rest.old place x old; history = inl old })
     | inr (inl new) ↦ inr new
     | inr (inr pending) ↦ inl (rest.pending place x pending).1
   ])
-  tear_at j left knows place None is false firm = Kept is (kept_same j left place firm is)
-  tear_at j left knows place (Some y) is false firm = Touched y is (λ x shown. elim (knows place x shown) [
-    | inl old ↦ inl (old, old_agrees sh (settled log) v rest.grows place x old)
+  tear_at j left pooled place None is false firm = Kept is (kept_same j left place firm is)
+  tear_at j left pooled place (Some y) is false firm = Touched y is (λ x shown. elim (pooled place x shown) [
+    | inl old ↦ inl (old, rest.old place x old)
     | inr (inl new) ↦ inr (let one : Some x ≡ Some y = sym new ∙ is in cc)
     | inr (inr pending) ↦ absurd (cc ((rest.pending place x pending).0, firm))
   ])
 
-  pub left_torn : (j : Units) → IsLeftBy (wrote put log) j → Knows (wrote put log) j → Torn sh log v put j
-  left_torn j left knows place = tear_at j left knows place (put place) refl (loose log place) refl
+  pub left_torn : (j : Units) → IsLeftBy (wrote put log) j → IsPooled (wrote put log) j → Torn sh log v put j
+  left_torn j left pooled place = tear_at j left pooled place (put place) refl (loose log place) refl
 
-  pub torn_outcome : (j : Units) (u : View) → Next v u → Knows (wrote put log) j → TornView sh log v put j u → Outcome sh (settled log) v j
-  torn_outcome j u next knows t = record {
+  pub torn_outcome : (j : Units) (u : View) → Next v u → IsPooled (wrote put log) j → TornView sh log v put j u → Outcome sh (settled log) v j
+  torn_outcome j u next pooled t = record {
     view = u;
     next = next;
     holds = t.holds;
-    known = λ place x is. elim (knows place x is) [
+    history = λ place x is. elim (pooled place x is) [
       | inl old ↦ inl old
-      | inr (inl new) ↦ t.known place x (inr new) is
-      | inr (inr pending) ↦ t.known place x (inl (rest.pending place x pending)) is
+      | inr (inl new) ↦ t.history place x (inr new) is
+      | inr (inr pending) ↦ t.history place x (inl (rest.pending place x pending)) is
     ];
   }
 
   -- the log after the write and a sync is at rest
-  pub write_synced : (u : View) → Next v u → TornView sh log v put (overlay put (now log)) u → IsSteady sh (add Synced (wrote put log)) u
+  pub write_synced : (u : View) → Next v u → TornView sh log v put (overlay put (now log)) u → RestsOn sh (add Synced (wrote put log)) u
   unfolding torn_outcome
-  write_synced u next t = synced_steady sh (wrote put log) u (record { fair = rest.fair; grows = grows_more sh (settled log) v (now (wrote put log)) rest.grows (torn_outcome (overlay put (now log)) u next wrote_knows t) })
+  write_synced u next t = synced_rests sh (wrote put log) u (record { fair = rest.fair; grows = grows_more sh (settled log) v (now (wrote put log)) rest.grows (torn_outcome (overlay put (now log)) u next wrote_pooled t) })
 
   pub step : (u : View) → Next v u → ((j : Units) → Torn sh log v put j → TornView sh log v put j v ⊎ TornView sh log v put j u) → TornView sh log v put (overlay put (now log)) u → Stepped sh log put v u
   step u next each done = record {
     good = record {
-      safe = safe_if sh (wrote put log) v rest.fair rest.grows wrote_knows (λ j left knows. elim (each j (left_torn j left knows)) [
-        | inl before ↦ torn_outcome j v Same knows before
-        | inr after ↦ torn_outcome j u next knows after
+      safe = safe_if sh (wrote put log) v rest.fair rest.grows wrote_pooled (λ j left pooled. elim (each j (left_torn j left pooled)) [
+        | inl before ↦ torn_outcome j v Same pooled before
+        | inr after ↦ torn_outcome j u next pooled after
       ]);
-      left = λ j left chance. elim (each j (left_torn j left chance.known)) [
+      left = λ j left chance. elim (each j (left_torn j left chance.pooled)) [
         | inl before ↦ inl before.holds
         | inr after ↦ inr after.holds
       ];
     };
-    steady = write_synced u next done;
+    rests = write_synced u next done;
   }
 
   -- a write that the view doesn't see may stay loose
-  pub calm_rest : IsCalmPut sh (settled log) v put → Holds sh (now (wrote put log)) v → IsSteady sh (wrote put log) v
+  pub calm_rest : IsCalmPut sh (settled log) v put → Holds sh (now (wrote put log)) v → RestsOn sh (wrote put log) v
   calm_rest calm holds = record {
     fair = rest.fair;
     grows = rest.grows;
+    old = rest.old;
     holds = holds;
     calm = λ place wet. calm_at place (put place) refl wet;
     pending = λ place x at. elim at [
       | inl new ↦ (λ i. is_some (new i) || loose log place, (calm place x new).1)
       | inr old ↦ (wet_more place (rest.pending place x old).0, (rest.pending place x old).1)
     ];
-    knows = wrote_knows;
+    pooled = wrote_pooled;
   }
     where
       wet_more : (place : Place) → loose log place ≡ true → is_some (put place) || loose log place ≡ true

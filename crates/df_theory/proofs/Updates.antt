@@ -1,98 +1,30 @@
 -- The four copies of a new superblock, one after another.
-use Rattle.std.proofs.Common.{◌≡◌, ◌⊎◌, inl, inr, ℕ, ◌+◌, ◌-◌, ◌<◌, true, false, Option, Some, None, refl, sym, ◌∙◌, ap, subst, arith}
-use Rattle.std.proofs.lemmas.Bool.{cases_eq, cases_lt}
-use Rattle.df_theory.specs.Units.{AnyUnit, Block, BlockPlace, BlockUnit, Content, CopyPlace, CopyUnit, HeaderPlace, Place, PreparePlace, ReplyPlace, Units, or_else, overlay}
+use Rattle.std.proofs.Common.{◌≡◌, ◌⊎◌, inl, inr, ℕ, ◌+◌, ◌<◌, true, false, Option, Some, None, refl, sym, ◌∙◌, ap, subst, arith}
+use Rattle.std.proofs.lemmas.Bool.{cases_eq}
+use Rattle.df_theory.specs.Units.{AnyUnit, Block, BlockPlace, BlockUnit, Content, CopyPlace, CopyUnit, HeaderPlace, Message, Place, PreparePlace, ReplyPlace, Units, or_else, overlay}
 use Rattle.df_theory.specs.Shape.{Shape}
-use Rattle.df_theory.specs.Copies.{Agree, IsChosen, rank_of}
+use Rattle.df_theory.specs.Copies.{Agree, IsNextContent, rank_of}
 use Rattle.df_theory.specs.Trailer.{InChain}
-use Rattle.df_theory.specs.View.{Checkpoint, View}
+use Rattle.df_theory.specs.View.{View}
 use Rattle.df_theory.specs.Shows.{Agrees, AgreesCopy, Needs}
 use Rattle.df_theory.specs.Holds.{Bears, Sound}
-use Rattle.df_theory.specs.Next.{Finish, IsFinish, Same, checkpointed}
+use Rattle.df_theory.specs.Next.{Next, Same}
 use Rattle.df_theory.specs.UnitLog.{PutsOne, UnitLog, loose, now, settled}
 use Rattle.df_theory.specs.Chance.{InImages}
-use Rattle.df_theory.specs.Grown.{Known}
-use Rattle.df_theory.specs.Steady.{AgreeBeside, IsQuiet, IsSteady, MayShow, Stepped}
-use Rattle.df_theory.proofs.Tails.{in_dropped}
+use Rattle.df_theory.specs.Grown.{InView}
+use Rattle.df_theory.specs.Rests.{AgreeBeside, IsQuiet, RestsOn, MaySettle, Stepped}
+use Rattle.df_theory.specs.Tails.{In}
 use Rattle.df_theory.proofs.Grew.{Grew, agrees_grew, next_grew}
-use Rattle.df_theory.proofs.Choices.{same_copy, chosen_above, finish_next, finish_higher}
+use Rattle.df_theory.proofs.Choices.{chosen_above}
 use Rattle.df_theory.proofs.Torn.{Tear, Kept, Loose, Touched, Torn, TornView}
-use Rattle.df_theory.proofs.Images.{IsOpen, rests_open}
-use Rattle.df_theory.proofs.Puts.{block_agrees, block_known, overlay_torn}
+use Rattle.df_theory.proofs.Images.{IsOpen, bears_open}
+use Rattle.df_theory.proofs.Puts.{block_agrees, block_in_view, overlay_torn}
 use Rattle.df_theory.proofs.Steps.{step}
-
--- copies below k show the new content, those above the old one
-pub record IsStage (image : Units) (old new : Content) (k : ℕ) : Type 0 where
-  pub low : (n : ℕ) → n < k → image (CopyPlace n) ≡ Some (CopyUnit new)
-  pub high : (n : ℕ) → k < n → n < 4 → image (CopyPlace n) ≡ Some (CopyUnit old)
-
--- a copy other than number k shows one of the two
-one_of : (image : Units) (old new d : Content) (k n : ℕ) → IsStage image old new k → n < 4 → (n ≡ k → ⊥) → image (CopyPlace n) ≡ Some (CopyUnit d) → ((n < k) × (d ≡ new)) ⊎ ((k < n) × (d ≡ old))
-one_of image old new d k n stage below apart shown = elim (cases_lt n k) [
-  | inl less ↦ inl (less, same_copy image n d new shown (stage.low n less))
-  | inr more ↦
-      let above : k < n = omega arith in
-      inr (above, same_copy image n d old shown (stage.high n above below))
-]
-
--- of two copies that agree one is not number k
-votes_of : (image : Units) (old new d : Content) (k : ℕ) → IsStage image old new k → Agree image d → (d ≡ new) ⊎ (d ≡ old)
-votes_of image old new d k stage a = elim (cases_eq a.first k) [
-  | inl here ↦ elim (one_of image old new d k a.second stage a.inside (λ same. omega (arith, a.apart)) a.at_second) [ inl x ↦ inl x.1 | inr x ↦ inr x.1 ]
-  | inr apart ↦ elim (one_of image old new d k a.first stage (omega (arith, a.apart, a.inside)) apart a.at_first) [ inl x ↦ inl x.1 | inr x ↦ inr x.1 ]
-]
-
-pub agree_at : (image : Units) (c : Content) (m n : ℕ) → m < n → n < 4 → image (CopyPlace m) ≡ Some (CopyUnit c) → image (CopyPlace n) ≡ Some (CopyUnit c) → Agree image c
-agree_at image c m n apart inside one two = record { first = m; second = n; apart = apart; inside = inside; at_first = one; at_second = two }
-
-pub agree_beside : (image : Units) (c : Content) (m n k : ℕ) → m < n → n < 4 → (m ≡ k → ⊥) → (n ≡ k → ⊥) → image (CopyPlace m) ≡ Some (CopyUnit c) → image (CopyPlace n) ≡ Some (CopyUnit c) → AgreeBeside image c k
-agree_beside image c m n k apart inside no_first no_second one two = record { agreed = record { first = m; second = n; apart = apart; inside = inside; at_first = one; at_second = two }; no_first = no_first; no_second = no_second }
-
-module _ (image : Units) (old new : Content) (more : rank_of old < rank_of new) where
-  apart : new ≡ old → ⊥
-  apart same = omega (arith, ap rank_of same)
-
-  -- while copy 0 is written
-  pub chosen_first : IsStage image old new 0 → IsChosen image old
-  chosen_first stage =
-      chosen_above image old (agree_at image old 1 2 (omega arith) (omega arith) (stage.high 1 (omega arith) (omega arith)) (stage.high 2 (omega arith) (omega arith)))
-      (λ d a. elim (one_of image old new d 0 a.second stage a.inside (λ same. omega (arith, a.apart)) a.at_second) [ inl x ↦ absurd (omega (arith, x.0)) | inr x ↦ inl x.1 ])
-
-  lower_new : (k : ℕ) → IsStage image old new k → (d : Content) → Agree image d → (d ≡ new) ⊎ (rank_of d < rank_of new)
-  lower_new k stage d a = elim (votes_of image old new d k stage a) [
-    | inl is ↦ inl is
-    | inr is ↦ inr (omega (arith, ap rank_of is))
-  ]
-
-  -- while copy 1 is written, once it is there
-  pub chosen_second : IsStage image old new 1 → image (CopyPlace 1) ≡ Some (CopyUnit new) → IsChosen image new
-  chosen_second stage shown = chosen_above image new (agree_at image new 0 1 (omega arith) (omega arith) (stage.low 0 (omega arith)) shown) (lower_new 1 stage)
-
-  two_of : (d : Content) → IsStage image old new 1 → (image (CopyPlace 1) ≡ Some (CopyUnit new) → ⊥) → Agree image d → d ≡ new → ⊥
-  two_of d stage none a is = elim (cases_eq a.second 1) [
-    | inl here ↦ none (ap (λ (k : ℕ). image (CopyPlace k)) (sym here) ∙ a.at_second ∙ ap (λ (c : Content). Some (CopyUnit c)) is)
-    | inr other ↦ elim (one_of image old new d 1 a.second stage a.inside other a.at_second) [
-      | inl x ↦ absurd (omega (arith, x.0, a.apart))
-      | inr x ↦ apart (sym is ∙ x.1)
-    ]
-  ]
-
-  -- and before
-  pub chosen_not_yet : IsStage image old new 1 → (image (CopyPlace 1) ≡ Some (CopyUnit new) → ⊥) → IsChosen image old
-  chosen_not_yet stage none =
-      chosen_above image old (agree_at image old 2 3 (omega arith) (omega arith) (stage.high 2 (omega arith) (omega arith)) (stage.high 3 (omega arith) (omega arith)))
-      (λ d a. elim (votes_of image old new d 1 stage a) [
-        | inl is ↦ absurd (two_of d stage none a is)
-        | inr is ↦ inl is
-      ])
-
-  -- while copy 2 or 3 is written
-  pub chosen_last : (k : ℕ) → 1 < k → IsStage image old new k → IsChosen image new
-  chosen_last k above stage = chosen_above image new (agree_at image new 0 1 (omega arith) (omega arith) (stage.low 0 (omega arith)) (stage.low 1 above)) (lower_new k stage)
+use Rattle.df_theory.proofs.CopyVotes.{IsStage, agree_at, chosen_first, chosen_last, chosen_not_yet, chosen_second}
 
 -- ---- one copy, torn
 
-module _ (sh : Shape) (log : UnitLog) (w : View) (put : Units) (k : ℕ) (old new : Content) (rests : Bears sh (now log) w) (quiet : IsQuiet log) (one : PutsOne put (CopyPlace k) (CopyUnit new)) where
+module _ (sh : Shape) (log : UnitLog) (w : View) (put : Units) (k : ℕ) (old new : Content) (bears : Bears sh (now log) w) (quiet : IsQuiet log) (one : PutsOne put (CopyPlace k) (CopyUnit new)) where
   pub other_copy : (j : Units) (n : ℕ) → (n ≡ k → ⊥) → Tear sh log w put j (CopyPlace n) → j (CopyPlace n) ≡ now log (CopyPlace n)
   other_copy j n away (Kept none same) = same
   other_copy j n away (Loose wet place_calm shows) = absurd (place_calm.no_copy tt)
@@ -111,7 +43,7 @@ module _ (sh : Shape) (log : UnitLog) (w : View) (put : Units) (k : ℕ) (old ne
       inr (subst (λ (p : Place). IsOpen sh w j p) (sym (one.only place y is).0) (record { needless = λ x need. need; agrees = here }))
 
   pub copy_rests : (j : Units) → Torn sh log w put j → ((x : AnyUnit) → j (CopyPlace k) ≡ Some x → Agrees sh w (CopyPlace k) x) → Bears sh j w
-  copy_rests j torn here = rests_open sh w (now log) j rests (λ place. copy_open j here place (torn place))
+  copy_rests j torn here = bears_open sh w (now log) j bears (λ place. copy_open j here place (torn place))
 
   -- the copy shows an old unit or the new content
   copy_at : (j : Units) → Tear sh log w put j (CopyPlace k) → (x : AnyUnit) → j (CopyPlace k) ≡ Some x → (InImages (settled log) (CopyPlace k) x × Agrees sh w (CopyPlace k) x) ⊎ (x ≡ CopyUnit new)
@@ -136,26 +68,35 @@ module _ (sh : Shape) (log : UnitLog) (w : View) (put : Units) (k : ℕ) (old ne
     | inr after ↦ (new, after, agrees)
   ]
 
-  pub copy_known : (j : Units) (v : View) → (j (CopyPlace k) ≡ Some (CopyUnit new) → Known v (CopyPlace k) (CopyUnit new)) → (place : Place) (y : AnyUnit) → ((loose log place ≡ true) × MayShow sh (settled log) w place y) ⊎ (put place ≡ Some y) → j place ≡ Some y → InImages (settled log) place y ⊎ Known v place y
-  copy_known j v known place y (inl may) shown = inr (block_known v place y (quiet place may.0))
-  copy_known j v known place y (inr puts) shown =
+  pub copy_history : (j : Units) (v : View) → (j (CopyPlace k) ≡ Some (CopyUnit new) → InView v (CopyPlace k) (CopyUnit new)) → (place : Place) (y : AnyUnit) → ((loose log place ≡ true) × MaySettle sh (settled log) w place y) ⊎ (put place ≡ Some y) → j place ≡ Some y → InImages (settled log) place y ⊎ InView v place y
+  copy_history j v history place y (inl may) shown = inr (block_in_view v place y (quiet place may.0))
+  copy_history j v history place y (inr puts) shown =
       let at = one.only place y puts in
       let there : j (CopyPlace k) ≡ Some (CopyUnit new) = ap j (sym at.0) ∙ shown ∙ ap Some at.1 in
-      inr (subst (λ (p : Place). Known v p y) (sym at.0) (subst (λ (x : AnyUnit). Known v (CopyPlace k) x) (sym at.1) (known there)))
+      inr (subst (λ (p : Place). InView v p y) (sym at.0) (subst (λ (x : AnyUnit). InView v (CopyPlace k) x) (sym at.1) (history there)))
 
--- what a checkpoint needs is there
-pub checkpoint_rests : (sh : Shape) (j : Units) (v : View) (c : Checkpoint) → Bears sh j v → Sound sh (checkpointed v c) → IsFinish v c → ((a : ℕ) (b : Block) → InChain a b c.chain → j (BlockPlace a) ≡ Some (BlockUnit b)) → Bears sh j (checkpointed v c)
-checkpoint_rests sh j v c rests sound is there = record {
-  sound = sound;
-  agrees = λ place x shown. agrees_grew sh v (checkpointed v c) (next_grew sh v (checkpointed v c) rests.sound (Finish c is)) place x (rests.agrees place x shown);
+-- a view with the next content, whose tail and replies are those of this one
+pub record IsRaise (sh : Shape) (v u : View) : Type 0 where
+  pub next : Next v u
+  pub content : IsNextContent v.checkpoint.content u.checkpoint.content
+  pub higher : rank_of v.checkpoint.content < rank_of u.checkpoint.content
+  pub sound : Sound sh u
+  pub tail : (p : Message) → In p u.tail → In p v.tail
+  pub stored : (k : ℕ) → u.stored k ≡ v.stored k
+
+-- what it needs is there
+pub checkpoint_rests : (sh : Shape) (j : Units) (v u : View) → Bears sh j v → IsRaise sh v u → ((a : ℕ) (b : Block) → InChain a b u.checkpoint.chain → j (BlockPlace a) ≡ Some (BlockUnit b)) → Bears sh j u
+checkpoint_rests sh j v u bears raise there = record {
+  sound = raise.sound;
+  agrees = λ place x shown. agrees_grew sh v u (next_grew sh v u bears.sound raise.next) place x (bears.agrees place x shown);
   needs = needs;
 }
   where
-    needs : (place : Place) (x : AnyUnit) → Needs sh (checkpointed v c) place x → j place ≡ Some x
+    needs : (place : Place) (x : AnyUnit) → Needs sh u place x → j place ≡ Some x
     needs (CopyPlace n) x need = absurd need
     needs (HeaderPlace s) x need = absurd need
-    needs (PreparePlace s) x need = rests.needs (PreparePlace s) x (need.0, in_dropped (c.content.op - v.checkpoint.content.op) need.0 v.tail need.1, need.2, need.3)
-    needs (ReplyPlace k) x need = rests.needs (ReplyPlace k) x need
+    needs (PreparePlace s) x need = bears.needs (PreparePlace s) x (need.0, raise.tail need.0 need.1, need.2, need.3)
+    needs (ReplyPlace k) x need = bears.needs (ReplyPlace k) x (need.0, sym (raise.stored k) ∙ need.1, need.2)
     needs (BlockPlace a) x need = there a need.0 need.1 ∙ ap Some (sym need.2)
 
 -- ---- the four steps of an update
@@ -169,16 +110,13 @@ torn_later sh log v u put j grew dry place (Touched y is shows) = Touched y is (
 ])
 
 -- copy k shows it
-module _ (sh : Shape) (log : UnitLog) (v : View) (c : Checkpoint) (put : Units) (sound : Sound sh (checkpointed v c)) (is : IsFinish v c) where
-  abbrev u : View
-  u = checkpointed v c
-
-  shown_over : (k : ℕ) → PutsOne put (CopyPlace k) (CopyUnit c.content) → overlay put (now log) (CopyPlace k) ≡ Some (CopyUnit c.content)
+module _ (sh : Shape) (log : UnitLog) (v u : View) (put : Units) (raise : IsRaise sh v u) where
+  shown_over : (k : ℕ) → PutsOne put (CopyPlace k) (CopyUnit u.checkpoint.content) → overlay put (now log) (CopyPlace k) ≡ Some (CopyUnit u.checkpoint.content)
   shown_over k one = ap (λ (o : Option AnyUnit). or_else o (now log (CopyPlace k))) one.at
 
-  pub stage_next : (k : ℕ) (w : View) → IsSteady sh log w → IsQuiet log → PutsOne put (CopyPlace k) (CopyUnit c.content) → IsStage (now log) v.checkpoint.content c.content k → IsStage (overlay put (now log)) v.checkpoint.content c.content (k + 1)
+  pub stage_next : (k : ℕ) (w : View) → RestsOn sh log w → IsQuiet log → PutsOne put (CopyPlace k) (CopyUnit u.checkpoint.content) → IsStage (now log) v.checkpoint.content u.checkpoint.content k → IsStage (overlay put (now log)) v.checkpoint.content u.checkpoint.content (k + 1)
   stage_next k w rest quiet one stage =
-      let same = stage_torn sh log w put k v.checkpoint.content c.content rest.holds.bears quiet one (overlay put (now log)) (overlay_torn sh log w put) stage in
+      let same = stage_torn sh log w put k v.checkpoint.content u.checkpoint.content rest.holds.bears quiet one (overlay put (now log)) (overlay_torn sh log w put) stage in
       record {
         low = λ n less. elim (cases_eq n k) [
           | inl here ↦ ap (λ (m : ℕ). overlay put (now log) (CopyPlace m)) here ∙ shown_over k one
@@ -187,91 +125,91 @@ module _ (sh : Shape) (log : UnitLog) (v : View) (c : Checkpoint) (put : Units) 
         high = λ n more below. same.high n (omega arith) below;
       }
 
-  agrees_first : AgreesCopy v 0 c.content
+  agrees_first : AgreesCopy v 0 u.checkpoint.content
   agrees_first differs = absurd (differs refl)
 
-  agrees_later : (k : ℕ) → AgreesCopy u k c.content
+  agrees_later : (k : ℕ) → AgreesCopy u k u.checkpoint.content
   agrees_later k differs = inl refl
 
   -- copy 0: the view stays
-  pub update_first : IsSteady sh log v → IsQuiet log → PutsOne put (CopyPlace 0) (CopyUnit c.content) → IsStage (now log) v.checkpoint.content c.content 0 → Stepped sh log put v v
+  pub update_first : RestsOn sh log v → IsQuiet log → PutsOne put (CopyPlace 0) (CopyUnit u.checkpoint.content) → IsStage (now log) v.checkpoint.content u.checkpoint.content 0 → Stepped sh log put v v
   update_first rest quiet one stage = step sh log v put rest v Same (λ j torn. inl (view j torn)) (view (overlay put (now log)) (overlay_torn sh log v put))
     where
       view : (j : Units) → Torn sh log v put j → TornView sh log v put j v
       view j torn = record {
         holds = record {
-          bears = copy_rests sh log v put 0 v.checkpoint.content c.content rest.holds.bears quiet one j torn (copy_here sh log v put 0 v.checkpoint.content c.content rest.holds.bears quiet one agrees_first j torn);
-          chosen = chosen_first j v.checkpoint.content c.content (finish_higher v c is) (stage_torn sh log v put 0 v.checkpoint.content c.content rest.holds.bears quiet one j torn stage);
+          bears = copy_rests sh log v put 0 v.checkpoint.content u.checkpoint.content rest.holds.bears quiet one j torn (copy_here sh log v put 0 v.checkpoint.content u.checkpoint.content rest.holds.bears quiet one agrees_first j torn);
+          chosen = chosen_first j v.checkpoint.content u.checkpoint.content raise.higher (stage_torn sh log v put 0 v.checkpoint.content u.checkpoint.content rest.holds.bears quiet one j torn stage);
         };
-        known = copy_known sh log v put 0 v.checkpoint.content c.content rest.holds.bears quiet one j v (λ shown. (c.content, refl, inr (refl, finish_next v c is)));
+        history = copy_history sh log v put 0 v.checkpoint.content u.checkpoint.content rest.holds.bears quiet one j v (λ shown. (u.checkpoint.content, refl, inr (refl, raise.content)));
       }
 
   -- copy 1: the old view or the new one
-  pub update_second : IsSteady sh log v → ((place : Place) → loose log place ≡ false) → PutsOne put (CopyPlace 1) (CopyUnit c.content) → IsStage (now log) v.checkpoint.content c.content 1
-      → ((a : ℕ) (b : Block) → InChain a b c.chain → now log (BlockPlace a) ≡ Some (BlockUnit b)) → Stepped sh log put v u
-  update_second rest dry one stage there = step sh log v put rest u (Finish c is) each (after (overlay put (now log)) (overlay_torn sh log v put) (shown_over 1 one))
+  pub update_second : RestsOn sh log v → ((place : Place) → loose log place ≡ false) → PutsOne put (CopyPlace 1) (CopyUnit u.checkpoint.content) → IsStage (now log) v.checkpoint.content u.checkpoint.content 1
+      → ((a : ℕ) (b : Block) → InChain a b u.checkpoint.chain → now log (BlockPlace a) ≡ Some (BlockUnit b)) → Stepped sh log put v u
+  update_second rest dry one stage there = step sh log v put rest u raise.next each (after (overlay put (now log)) (overlay_torn sh log v put) (shown_over 1 one))
     where
       quiet : IsQuiet log
       quiet place wet = absurd (cc (wet, dry place))
 
-      staged : (j : Units) → Torn sh log v put j → IsStage j v.checkpoint.content c.content 1
-      staged j torn = stage_torn sh log v put 1 v.checkpoint.content c.content rest.holds.bears quiet one j torn stage
+      staged : (j : Units) → Torn sh log v put j → IsStage j v.checkpoint.content u.checkpoint.content 1
+      staged j torn = stage_torn sh log v put 1 v.checkpoint.content u.checkpoint.content rest.holds.bears quiet one j torn stage
 
-      not_new : (j : Units) → ((x : AnyUnit) → j (CopyPlace 1) ≡ Some x → InImages (settled log) (CopyPlace 1) x × Agrees sh v (CopyPlace 1) x) → j (CopyPlace 1) ≡ Some (CopyUnit c.content) → ⊥
+      not_new : (j : Units) → ((x : AnyUnit) → j (CopyPlace 1) ≡ Some x → InImages (settled log) (CopyPlace 1) x × Agrees sh v (CopyPlace 1) x) → j (CopyPlace 1) ≡ Some (CopyUnit u.checkpoint.content) → ⊥
       not_new j old shown =
-          let a = (old (CopyUnit c.content) shown).1 in
-          let one_content : a.0 ≡ c.content = (let e = a.1 in cc) in
+          let a = (old (CopyUnit u.checkpoint.content) shown).1 in
+          let one_content : a.0 ≡ u.checkpoint.content = (let e = a.1 in cc) in
           let same = ap rank_of one_content in
           elim (a.2 (λ zero_is. omega arith)) [
-            | inl base ↦ omega (arith, ap rank_of base, finish_higher v c is)
-            | inr less ↦ omega (arith, finish_higher v c is)
+            | inl base ↦ omega (arith, ap rank_of base, raise.higher)
+            | inr less ↦ omega (arith, raise.higher)
           ]
 
       before : (j : Units) → Torn sh log v put j → ((x : AnyUnit) → j (CopyPlace 1) ≡ Some x → InImages (settled log) (CopyPlace 1) x × Agrees sh v (CopyPlace 1) x) → TornView sh log v put j v
       before j torn old = record {
         holds = record {
-          bears = copy_rests sh log v put 1 v.checkpoint.content c.content rest.holds.bears quiet one j torn (λ x shown. (old x shown).1);
-          chosen = chosen_not_yet j v.checkpoint.content c.content (finish_higher v c is) (staged j torn) (not_new j old);
+          bears = copy_rests sh log v put 1 v.checkpoint.content u.checkpoint.content rest.holds.bears quiet one j torn (λ x shown. (old x shown).1);
+          chosen = chosen_not_yet j v.checkpoint.content u.checkpoint.content raise.higher (staged j torn) (not_new j old);
         };
-        known = copy_known sh log v put 1 v.checkpoint.content c.content rest.holds.bears quiet one j v (λ shown. absurd (not_new j old shown));
+        history = copy_history sh log v put 1 v.checkpoint.content u.checkpoint.content rest.holds.bears quiet one j v (λ shown. absurd (not_new j old shown));
       }
 
       now_rests : Bears sh (now log) u
-      now_rests = checkpoint_rests sh (now log) v c rest.holds.bears sound is there
+      now_rests = checkpoint_rests sh (now log) v u rest.holds.bears raise there
 
-      after : (j : Units) → Torn sh log v put j → j (CopyPlace 1) ≡ Some (CopyUnit c.content) → TornView sh log v put j u
+      after : (j : Units) → Torn sh log v put j → j (CopyPlace 1) ≡ Some (CopyUnit u.checkpoint.content) → TornView sh log v put j u
       after j torn shown =
-          let torn_u : Torn sh log u put j = λ place. torn_later sh log v u put j (next_grew sh v u rest.holds.bears.sound (Finish c is)) dry place (torn place) in
+          let torn_u : Torn sh log u put j = λ place. torn_later sh log v u put j (next_grew sh v u rest.holds.bears.sound raise.next) dry place (torn place) in
           record {
             holds = record {
-              bears = copy_rests sh log u put 1 v.checkpoint.content c.content now_rests quiet one j torn_u (copy_here sh log u put 1 v.checkpoint.content c.content now_rests quiet one (agrees_later 1) j torn_u);
-              chosen = chosen_second j v.checkpoint.content c.content (finish_higher v c is) (staged j torn) shown;
+              bears = copy_rests sh log u put 1 v.checkpoint.content u.checkpoint.content now_rests quiet one j torn_u (copy_here sh log u put 1 v.checkpoint.content u.checkpoint.content now_rests quiet one (agrees_later 1) j torn_u);
+              chosen = chosen_second j v.checkpoint.content u.checkpoint.content raise.higher (staged j torn) shown;
             };
-            known = copy_known sh log v put 1 v.checkpoint.content c.content rest.holds.bears quiet one j u (λ shown. (c.content, refl, inl refl));
+            history = copy_history sh log v put 1 v.checkpoint.content u.checkpoint.content rest.holds.bears quiet one j u (λ shown. (u.checkpoint.content, refl, inl refl));
           }
 
       each : (j : Units) → Torn sh log v put j → TornView sh log v put j v ⊎ TornView sh log v put j u
-      each j torn = elim (copy_there sh log v put 1 v.checkpoint.content c.content rest.holds.bears quiet one j torn (j (CopyPlace 1)) refl) [
+      each j torn = elim (copy_there sh log v put 1 v.checkpoint.content u.checkpoint.content rest.holds.bears quiet one j torn (j (CopyPlace 1)) refl) [
         | inl old ↦ inl (before j torn old)
         | inr yes_there ↦ inr (after j torn yes_there)
       ]
 
   -- copies 2 and 3: the new view stays
-  pub update_later : (k : ℕ) → 1 < k → IsSteady sh log u → IsQuiet log → PutsOne put (CopyPlace k) (CopyUnit c.content) → IsStage (now log) v.checkpoint.content c.content k → Stepped sh log put u u
+  pub update_later : (k : ℕ) → 1 < k → RestsOn sh log u → IsQuiet log → PutsOne put (CopyPlace k) (CopyUnit u.checkpoint.content) → IsStage (now log) v.checkpoint.content u.checkpoint.content k → Stepped sh log put u u
   update_later k above rest quiet one stage = step sh log u put rest u Same (λ j torn. inl (view j torn)) (view (overlay put (now log)) (overlay_torn sh log u put))
     where
       view : (j : Units) → Torn sh log u put j → TornView sh log u put j u
       view j torn = record {
         holds = record {
-          bears = copy_rests sh log u put k v.checkpoint.content c.content rest.holds.bears quiet one j torn (copy_here sh log u put k v.checkpoint.content c.content rest.holds.bears quiet one (agrees_later k) j torn);
-          chosen = chosen_last j v.checkpoint.content c.content (finish_higher v c is) k above (stage_torn sh log u put k v.checkpoint.content c.content rest.holds.bears quiet one j torn stage);
+          bears = copy_rests sh log u put k v.checkpoint.content u.checkpoint.content rest.holds.bears quiet one j torn (copy_here sh log u put k v.checkpoint.content u.checkpoint.content rest.holds.bears quiet one (agrees_later k) j torn);
+          chosen = chosen_last j v.checkpoint.content u.checkpoint.content raise.higher k above (stage_torn sh log u put k v.checkpoint.content u.checkpoint.content rest.holds.bears quiet one j torn stage);
         };
-        known = copy_known sh log u put k v.checkpoint.content c.content rest.holds.bears quiet one j u (λ shown. (c.content, refl, inl refl));
+        history = copy_history sh log u put k v.checkpoint.content u.checkpoint.content rest.holds.bears quiet one j u (λ shown. (u.checkpoint.content, refl, inl refl));
       }
 
 -- ---- mending a copy that isn't one of the chosen
 
-module _ (sh : Shape) (log : UnitLog) (v : View) (put : Units) (k : ℕ) (rest : IsSteady sh log v) (quiet : IsQuiet log) (one : PutsOne put (CopyPlace k) (CopyUnit v.checkpoint.content)) (spare : AgreeBeside (now log) v.checkpoint.content k) where
+module _ (sh : Shape) (log : UnitLog) (v : View) (put : Units) (k : ℕ) (rest : RestsOn sh log v) (quiet : IsQuiet log) (one : PutsOne put (CopyPlace k) (CopyUnit v.checkpoint.content)) (spare : AgreeBeside (now log) v.checkpoint.content k) where
   mend_copy : (j : Units) (n : ℕ) → Torn sh log v put j → (n ≡ k → ⊥) → j (CopyPlace n) ≡ now log (CopyPlace n)
   mend_copy j n torn away = other_copy sh log v put k v.checkpoint.content v.checkpoint.content rest.holds.bears quiet one j n away (torn (CopyPlace n))
 
@@ -299,7 +237,7 @@ module _ (sh : Shape) (log : UnitLog) (v : View) (put : Units) (k : ℕ) (rest :
           (agree_at j v.checkpoint.content spare.agreed.first spare.agreed.second spare.agreed.apart spare.agreed.inside (mend_copy j spare.agreed.first torn spare.no_first ∙ spare.agreed.at_first) (mend_copy j spare.agreed.second torn spare.no_second ∙ spare.agreed.at_second))
           (mend_lower j torn);
     };
-    known = copy_known sh log v put k v.checkpoint.content v.checkpoint.content rest.holds.bears quiet one j v (λ shown. (v.checkpoint.content, refl, inl refl));
+    history = copy_history sh log v put k v.checkpoint.content v.checkpoint.content rest.holds.bears quiet one j v (λ shown. (v.checkpoint.content, refl, inl refl));
   }
 
   pub mend_step : Stepped sh log put v v

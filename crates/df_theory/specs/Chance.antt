@@ -1,6 +1,6 @@
 -- What a torn sector may show: no valid unit but those that stood there or were being written.
 use Rattle.std.specs.Prelude.{◌≡◌, ◌⊎◌, List, [], ◌∷◌, Some}
-use Rattle.df_theory.specs.Units.{Place, AnyUnit, HeaderUnit, PrepareUnit, ReplyUnit, BlockUnit, Units}
+use Rattle.df_theory.specs.Units.{Place, AnyUnit, HeaderUnit, PrepareUnit, ReplyUnit, BlockUnit, Units, CopyUnit}
 use Rattle.df_theory.specs.UnitLog.{UnitLog, UnitEvent, Wrote, Synced, Stopped, settled, IsLeftBy}
 
 -- one of the images shows this unit there
@@ -26,6 +26,7 @@ InPools start (e ∷ es) place x = InPool (record { start = start; events = e �
 
 -- one checksum, one unit
 abbrev pub Distinct : AnyUnit → AnyUnit → Type 0
+Distinct (CopyUnit c) (CopyUnit d) = c.checksum ≡ d.checksum → c ≡ d
 Distinct (HeaderUnit h) (HeaderUnit g) = h.checksum ≡ g.checksum → h ≡ g
 Distinct (HeaderUnit h) (PrepareUnit q) = h.checksum ≡ q.header.checksum → h ≡ q.header
 Distinct (PrepareUnit p) (PrepareUnit q) = p.header.checksum ≡ q.header.checksum → p ≡ q
@@ -35,7 +36,7 @@ Distinct x y = Unit {0}
 
 -- no unit of this image came about by chance, and no two units of the pools have one checksum
 pub record NoChance (log : UnitLog) (image : Units) : Type 0 where
-  pub known : (place : Place) (x : AnyUnit) → image place ≡ Some x → InPool log place x
+  pub pooled : (place : Place) (x : AnyUnit) → image place ≡ Some x → InPool log place x
   pub distinct : (place other : Place) (x y : AnyUnit) → InPools log.start log.events place x → InPools log.start log.events other y → Distinct x y
 
 -- each stop left an image that it may leave, and none of its units came about by chance

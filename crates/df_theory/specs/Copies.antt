@@ -1,14 +1,14 @@
 -- What the four copies of the superblock agree on.
-use Rattle.std.specs.Prelude.{◌≡◌, ◌<◌, ◌≤◌, ◌+◌, ℕ, Some}
+use Rattle.std.specs.Prelude.{◌≡◌, ◌⊎◌, ◌<◌, ◌≤◌, ◌+◌, ◌*◌, ℕ, Some}
 use Rattle.df_theory.specs.Units.{CopyPlace, Content, CopyUnit, Units}
 
--- the order of contents: the later one is greater
+-- the order of contents: by sequence, and by boot where these are equal; a boot is below 2^64
 abbrev pub rank_of : Content → ℕ
-rank_of c = c.sequence
+rank_of c = 18446744073709551616 * c.sequence + c.boot
 
 -- d is the next content after c
 abbrev pub IsNextContent : Content → Content → Type 0
-IsNextContent c d = rank_of d ≡ rank_of c + 1
+IsNextContent c d = ((d.sequence ≡ c.sequence + 1) × (d.boot ≡ c.boot)) ⊎ ((d.sequence ≡ c.sequence) × (d.boot ≡ c.boot + 1))
 
 -- two copies show this content
 pub record Agree (image : Units) (c : Content) : Type 0 where

@@ -1,20 +1,20 @@
 -- What damage can do to a file at rest: sectors hurt, lost or swapped, so long as no unit comes about by chance.
 use Rattle.std.specs.Prelude.{◌≡◌, ◌⊎◌, ◌<◌, ◌≤◌, ◌+◌, ◌-◌, ◌%◌, ℕ, length, List, ◌++◌, Some}
 use Rattle.std.specs.List.{slice_get}
-use Rattle.df_theory.specs.Units.{AnyUnit, Block, BlockPlace, BlockUnit, Content, CopyPlace, Header, HeaderPlace, HeaderUnit, Message, Place, PreparePlace, PrepareUnit, ReplyPlace, ReplyUnit, Session, Units}
+use Rattle.df_theory.specs.Units.{AnyUnit, Block, BlockPlace, Content, CopyPlace, Header, HeaderPlace, HeaderUnit, Message, Place, PreparePlace, ReplyPlace, ReplyUnit, Session, Units}
 use Rattle.df_theory.specs.Sessions.{Answers, sessions_after}
 use Rattle.df_theory.specs.Tails.{In}
 use Rattle.df_theory.specs.Shape.{Shape, slots}
 use Rattle.df_theory.specs.Copies.{Agree, IsChosen}
 use Rattle.df_theory.specs.Trailer.{Links}
-use Rattle.df_theory.specs.View.{IsSoundCheckpoint, View, sessions}
+use Rattle.df_theory.specs.View.{IsSoundCheckpoint, View, boot_of, sessions}
 use Rattle.df_theory.specs.Shows.{Needs}
-use Rattle.df_theory.specs.Holds.{Holds}
+use Rattle.df_theory.specs.Holds.{Holds, IsNamed}
 use Rattle.df_theory.specs.UnitLog.{UnitLog, now}
-use Rattle.df_theory.specs.Chance.{InPool, NoChance}
+use Rattle.df_theory.specs.Chance.{Distinct, InPool, InPools, NoChance}
 use Rattle.df_theory.specs.Grown.{Grows}
-use Rattle.df_theory.specs.Steady.{IsSteady}
-use Rattle.df_theory.specs.Found.{AreOfPlaces, IsFound, IsReplies, IsTail, NotBehind, NotLost}
+use Rattle.df_theory.specs.Rests.{RestsOn}
+use Rattle.df_theory.specs.Found.{AreOfPlaces, IsFound, IsReplies, IsTail, NotBehind, NotLost, slot_behind}
 use Rattle.df_theory.specs.Opens.{Arrives, BadField, Damaged, NoQuorum, Opens, Refusal, Refused}
 use Rattle.df_theory.specs.Past.{FromEmpty, Was}
 use Rattle.df_theory.specs.HistoryLaws.{AreDistinct, ShowsSettled}
@@ -26,52 +26,52 @@ ShowsPool log shown = (place : Place) (x : AnyUnit) → shown place ≡ Some x �
 -- damage at places that the view doesn't need (header sectors, two copies, free blocks, empty slots) changes nothing
 abbrev pub HurtLaw : Type 0
 HurtLaw =
-    (sh : Shape) (log : UnitLog) (v : View) (shown : Units) → IsSteady sh log v → ShowsPool log shown → Agree shown v.checkpoint.content
+    (sh : Shape) (log : UnitLog) (v : View) (shown : Units) → RestsOn sh log v → ShowsPool log shown → Agree shown v.checkpoint.content
     → ((place : Place) (x : AnyUnit) → Needs sh v place x → shown place ≡ Some x) → Holds sh shown v
 
 -- while two copies show it, what an open finds has the file's checkpoint, whatever else is hurt
 abbrev pub CheckpointStaysLaw : Type 0
 CheckpointStaysLaw =
-    (sh : Shape) (log : UnitLog) (v w : View) (shown : Units) → IsSteady sh log v → NoChance log shown → Agree shown v.checkpoint.content
+    (sh : Shape) (log : UnitLog) (v w : View) (shown : Units) → RestsOn sh log v → NoChance log shown → Agree shown v.checkpoint.content
     → IsFound sh shown w → w.checkpoint ≡ v.checkpoint
 
 -- while two copies show it, no unit is of a later checkpoint: an open never blames the superblock
 abbrev pub NeverBehindLaw : Type 0
 NeverBehindLaw =
-    (sh : Shape) (log : UnitLog) (v : View) (shown : Units) → IsSteady sh log v → ShowsPool log shown → Agree shown v.checkpoint.content
+    (sh : Shape) (log : UnitLog) (v : View) (shown : Units) → RestsOn sh log v → ShowsPool log shown → Agree shown v.checkpoint.content
     → IsChosen shown v.checkpoint.content × NotBehind sh shown v.checkpoint.content
 
--- what an open finds has each op above the checkpoint whose header is shown, with that header's checksum
+-- what an open finds has each op above the pin whose header of its boot is shown, with that header's checksum
 abbrev pub HeadersTellLaw : Type 0
 HeadersTellLaw =
-    (sh : Shape) (shown : Units) (w : View) (s : ℕ) (h : Header) → AreOfPlaces sh shown → IsFound sh shown w → shown (HeaderPlace s) ≡ Some (HeaderUnit h) → w.checkpoint.content.op < h.op
+    (sh : Shape) (shown : Units) (w : View) (s : ℕ) (h : Header) → AreOfPlaces sh shown → IsFound sh shown w → shown (HeaderPlace s) ≡ Some (HeaderUnit h) → h.boot ≡ boot_of w → w.checkpoint.content.pin < h.op
     → (p : Message) × In p w.tail × (p.header.op ≡ h.op) × (p.header.checksum ≡ h.checksum)
 
 -- the tail that is found is a front of the file's
 abbrev pub TailIsFrontLaw : Type 0
 TailIsFrontLaw =
-    (sh : Shape) (log : UnitLog) (v : View) (shown : Units) (tail : List Message) → IsSteady sh log v → ShowsPool log shown → IsTail sh shown v.checkpoint tail
+    (sh : Shape) (log : UnitLog) (v : View) (shown : Units) (tail : List Message) → RestsOn sh log v → NoChance log shown → IsTail sh shown v.checkpoint tail
     → (p : Message) → In p tail → In p v.tail
 
 -- where the slot behind the tail that is found shows what it should, nothing was lost: a lost prepare is blamed on a slot that is hurt
 abbrev pub LostIsHurtLaw : Type 0
 LostIsHurtLaw =
-    (sh : Shape) (log : UnitLog) (v : View) (shown : Units) (tail : List Message) → IsSteady sh log v → ShowsPool log shown → Agree shown v.checkpoint.content → IsTail sh shown v.checkpoint tail
-    → shown (PreparePlace ((v.checkpoint.content.op + length tail + 1) % slots sh)) ≡ now log (PreparePlace ((v.checkpoint.content.op + length tail + 1) % slots sh))
+    (sh : Shape) (log : UnitLog) (v : View) (shown : Units) (tail : List Message) → RestsOn sh log v → NoChance log shown → Agree shown v.checkpoint.content → IsTail sh shown v.checkpoint tail
+    → shown (PreparePlace (slot_behind sh v.checkpoint tail)) ≡ now log (PreparePlace (slot_behind sh v.checkpoint tail))
     → NotLost shown v.checkpoint.content (v.checkpoint.content.op + length tail)
 
 -- a prepare that the found tail lacks, and of which no trace is left, stood in a slot that is hurt
 abbrev pub MissingIsHurtLaw : Type 0
 MissingIsHurtLaw =
-    (sh : Shape) (log : UnitLog) (v : View) (shown : Units) (top : ℕ) → IsSteady sh log v → NotLost shown v.checkpoint.content top
+    (sh : Shape) (log : UnitLog) (v : View) (shown : Units) (top : ℕ) → RestsOn sh log v → NotLost shown v.checkpoint.content top
     → (p : Message) → In p v.tail → top < p.header.op → shown (PreparePlace (p.header.op % slots sh)) ≡ now log (PreparePlace (p.header.op % slots sh)) → ⊥
 
 -- a stored reply that is not shown as it should be: its slot is hurt, or that of a later prepare of the same client is
 abbrev pub ReplyIsHurtLaw : Type 0
 ReplyIsHurtLaw =
-    (sh : Shape) (log : UnitLog) (v : View) (shown : Units) (tail : List Message) (n k : ℕ) (s : Session) → IsSteady sh log v → ShowsPool log shown → IsTail sh shown v.checkpoint tail
+    (sh : Shape) (log : UnitLog) (v : View) (shown : Units) (tail : List Message) (n k : ℕ) (s : Session) → RestsOn sh log v → NoChance log shown → IsTail sh shown v.checkpoint tail
     → IsReplies shown v.checkpoint.content tail n → slice_get (sessions_after v.checkpoint.parts.sessions tail) k ≡ Some s → s.op ≤ n → shown (ReplyPlace k) ≡ now log (ReplyPlace k)
-    → ((r : Message) × (shown (ReplyPlace k) ≡ Some (ReplyUnit r)) × Answers s r) ⊎ ((t : Session) × (p : Message) × (slice_get (sessions v) k ≡ Some t) × In p v.tail × (p.header.client ≡ t.client) × (v.checkpoint.content.op + length tail < p.header.op))
+    → ((r : Message) × (shown (ReplyPlace k) ≡ Some (ReplyUnit r)) × Answers s r × IsNamed v.checkpoint.content k r) ⊎ ((t : Session) × (p : Message) × (slice_get (sessions v) k ≡ Some t) × In p v.tail × (p.header.client ≡ t.client) × (v.checkpoint.content.op + length tail < p.header.op))
 
 -- damage never makes a superblock or a trailer that fails its tests: what two copies of settled units agree on was the checkpoint of a view, and the blocks that it names are that view's, as far as they are shown
 abbrev pub FieldsHoldLaw : Type 0
@@ -91,7 +91,7 @@ NoBadFieldLaw =
 abbrev pub IsHurt : UnitLog → Units → Place → Type 0
 IsHurt log shown place = shown place ≡ now log place → ⊥
 
--- a refusal that blames what is hurt: a block of the grid or a slot of the prepare ring that is hurt; for a reply its slot, or the slot of a later prepare of the same client
+-- a refusal that blames what is hurt: a block of the grid or a slot of the prepare ring that is hurt; for a reply its slot, or the slot of a prepare of the same client and of a later op than the tail that is found reaches
 abbrev pub BlamesHurt : Shape → UnitLog → View → Units → Refusal → Type 0
 BlamesHurt sh log v shown NoQuorum = ⊥
 BlamesHurt sh log v shown BadField = ⊥
@@ -101,18 +101,14 @@ BlamesHurt sh log v shown (Damaged (PreparePlace s)) = IsHurt log shown (Prepare
 BlamesHurt sh log v shown (Damaged (BlockPlace a)) = IsHurt log shown (BlockPlace a)
 BlamesHurt sh log v shown (Damaged (ReplyPlace k)) =
     shown (ReplyPlace k) ≡ now log (ReplyPlace k)
-    → (s : Session) × (p : Message) × (slice_get (sessions v) k ≡ Some s) × In p v.tail × (p.header.client ≡ s.client) × IsHurt log shown (PreparePlace (p.header.op % slots sh))
+    → (s : Session) × (p : Message) × (tail : List Message) × (slice_get (sessions v) k ≡ Some s) × In p v.tail × (p.header.client ≡ s.client) × IsTail sh shown v.checkpoint tail × (v.checkpoint.content.op + length tail < p.header.op) × IsHurt log shown (PreparePlace (p.header.op % slots sh))
 
 -- at rest, while two copies show the choice, each refusal of an open blames what is hurt
 abbrev pub BlameLaw : Type 0
 BlameLaw =
-    (sh : Shape) (log : UnitLog) (v : View) (shown : Units) (refusal : Refusal) → IsSteady sh log v → NoChance log shown → Agree shown v.checkpoint.content
+    (sh : Shape) (log : UnitLog) (v : View) (shown : Units) (refusal : Refusal) → RestsOn sh log v → NoChance log shown → Agree shown v.checkpoint.content
     → Opens sh shown (Refused refusal) → BlamesHurt sh log v shown refusal
 
--- a read by the known checksum gives the unit that was written there, and no other
+-- a read by a known checksum gives the unit that was written there, and no other: any unit of the pools, and what is shown with its checksum
 abbrev pub ReadLaw : Type 0
-ReadLaw =
-    (sh : Shape) (log : UnitLog) (v : View) (shown : Units) → IsSteady sh log v → NoChance log shown
-    → ((s : ℕ) (p q : Message) → now log (PreparePlace s) ≡ Some (PrepareUnit p) → shown (PreparePlace s) ≡ Some (PrepareUnit q) → q.header.checksum ≡ p.header.checksum → q ≡ p)
-    × ((k : ℕ) (r q : Message) → now log (ReplyPlace k) ≡ Some (ReplyUnit r) → shown (ReplyPlace k) ≡ Some (ReplyUnit q) → q.header.checksum ≡ r.header.checksum → q ≡ r)
-    × ((a : ℕ) (b d : Block) → now log (BlockPlace a) ≡ Some (BlockUnit b) → shown (BlockPlace a) ≡ Some (BlockUnit d) → d.checksum ≡ b.checksum → d ≡ b)
+ReadLaw = (log : UnitLog) (shown : Units) (place other : Place) (x y : AnyUnit) → NoChance log shown → InPools log.start log.events place x → shown other ≡ Some y → Distinct x y

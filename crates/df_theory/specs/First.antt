@@ -1,6 +1,6 @@
 -- A file as it is made: from the empty image to its first view.
 use Rattle.std.specs.Prelude.{◌≡◌, ℕ, List, [], ◌∷◌, Some, None}
-use Rattle.df_theory.specs.Units.{Place, CopyPlace, HeaderPlace, Header, Content, AnyUnit, CopyUnit, HeaderUnit, Units}
+use Rattle.df_theory.specs.Units.{Place, CopyPlace, HeaderPlace, Header, Content, AnyUnit, CopyUnit, HeaderUnit, Units, IsReserved}
 use Rattle.df_theory.specs.Shape.{Shape}
 use Rattle.df_theory.specs.Copies.{IsSplit}
 use Rattle.df_theory.specs.Trailer.{no_parts}
@@ -11,6 +11,7 @@ pub record IsFirstContent (sh : Shape) (c : Content) : Type 0 where
   pub tests : PassesTests sh c
   pub sequence : c.sequence ≡ 1
   pub numbers : (c.op ≡ 0) × (c.op_checksum ≡ 0) × (c.head ≡ 0) × (c.replies ≡ 0)
+  pub pin : (c.boot ≡ 0) × (c.pin ≡ 0) × (c.pin_checksum ≡ 0)
   pub trailer : (c.trailer ≡ 0) × (c.trailer_checksum ≡ 0) × (c.trailer_size ≡ 0)
 
 -- the first view: nothing was appended yet
@@ -25,7 +26,7 @@ pub record IsFirst (sh : Shape) (v : View) : Type 0 where
 -- a reserved header, or a copy of this superblock
 abbrev pub IsMade : Content → Place → AnyUnit → Type 0
 IsMade c (CopyPlace n) x = x ≡ CopyUnit c
-IsMade c (HeaderPlace s) x = (h : Header) × (x ≡ HeaderUnit h) × (h.op ≡ 0) × (h.checkpoint ≡ 0)
+IsMade c (HeaderPlace s) x = (h : Header) × (x ≡ HeaderUnit h) × IsReserved h
 IsMade c place x = ⊥
 
 -- nothing but these is shown

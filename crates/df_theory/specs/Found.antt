@@ -1,7 +1,8 @@
 -- What an open finds in an image, whatever was done to it: the state, where no step refuses.
-use Rattle.std.specs.Prelude.{◌≡◌, ◌⊎◌, ◌<◌, ◌≤◌, ◌+◌, ◌%◌, ◌^◌, ℕ, List, length, Some}
+use Rattle.std.specs.Prelude.{◌≡◌, ◌⊎◌, ◌<◌, ◌≤◌, ◌+◌, ◌-◌, ◌%◌, ◌^◌, ℕ, List, length, take, Some}
 use Rattle.std.specs.List.{slice_get}
-use Rattle.df_theory.specs.Units.{Place, CopyPlace, HeaderPlace, PreparePlace, ReplyPlace, BlockPlace, Header, Message, Session, Content, Block, AnyUnit, CopyUnit, HeaderUnit, PrepareUnit, ReplyUnit, BlockUnit, Units}
+use Rattle.df_base.specs.Fields.{AreBytes}
+use Rattle.df_theory.specs.Units.{Place, CopyPlace, HeaderPlace, PreparePlace, ReplyPlace, BlockPlace, Header, Message, Session, Content, Block, AnyUnit, CopyUnit, HeaderUnit, PrepareUnit, ReplyUnit, BlockUnit, Units, IsAlone}
 use Rattle.df_theory.specs.Sessions.{sessions_after, Answers}
 use Rattle.df_theory.specs.Tails.{In, Chain, Fits, last_mark, last_checksum, AreWholeGroups}
 use Rattle.df_theory.specs.Shape.{Shape, slots, clients}
@@ -9,51 +10,74 @@ use Rattle.df_theory.specs.Copies.{IsChosen}
 use Rattle.df_theory.specs.Trailer.{InChain}
 use Rattle.df_theory.specs.View.{Checkpoint, View, head, sessions, IsSoundCheckpoint}
 use Rattle.df_theory.specs.Shows.{AgreesCopy}
+use Rattle.df_theory.specs.Holds.{IsNamed}
 use Rattle.df_theory.specs.Cases.{Takes}
+
+-- the fields of a prepare or of a reply are in their ranges
+pub record IsInRange (h : Header) : Type 0 where
+  pub client : (0 < h.client) × (h.client < 2 ^ 128)
+  pub request : (0 < h.request) × (h.request ≤ 2 ^ 62)
+  pub op : (0 < h.op) × (h.op ≤ 2 ^ 62)
+  pub checksums : (h.checksum < 2 ^ 128) × (h.parent < 2 ^ 128)
 
 -- a unit of the kind of its place, in its own slot, as validity at a place demands
 abbrev pub IsOfPlace : Shape → Place → AnyUnit → Type 0
-IsOfPlace sh (CopyPlace n) x = (c : Content) × (x ≡ CopyUnit c)
-IsOfPlace sh (HeaderPlace s) x = (h : Header) × (x ≡ HeaderUnit h) × (0 < h.op → s ≡ h.op % slots sh)
-IsOfPlace sh (PreparePlace s) x = (p : Message) × (x ≡ PrepareUnit p) × (s ≡ p.header.op % slots sh) × (0 < p.header.op) × (p.header.op ≤ 2 ^ 62)
-IsOfPlace sh (ReplyPlace k) x = (r : Message) × (x ≡ ReplyUnit r)
-IsOfPlace sh (BlockPlace a) x = (b : Block) × (x ≡ BlockUnit b)
+IsOfPlace sh (CopyPlace n) x = (c : Content) × (x ≡ CopyUnit c) × (c.checksum < 2 ^ 128)
+IsOfPlace sh (HeaderPlace s) x = (h : Header) × (x ≡ HeaderUnit h) × (h.checksum < 2 ^ 128) × (0 < h.op → (s ≡ h.op % slots sh) × IsInRange h)
+IsOfPlace sh (PreparePlace s) x = (p : Message) × (x ≡ PrepareUnit p) × (s ≡ p.header.op % slots sh) × IsInRange p.header
+IsOfPlace sh (ReplyPlace k) x = (r : Message) × (x ≡ ReplyUnit r) × IsInRange r.header × IsAlone r.header
+IsOfPlace sh (BlockPlace a) x = (b : Block) × (x ≡ BlockUnit b) × (b.checksum < 2 ^ 128) × AreBytes b.body
 
 abbrev pub AreOfPlaces : Shape → Units → Type 0
 AreOfPlaces sh image = (place : Place) (x : AnyUnit) → image place ≡ Some x → IsOfPlace sh place x
 
+-- no taken prepare fits behind this tail, where the ring has room for one
+abbrev pub IsLongest : Shape → Units → Checkpoint → List Message → Type 0
+IsLongest sh image b tail =
+    (p : Message) → length tail < slots sh → Takes (slots sh) image b.content p
+    → Fits (clients sh) (b.content.op + 1 + length tail) (last_checksum b.content.op_checksum tail) (last_mark 0 tail) (sessions_after b.parts.sessions tail) p.header → ⊥
+
+-- the slot of the op behind this tail: the one that is blamed where later ops left traces
+abbrev pub slot_behind : Shape → Checkpoint → List Message → ℕ
+slot_behind sh b tail = (b.content.op + length tail + 1) % slots sh
+
 -- the longest list of taken prepares, each of which fits what precedes it; its last one ends a group
 pub record IsTail (sh : Shape) (image : Units) (b : Checkpoint) (tail : List Message) : Type 0 where
   pub chain : Chain (clients sh) (b.content.op + 1) b.content.op_checksum 0 b.parts.sessions tail
-  pub takes : (p : Message) → In p tail → Takes (slots sh) image p
+  pub takes : (p : Message) → In p tail → Takes (slots sh) image b.content p
   pub room : length tail ≤ slots sh
   pub groups : AreWholeGroups (b.content.op + length tail) tail
-  pub longest : (p : Message) → length tail < slots sh → Takes (slots sh) image p
-      → Fits (clients sh) (b.content.op + 1 + length tail) (last_checksum b.content.op_checksum tail) (last_mark 0 tail) (sessions_after b.parts.sessions tail) p.header → ⊥
+  pub reaches : b.content.pin ≤ b.content.op + length tail
+  pub pinned : last_checksum b.content.op_checksum (take (b.content.pin - b.content.op) tail) ≡ b.content.pin_checksum
+  pub longest : IsLongest sh image b tail
 
 -- no unit is of a later checkpoint, and no op is past the ring
 pub record NotBehind (sh : Shape) (image : Units) (c : Content) : Type 0 where
-  pub header : (s : ℕ) (h : Header) → image (HeaderPlace s) ≡ Some (HeaderUnit h) → (h.checkpoint ≤ c.sequence) × (h.op ≤ c.op + slots sh)
-  pub prepare : (s : ℕ) (p : Message) → image (PreparePlace s) ≡ Some (PrepareUnit p) → (p.header.checkpoint ≤ c.sequence) × (p.header.op ≤ c.op + slots sh)
-  pub reply : (k : ℕ) (r : Message) → image (ReplyPlace k) ≡ Some (ReplyUnit r) → r.header.checkpoint ≤ c.sequence
+  pub header : (s : ℕ) (h : Header) → image (HeaderPlace s) ≡ Some (HeaderUnit h) → (h.checkpoint ≤ c.sequence) × (h.op ≤ c.op + slots sh) × (h.boot ≤ c.boot)
+  pub prepare : (s : ℕ) (p : Message) → image (PreparePlace s) ≡ Some (PrepareUnit p) → (p.header.checkpoint ≤ c.sequence) × (p.header.op ≤ c.op + slots sh) × (p.header.boot ≤ c.boot)
+  pub reply : (k : ℕ) (r : Message) → image (ReplyPlace k) ≡ Some (ReplyUnit r) → (r.header.checkpoint ≤ c.sequence) × (r.header.boot ≤ c.boot)
 
--- no trace of an op above the head
+-- what a prepare that is shown says of the head: its op isn't above it
+abbrev pub BindsHead : ℕ → Header → Type 0
+BindsHead top h = h.op ≤ top
+
+-- no trace of this boot of an op above the head
 pub record NotLost (image : Units) (c : Content) (top : ℕ) : Type 0 where
-  pub header : (s : ℕ) (h : Header) → image (HeaderPlace s) ≡ Some (HeaderUnit h) → h.op ≤ top
-  pub prepare : (s : ℕ) (p : Message) → image (PreparePlace s) ≡ Some (PrepareUnit p) → p.header.op ≤ top
+  pub header : (s : ℕ) (h : Header) → image (HeaderPlace s) ≡ Some (HeaderUnit h) → h.boot ≡ c.boot → BindsHead top h
+  pub prepare : (s : ℕ) (p : Message) → image (PreparePlace s) ≡ Some (PrepareUnit p) → p.header.boot ≡ c.boot → BindsHead top p.header
   pub superblock : c.head ≤ top
-  pub reply : (k : ℕ) (r : Message) → image (ReplyPlace k) ≡ Some (ReplyUnit r) → (r.header.op ≤ top) × (r.header.mark ≤ top)
+  pub reply : (k : ℕ) (r : Message) → image (ReplyPlace k) ≡ Some (ReplyUnit r) → r.header.boot ≡ c.boot → (r.header.op ≤ top) × (r.header.mark ≤ top)
 
--- the number of replies: the greatest of the superblock's, the mark of the tail's last prepare, and the ops of the replies
+-- the number of replies: the greatest of the superblock's, the mark of the tail's last prepare, and the ops of the replies of this boot
 pub record IsReplies (image : Units) (c : Content) (tail : List Message) (n : ℕ) : Type 0 where
   pub superblock : c.replies ≤ n
   pub mark : last_mark 0 tail ≤ n
-  pub reply : (k : ℕ) (r : Message) → image (ReplyPlace k) ≡ Some (ReplyUnit r) → r.header.op ≤ n
-  pub reached : (c.replies ≡ n) ⊎ (last_mark 0 tail ≡ n) ⊎ ((k : ℕ) × (r : Message) × (image (ReplyPlace k) ≡ Some (ReplyUnit r)) × (r.header.op ≡ n))
+  pub reply : (k : ℕ) (r : Message) → image (ReplyPlace k) ≡ Some (ReplyUnit r) → r.header.boot ≡ c.boot → r.header.op ≤ n
+  pub reached : (c.replies ≡ n) ⊎ (last_mark 0 tail ≡ n) ⊎ ((k : ℕ) × (r : Message) × (image (ReplyPlace k) ≡ Some (ReplyUnit r)) × (r.header.op ≡ n) × (r.header.boot ≡ c.boot))
 
 -- each stored reply is shown, and nothing else counts as stored
 pub record IsStored (image : Units) (v : View) : Type 0 where
-  pub shown : (k : ℕ) (s : Session) → slice_get (sessions v) k ≡ Some s → s.op ≤ v.replies → (r : Message) × (v.stored k ≡ Some r) × (image (ReplyPlace k) ≡ Some (ReplyUnit r)) × Answers s r
+  pub shown : (k : ℕ) (s : Session) → slice_get (sessions v) k ≡ Some s → s.op ≤ v.replies → (r : Message) × (v.stored k ≡ Some r) × (image (ReplyPlace k) ≡ Some (ReplyUnit r)) × Answers s r × IsNamed v.checkpoint.content k r
   pub no_more : (k : ℕ) (r : Message) → v.stored k ≡ Some r → (s : Session) × (slice_get (sessions v) k ≡ Some s) × (s.op ≤ v.replies)
 
 -- an open finds this state: no step refuses

@@ -12,16 +12,20 @@ use Rattle.df_theory.specs.Chance.{InImages, NoChance, AreFair}
 use Rattle.df_theory.specs.First.{IsFirstContent, IsFirst, ShowsMade, AreMade}
 
 -- a unit of this view: of its tail, a reserved header, a stored reply, a copy of its content, or a copy 0 of the next one
-abbrev pub Known : View → Place → AnyUnit → Type 0
-Known v (CopyPlace n) x = (c : Content) × (x ≡ CopyUnit c) × ((c ≡ v.checkpoint.content) ⊎ ((n ≡ 0) × IsNextContent v.checkpoint.content c))
-Known v (HeaderPlace s) x = (h : Header) × (x ≡ HeaderUnit h) × ((h.op ≡ 0) ⊎ ((p : Message) × In p v.tail × (p.header ≡ h)))
-Known v (PreparePlace s) x = (p : Message) × (x ≡ PrepareUnit p) × In p v.tail
-Known v (ReplyPlace k) x = (r : Message) × (x ≡ ReplyUnit r) × (v.stored k ≡ Some r)
-Known v (BlockPlace a) x = Unit {0}
+abbrev pub InView : View → Place → AnyUnit → Type 0
+InView v (CopyPlace n) x = (c : Content) × (x ≡ CopyUnit c) × ((c ≡ v.checkpoint.content) ⊎ ((n ≡ 0) × IsNextContent v.checkpoint.content c))
+InView v (HeaderPlace s) x = (h : Header) × (x ≡ HeaderUnit h) × ((h.op ≡ 0) ⊎ ((p : Message) × In p v.tail × (p.header ≡ h)))
+InView v (PreparePlace s) x = (p : Message) × (x ≡ PrepareUnit p) × In p v.tail
+InView v (ReplyPlace k) x = (r : Message) × (x ≡ ReplyUnit r) × (v.stored k ≡ Some r)
+InView v (BlockPlace a) x = Unit {0}
 
--- each unit was settled there before, or is one of the view's
-abbrev pub AllKnown : List Units → Units → View → Type 0
-AllKnown images image v = (place : Place) (x : AnyUnit) → image place ≡ Some x → InImages images place x ⊎ Known v place x
+-- a unit of the history: it was settled there before, or is one of the view's
+abbrev pub InHistory : List Units → View → Place → AnyUnit → Type 0
+InHistory images v place x = InImages images place x ⊎ InView v place x
+
+-- each unit that is shown is one of the history
+abbrev pub AllInHistory : List Units → Units → View → Type 0
+AllInHistory images image v = (place : Place) (x : AnyUnit) → image place ≡ Some x → InHistory images v place x
 
 -- the first image with a view: where the log begins, or where a file was made
 abbrev pub Begins : Shape → Units → List Units → View → Type 0
@@ -31,7 +35,7 @@ Begins sh image (before ∷ images) v = IsFirst sh v × ShowsMade v.checkpoint.c
 -- the images have views, each next to the one before it; v is the view of the newest
 abbrev pub Grows : Shape → List Units → View → Type 0
 Grows sh [] v = ⊥
-Grows sh (image ∷ images) v = Holds sh image v × (Begins sh image images v ⊎ (AllKnown images image v × ((u : View) × Next u v × Grows sh images u)))
+Grows sh (image ∷ images) v = Holds sh image v × (Begins sh image images v ⊎ (AllInHistory images image v × ((u : View) × Next u v × Grows sh images u)))
 
 -- the history grew, up to this view
 pub record HasGrown (sh : Shape) (log : UnitLog) (v : View) : Type 0 where
@@ -39,14 +43,14 @@ pub record HasGrown (sh : Shape) (log : UnitLog) (v : View) : Type 0 where
   pub grows : Grows sh (settled log) v
 
 -- a file is being made, and has no view yet
-pub record IsBeingMade (sh : Shape) (log : UnitLog) (c : Content) : Type 0 where
+pub record HasMade (sh : Shape) (log : UnitLog) (c : Content) : Type 0 where
   pub fair : AreFair log.start log.events
   pub first : IsFirstContent sh c
   pub made : AreMade c (settled log)
 
 -- the history grew as it should
 abbrev pub Grown : Shape → UnitLog → Type 0
-Grown sh log = ((v : View) × HasGrown sh log v) ⊎ ((c : Content) × IsBeingMade sh log c)
+Grown sh log = ((v : View) × HasGrown sh log v) ⊎ ((c : Content) × HasMade sh log c)
 
 -- grown, and still so after a sync and after any stop
 pub record IsSafe (sh : Shape) (log : UnitLog) : Type 0 where

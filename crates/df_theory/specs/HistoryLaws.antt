@@ -3,7 +3,7 @@ use Rattle.std.specs.Prelude.{◌≡◌, ◌≤◌, ℕ, List, Some}
 use Rattle.df_theory.specs.Units.{AnyUnit, Content, CopyPlace, CopyUnit, Message, Place, PreparePlace, PrepareUnit, ReplyPlace, ReplyUnit, Units}
 use Rattle.df_theory.specs.Shape.{Shape}
 use Rattle.df_theory.specs.Copies.{rank_of}
-use Rattle.df_theory.specs.View.{View, head, sequence}
+use Rattle.df_theory.specs.View.{View, head}
 use Rattle.df_theory.specs.UnitLog.{UnitLog, settled}
 use Rattle.df_theory.specs.Chance.{Distinct, InImages, InWrites, NoChance}
 use Rattle.df_theory.specs.Grown.{Grows, HasGrown}
@@ -33,10 +33,10 @@ OneContentLaw =
 abbrev pub StampLaw : Type 0
 StampLaw =
     (sh : Shape) (images : List Units) (v : View) (grows : Grows sh images v) (s top replies : ℕ) (a b c : View)
-    → Was sh images v grows a → (sequence a ≡ s) × (head a ≤ top) × (a.replies ≤ replies)
-    → Was sh images v grows b → (sequence b ≤ s) × (head b ≡ top) × (b.replies ≤ replies)
-    → Was sh images v grows c → (sequence c ≤ s) × (head c ≤ top) × (c.replies ≡ replies)
-    → (w : View) × Was sh images v grows w × (sequence w ≡ s) × (head w ≡ top) × (w.replies ≡ replies)
+    → Was sh images v grows a → (rank_of a.checkpoint.content ≡ s) × (head a ≤ top) × (a.replies ≤ replies)
+    → Was sh images v grows b → (rank_of b.checkpoint.content ≤ s) × (head b ≡ top) × (b.replies ≤ replies)
+    → Was sh images v grows c → (rank_of c.checkpoint.content ≤ s) × (head c ≤ top) × (c.replies ≡ replies)
+    → (w : View) × Was sh images v grows w × (rank_of w.checkpoint.content ≡ s) × (head w ≡ top) × (w.replies ≡ replies)
 
 -- one checksum, one unit, of all that was settled
 abbrev pub AreDistinct : List Units → Type 0

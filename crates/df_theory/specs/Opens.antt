@@ -1,13 +1,14 @@
 -- The answer of an open: the first step that refuses, and what it names, or the state that is found.
-use Rattle.std.specs.Prelude.{◌≡◌, ◌⊎◌, ◌<◌, ◌≤◌, ◌+◌, ◌-◌, ◌%◌, ℕ, List, [], ◌∷◌, length, Some}
+use Rattle.std.specs.Prelude.{◌≡◌, ◌<◌, ◌≤◌, ◌+◌, ◌-◌, ℕ, List, [], ◌∷◌, length, Some}
 use Rattle.std.specs.List.{slice_get}
 use Rattle.df_theory.specs.Units.{Block, BlockPlace, BlockUnit, Content, CopyPlace, CopyUnit, Message, Place, PreparePlace, ReplyPlace, ReplyUnit, Session, Units}
 use Rattle.df_theory.specs.Sessions.{Answers, sessions_after}
-use Rattle.df_theory.specs.Shape.{Shape, slots}
+use Rattle.df_theory.specs.Shape.{Shape}
 use Rattle.df_theory.specs.Copies.{IsChosen, IsSplit}
 use Rattle.df_theory.specs.Trailer.{InChain, IsCount, IsReference, piece_size}
 use Rattle.df_theory.specs.View.{Checkpoint, IsSoundCheckpoint, PassesTests, View}
-use Rattle.df_theory.specs.Found.{IsReplies, IsStored, IsTail, NotBehind, NotLost}
+use Rattle.df_theory.specs.Holds.{IsNamed}
+use Rattle.df_theory.specs.Found.{IsFound, IsReplies, IsTail, NotBehind, NotLost, slot_behind}
 
 -- no two copies agree, as in a blank file; a test of the superblock, of its layout or of its trailer fails; a place is damaged or shows what cannot be
 pub data Refusal : Type 0 where
@@ -24,7 +25,7 @@ pub data Answer : Type 0 where
 -- reading a chain of blocks from this address on: these were shown as they were named, and now this address with this checksum is wanted
 abbrev pub Arrives : Units → List (ℕ × Block) → ℕ → ℕ → ℕ → ℕ → Type 0
 Arrives image [] address checksum a k = (a ≡ address) × (k ≡ checksum)
-Arrives image (b ∷ bs) address checksum a k = (0 < address) × (b.0 ≡ address) × (b.1.checksum ≡ checksum) × (image (BlockPlace address) ≡ Some (BlockUnit b.1)) × Arrives image bs b.1.before b.1.before_checksum a k
+Arrives image (b ∷ bs) address checksum a k = (0 < address) × (b.0 ≡ address) × (b.1.checksum ≡ checksum) × (image (BlockPlace address) ≡ Some (BlockUnit b.1)) × (b.1.kind ≡ 0) × Arrives image bs b.1.before b.1.before_checksum a k
 
 -- a block of the chain, with this index: it has the sequence and the size that it is to have, and names a block of the grid where one is to come before it
 pub record IsLink (sh : Shape) (c : Content) (index : ℕ) (b : Block) : Type 0 where
@@ -47,9 +48,9 @@ pub record ReadsTo (sh : Shape) (image : Units) (c : Content) (a k : ℕ) : Type
   pub links : AreLinks sh c count read
   pub more : length read < count
 
--- the block that is wanted is shown
+-- the block that is wanted is shown; a block that is no trailer block is damage there, whatever its checksum
 abbrev pub IsShown : Units → ℕ → ℕ → Type 0
-IsShown image a k = (b : Block) × (image (BlockPlace a) ≡ Some (BlockUnit b)) × (b.checksum ≡ k)
+IsShown image a k = (b : Block) × (image (BlockPlace a) ≡ Some (BlockUnit b)) × (b.checksum ≡ k) × (b.kind ≡ 0)
 
 -- a checkpoint that can be read: its superblock is chosen, it passes its tests, and its trailer is shown
 pub record IsReadable (sh : Shape) (image : Units) (b : Checkpoint) : Type 0 where
@@ -60,53 +61,57 @@ pub record IsReadable (sh : Shape) (image : Units) (b : Checkpoint) : Type 0 whe
 -- ---- the replies
 
 -- the slot shows the reply to the session's last request
-abbrev pub IsAnswered : Units → ℕ → Session → Type 0
-IsAnswered image k s = (r : Message) × (image (ReplyPlace k) ≡ Some (ReplyUnit r)) × Answers s r
+abbrev pub IsAnswered : Units → Content → ℕ → Session → Type 0
+IsAnswered image c k s = (r : Message) × (image (ReplyPlace k) ≡ Some (ReplyUnit r)) × Answers s r × IsNamed c k r
 
 -- the first session whose reply is stored and not shown
-pub record LacksReply (image : Units) (ss : List Session) (n k : ℕ) : Type 0 where
+pub record LacksReply (image : Units) (c : Content) (ss : List Session) (n k : ℕ) : Type 0 where
   pub session : Session
   pub at : slice_get ss k ≡ Some session
   pub stored : session.op ≤ n
-  pub lacks : IsAnswered image k session → ⊥
-  pub first : (j : ℕ) (s : Session) → j < k → slice_get ss j ≡ Some s → s.op ≤ n → IsAnswered image j s
+  pub lacks : IsAnswered image c k session → ⊥
+  pub first : (j : ℕ) (s : Session) → j < k → slice_get ss j ≡ Some s → s.op ≤ n → IsAnswered image c j s
 
--- ---- the steps, from the last to the first
+-- ---- the steps
 
--- the replies
-abbrev pub OpensReplies : Units → Checkpoint → List Message → Answer → Type 0
-OpensReplies image b tail answer =
-    (n : ℕ) × IsReplies image b.content tail n
-    × (((k : ℕ) × LacksReply image (sessions_after b.parts.sessions tail) n k × (answer ≡ Refused (Damaged (ReplyPlace k)))) ⊎ ((v : View) × (v.checkpoint ≡ b) × (v.tail ≡ tail) × (v.replies ≡ n) × IsStored image v × (answer ≡ Found v)))
-
--- the tail, and traces of ops above it
-abbrev pub OpensTail : Shape → Units → Checkpoint → Answer → Type 0
-OpensTail sh image b answer =
-    (tail : List Message) × IsTail sh image b tail
-    × (((NotLost image b.content (b.content.op + length tail) → ⊥) × (answer ≡ Refused (Damaged (PreparePlace ((b.content.op + length tail + 1) % slots sh))))) ⊎ (NotLost image b.content (b.content.op + length tail) × OpensReplies image b tail answer))
+-- the chosen superblock passes its tests, so that its trailer may be read
+pub record IsUsable (sh : Shape) (image : Units) (c : Content) : Type 0 where
+  pub chosen : IsChosen image c
+  pub tests : PassesTests sh c
+  pub reference : IsReference sh.layout c
 
 -- the lowest copy of the choice
 pub record IsLowest (image : Units) (c : Content) (n : ℕ) : Type 0 where
   pub shows : image (CopyPlace n) ≡ Some (CopyUnit c)
   pub lowest : (k : ℕ) → k < n → image (CopyPlace k) ≡ Some (CopyUnit c) → ⊥
 
--- traces of a later checkpoint
-abbrev pub OpensTraces : Shape → Units → Checkpoint → Answer → Type 0
-OpensTraces sh image b answer =
-    ((n : ℕ) × (NotBehind sh image b.content → ⊥) × IsLowest image b.content n × (answer ≡ Refused (Damaged (CopyPlace n)))) ⊎ (NotBehind sh image b.content × OpensTail sh image b answer)
+-- the checkpoint is read, no unit is of a later one, and this is the tail behind it
+pub record ReachesTail (sh : Shape) (image : Units) (b : Checkpoint) (tail : List Message) : Type 0 where
+  pub readable : IsReadable sh image b
+  pub not_behind : NotBehind sh image b.content
+  pub tail_is : IsTail sh image b tail
 
--- the trailer: a block that is wanted and not shown; all that is wanted is shown, and fails a test; or it is read
-abbrev pub OpensTrailer : Shape → Units → Content → Answer → Type 0
-OpensTrailer sh image c answer =
-    ((a : ℕ) × (k : ℕ) × ReadsTo sh image c a k × (IsShown image a k → ⊥) × (answer ≡ Refused (Damaged (BlockPlace a))))
-    ⊎ (((a k : ℕ) → ReadsTo sh image c a k → IsShown image a k) × ((b : Checkpoint) → b.content ≡ c → IsReadable sh image b → ⊥) × (answer ≡ Refused BadField))
-    ⊎ ((b : Checkpoint) × (b.content ≡ c) × IsReadable sh image b × OpensTraces sh image b answer)
+-- nothing above the tail left a trace, and this is the number of replies
+pub record ReachesReplies (sh : Shape) (image : Units) (b : Checkpoint) (tail : List Message) (n : ℕ) : Type 0 where
+  pub reaches : ReachesTail sh image b tail
+  pub not_lost : NotLost image b.content (b.content.op + length tail)
+  pub replies : IsReplies image b.content tail n
 
--- the superblock's fields
-abbrev pub OpensFields : Shape → Units → Content → Answer → Type 0
-OpensFields sh image c answer =
-    ((PassesTests sh c → IsReference sh.layout c → ⊥) × (answer ≡ Refused BadField)) ⊎ (PassesTests sh c × IsReference sh.layout c × OpensTrailer sh image c answer)
-
--- the answer of an open
-abbrev pub Opens : Shape → Units → Answer → Type 0
-Opens sh image answer = (IsSplit image × (answer ≡ Refused NoQuorum)) ⊎ ((c : Content) × IsChosen image c × OpensFields sh image c answer)
+-- the answer of an open: the first step that refuses, in this order, or the state
+pub data Opens (sh : Shape) (image : Units) : Answer → Type 0 where
+  -- no two copies agree
+  Split : IsSplit image → Opens sh image (Refused NoQuorum)
+  -- the chosen superblock fails a test
+  Unusable : (c : Content) → IsChosen image c → (PassesTests sh c → IsReference sh.layout c → ⊥) → Opens sh image (Refused BadField)
+  -- a block of the trailer is wanted and not shown
+  LacksBlock : (c : Content) (a k : ℕ) → IsUsable sh image c → ReadsTo sh image c a k → (IsShown image a k → ⊥) → Opens sh image (Refused (Damaged (BlockPlace a)))
+  -- all blocks that are wanted are shown, and the trailer fails a test
+  BadTrailer : (c : Content) → IsUsable sh image c → ((a k : ℕ) → ReadsTo sh image c a k → IsShown image a k) → ((b : Checkpoint) → b.content ≡ c → IsReadable sh image b → ⊥) → Opens sh image (Refused BadField)
+  -- a unit is of a later checkpoint
+  Behind : (b : Checkpoint) (n : ℕ) → IsReadable sh image b → (NotBehind sh image b.content → ⊥) → IsLowest image b.content n → Opens sh image (Refused (Damaged (CopyPlace n)))
+  -- an op above the tail left a trace
+  Lost : (b : Checkpoint) (tail : List Message) → ReachesTail sh image b tail → (NotLost image b.content (b.content.op + length tail) → ⊥) → Opens sh image (Refused (Damaged (PreparePlace (slot_behind sh b tail))))
+  -- a reply is stored and not shown
+  Unanswered : (b : Checkpoint) (tail : List Message) (n k : ℕ) → ReachesReplies sh image b tail n → LacksReply image b.content (sessions_after b.parts.sessions tail) n k → Opens sh image (Refused (Damaged (ReplyPlace k)))
+  -- no step refuses
+  Opened : (v : View) → IsFound sh image v → Opens sh image (Found v)

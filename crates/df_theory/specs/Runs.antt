@@ -3,11 +3,11 @@ use Rattle.std.specs.Prelude.{◌⊎◌, List, [], ◌∷◌, ◌++◌}
 use Rattle.df_theory.specs.Units.{Units}
 use Rattle.df_theory.specs.Shape.{Shape}
 use Rattle.df_theory.specs.View.{View}
-use Rattle.df_theory.specs.Holds.{Holds}
+use Rattle.df_theory.specs.Holds.{Held}
 use Rattle.df_theory.specs.UnitLog.{Synced, UnitLog, add, wrote}
 use Rattle.df_theory.specs.Chance.{EachLeft}
 use Rattle.df_theory.specs.Grown.{IsSafe}
-use Rattle.df_theory.specs.Steady.{IsGoodLog, IsSteady}
+use Rattle.df_theory.specs.Rests.{IsGoodLog, RestsOn}
 
 -- what a program asks of the disk
 pub data Step : Type 0 where
@@ -36,7 +36,7 @@ pub record Command : Type 0 where
 -- the command leads from a view to its own: a stop at any moment leaves one of the two, and at the end nothing that is loose matters
 pub record Leads (sh : Shape) (log : UnitLog) (v : View) (c : Command) : Type 0 where
   pub moments : AtEach (IsGoodLog sh v c.view) log c.steps
-  pub steady : IsSteady sh (after_steps c.steps log) c.view
+  pub rests : RestsOn sh (after_steps c.steps log) c.view
 
 -- one command after the other, each of which leads on
 abbrev pub LeadOn : Shape → UnitLog → View → List Command → Type 0
@@ -54,8 +54,8 @@ view_after v (c ∷ cs) = view_after c.view cs
 
 -- the image holds the view after some of them, from the first on
 abbrev pub HoldsPart : Shape → Units → View → List Command → Type 0
-HoldsPart sh image v [] = Holds sh image v
-HoldsPart sh image v (c ∷ cs) = Holds sh image v ⊎ HoldsPart sh image c.view cs
+HoldsPart sh image v [] = Held sh image v
+HoldsPart sh image v (c ∷ cs) = Held sh image v ⊎ HoldsPart sh image c.view cs
 
 -- a moment of such a run: the log is safe, and each image left has the view after a part of the commands
 pub record IsPartWay (sh : Shape) (v : View) (cs : List Command) (log : UnitLog) : Type 0 where

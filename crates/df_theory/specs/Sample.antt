@@ -1,25 +1,69 @@
--- A file that meets every premise: made, appended to, answered, written to, checkpointed, and appended to again.
-use Rattle.std.specs.Prelude.{◌≡◌, ◌<◌, ◌+◌, ℕ, List, length, Some}
-use Rattle.df_theory.specs.Units.{Units}
+-- Files that meet every premise: one is made and each kind of command done to it, one is stopped within an append, one within an update and mended, and one has a hurt place.
+use Rattle.std.specs.Prelude.{◌≡◌, ◌<◌, ◌+◌, ℕ, List, [], length, Some, None}
+use Rattle.df_theory.specs.Units.{Units, CopyPlace, CopyUnit, Header, Place, PreparePlace}
 use Rattle.df_theory.specs.Shape.{Shape}
 use Rattle.df_theory.specs.View.{View, head, sequence}
-use Rattle.df_theory.specs.Holds.{Holds, IsWhole}
-use Rattle.df_theory.specs.UnitLog.{IsLeftBy, UnitLog, now}
+use Rattle.df_theory.specs.Holds.{Holds}
+use Rattle.df_theory.specs.UnitLog.{IsLeftBy, UnitLog, add, Stopped, now}
 use Rattle.df_theory.specs.Chance.{NoChance}
 use Rattle.df_theory.specs.Grown.{IsSafe}
-use Rattle.df_theory.specs.Steady.{IsSteady}
-use Rattle.df_theory.specs.Runs.{AtEach, Step, after_steps}
+use Rattle.df_theory.specs.Rests.{RestsOn}
+use Rattle.df_theory.specs.Runs.{AtEach, Command, Step, after_steps, view_after}
+use Rattle.df_theory.specs.Copies.{Agree}
+use Rattle.df_theory.specs.Opens.{Damaged, Opens, Refused}
+use Rattle.df_theory.specs.MendLaws.{MayMend}
 use Rattle.df_theory.specs.MakingLaws.{blank_log}
 use Rattle.df_theory.specs.WholeLaws.{IsStanding}
+use Rattle.df_theory.specs.TidyLaws.{IsTidy, KeepStanding, LeadTidily}
 
--- there is a shape and a run of steps from the blank disk, safe at each moment and steady at its end on a view with a tail, a stored reply, a second checkpoint and a referenced block that stands, and nothing is left to mend
-abbrev pub SampleLaw : Type 0
-SampleLaw =
-    (sh : Shape) × (ss : List Step) × (v : View) × AtEach (IsSafe sh) blank_log ss × IsSteady sh (after_steps ss blank_log) v
-    × (0 < length v.tail) × (0 < v.replies) × (sequence v ≡ 2) × ((a : ℕ) × (c : ℕ) × (v.checkpoint.parts.references a ≡ Some c)) × IsStanding (after_steps ss blank_log) v × IsWhole sh (now (after_steps ss blank_log)) v
+-- a file is made, safe at each moment, and each kind of command is done to it, from one tidy state to the next, while the referenced blocks stand: it ends with a tail, a stored reply, a second checkpoint and a reference
+pub record SampleLaw : Type 0 where
+  pub shape : Shape
+  pub first : View
+  pub format : List Step
+  pub commands : List Command
+  pub safe : AtEach (IsSafe shape) blank_log format
+  pub tidy : IsTidy shape (after_steps format blank_log) first
+  pub standing : IsStanding (after_steps format blank_log) first
+  pub lead : LeadTidily shape (after_steps format blank_log) first commands
+  pub keep : KeepStanding shape (after_steps format blank_log) first commands
+  pub some : (0 < length (view_after first commands).tail) × (0 < (view_after first commands).replies) × (sequence (view_after first commands) ≡ 2) × ((a : ℕ) × (c : ℕ) × ((view_after first commands).checkpoint.parts.references a ≡ Some c))
 
 -- and a stop within an append: the log is safe, and of two images that the stop may leave, neither by chance, one holds the view before and the other the view after
-abbrev pub StopSampleLaw : Type 0
-StopSampleLaw =
-    (sh : Shape) × (log : UnitLog) × (v : View) × (u : View) × (before : Units) × (after : Units) × IsSafe sh log
-    × IsLeftBy log before × NoChance log before × Holds sh before v × IsLeftBy log after × NoChance log after × Holds sh after u × (head u ≡ head v + 1)
+pub record StopSampleLaw : Type 0 where
+  pub shape : Shape
+  pub log : UnitLog
+  pub view : View
+  pub next : View
+  pub before : Units
+  pub after : Units
+  pub safe : IsSafe shape log
+  pub before_left : IsLeftBy log before × NoChance log before × Holds shape before view
+  pub after_left : IsLeftBy log after × NoChance log after × Holds shape after next
+  pub one_more : head next ≡ head view + 1
+
+-- and a stop within an update: what it leaves has copy 0 of the next content and copy 1 torn, holds the old view, and may be mended to a tidy file
+pub record UpdateSampleLaw : Type 0 where
+  pub shape : Shape
+  pub log : UnitLog
+  pub view : View
+  pub next : View
+  pub image : Units
+  pub safe : IsSafe shape log
+  pub left : IsLeftBy log image × NoChance log image × Holds shape image view
+  pub copies : (image (CopyPlace 0) ≡ Some (CopyUnit next.checkpoint.content)) × (image (CopyPlace 1) ≡ None) × (sequence next ≡ sequence view + 1)
+  pub table : ℕ → Header
+  pub mends : List (ℕ × Units)
+  pub may : MayMend shape (add (Stopped image) log) view table [] mends
+
+-- and a file at rest with a hurt place: the slot of its only prepare shows nothing, the header tells, and the open refuses, naming that slot
+pub record HurtSampleLaw : Type 0 where
+  pub shape : Shape
+  pub log : UnitLog
+  pub view : View
+  pub shown : Units
+  pub rests : RestsOn shape log view
+  pub chance : NoChance log shown
+  pub agreed : Agree shown view.checkpoint.content
+  pub hurt : (place : Place) → (place ≡ PreparePlace 1 → ⊥) → shown place ≡ now log place
+  pub refuses : Opens shape shown (Refused (Damaged (PreparePlace 1)))

@@ -11,12 +11,12 @@ InChain a b (c ∷ cs) = ((a ≡ c.0) × (b ≡ c.1)) ⊎ InChain a b cs
 abbrev pub piece_size : ℕ → ℕ → ℕ → ℕ
 piece_size room size index = min room (size - room * index)
 
--- each block is the one that the later one names; address 0 ends the chain
+-- each block is the trailer block that the later one names; address 0 ends the chain
 abbrev pub Links : ℕ → Content → List (ℕ × Block) → ℕ → ℕ → Type 0
 Links room c [] address checksum = address ≡ 0
 Links room c (b ∷ bs) address checksum =
     (0 < address) × (b.0 ≡ address) × (b.1.checksum ≡ checksum) × (b.1.sequence ≡ c.sequence) × (b.1.index ≡ length bs) × (length b.1.body ≡ piece_size room c.trailer_size (length bs))
-    × Links room c bs b.1.before b.1.before_checksum
+    × (b.1.kind ≡ 0) × Links room c bs b.1.before b.1.before_checksum
 
 abbrev pub text_of : List (ℕ × Block) → List ℕ
 text_of [] = []
@@ -26,9 +26,10 @@ text_of (b ∷ bs) = text_of bs ++ b.1.body
 abbrev pub no_parts : Parts
 no_parts = record { root = []; sessions = []; references = λ address. None }
 
-abbrev pub Says : Shape → List (ℕ × Block) → Parts → Type 0
-Says sh [] parts = parts ≡ no_parts
-Says sh (b ∷ bs) parts = sh.parse (text_of (b ∷ bs)) ≡ Some parts
+-- what the text of a chain says, of a checkpoint of this op
+abbrev pub Says : Shape → ℕ → List (ℕ × Block) → Parts → Type 0
+Says sh op [] parts = parts ≡ no_parts
+Says sh op (b ∷ bs) parts = sh.parse op (text_of (b ∷ bs)) ≡ Some parts
 
 -- the size of the longest trailer: root, sessions, a bit for each block and a checksum for each
 abbrev pub greatest_trailer : Layout → ℕ
@@ -53,5 +54,5 @@ pub record IsTrailer (sh : Shape) (c : Content) (chain : List (ℕ × Block)) (p
   pub count : IsCount (sh.layout.block_size - 256) c.trailer_size (length chain)
   pub inside : (a : ℕ) (b : Block) → InChain a b chain → a ≤ sh.layout.blocks
   pub size : length (text_of chain) ≡ c.trailer_size
-  pub says : Says sh chain parts
+  pub says : Says sh c.op chain parts
   pub spare : (a : ℕ) (b : Block) → InChain a b chain → parts.references a ≡ None

@@ -1,5 +1,5 @@
 -- The places of a data file, and the units that an image shows at them.
-use Rattle.std.specs.Prelude.{ℕ, Bool, true, false, List, Option, Some, None}
+use Rattle.std.specs.Prelude.{◌≡◌, ℕ, Bool, true, false, List, Option, Some, None}
 
 -- a place for one unit: a superblock copy, a slot of the header ring, of the prepare ring or of the client replies, a block of the grid
 pub data Place : Type 0 where
@@ -18,7 +18,20 @@ pub record Header : Type 0 where
   pub request : ℕ
   pub mark : ℕ  -- as it was made: of a prepare the number of replies, of a reply the head
   pub checkpoint : ℕ  -- the superblock's sequence as it was made
-  pub group_last : ℕ  -- the last op of the group that it was appended with, its own where it was appended alone
+  pub boot : ℕ  -- the number of the boot that made it, 0 in version 1
+  pub group : ℕ  -- the first op of the group that it was appended with: its own where it was appended alone, and of a reply
+  pub group_last : ℕ  -- and the last
+
+-- a reserved header, of a slot that no prepare went into
+pub record IsReserved (h : Header) : Type 0 where
+  pub op : h.op ≡ 0
+  pub checkpoint : h.checkpoint ≡ 0
+  pub boot : h.boot ≡ 0
+
+-- a group of one
+pub record IsAlone (h : Header) : Type 0 where
+  pub first : h.group ≡ h.op
+  pub last : h.group_last ≡ h.op
 
 -- a prepare or a reply
 pub record Message : Type 0 where
@@ -41,22 +54,29 @@ pub record Layout : Type 0 where
 
 -- what a superblock copy says, its number aside
 pub record Content : Type 0 where
+  pub checksum : ℕ  -- of all that the copy says, its number aside
   pub version : ℕ
   pub cluster : ℕ
   pub layout : Layout
   pub sequence : ℕ
+  pub boot : ℕ  -- 0 in version 1
   pub op : ℕ
   pub op_checksum : ℕ
   pub head : ℕ  -- the head and the number of replies as the checkpoint ended
   pub replies : ℕ
+  pub pin : ℕ  -- up to this op the content names the prepares: op in version 1, head in version 2
+  pub pin_checksum : ℕ  -- of the prepare with op pin: op_checksum in version 1, head_checksum in version 2
+  pub answered : ℕ  -- the replies to ops below this one are named: 0 in version 1, replies + 1 in version 2
+  pub reply_checksums : List ℕ  -- by place; none in version 1
   pub trailer : ℕ  -- the address of the last trailer block, 0 where there is none
   pub trailer_checksum : ℕ
   pub trailer_size : ℕ
-  pub rest : List ℕ  -- the bytes behind these fields
+  pub rest : List ℕ  -- what version 1 leaves empty: zeros in a file that can be used
 
 -- a block; of a trailer block its place in the chain and the block before it, with address 0 for none
 pub record Block : Type 0 where
   pub checksum : ℕ
+  pub kind : ℕ  -- 0 of a trailer block
   pub sequence : ℕ
   pub index : ℕ
   pub before : ℕ

@@ -28,6 +28,14 @@ sequence v = v.checkpoint.content.sequence
 abbrev pub sessions : View → List Session
 sessions v = sessions_after v.checkpoint.parts.sessions v.tail
 
+abbrev pub boot_of : View → ℕ
+boot_of v = v.checkpoint.content.boot
+
+-- what the two versions record
+pub record IsOfVersion (c : Content) : Type 0 where
+  pub one : c.version ≡ 1 → (c.boot ≡ 0) × (c.pin ≡ c.op) × (c.pin_checksum ≡ c.op_checksum) × (c.answered ≡ 0)
+  pub two : c.version ≡ 2 → (c.pin ≡ c.head) × (c.answered ≡ c.replies + 1)
+
 -- the field tests of a superblock, those on its trailer aside
 pub record PassesTests (sh : Shape) (c : Content) : Type 0 where
   pub version : c.version ≡ sh.version
@@ -37,6 +45,9 @@ pub record PassesTests (sh : Shape) (c : Content) : Type 0 where
   pub op_checksum : c.op ≡ 0 → c.op_checksum ≡ 0
   pub head : (c.op ≤ c.head) × (c.head ≤ c.op + sh.layout.slots) × (c.head ≤ 2 ^ 62)
   pub replies : (c.replies ≤ c.head) × (c.head ≤ c.replies + 8)
+  pub pin : (c.op ≤ c.pin) × (c.pin ≤ c.head)
+  pub answered : c.answered ≤ c.replies + 1
+  pub of : IsOfVersion c
   pub rest : (i : ℕ) → slice_index c.rest i ≡ 0
 
 -- the superblock and its trailer pass their tests, and each op that waits for its reply has a session

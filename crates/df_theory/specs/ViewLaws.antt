@@ -1,11 +1,11 @@
 -- An image and its view.
-use Rattle.std.specs.Prelude.{◌≡◌, ◌↔◌, ◌<◌, ◌≤◌, ◌+◌, ℕ}
-use Rattle.df_theory.specs.Units.{Content, Units}
+use Rattle.std.specs.Prelude.{◌≡◌, ◌↔◌, ◌<◌, ◌≤◌, ◌+◌, ◌%◌, ℕ}
+use Rattle.df_theory.specs.Units.{Content, Units, HeaderPlace, PreparePlace}
 use Rattle.df_theory.specs.Shape.{Shape, slots}
 use Rattle.df_theory.specs.Copies.{IsChosen}
-use Rattle.df_theory.specs.View.{View, head}
+use Rattle.df_theory.specs.View.{View, boot_of, head}
 use Rattle.df_theory.specs.Holds.{Holds}
-use Rattle.df_theory.specs.Cases.{IsEmpty, IsTake, decision}
+use Rattle.df_theory.specs.Cases.{SaysOfSlot, IsEmpty, IsTake, decision}
 use Rattle.df_theory.specs.Found.{AreOfPlaces, IsClean, IsFound}
 use Rattle.df_theory.specs.Opens.{Answer, Found, Opens}
 
@@ -21,11 +21,11 @@ FoundLaw = (sh : Shape) (image : Units) (v : View) → (Holds sh image v → IsF
 abbrev pub OneFoundLaw : Type 0
 OneFoundLaw = (sh : Shape) (image : Units) (v u : View) → IsFound sh image v → IsFound sh image u → v ≡ u
 
--- in an image that holds a view the slot of each op of the tail is taken, and each other slot is empty: so no write of another place turns a slot's decision
+-- where an open finds a state the slot of each op of its tail is taken, and each other slot is empty
 abbrev pub SlotLaw : Type 0
 SlotLaw =
-    (sh : Shape) (image : Units) (v : View) (o : ℕ) → Holds sh image v → v.checkpoint.content.op < o → o ≤ v.checkpoint.content.op + slots sh
-    → (o ≤ head v → IsTake (decision (slots sh) image o)) × (head v < o → IsEmpty (decision (slots sh) image o))
+    (sh : Shape) (image : Units) (v : View) (o : ℕ) → AreOfPlaces sh image → IsFound sh image v → v.checkpoint.content.op < o → o ≤ v.checkpoint.content.op + slots sh
+    → (v.checkpoint.content.pin < o → o ≤ head v → IsTake (decision (slots sh) (boot_of v) image o)) × (head v < o → IsEmpty (decision (slots sh) (boot_of v) image o))
 
 -- one content is chosen
 abbrev pub OneChosenLaw : Type 0
@@ -38,3 +38,7 @@ OneAnswerLaw = (sh : Shape) (image : Units) (x y : Answer) → Opens sh image x 
 -- the answer is a state exactly where no step refuses
 abbrev pub FoundAnswerLaw : Type 0
 FoundAnswerLaw = (sh : Shape) (image : Units) (v : View) → Opens sh image (Found v) ↔ IsFound sh image v
+
+-- what the decision on a slot says of it: taken where its prepare is of the wanted op and boot, lost where only its header is, empty where neither is
+abbrev pub DecisionLaw : Type 0
+DecisionLaw = (n b o : ℕ) (image : Units) → SaysOfSlot b o (image (HeaderPlace (o % n))) (image (PreparePlace (o % n))) (decision n b image o)

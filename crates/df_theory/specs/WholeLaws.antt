@@ -1,6 +1,7 @@
 -- After each writer nothing is left to mend, and each referenced block still stands.
 use Rattle.std.specs.Prelude.{◌≡◌, ◌%◌, ℕ, false, List, [], ◌∷◌, Some, None}
-use Rattle.df_theory.specs.Units.{Block, BlockPlace, BlockUnit, CopyPlace, CopyUnit, HeaderPlace, HeaderUnit, Message, PreparePlace, PrepareUnit, ReplyPlace, ReplyUnit, Units, overlay}
+use Rattle.df_theory.specs.CopyPuts.{PutsCopies}
+use Rattle.df_theory.specs.Units.{Block, BlockPlace, BlockUnit, HeaderPlace, HeaderUnit, Message, PreparePlace, PrepareUnit, ReplyPlace, ReplyUnit, Units, overlay}
 use Rattle.df_theory.specs.Shape.{Shape, slots}
 use Rattle.df_theory.specs.View.{Checkpoint, View}
 use Rattle.df_theory.specs.Holds.{IsWhole, Sound, Stands}
@@ -28,9 +29,8 @@ WholeBlockLaw = (sh : Shape) (image put : Units) (v : View) (a : ℕ) (b : Block
 -- the four copies of a checkpoint
 abbrev pub WholeUpdateLaw : Type 0
 WholeUpdateLaw =
-    (sh : Shape) (image : Units) (v : View) (c : Checkpoint) (put0 put1 put2 put3 : Units)
-    → PutsOne put0 (CopyPlace 0) (CopyUnit c.content) → PutsOne put1 (CopyPlace 1) (CopyUnit c.content) → PutsOne put2 (CopyPlace 2) (CopyUnit c.content) → PutsOne put3 (CopyPlace 3) (CopyUnit c.content)
-    → IsWhole sh image v → IsWhole sh (overlay put3 (overlay put2 (overlay put1 (overlay put0 image)))) (checkpointed v c)
+    (sh : Shape) (image : Units) (v : View) (c : Checkpoint) (puts : PutsCopies c.content)
+    → IsWhole sh image v → IsWhole sh (overlay puts.put3 (overlay puts.put2 (overlay puts.put1 (overlay puts.put0 image)))) (checkpointed v c)
 
 -- each referenced block is shown, and none is being written
 pub record IsStanding (log : UnitLog) (v : View) : Type 0 where

@@ -1,6 +1,6 @@
 // A file that meets every premise.
 
-ghost use Rattle.df_theory.specs.Sample.{SampleLaw, StopSampleLaw};
+ghost use Rattle.df_theory.specs.Sample.{SampleLaw, StopSampleLaw, UpdateSampleLaw, HurtSampleLaw};
 
 /// A file is made, appended to, answered, written to, checkpointed, and appended to again.
 pub fn a_file_is_kept()
@@ -10,4 +10,14 @@ pub fn a_file_is_kept()
 /// A stop within an append leaves the view before it or the view after it.
 pub fn a_stop_is_survived()
     ensures { StopSampleLaw }
+{}
+
+/// A stop within a superblock update leaves the view before it, and is mended.
+pub fn a_stopped_update_is_mended()
+    ensures { UpdateSampleLaw }
+{}
+
+/// A lost prepare is blamed on its slot.
+pub fn a_hurt_slot_is_blamed()
+    ensures { HurtSampleLaw }
 {}

@@ -1,6 +1,6 @@
 // What an image holds and what an open finds in it are one.
 
-ghost use Rattle.df_theory.specs.ViewLaws.{OneChosenLaw, OneViewLaw, FoundLaw, SlotLaw, OneFoundLaw, OneAnswerLaw, FoundAnswerLaw};
+ghost use Rattle.df_theory.specs.ViewLaws.{OneChosenLaw, OneViewLaw, FoundLaw, SlotLaw, DecisionLaw, OneFoundLaw, OneAnswerLaw, FoundAnswerLaw};
 
 /// Four copies choose one content.
 pub fn one_is_chosen()
@@ -20,6 +20,11 @@ pub fn held_is_found()
 /// The slot of each op of the tail is taken, and each other slot is empty.
 pub fn slots_are_taken_or_empty()
     ensures { SlotLaw }
+{}
+
+/// What the decision on a slot says of what its two rings show.
+pub fn decisions_say_what_is_shown()
+    ensures { DecisionLaw }
 {}
 
 /// An open finds one state.

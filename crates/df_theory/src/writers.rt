@@ -1,6 +1,6 @@
 // What each write does at every moment, and how commands follow one another.
 
-ghost use Rattle.df_theory.specs.WriterLaws.{PutOneLaw, SteadyLaw, SyncLaw, StopLaw, AnewLaw, CalmLaw, WriteLaw, AppendLaw, ReplyLaw, BlockLaw, HeaderLaw, CopyLaw, UpdateLaw, CommandsLaw};
+ghost use Rattle.df_theory.specs.WriterLaws.{PutOneLaw, RestLaw, SyncLaw, StopLaw, AnewLaw, CalmLaw, WriteLaw, AppendLaw, ReplyLaw, BlockLaw, HeaderLaw, CopyLaw, UpdateLaw, BootLaw, CommandsLaw};
 ghost use Rattle.df_theory.specs.HeadlineLaws.{HeadlineLaw, BarrierLaw, CleanStartLaw};
 
 /// The write of one unit puts one unit.
@@ -8,18 +8,18 @@ pub fn one_unit_is_put()
     ensures { PutOneLaw }
 {}
 
-/// A log that is steady on a view is safe, and each image that a stop leaves holds the view.
-pub fn steady_is_safe()
-    ensures { SteadyLaw }
+/// A log that rests on a view is safe, and each image that a stop leaves holds the view.
+pub fn resting_log_is_safe()
+    ensures { RestLaw }
 {}
 
-/// A sync makes a safe log steady.
-pub fn sync_is_steady()
+/// A sync makes a safe log rest on the view of its image.
+pub fn synced_log_rests()
     ensures { SyncLaw }
 {}
 
-/// A stop at a safe moment leaves a log that is steady on the view of what is left.
-pub fn stop_is_steady()
+/// A stop at a safe moment leaves a log that rests on the view of what is left.
+pub fn stopped_log_rests()
     ensures { StopLaw }
 {}
 
@@ -68,6 +68,11 @@ pub fn update_leads()
     ensures { UpdateLaw }
 {}
 
+/// Each moment of a boot update, which keeps the bare view.
+pub fn boot_leads()
+    ensures { BootLaw }
+{}
+
 /// Each moment of a run of commands.
 pub fn commands_lead_on()
     ensures { CommandsLaw }
@@ -78,7 +83,7 @@ pub fn every_stop_is_survived()
     ensures { HeadlineLaw }
 {}
 
-/// The barrier of an open makes a safe log steady on the state that is found.
+/// The barrier of an open makes a safe log rest on the state that is found.
 pub fn barrier_begins()
     ensures { BarrierLaw }
 {}

@@ -1,5 +1,10 @@
+use Rattle.std.proofs.Common.{arith}
 use Rattle.df_superblock.proofs.Mended.{keeps_members, repairs_steadily, repairs_unless_misled, ends_repaired}
+use Rattle.df_superblock.proofs.Stepped.{repair_is_steps}
 use Rattle.df_superblock.proofs.repairs.repair.Goals as goal
+
+pub returns-clause-steps : goal.returns-clause-steps
+returns-clause-steps g c = repair_is_steps c.args.content.now c.args.chosen.now.members (omega (arith, c.mend_each.ensures.size)) c.fields-fields.ensures.usable
 
 pub returns-clause-members : goal.returns-clause-members
 returns-clause-members g c = keeps_members c.args.content.now c.args.chosen.now.members _ _ c.mend_each.result c.fields-fields.ensures.usable c.mend_each.ensures.size c.mend_each.ensures.events

@@ -1,5 +1,9 @@
 use Rattle.df_superblock.proofs.Written.{updates_safely, updates_steadily, ends_shown, ends_equal, ends_steady}
+use Rattle.df_superblock.proofs.Stepped.{update_is_steps}
 use Rattle.df_superblock.proofs.updates.write_all.Goals as goal
+
+pub returns-clause-steps : goal.returns-clause-steps
+returns-clause-steps g c = update_is_steps c.args.content.now c.fields-fields.ensures.usable
 
 pub returns-clause-moments : goal.returns-clause-moments
 returns-clause-moments g c = updates_safely c.args.content.now _ _ c.write_each.result c.fields-fields.ensures.usable c.write_each.ensures.events

@@ -1,4 +1,4 @@
-use Rattle.df_theory.proofs.Samples.{sample_law}
+use Rattle.df_theory.proofs.SampleEnds.{sample_law}
 use Rattle.df_theory.proofs.sample_file.a_file_is_kept.Goals as goal
 
 pub returns : goal.returns

@@ -1,4 +1,4 @@
-use Rattle.df_theory.proofs.Tidy.{tidy_format_law}
+use Rattle.df_theory.proofs.TidyMakes.{tidy_format_law}
 use Rattle.df_theory.proofs.tidiness.format_ends_tidy.Goals as goal
 
 pub returns : goal.returns

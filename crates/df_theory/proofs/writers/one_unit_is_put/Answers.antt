@@ -1,4 +1,4 @@
-use Rattle.df_theory.proofs.Writes.{put_one_law}
+use Rattle.df_theory.proofs.PutOne.{put_one_law}
 use Rattle.df_theory.proofs.writers.one_unit_is_put.Goals as goal
 
 pub returns : goal.returns

@@ -1,6 +1,8 @@
 -- Where the client is known its session is put at its place, and else it is pushed.
-use Rattle.std.proofs.Common.{ap, lit<}
+use Rattle.std.proofs.Common.{ap, lit<, ◌∙◌}
 use Rattle.df_sessions.specs.Table.{Table}
+use Rattle.df_sessions.specs.Requests.{sessions_of}
+use Rattle.df_sessions.proofs.Noted.{request_noted}
 use Rattle.df_sessions.proofs.Applied.{known_client, new_client, stays_table, has_room}
 use Rattle.df_sessions.proofs.table.SessionTable.apply.Goals as goal
 
@@ -23,6 +25,7 @@ returns-in-Some c =
       there = has.there;
       others = has.others;
       history = has.history;
+      noted = λ h is. ap sessions_of has.sessions ∙ request_noted (record { client = a.client; request = a.request; op = a.op }) h a.self.now.sessions is;
     }
 
 pub push-requires : goal.push-requires
@@ -49,4 +52,5 @@ returns-in-None c =
       there = has.there;
       others = has.others;
       history = has.history;
+      noted = λ h is. ap sessions_of has.sessions ∙ request_noted (record { client = a.client; request = a.request; op = a.op }) h a.self.now.sessions is;
     }

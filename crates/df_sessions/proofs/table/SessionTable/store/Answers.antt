@@ -1,6 +1,8 @@
 -- The session at the place is read, changed and put back.
-use Rattle.std.proofs.Common.{◌≡◌, ap}
+use Rattle.std.proofs.Common.{◌≡◌, ap, ◌∙◌}
 use Rattle.df_sessions.specs.Table.{Table, requested}
+use Rattle.df_sessions.specs.Requests.{sessions_of}
+use Rattle.df_sessions.proofs.Noted.{reply_unnoted}
 use Rattle.df_sessions.proofs.Applied.{has_reply, reply_stays_table}
 use Rattle.df_sessions.proofs.table.SessionTable.store.Goals as goal
 
@@ -25,4 +27,5 @@ returns c =
       places = ap (λ (table : Table). table.max) c.self.view_is;
       others = has.others;
       history = has.history;
+      unnoted = ap sessions_of has.sessions ∙ reply_unnoted a.place a.reply a.self.now.sessions;
     }

@@ -1,0 +1,63 @@
+-- What is read of a place is a matter of the front that holds the unit.
+use Rattle.std.proofs.Common.{◌≡◌, ◌≢◌, ℕ, ◌+◌, ◌-◌, ◌≤◌, Bool, true, List, ◌++◌, length, take, drop, Some, refl, sym, ◌∙◌, ap, arith, append_assoc}
+use Rattle.std.specs.Str.{bytes_eq}
+use Rattle.std.proofs.lemmas.List.{take-append-drop, take-append-le, drop-append-le, length-take-le, length-drop}
+use Rattle.df_base.specs.Fields.{check_of}
+use Rattle.df_layout.specs.declared.places.Zone.{Zone}
+use Rattle.df_layout.specs.declared.places.Zone.TheVariants.{Superblock, WalHeaders, WalPrepares, ClientReplies, Grid}
+use Rattle.df_format.specs.declared.header.Header.{Header}
+use Rattle.df_format.specs.Message.{Message, sectors_of, unit_of}
+use Rattle.df_format.specs.Reading.{header_in}
+use Rattle.df_format.specs.Whole.{body_in, has_body}
+use Rattle.df_format.specs.Brings.{Brings, FrontBrings, MadeBrings}
+use Rattle.df_format.proofs.Units.{sectors_for_place}
+use Rattle.df_format.proofs.Wholes.{begun_is_shown, found_unit, unit_found}
+
+front_part : (k m n : ℕ) (xs rest : List ℕ) → k + m ≤ n → n ≤ length xs → take m (drop k (take n xs ++ rest)) ≡ take m (drop k (take n xs))
+front_part k m n xs rest inside long =
+    let size = length-take-le n xs long in
+    ap (λ (l : List ℕ). take m l) (drop-append-le k (take n xs) rest (omega (arith, size)))
+    ∙ take-append-le m (drop k (take n xs)) rest (omega (arith, size, length-drop k (take n xs)))
+
+fronts : (k m n : ℕ) (xs rest : List ℕ) → k + m ≤ n → n ≤ length xs → take m (drop k (take n xs ++ rest)) ≡ take m (drop k xs)
+fronts k m n xs rest inside long =
+    front_part k m n xs rest inside long ∙ sym (front_part k m n xs (drop n xs) inside long) ∙ ap (λ (l : List ℕ). take m (drop k l)) (take-append-drop n xs)
+
+body_same : (zone : Zone) (size : ℕ) (xs ys : List ℕ) → zone ≢ WalHeaders → take (size - 256) (drop 256 xs) ≡ take (size - 256) (drop 256 ys) → body_in zone size xs ≡ body_in zone size ys
+body_same Superblock size xs ys other same = same
+body_same WalHeaders size xs ys other same = refl
+body_same WalPrepares size xs ys other same = same
+body_same ClientReplies size xs ys other same = same
+body_same Grid size xs ys other same = same
+
+test_same : (zone : Zone) (h : Header) (xs ys : List ℕ) → take (h.size - 256) (drop 256 xs) ≡ take (h.size - 256) (drop 256 ys) → has_body zone h xs ≡ has_body zone h ys
+test_same Superblock h xs ys same = ap (λ (l : List ℕ). bytes_eq h.checksum_body (check_of l)) same
+test_same WalHeaders h xs ys same = refl
+test_same WalPrepares h xs ys same = ap (λ (l : List ℕ). bytes_eq h.checksum_body (check_of l)) same
+test_same ClientReplies h xs ys same = ap (λ (l : List ℕ). bytes_eq h.checksum_body (check_of l)) same
+test_same Grid h xs ys same = ap (λ (l : List ℕ). bytes_eq h.checksum_body (check_of l)) same
+
+pub front_brings : FrontBrings
+front_brings layout cluster place bytes n u other is shown size long for = record {
+  for = for;
+  read = λ rest.
+      let least = is.sealed.rules.size in
+      let f = unit_found layout cluster place bytes u shown in
+      let head : take 256 (take n bytes ++ rest) ≡ take 256 bytes = fronts 0 256 n bytes rest (omega arith) long in
+      let body : take (u.header.size - 256) (drop 256 (take n bytes ++ rest)) ≡ take (u.header.size - 256) (drop 256 bytes) = fronts 256 (u.header.size - 256) n bytes rest (omega arith) long in
+      found_unit layout cluster place (take n bytes ++ rest) u (record {
+        header = ap header_in head ∙ f.header;
+        owner = f.owner;
+        fits = f.fits;
+        tested = test_same place.zone u.header (take n bytes ++ rest) bytes body ∙ f.tested;
+        body = body_same place.zone u.header.size (take n bytes ++ rest) bytes other body ∙ f.body;
+        belongs = f.belongs;
+      });
+}
+
+pub made_brings : MadeBrings
+unfolding sectors_of
+made_brings layout cluster place u other is = record {
+  for = sectors_for_place layout cluster place u other is;
+  read = λ rest. begun_is_shown layout cluster place (sectors_of u ++ rest) u (record { is = is; rest = _; spelled = append_assoc (unit_of u) _ rest });
+}

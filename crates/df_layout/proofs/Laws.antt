@@ -1,0 +1,8 @@
+-- What the proofs above cite of this crate's: a layout has slots, and where the spans of its places lie.
+use Rattle.std.proofs.Common.{◌<◌, arith}
+use Rattle.df_layout.specs.declared.layout.Layout.{Layout}
+pub use Rattle.df_layout.proofs.Spans.{are_apart, lies_inside}
+pub use Rattle.df_layout.proofs.Zones.{zones_follow}
+
+pub some_slots : (layout : Layout) → 0 < layout.slots
+some_slots layout = omega (arith, layout.slots_within.0)

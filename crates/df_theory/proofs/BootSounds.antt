@@ -1,0 +1,91 @@
+-- A boot update keeps a view sound.
+use Rattle.std.proofs.Common.{◌≡◌, ℕ, ◌+◌, ◌-◌, List, [], ◌∷◌, length, take, drop, slice_index, sym, ◌∙◌, ap, subst, arith}
+use Rattle.df_theory.specs.Units.{Block, Content}
+use Rattle.df_theory.specs.Tails.{Chain, last_checksum}
+use Rattle.df_theory.specs.Shape.{Shape}
+use Rattle.df_theory.specs.Trailer.{IsCount, IsTrailer, Links, piece_size, Says}
+use Rattle.df_theory.specs.View.{View, head}
+use Rattle.df_theory.specs.Holds.{Sound}
+use Rattle.df_theory.specs.Next.{MayBoot, SameCheckpoint, booted}
+use Rattle.df_theory.proofs.Tails.{chain_ops}
+use Rattle.df_theory.proofs.Sounds.{is}
+
+module _ (sh : Shape) (v : View) (d : Content) (sound : Sound sh v) (may : MayBoot v d) where
+  same : SameCheckpoint v.checkpoint.content d
+  same = may.is.same
+
+  links_same : (room : ℕ) (c e : Content) → e.sequence ≡ c.sequence → e.trailer_size ≡ c.trailer_size → (cs : List (ℕ × Block)) (a k : ℕ) → Links room c cs a k → Links room e cs a k
+  links_same room c e s t [] a k is = is
+  links_same room c e s t (b ∷ bs) a k is = (is.0, is.1, is.2, is.3 ∙ sym s, is.4, is.5 ∙ ap (λ (n : ℕ). piece_size room n (length bs)) (sym t), is.6, links_same room c e s t bs b.1.before b.1.before_checksum is.7)
+
+  boot_trailer : IsTrailer sh d v.checkpoint.chain v.checkpoint.parts
+  boot_trailer =
+      let t = sound.checkpoint.trailer in
+      let room : ℕ = sh.layout.block_size - 256 in
+      record {
+        reference = record {
+          address = omega (arith, t.reference.address, same.trailer.0);
+          some = λ above. omega (arith, same.trailer.0, t.reference.some (omega (arith, same.op.0)));
+          none = λ zero_is. let n = t.reference.none (omega (arith, same.trailer.0)) in (omega (arith, n.0, same.trailer.1), omega (arith, n.1, same.trailer.2));
+          size = λ above. let n = t.reference.size (omega (arith, same.trailer.0)) in (omega (arith, n.0, same.trailer.2), omega (arith, n.1, same.trailer.2));
+        };
+        links = subst (λ (a : ℕ). Links room d v.checkpoint.chain a d.trailer_checksum) (sym same.trailer.0)
+            (subst (λ (k : ℕ). Links room d v.checkpoint.chain v.checkpoint.content.trailer k) (sym same.trailer.1)
+            (links_same room v.checkpoint.content d same.sequence same.trailer.2 v.checkpoint.chain v.checkpoint.content.trailer v.checkpoint.content.trailer_checksum t.links));
+        count = subst (λ (n : ℕ). IsCount room n (length v.checkpoint.chain)) (sym same.trailer.2) t.count;
+        inside = t.inside;
+        size = t.size ∙ sym same.trailer.2;
+        says = subst (λ (n : ℕ). Says sh n v.checkpoint.chain v.checkpoint.parts) (sym same.op.0) t.says;
+        spare = t.spare;
+      }
+
+  pub boot_sound : Sound sh (booted v d)
+  boot_sound =
+      let tests = sound.checkpoint.tests in
+      let top : head (booted v d) ≡ head v = omega (arith, same.op.0) in
+      record {
+        chain = subst (λ (o : ℕ). Chain sh.layout.clients (o + 1) d.op_checksum 0 v.checkpoint.parts.sessions v.tail) (sym same.op.0)
+            (subst (λ (k : ℕ). Chain sh.layout.clients (v.checkpoint.content.op + 1) k 0 v.checkpoint.parts.sessions v.tail) (sym same.op.1) sound.chain);
+        room = sound.room;
+        groups = λ p at. omega (arith, sound.groups p at, top);
+        checkpoint = record {
+          tests = record {
+            version = same.file.0 ∙ tests.version;
+            cluster = same.file.1 ∙ tests.cluster;
+            layout = same.file.2 ∙ tests.layout;
+            sequence = (omega (arith, same.sequence, tests.sequence.0), omega (arith, same.sequence, tests.sequence.1));
+            op_checksum = λ zero_is. same.op.1 ∙ tests.op_checksum (omega (arith, same.op.0));
+            head = (omega (arith, may.is.head, same.op.0), omega (arith, may.is.head, same.op.0, sound.room), omega (arith, may.is.head, sound.head_to));
+            replies = (omega (arith, may.is.head, may.is.replies, sound.pipeline.0), omega (arith, may.is.head, may.is.replies, sound.pipeline.1));
+            pin = (omega (arith, may.is.pin, same.op.0), omega (arith, may.is.pin, may.is.head));
+            answered = omega (arith, may.is.answered, may.is.replies);
+            of = may.is.of;
+            rest = λ i. ap (λ (l : List ℕ). slice_index l i) same.file.3 ∙ tests.rest i;
+          };
+          trailer = boot_trailer;
+          tracks = record {
+            below = λ k s at. omega (arith, same.op.0, sound.checkpoint.tracks.below k s at);
+            apart = sound.checkpoint.tracks.apart;
+            pending = λ o above to. sound.checkpoint.tracks.pending o (omega (arith, may.is.replies, sound.replies_from.0)) (omega (arith, same.op.0));
+          };
+        };
+        head_from = omega (arith, may.is.head, top);
+        head_to = omega (arith, sound.head_to, top);
+        pipeline = (omega (arith, sound.pipeline.0, top), omega (arith, sound.pipeline.1, top));
+        replies_from = (omega (arith, may.is.replies), sound.replies_from.1);
+        answered = sound.answered;
+        stores = sound.stores;
+        records = record {
+          pin_to = omega (arith, may.is.pin, top);
+          checksum =
+              let none : 0 ≡ d.op - v.checkpoint.content.op = omega (arith, same.op.0) in
+              ap (λ (k : ℕ). last_checksum d.op_checksum (take (d.pin - d.op) (drop k v.tail))) none ∙ may.is.records.checksum;
+          tail = λ p at above.
+              let ops = chain_ops sh.layout.clients (v.checkpoint.content.op + 1) v.checkpoint.content.op_checksum 0 v.checkpoint.parts.sessions v.tail p sound.chain at in
+              absurd (omega (arith, ops.1, may.is.pin));
+          stored = λ k r at. record {
+            old = may.is.records.stored k r at;
+            new = λ above. let s = sound.answered k r at in absurd (omega (arith, may.is.answered, s.2, s.3.op));
+          };
+        };
+      }

@@ -1,0 +1,80 @@
+-- A file at rest whose only prepare is lost: an open refuses, and names its slot.
+use Rattle.std.proofs.Common.{◌≡◌, ℕ, ◌%◌, Bool, true, false, if◌then◌else◌, Some, None, refl, sym, ◌∙◌, ap, arith, []}
+use Rattle.df_theory.specs.Units.{AnyUnit, Place, PreparePlace, PrepareUnit, Units}
+use Rattle.df_theory.specs.UnitLog.{now, same_place}
+use Rattle.df_theory.specs.Copies.{Agree}
+use Rattle.df_theory.specs.Chance.{InPool, NoChance}
+use Rattle.df_theory.specs.Found.{IsTail, NotLost}
+use Rattle.df_theory.specs.Opens.{Lost}
+use Rattle.df_theory.specs.View.{Checkpoint}
+use Rattle.df_theory.specs.Sample.{HurtSampleLaw}
+use Rattle.df_theory.proofs.Hurts.{never_behind_law}
+use Rattle.df_theory.proofs.PutOne.{same_is}
+use Rattle.df_theory.proofs.Ours.{distinct_in, log1_all}
+use Rattle.df_theory.proofs.Samples.{content1, first, leads1, log1, shape, view1, prepare1}
+
+-- an image with one place hurt, so that it shows nothing there
+abbrev pub without : Place → Units → Units
+without place image other = if same_place place other then None else image other
+
+pub without_else : (place other : Place) (image : Units) → (other ≡ place → ⊥) → without place image other ≡ image other
+without_else place other image away = go (same_place place other) refl
+  where
+    go : (b : Bool) → same_place place other ≡ b → (if b then None else image other) ≡ image other
+    go true same = absurd (away (same_is place other same))
+    go false same = refl
+
+pub without_shows : (place other : Place) (image : Units) (x : AnyUnit) → without place image other ≡ Some x → image other ≡ Some x
+without_shows place other image x is = go (same_place place other) is
+  where
+    go : (b : Bool) → (if b then None else image other) ≡ Some x → image other ≡ Some x
+    go true none = absurd (let both : None ≡ Some x = none in cc)
+    go false shown = shown
+
+abbrev shown : Units
+shown = without (PreparePlace 1) (now log1)
+
+pooled : (place : Place) (x : AnyUnit) → shown place ≡ Some x → InPool log1 place x
+pooled place x is = leads1.0.leads.rests.pooled place x (without_shows (PreparePlace 1) place (now log1) x is)
+
+chance : NoChance log1 shown
+chance = record { pooled = pooled; distinct = distinct_in log1 log1_all }
+
+agreed : Agree shown content1
+agreed = record { first = 0; second = 1; apart = omega arith; inside = omega arith; at_first = refl; at_second = refl }
+
+base : Checkpoint
+base = first.checkpoint
+
+no_tail : IsTail shape shown first.checkpoint []
+no_tail = record {
+  chain = tt;
+  takes = λ p none. absurd none;
+  room = omega arith;
+  groups = λ p none. absurd none;
+  reaches = omega arith;
+  pinned = refl;
+  longest = λ p room taken fits. absurd (let none : shown (PreparePlace (p.header.op % 16)) ≡ None = ap (λ (o : ℕ). shown (PreparePlace (o % 16))) fits.op_is in let both : Some (PrepareUnit p) ≡ None = sym taken.shown ∙ none in cc);
+}
+
+lost : NotLost shown content1 0 → ⊥
+lost none = omega (arith, none.header 1 prepare1.header refl refl)
+
+pub hurt_sample_law : HurtSampleLaw
+hurt_sample_law =
+    let never = never_behind_law shape log1 view1 shown leads1.0.leads.rests pooled agreed in
+    record {
+      shape = shape;
+      log = log1;
+      view = view1;
+      shown = shown;
+      rests = leads1.0.leads.rests;
+      chance = chance;
+      agreed = agreed;
+      hurt = λ place away. without_else (PreparePlace 1) place (now log1) away;
+      refuses = Lost first.checkpoint [] (record {
+        readable = record { chosen = never.0; sound = leads1.0.leads.rests.holds.bears.sound.checkpoint; shown = λ a x none. absurd none };
+        not_behind = never.1;
+        tail_is = no_tail;
+      }) lost;
+    }

@@ -1,0 +1,40 @@
+-- What the crates above cite of these proofs: the laws, as lemmas, and a few facts on logs, tails and sessions.
+-- ---- writers, making, mending, commands
+pub use Rattle.df_theory.proofs.Writes.{anew_law, append_law, block_law, boot_law, calm_law, copy_law, header_law, reply_law, rests_law, stop_law, sync_law, update_law, write_law}
+pub use Rattle.df_theory.proofs.PutOne.{put_one_law}
+pub use Rattle.df_theory.proofs.Births.{blank_law, format_law, making_sync_law, second_copy_law}
+pub use Rattle.df_theory.proofs.Mends.{mend_law, mends_whole_law}
+pub use Rattle.df_theory.proofs.Keeps.{stands_law, whole_append_law, whole_block_law, whole_reply_law, whole_update_law}
+pub use Rattle.df_theory.proofs.Runs.{commands_law}
+pub use Rattle.df_theory.proofs.Headline.{barrier_law, clean_start_law, headline_law}
+pub use Rattle.df_theory.proofs.Tidy.{tidy_append_law, tidy_block_law, tidy_finish_law, tidy_idle_law, tidy_mend_law, tidy_reply_law, tidy_sync_law}
+pub use Rattle.df_theory.proofs.TidyMakes.{tidy_format_law}
+pub use Rattle.df_theory.proofs.TidyRuns.{standing_run_law, tidy_run_law}
+-- ---- images, and what an open finds
+pub use Rattle.df_theory.proofs.OneFound.{found_law, one_chosen_law, one_found_law, one_view_law}
+pub use Rattle.df_theory.proofs.OneAnswer.{found_answer_law, one_answer_law}
+pub use Rattle.df_theory.proofs.Founds.{chain_at, slot_law}
+pub use Rattle.df_theory.proofs.Decisions.{decision_law}
+-- ---- histories and damage
+pub use Rattle.df_theory.proofs.Past.{one_prepare_law, stamp_law}
+pub use Rattle.df_theory.proofs.Had.{found_was_law, one_content_law, one_reply_law}
+pub use Rattle.df_theory.proofs.Hurts.{checkpoint_stays_law, found_was_of_log_law, headers_tell_law, hurt_law, lost_is_hurt_law, missing_is_hurt_law, never_behind_law, reply_is_hurt_law, tail_is_front_law}
+pub use Rattle.df_theory.proofs.Fields.{fields_hold_law}
+pub use Rattle.df_theory.proofs.BadFields.{no_bad_field_law}
+pub use Rattle.df_theory.proofs.Blames.{blame_law, read_law}
+-- ---- sectors
+pub use Rattle.df_theory.proofs.Bridge.{disk_law, firm_units, moments, moments_law, new_disk_law, now_units, put_law, run_moments_law, safe_disk_law, safe_moments_law, same_log, settled_law, shown_law, steps_join_law, unit_moments_law}
+pub use Rattle.df_theory.proofs.PutShown.{put_shown_law}
+pub use Rattle.df_theory.proofs.DiskStops.{disk_barrier_law, disk_stop_law}
+pub use Rattle.df_theory.proofs.TidyDisk.{standing_moments_law, tidy_moments_law}
+-- ---- facts that other proofs need
+pub use Rattle.df_theory.proofs.Steps.{cases_bool, old_agrees, rests_safe, rests_holds}
+pub use Rattle.df_theory.proofs.Writes.{dry_quiet, good_rests, put_else, quiet_synced}
+pub use Rattle.df_theory.proofs.Texts.{text_bytes}
+pub use Rattle.df_theory.proofs.Mends.{copies_shown, synced_after}
+pub use Rattle.df_theory.proofs.Keeps.{four}
+pub use Rattle.df_theory.proofs.Choices.{chosen_above, same_copy}
+pub use Rattle.df_theory.proofs.Runs.{after_append, each_append, each_weaker}
+pub use Rattle.df_theory.proofs.Tails.{chain_ops, in_dropped, in_either, in_one, in_single}
+pub use Rattle.df_theory.proofs.Sessions.{chain_append, last_mark-append, noted_get, sessions-append, sessions-drop}
+pub use Rattle.df_theory.proofs.Sounds.{append_sound, checkpoint_sound, reply_sound, tracks}

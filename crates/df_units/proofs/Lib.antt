@@ -1,0 +1,14 @@
+pub mod Numbers
+pub mod Local
+pub mod Writes
+pub mod AtPlaces
+pub mod Rows
+pub mod Chosen
+pub mod Usable
+pub mod Parts
+pub mod Told
+pub mod Classed
+pub mod Appended
+pub mod Formats
+pub mod Decides
+pub mod Laws

@@ -1,0 +1,45 @@
+-- An append on a disk, as its device calls: the prepare, a sync, its header sector, a sync. A stop at any moment leaves the file
+-- with it or without it.
+use Rattle.std.specs.Prelude.{◌<◌, ◌*◌, ℕ, List, [], ◌∷◌, Option}
+use Rattle.df_base.specs.Log
+use Rattle.df_base.specs.Log.{Event, IsLog, Sync, Write}
+use Rattle.df_base.specs.Moments.{EachMoment, adds}
+use Rattle.df_layout.specs.declared.layout.Layout.{Layout}
+use Rattle.df_layout.specs.declared.places.Zone.TheVariants.{WalPrepares}
+use Rattle.df_format.specs.declared.header.Header.{Header}
+use Rattle.df_format.specs.Message.{Message}
+use Rattle.df_format.specs.Own.{place_in}
+use Rattle.df_format.specs.Brings.{Brings}
+use Rattle.df_format.specs.UnitLaws.{headers_bytes}
+use Rattle.df_theory.specs.Units
+use Rattle.df_theory.specs.Units.{HeaderPlace, PreparePlace}
+use Rattle.df_theory.specs.View.{View}
+use Rattle.df_theory.specs.Next.{MayAppend, appended}
+use Rattle.df_theory.specs.Device.{Format, IsGoodDisk, IsGoodWholeDisk, units_log}
+use Rattle.df_theory.specs.TidyLaws.{IsTidy}
+use Rattle.df_theory.specs.WholeLaws.{IsStanding}
+use Rattle.df_theory.specs.Shape.{Shape}
+use Rattle.df_units.specs.Meaning.{message_of}
+use Rattle.df_units.specs.Bytes.{first_at}
+use Rattle.df_units.specs.Format.{format_of, shape_of}
+use Rattle.df_units.specs.Puts.{IsNextSector}
+
+-- the device calls of an append
+abbrev pub append_events : Layout → ℕ → List ℕ → ℕ → List Header → List Event
+append_events layout slot bytes sector headers =
+    Write (first_at layout (PreparePlace slot)) bytes ∷ Sync ∷ Write (first_at layout (HeaderPlace (16 * sector))) (headers_bytes headers) ∷ Sync ∷ []
+
+-- a tidy file leads to the next one: a stop at any moment leaves one of the two views, and where the referenced blocks stood, they do
+pub record LeadsOnDisk (f : Format) (sh : Shape) (before after : Log.Log) (v u : View) : Type 0 where
+  pub moments : EachMoment before after (IsGoodDisk f sh v u)
+  pub tidy : IsTidy sh (units_log f after) u
+  pub whole : IsStanding (units_log f before) v → EachMoment before after (IsGoodWholeDisk f sh v u)
+  pub standing : IsStanding (units_log f before) v → IsStanding (units_log f after) u
+
+-- from a tidy file on an append leads to the file with it
+abbrev pub AppendOnDisk : Type 0
+AppendOnDisk =
+    (layout : Layout) (cluster : ℕ) (named : 0 < cluster) (parse : ℕ → List ℕ → Option Units.Parts) (log : Log.Log) (v : View) (u : Message) (bytes : List ℕ) (sector : ℕ) (headers : List Header)
+    → IsLog log → IsTidy (shape_of layout cluster named parse) (units_log (format_of layout cluster) log) v → MayAppend (shape_of layout cluster named parse) v (message_of u ∷ [])
+    → Brings layout cluster (place_in WalPrepares u.header.slot) u bytes → IsNextSector layout cluster (Log.now log) u.header sector headers
+    → LeadsOnDisk (format_of layout cluster) (shape_of layout cluster named parse) log (adds (append_events layout u.header.slot bytes sector headers) log) v (appended v (message_of u ∷ []))

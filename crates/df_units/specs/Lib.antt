@@ -1,0 +1,14 @@
+pub mod Meaning
+pub mod Bytes
+pub mod Format
+pub mod Laws
+pub mod Puts
+pub mod Shown
+pub mod Superblocks
+pub mod Calls
+pub mod Tells
+pub mod Append
+pub mod Making
+pub mod Recovery
+pub mod Wanted
+pub mod Sample

@@ -1,0 +1,101 @@
+-- The dictionary: which place, layout and unit of the model each one of the format is. It goes one way: the bytes learn the
+-- model's words here, once, and the model never learns of bytes.
+use Rattle.std.specs.Prelude.{ℕ, suc, List, [], ◌∷◌, Option, Some, None}
+use Rattle.df_base.specs.Fields.{field_at}
+use Rattle.df_layout.specs.declared.layout.Layout.{Layout}
+use Rattle.df_layout.specs.declared.places.Place.{Place}
+use Rattle.df_layout.specs.declared.places.Zone.TheVariants.{Superblock, WalHeaders, WalPrepares, ClientReplies, Grid}
+use Rattle.df_format.specs.declared.header.Header.{Header}
+use Rattle.df_format.specs.declared.superblock.SuperFields.{SuperFields}
+use Rattle.df_format.specs.Message.{Message}
+use Rattle.df_format.specs.Own.{place_in}
+use Rattle.df_format.specs.Copies.{Content}
+use Rattle.df_theory.specs.Units
+use Rattle.df_theory.specs.Units.{AnyUnit, BlockPlace, BlockUnit, CopyPlace, CopyUnit, HeaderPlace, HeaderUnit, PreparePlace, PrepareUnit, ReplyPlace, ReplyUnit}
+
+-- the place of the file that a place of the model is
+abbrev pub place_of : Units.Place → Place
+place_of (CopyPlace n) = place_in Superblock n
+place_of (HeaderPlace s) = place_in WalHeaders s
+place_of (PreparePlace s) = place_in WalPrepares s
+place_of (ReplyPlace k) = place_in ClientReplies k
+place_of (BlockPlace a) = place_in Grid a
+
+-- a checksum as one number, its first byte the lowest; zeros are 0
+abbrev pub number_of : List ℕ → ℕ
+number_of check = field_at 16 0 check
+
+-- a header, of a file of version 1: no boot made it, and what is appended is appended alone, so it is a group by itself
+abbrev pub header_of : Header → Units.Header
+header_of h = record {
+  checksum = number_of h.checksum;
+  parent = number_of h.parent;
+  client = h.client;
+  op = h.op;
+  request = h.request;
+  mark = h.mark;
+  checkpoint = h.checkpoint;
+  boot = 0;
+  group = h.op;
+  group_last = h.op;
+}
+
+-- a prepare or a reply
+abbrev pub message_of : Message → Units.Message
+message_of u = record { header = header_of u.header; body = u.body }
+
+-- a block of the grid: a trailer block has kind 0, and any other block sequence 0
+abbrev pub block_of : Message → Units.Block
+block_of u = record {
+  checksum = number_of u.header.checksum;
+  kind = u.header.block_kind;
+  sequence = u.header.checkpoint;
+  index = u.header.mark;
+  before = u.header.request;
+  before_checksum = number_of u.header.parent;
+  body = u.body;
+}
+
+-- the layout's numbers
+abbrev pub layout_of : Layout → Units.Layout
+layout_of l = record { slots = l.slots; message_size = l.message_size; clients = l.clients; block_size = l.block_size; blocks = l.blocks }
+
+-- one more than the offset, so that no offset is a zero
+abbrev pub offset_list : Option ℕ → List ℕ
+offset_list None = []
+offset_list (Some offset) = suc offset ∷ []
+
+-- what version 1 leaves zero: the number of the boot, and the offset of the first byte behind the fields that isn't, if any
+abbrev pub rest_of : SuperFields → List ℕ
+rest_of f = f.boot ∷ offset_list f.first_nonzero
+
+-- what a copy says, of a file of version 1: it names the prepares up to its checkpoint's op, and no reply
+abbrev pub content_of : Content → Units.Content
+content_of c = record {
+  checksum = number_of c.checksum;
+  version = c.fields.version;
+  cluster = c.fields.cluster;
+  layout = record { slots = c.fields.slots; message_size = c.fields.message_size; clients = c.fields.clients; block_size = c.fields.block_size; blocks = c.fields.blocks };
+  sequence = c.fields.sequence;
+  boot = 0;
+  op = c.fields.op;
+  op_checksum = number_of c.fields.op_checksum;
+  head = c.fields.head;
+  replies = c.fields.replies;
+  pin = c.fields.op;
+  pin_checksum = number_of c.fields.op_checksum;
+  answered = 0;
+  reply_checksums = [];
+  trailer = c.fields.trailer_address;
+  trailer_checksum = number_of c.fields.trailer_checksum;
+  trailer_size = c.fields.trailer_size;
+  rest = rest_of c.fields;
+}
+
+-- the unit that a message is at a place; at a copy's place there is none
+abbrev pub unit_of : Units.Place → Message → Option AnyUnit
+unit_of (CopyPlace n) u = None
+unit_of (HeaderPlace s) u = Some (HeaderUnit (header_of u.header))
+unit_of (PreparePlace s) u = Some (PrepareUnit (message_of u))
+unit_of (ReplyPlace k) u = Some (ReplyUnit (message_of u))
+unit_of (BlockPlace a) u = Some (BlockUnit (block_of u))

@@ -1,0 +1,53 @@
+-- What the code reads of a place is the unit that the model sees there.
+use Rattle.std.specs.Prelude.{◌≡◌, ◌≢◌, ◌<◌, ℕ, List, Option, Some, None, Result, Ok, Err}
+use Rattle.df_base.specs.Image.{Image, IsImage, bytes_at}
+use Rattle.df_layout.specs.declared.layout.Layout.{Layout}
+use Rattle.df_layout.specs.declared.places.Zone.TheVariants.{Superblock, WalHeaders}
+use Rattle.df_layout.specs.Spans.{span_of}
+use Rattle.df_layout.specs.declared.damage.Class.{Class}
+use Rattle.df_format.specs.declared.superblock.SuperCopy.{SuperCopy}
+use Rattle.df_format.specs.declared.wal.Wal.{Wal}
+use Rattle.df_format.specs.Copies.{content_of, own_copy}
+use Rattle.df_format.specs.Own.{place_in}
+use Rattle.df_format.specs.Shown.{part_in, unit_in}
+use Rattle.df_format.specs.Unit.{prepare_at}
+use Rattle.df_format.specs.UnitLaws.{IsWalOf}
+use Rattle.df_theory.specs.Units
+use Rattle.df_theory.specs.Units.{AnyUnit, CopyPlace, HeaderPlace, PreparePlace}
+use Rattle.df_theory.specs.Found.{AreOfPlaces}
+use Rattle.df_units.specs.Meaning.{place_of}
+use Rattle.df_units.specs.Bytes.{copy_unit, message_unit, span_at, unit_at}
+use Rattle.df_units.specs.Format.{shape_of}
+
+-- the sectors of a slot or of a block, as they are read, are the unit of the place
+abbrev pub ReadIsUnit : Type 0
+ReadIsUnit =
+    (layout : Layout) (cluster : ℕ) (image : Image) (place : Units.Place) → (place_of place).zone ≢ Superblock → (place_of place).zone ≢ WalHeaders
+    → message_unit place (unit_in layout cluster (place_of place) (bytes_at image (span_at layout place).first (span_at layout place).count)) ≡ unit_at layout cluster image place
+
+-- so is one header of a sector
+abbrev pub HeaderReadIsUnit : Type 0
+HeaderReadIsUnit =
+    (layout : Layout) (cluster : ℕ) (image : Image) (slot : ℕ)
+    → message_unit (HeaderPlace slot) (unit_in layout cluster (place_in WalHeaders slot) (part_in WalHeaders slot (image (span_of layout (place_in WalHeaders slot)).first))) ≡ unit_at layout cluster image (HeaderPlace slot)
+
+-- and a slot of the ring of prepares
+abbrev pub PrepareAtIsUnit : Type 0
+PrepareAtIsUnit =
+    (layout : Layout) (cluster : ℕ) (wal : Wal) (image : Image) (slot : ℕ) → IsWalOf layout cluster wal
+    → message_unit (PreparePlace slot) (prepare_at wal image slot) ≡ unit_at layout cluster image (PreparePlace slot)
+
+-- the copy that a sector was read as, or none
+abbrev pub read_copy : Result SuperCopy Class → Option AnyUnit
+read_copy (Ok copy) = copy_unit (content_of (Some copy))
+read_copy (Err class) = None
+
+-- the sector of a copy, as it is read
+abbrev pub CopyReadIsUnit : Type 0
+CopyReadIsUnit = (layout : Layout) (cluster : ℕ) (image : Image) (number : ℕ) → read_copy (own_copy number (image number)) ≡ unit_at layout cluster image (CopyPlace number)
+
+-- each unit that an image shows is of the kind of its place, in its own slot, with its fields in their ranges
+abbrev pub UnitsAreOfPlaces : Type 0
+UnitsAreOfPlaces =
+    (layout : Layout) (cluster : ℕ) (named : 0 < cluster) (parse : ℕ → List ℕ → Option Units.Parts) (image : Image) → IsImage image
+    → AreOfPlaces (shape_of layout cluster named parse) (unit_at layout cluster image)

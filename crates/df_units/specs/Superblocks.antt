@@ -1,0 +1,63 @@
+-- The choice among the four copies is the model's, both ways, and a superblock can be used exactly where it passes the model's tests.
+use Rattle.std.specs.Prelude.{◌≡◌, ◌↔◌, ◌<◌, ℕ, List, Option, Some}
+use Rattle.df_base.specs.Image.{Image, IsImage}
+use Rattle.df_layout.specs.declared.layout.Layout.{Layout}
+use Rattle.df_format.specs.declared.superblock.SuperFields.{SuperFields}
+use Rattle.df_format.specs.Spelling.{IsCheck}
+use Rattle.df_format.specs.SuperRules.{IsSuper}
+use Rattle.df_format.specs.Copies.{Content, content_at}
+use Rattle.df_quorum.specs.Quorum
+use Rattle.df_theory.specs.Units
+use Rattle.df_theory.specs.Copies
+use Rattle.df_theory.specs.Trailer.{IsReference}
+use Rattle.df_theory.specs.View.{PassesTests}
+use Rattle.df_units.specs.Meaning.{content_of, layout_of}
+use Rattle.df_units.specs.Bytes.{unit_at}
+use Rattle.df_units.specs.Format.{shape_of}
+
+-- the choice among the copies is the model's
+abbrev pub ChoiceIsChosen : Type 0
+ChoiceIsChosen =
+    (layout : Layout) (cluster : ℕ) (image : Image) (c : Content) → IsImage image
+    → Quorum.IsChosen (content_at image) c → Copies.IsChosen (unit_at layout cluster image) (content_of c)
+
+-- and each choice of the model is one among the copies
+abbrev pub ChosenIsChoice : Type 0
+ChosenIsChoice =
+    (layout : Layout) (cluster : ℕ) (image : Image) (d : Units.Content) → IsImage image → Copies.IsChosen (unit_at layout cluster image) d
+    → (c : Content) × (content_of c ≡ d) × Quorum.IsChosen (content_at image) c
+
+-- so no choice is none
+abbrev pub SplitIsSplit : Type 0
+SplitIsSplit = (layout : Layout) (cluster : ℕ) (image : Image) → IsImage image → Quorum.IsSplit (content_at image) ↔ Copies.IsSplit (unit_at layout cluster image)
+
+-- the fields are those of a file of this layout and cluster
+pub record AreFieldsOf (layout : Layout) (cluster : ℕ) (f : SuperFields) : Type 0 where
+  pub slots : f.slots ≡ layout.slots
+  pub message_size : f.message_size ≡ layout.message_size
+  pub clients : f.clients ≡ layout.clients
+  pub block_size : f.block_size ≡ layout.block_size
+  pub blocks : f.blocks ≡ layout.blocks
+  pub cluster_is : f.cluster ≡ cluster
+
+-- a superblock that can be used passes the model's tests, and so do its fields on the trailer
+abbrev pub UsablePasses : Type 0
+UsablePasses =
+    (layout : Layout) (cluster : ℕ) (named : 0 < cluster) (parse : ℕ → List ℕ → Option Units.Parts) (c : Content) → AreFieldsOf layout cluster c.fields → IsSuper c.fields
+    → PassesTests (shape_of layout cluster named parse) (content_of c) × IsReference (layout_of layout) (content_of c)
+
+-- each checksum of a content has sixteen bytes
+pub record HasChecks (c : Content) : Type 0 where
+  pub checksum : IsCheck c.checksum
+  pub op_checksum : IsCheck c.fields.op_checksum
+  pub trailer_checksum : IsCheck c.fields.trailer_checksum
+
+-- as one that is shown has
+abbrev pub ShownHasChecks : Type 0
+ShownHasChecks = (image : Image) (n : ℕ) (c : Content) → IsImage image → content_at image n ≡ Some c → HasChecks c
+
+-- and one that passes the model's tests can be used
+abbrev pub PassingIsUsable : Type 0
+PassingIsUsable =
+    (layout : Layout) (cluster : ℕ) (named : 0 < cluster) (parse : ℕ → List ℕ → Option Units.Parts) (c : Content) → HasChecks c → PassesTests (shape_of layout cluster named parse) (content_of c) → IsReference (layout_of layout) (content_of c)
+    → AreFieldsOf layout cluster c.fields × IsSuper c.fields
