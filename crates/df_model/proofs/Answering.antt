@@ -1,0 +1,245 @@
+-- Answers and their order.
+use Rattle.std.proofs.Common.{◌≡◌, ℕ, ◌+◌, ◌-◌, ◌^◌, ◌<◌, ◌≤◌, ◌==◌, ◌&&◌, ◌||◌, not, nat_lt, nat_le, Bool, true, false, List, [], ◌∷◌, length, Option, Some, None, Result, Ok, Err, refl, sym, ◌∙◌, ap, arith}
+use Rattle.std.specs.List.{slice_get}
+use Rattle.std.proofs.lemmas.Bool.Decides.{nat_tests}
+use Rattle.df_theory.specs.Units.{Parts, Session}
+use Rattle.df_theory.specs.Shape.{Shape}
+use Rattle.df_model.specs.Work.{Running, Work}
+use Rattle.df_model.specs.Memory.{Course, Memory, course_of, free_of, block_room, memory_of, message_room}
+use Rattle.df_model.specs.Refusals.{append_refusals, begin_refusals, block_refusals, first_refusal, is_last_request, is_new, is_running, last_op, next_request, release_refusals, reply_refusals, session_of_client, steps_left}
+use Rattle.df_model.specs.Making.{first_of, needed_of, next_address, place_of_reply, prepare_of, reply_of}
+use Rattle.df_model.specs.After.{after_check, after_running, after_step_of, begun, lookup_answer, outcome, prepare_answer, read_answer, to_check, with_live, with_prepare, with_reply, with_running}
+use Rattle.df_model.specs.Commands.{Advance, Answer, Append, Begin, Command, Given, ReadBlock, ReadPrepare, ReadReply, Recent, Release, Reply, Scrub, ToAdvance, ToAppend, ToBegin, ToReadBlock, ToReadPrepare, ToReadReply, ToRecent, ToRelease, ToReply, ToScrub, ToWriteBlock, WriteBlock, after}
+use Rattle.df_model.specs.Answering.{AppendsInOrder, MemoryLaw, OrderLaw, OthersInOrder, ReplyParentLaw}
+use Rattle.df_model.specs.declared.errors.AppendError.{AppendError}
+use Rattle.df_model.specs.declared.errors.AppendError.TheVariants as append
+use Rattle.df_model.specs.declared.errors.ReplyError.TheVariants as reply
+use Rattle.df_model.specs.declared.errors.BlockError.TheVariants as block
+use Rattle.df_model.specs.declared.errors.BeginError.{BeginError}
+use Rattle.df_model.specs.declared.errors.BeginError.TheVariants as begin
+use Rattle.df_model.specs.declared.reading.LookupError.TheVariants as lookup
+use Rattle.df_model.specs.declared.errors.StepError.{StepError}
+use Rattle.df_model.specs.declared.errors.StepError.TheVariants.{NotRunning}
+use Rattle.df_model.specs.declared.answers.Progress.{Progress}
+use Rattle.df_model.specs.declared.answers.Progress.TheVariants.{Working, Done}
+use Rattle.df_model.specs.declared.answers.Verdict.{Verdict}
+use Rattle.df_model.specs.declared.answers.Scrubbed.{Scrubbed}
+use Rattle.df_model.specs.declared.answers.Scrubbed.TheVariants.{Checked, TourEnd}
+
+-- ---- answers by what is in memory
+
+abbrev pub answer_or : {E A : Type 0} → Option E → A → Result A E
+answer_or (Some e) answer = Err e
+answer_or None answer = Ok answer
+
+outcome_answer : {E A : Type 0} (o : Option E) (w u : Work) (a : A) → (outcome o w u a).1 ≡ answer_or o a
+outcome_answer (Some e) w u a = refl
+outcome_answer None w u a = refl
+
+abbrev pub running_answer : Memory → List ℕ → Result Progress StepError
+running_answer m [] = Ok (Done (m.content.sequence + 1))
+running_answer m (a ∷ more) = Ok (Working (length more + 1))
+
+abbrev pub step_answer : Memory → Option Course → Result Progress StepError
+step_answer m None = Err NotRunning
+step_answer m (Some r) = running_answer m r.left
+
+abbrev pub check_answer : Memory → Verdict → List (ℕ × ℕ) → Scrubbed
+check_answer m verdict [] = TourEnd m.tour.checked m.tour.failing
+check_answer m verdict (x ∷ more) = Checked x.0 verdict
+
+abbrev pub answer_from : (Parts → List ℕ) → Memory → Given → Command → Answer
+answer_from spell m given (Append client request body) = ToAppend (answer_or (first_refusal (append_refusals m client request body)) (m.head + 1, given.checksum))
+answer_from spell m given (Reply op body) = ToReply (answer_or (first_refusal (reply_refusals m op body)) given.checksum)
+answer_from spell m given (WriteBlock kind body) = ToWriteBlock (answer_or (first_refusal (block_refusals m kind body)) (next_address m, given.checksum))
+answer_from spell m given (Release address) = ToRelease (answer_or {A = Unit {0}} (first_refusal (release_refusals m address)) tt)
+answer_from spell m given (Begin root) = ToBegin (answer_or (first_refusal (begin_refusals m (needed_of spell m root) root)) (needed_of spell m root))
+answer_from spell m given Advance = ToAdvance (step_answer m m.running)
+answer_from spell m given (ReadPrepare op) = ToReadPrepare (prepare_answer m given.message op)
+answer_from spell m given (ReadReply client) = ToReadReply (lookup_answer m given.message client)
+answer_from spell m given (ReadBlock address) = ToReadBlock (read_answer m given.block address)
+answer_from spell m given Scrub = ToScrub (check_answer m given.verdict (to_check m))
+answer_from spell m given (Recent place) = ToRecent (slice_get m.findings place)
+
+module _ (sh : Shape) (spell : Parts → List ℕ) (w : Work) (given : Given) where
+  abbrev m : Memory
+  m = memory_of sh spell w
+
+  running_is : (r : Running) (l : List ℕ) → (after_running sh spell w given.checksum r l).1 ≡ running_answer m l
+  running_is r [] = refl
+  running_is r (a ∷ more) = refl
+
+  step_is : (o : Option Running) → (after_step_of sh spell w given.checksum o).1 ≡ step_answer m (course_of spell o)
+  step_is None = refl
+  step_is (Some r) = running_is r r.left
+
+  check_is : (xs : List (ℕ × ℕ)) → (after_check w given.verdict xs).1 ≡ check_answer m given.verdict xs
+  check_is [] = refl
+  check_is (x ∷ more) = refl
+
+  pub answer_is : (c : Command) → (after sh spell w given c).1 ≡ answer_from spell m given c
+  answer_is (Append client request body) = ap ToAppend (outcome_answer (first_refusal (append_refusals m client request body)) w (with_prepare w (prepare_of m given.checksum client request body)) (m.head + 1, given.checksum))
+  answer_is (Reply op body) = ap ToReply (outcome_answer (first_refusal (reply_refusals m op body)) w (with_reply w (place_of_reply m) (reply_of m given.checksum body)) given.checksum)
+  answer_is (WriteBlock kind body) = ap ToWriteBlock (outcome_answer (first_refusal (block_refusals m kind body)) w (with_live w (next_address m) (Some given.checksum)) (next_address m, given.checksum))
+  answer_is (Release address) = ap ToRelease (outcome_answer {A = Unit {0}} (first_refusal (release_refusals m address)) w (with_live w address None) tt)
+  answer_is (Begin root) = ap ToBegin (outcome_answer (first_refusal (begin_refusals m (needed_of spell m root) root)) w (with_running w (Some (begun sh spell w root))) (needed_of spell m root))
+  answer_is Advance = ap ToAdvance (step_is w.running)
+  answer_is (ReadPrepare op) = refl
+  answer_is (ReadReply client) = refl
+  answer_is (ReadBlock address) = refl
+  answer_is Scrub = ap ToScrub (check_is (to_check m))
+  answer_is (Recent place) = refl
+
+pub memory_law : MemoryLaw
+memory_law sh spell w u given c same = answer_is sh spell w given c ∙ ap (λ (m : Memory). answer_from spell m given c) same ∙ sym (answer_is sh spell u given c)
+
+-- ---- the order
+
+-- a test that holds is answered, and one that doesn't is passed
+hit : {E : Type 0} (t : Bool × E) (ts : List (Bool × E)) → t.0 ≡ true → first_refusal (t ∷ ts) ≡ Some t.1
+hit (true, e) ts is = refl
+hit (false, e) ts is = absurd (cc)
+
+skip : {E : Type 0} (t : Bool × E) (ts : List (Bool × E)) (o : Option E) → t.0 ≡ false → first_refusal ts ≡ o → first_refusal (t ∷ ts) ≡ o
+skip (true, e) ts o is rest = absurd (cc)
+skip (false, e) ts o is rest = rest
+
+yes_eq : (a b : ℕ) → a ≡ b → (a == b) ≡ true
+yes_eq a b same = grind (arith, nat_tests)
+
+no_eq : (a b : ℕ) → (a ≡ b → ⊥) → (a == b) ≡ false
+no_eq a b apart = grind (arith, nat_tests)
+
+yes_lt : (a b : ℕ) → a < b → nat_lt a b ≡ true
+yes_lt a b less = grind (arith, nat_tests)
+
+no_lt : (a b : ℕ) → b ≤ a → nat_lt a b ≡ false
+no_lt a b le = grind (arith, nat_tests)
+
+yes_le : (a b : ℕ) → a ≤ b → nat_le a b ≡ true
+yes_le a b le = grind (arith, nat_tests)
+
+no_le : (a b : ℕ) → b < a → nat_le a b ≡ false
+no_le a b less = grind (arith, nat_tests)
+
+and_right : (a b : Bool) → b ≡ false → (a && b) ≡ false
+and_right true b is = is
+and_right false b is = refl
+
+and_left : (a b : Bool) → a ≡ false → (a && b) ≡ false
+and_left true b is = absurd (cc)
+and_left false b is = refl
+
+and_both : (a b : Bool) → a ≡ true → b ≡ true → (a && b) ≡ true
+and_both true b one two = two
+and_both false b one two = absurd (cc)
+
+module _ (m : Memory) (client request : ℕ) (body : List ℕ) where
+  abbrev session : Option Session
+  session = session_of_client client m.sessions
+
+  abbrev zero_test : Bool × AppendError
+  zero_test = (client == 0, append.ClientZero)
+
+  abbrev long_test : Bool × AppendError
+  long_test = (nat_lt (message_room m.layout) (length body), append.BodyTooLong (message_room m.layout))
+
+  abbrev full_test : Bool × AppendError
+  full_test = (is_new session && (length m.sessions == m.layout.clients), append.ClientsFull m.layout.clients)
+
+  abbrev repeated_test : Bool × AppendError
+  repeated_test = (is_last_request request session && nat_le (last_op session) m.replies, append.Repeated (last_op session))
+
+  abbrev pending_test : Bool × AppendError
+  pending_test = (nat_lt m.replies (last_op session), append.ReplyPending (last_op session))
+
+  abbrev number_test : Bool × AppendError
+  number_test = (not (request == next_request session), append.RequestOrder (next_request session))
+
+  -- the tests behind these
+  abbrev last : List (Bool × AppendError)
+  last = (m.head - m.replies == 8, append.PipelineFull (m.head - m.replies)) ∷ (nat_lt (m.content.op + m.layout.slots) (m.head + 1), append.WalFull (m.head + 1) m.content.op) ∷ ((m.head == 2 ^ 62) || nat_lt (2 ^ 62) request, append.OpsSpent) ∷ []
+
+  abbrev after_pending : List (Bool × AppendError)
+  after_pending = number_test ∷ last
+
+  abbrev after_repeated : List (Bool × AppendError)
+  after_repeated = pending_test ∷ after_pending
+
+  abbrev after_full : List (Bool × AppendError)
+  after_full = repeated_test ∷ after_repeated
+
+  past_two : (o : Option AppendError) → 0 < client → length body ≤ message_room m.layout → first_refusal (full_test ∷ after_full) ≡ o → first_refusal (append_refusals m client request body) ≡ o
+  past_two o named fits more = skip zero_test (long_test ∷ full_test ∷ after_full) o (no_eq client 0 (λ same. omega arith)) (skip long_test (full_test ∷ after_full) o (no_lt (message_room m.layout) (length body) fits) more)
+
+  module _ (s : Session) (known : session ≡ Some s) where
+    not_full : full_test.0 ≡ false
+    not_full = ap (λ (o : Option Session). is_new o && (length m.sessions == m.layout.clients)) known
+
+    is_repeated : request ≡ s.request → s.op ≤ m.replies → repeated_test.0 ≡ true
+    is_repeated same stored = ap (λ (o : Option Session). is_last_request request o && nat_le (last_op o) m.replies) known ∙ and_both (request == s.request) (nat_le s.op m.replies) (yes_eq request s.request same) (yes_le s.op m.replies stored)
+
+    not_stored : m.replies < s.op → repeated_test.0 ≡ false
+    not_stored waits = ap (λ (o : Option Session). is_last_request request o && nat_le (last_op o) m.replies) known ∙ and_right (request == s.request) (nat_le s.op m.replies) (no_le s.op m.replies waits)
+
+    not_last : (request ≡ s.request → ⊥) → repeated_test.0 ≡ false
+    not_last apart = ap (λ (o : Option Session). is_last_request request o && nat_le (last_op o) m.replies) known ∙ and_left (request == s.request) (nat_le s.op m.replies) (no_eq request s.request apart)
+
+    is_pending : m.replies < s.op → pending_test.0 ≡ true
+    is_pending waits = ap (λ (o : Option Session). nat_lt m.replies (last_op o)) known ∙ yes_lt m.replies s.op waits
+
+    not_pending : s.op ≤ m.replies → pending_test.0 ≡ false
+    not_pending stored = ap (λ (o : Option Session). nat_lt m.replies (last_op o)) known ∙ no_lt m.replies s.op stored
+
+    is_numbered : s.request + 1 < request → number_test.0 ≡ true
+    is_numbered above = ap (λ (o : Option Session). not (request == next_request o)) known ∙ ap not (no_eq request (s.request + 1) (λ same. omega arith))
+
+    repeats : request ≡ s.request → s.op ≤ m.replies → first_refusal (full_test ∷ after_full) ≡ Some (append.Repeated s.op)
+    repeats same stored = skip full_test after_full _ not_full (hit repeated_test after_repeated (is_repeated same stored) ∙ ap (λ (o : Option Session). Some (append.Repeated (last_op o))) known)
+
+    waits : m.replies < s.op → first_refusal (full_test ∷ after_full) ≡ Some (append.ReplyPending s.op)
+    waits late = skip full_test after_full _ not_full (skip repeated_test after_repeated _ (not_stored late) (hit pending_test after_pending (is_pending late) ∙ ap (λ (o : Option Session). Some (append.ReplyPending (last_op o))) known))
+
+    orders : s.op ≤ m.replies → s.request + 1 < request → first_refusal (full_test ∷ after_full) ≡ Some (append.RequestOrder (s.request + 1))
+    orders stored above = skip full_test after_full _ not_full (skip repeated_test after_repeated _ (not_last (λ same. omega arith)) (skip pending_test after_pending _ (not_pending stored)
+        (hit number_test last (is_numbered above) ∙ ap (λ (o : Option Session). Some (append.RequestOrder (next_request o))) known)))
+
+  appends : AppendsInOrder m client request body
+  appends = record {
+    zero = λ same. hit zero_test (long_test ∷ full_test ∷ after_full) (yes_eq client 0 same);
+    long = λ named long. skip zero_test (long_test ∷ full_test ∷ after_full) _ (no_eq client 0 (λ same. omega arith)) (hit long_test (full_test ∷ after_full) (yes_lt (message_room m.layout) (length body) long));
+    full = λ named fits new full. past_two _ named fits (hit full_test after_full (and_both (is_new session) (length m.sessions == m.layout.clients) (ap is_new new) (yes_eq (length m.sessions) m.layout.clients full)));
+    repeated = λ s named fits known same stored. past_two _ named fits (repeats s known same stored);
+    pending = λ s named fits known late. past_two _ named fits (waits s known late);
+    number = λ s named fits known stored above. past_two _ named fits (orders s known stored above);
+  }
+
+  others : OthersInOrder m request body
+  others = record {
+    nothing = λ same. hit (m.replies == m.head, reply.NothingPending m.head) ((not (request == m.replies + 1), reply.ReplyOrder (m.replies + 1)) ∷ (long_test.0, reply.BodyTooLong (message_room m.layout)) ∷ []) (yes_eq m.replies m.head same);
+    kind = λ same. hit (request == 0, block.KindZero) ((nat_lt (block_room m.layout) (length body), block.BodyTooLong (block_room m.layout)) ∷ (length (free_of m) == 0, block.GridFull m.layout.blocks) ∷ []) (yes_eq request 0 same);
+    running = λ r at. ap (λ (o : Option Course). first_refusal (begin_refusals (record m { running = o }) request body)) at;
+    long = λ at long. skip (is_running m.running, begin.Running (steps_left m.running)) (begin_long ∷ begin_last) _ (ap is_running at) (hit begin_long begin_last (yes_lt 1024 (length body) long));
+    unknown = λ new. hit (is_new session_there, lookup.NoClient) ((nat_lt m.replies (last_op session_there), lookup.ReplyPending (last_op session_there)) ∷ []) (ap is_new new);
+  }
+    where
+      begin_long : Bool × BeginError
+      begin_long = (nat_lt 1024 (length body), begin.RootTooLong 1024)
+
+      begin_last : List (Bool × BeginError)
+      begin_last = (nat_lt (length (free_of m)) request, begin.GridFull request (length (free_of m))) ∷ (m.content.sequence == 2 ^ 62, begin.SequenceSpent) ∷ []
+
+      session_there : Option Session
+      session_there = session_of_client request m.sessions
+
+pub order_law : OrderLaw
+order_law m client request body = (appends m client request body, others m client request body)
+
+-- ---- the parent of a reply
+
+parent_of : (sums : List ℕ) (c : ℕ) → slice_get sums 0 ≡ Some c → first_of sums ≡ c
+parent_of [] c is = absurd (cc)
+parent_of (x ∷ sums) c is = (let both : Some x ≡ Some c = is in cc)
+
+pub reply_parent_law : ReplyParentLaw
+reply_parent_law sh spell w sum body p work at op = parent_of w.waiting p.header.checksum (work.waiting.each 0 p at (omega (arith, op)))

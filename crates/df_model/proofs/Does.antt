@@ -1,0 +1,205 @@
+-- What each command does to the device leads on.
+use Rattle.std.proofs.Common.{◌≡◌, inl, inr, ℕ, ◌+◌, ◌==◌, Bool, true, false, if◌then◌else◌, List, [], ◌∷◌, Option, Some, None, refl, sym, ◌∙◌, ap, subst, arith}
+use Rattle.df_theory.specs.Units.{Block, BlockPlace, BlockUnit, Content, CopyPlace, CopyUnit, Parts, Units, overlay}
+use Rattle.df_theory.specs.Trailer.{InChain}
+use Rattle.df_theory.specs.Shape.{Shape}
+use Rattle.df_theory.specs.View.{Checkpoint}
+use Rattle.df_theory.specs.UnitLog.{PutsOne, UnitLog, now}
+use Rattle.df_theory.specs.Runs.{Step}
+use Rattle.df_theory.specs.CopyPuts.{PutsCopies}
+use Rattle.df_theory.specs.WholeLaws.{IsStanding}
+use Rattle.df_theory.proofs.Laws.{put_else, tidy_block_law, tidy_finish_law}
+use Rattle.df_model.specs.Work.{Running, Work}
+use Rattle.df_model.specs.Memory.{memory_of}
+use Rattle.df_model.specs.Blocks.{addresses}
+use Rattle.df_model.specs.Making.{block_of, needed_of, next_address, place_of_reply, prepare_of, reply_of}
+use Rattle.df_model.specs.Refusals.{append_refusals, begin_refusals, block_refusals, first_refusal, release_refusals, reply_refusals}
+use Rattle.df_model.specs.After.{after_check, after_running, after_step_of, begun, checkpoint_of, next_trailer, outcome, to_check, with_live, with_prepare, with_reply, with_running, with_trailer_block}
+use Rattle.df_model.specs.Commands.{Advance, Append, Begin, ReadBlock, ReadPrepare, ReadReply, Recent, Release, Reply, Scrub, WriteBlock}
+use Rattle.df_model.specs.Sense.{AtEachOf, IsBacked, IsClear, IsSpare, RiseFrom, ShowsOwnBlock, ShowsWritten}
+use Rattle.df_model.specs.Laws.{CommandLaw, DoesAdvance, DoesAdvanceTo, DoesAppend, DoesBlock, DoesFinish, DoesReply, IsKeptBy, UnlessRefused}
+use Rattle.df_model.proofs.Entries.{entry_in}
+use Rattle.df_model.proofs.Blocks.{kind_some, next_free, release_keeps}
+use Rattle.df_model.proofs.Finishes.{finish_keeps, may_finish}
+use Rattle.df_model.proofs.Writing.{Both, SameBlocks, append_on, block_else, block_on, idle, own_same, put_at, reply_on, stay}
+use Rattle.df_model.proofs.Keeps.{begin_keeps, check_keeps, check_live, check_running, check_view, trailer_keeps}
+
+-- ---- the steps of a checkpoint
+
+-- the chain's addresses lie below those to come
+pub apart_of : (a x : ℕ) (more : List ℕ) → RiseFrom (x + 1) (a ∷ more) → x ≡ a → ⊥
+apart_of a x more rise same = omega (arith, rise.0)
+
+module _ (sh : Shape) (spell : Parts → List ℕ) (log : UnitLog) (w : Work) (sum : ℕ) (r : Running) (a : ℕ) (more : List ℕ) (steps : List Step) (keeps : IsKeptBy sh spell log w) (at : w.running ≡ Some r) (left : r.left ≡ a ∷ more)
+    (does : DoesBlock w.view a (next_trailer sh spell w r sum) steps) where
+  abbrev image : Units
+  image = now log
+
+  abbrev b : Block
+  b = next_trailer sh spell w r sum
+
+  abbrev t : Running
+  t = record r { written = (a, b) ∷ r.written; left = more }
+
+  abbrev u : Work
+  u = with_trailer_block w r a b more
+
+  abbrev later : Units
+  later = overlay does.put image
+
+  clear : IsClear w.live w.view.checkpoint a
+  clear = (let all : AtEachOf (IsClear w.live w.view.checkpoint) (a ∷ more) = subst (AtEachOf (IsClear w.live w.view.checkpoint)) left (keeps.sense.clear r at) in all.0)
+
+  spare : r.parts.references a ≡ None
+  spare = (let all : AtEachOf (IsSpare sh r) (a ∷ more) = subst (AtEachOf (IsSpare sh r)) left (keeps.sense.running r at).left.0 in all.0.unreferenced)
+
+  shown : (k : ℕ) (x : Block) → InChain k x ((a, b) ∷ r.written) → later (BlockPlace k) ≡ Some (BlockUnit x)
+  shown k x (inl here) = ap (λ (i : ℕ). later (BlockPlace i)) here.0 ∙ put_at image does.put (BlockPlace a) (BlockUnit b) does.one ∙ ap (λ (y : Block). Some (BlockUnit y)) (sym here.1)
+  shown k x (inr there) =
+      let rise : RiseFrom (k + 1) (a ∷ more) = subst (RiseFrom (k + 1)) left ((keeps.sense.running r at).written k x there).1 in
+      block_else image does.put a b does.one k (apart_of a k more rise) ∙ keeps.written r at k x there
+
+  trailer_on : Both sh spell log w u steps
+  trailer_on =
+      let on = tidy_block_law sh log w.view does.put a b keeps.tidy clear.no_trailer does.one in
+      let free : (c : ℕ) → w.view.checkpoint.parts.references a ≡ Some c → ⊥ = λ c is. cc (is, clear.unreferenced) in
+      subst (λ (ss : List Step). Both sh spell log w u ss) (sym does.are) (
+        record {
+          leads = on.0;
+          keeps = record {
+            sense = trailer_keeps sh spell w sum r a more keeps.sense at left;
+            tidy = on.0.tidy;
+            written = λ q now_is k x is.
+                let one : t ≡ q = (let both : Some t ≡ Some q = now_is in cc) in
+                shown k x (subst (λ (y : Running). InChain k x y.written) (sym one) is);
+          };
+        },
+        λ backed. record {
+          stands = on.1 backed.standing free;
+          backed = record {
+            standing = (on.1 backed.standing free).standing;
+            live = λ k c is. own_same image later k c (block_else image does.put a b does.one k (λ same. cc (is, clear.dead, same))) (backed.live k c is);
+            captured = λ q now_is k c is.
+                let one : t ≡ q = (let both : Some t ≡ Some q = now_is in cc) in
+                let there : r.parts.references k ≡ Some c = ap (λ (x : Running). x.parts.references k) one ∙ is in
+                own_same image later k c (block_else image does.put a b does.one k (λ same. cc (there, spare, ap r.parts.references same))) (backed.captured r at k c there);
+          };
+        },
+      )
+
+other_copy : (put image : Units) (n : ℕ) (c : Content) → PutsOne put (CopyPlace n) (CopyUnit c) → SameBlocks image (overlay put image)
+other_copy put image n c one a = put_else put image (CopyPlace n) (BlockPlace a) (CopyUnit c) one (λ same. cc (same))
+
+four_copies : (image : Units) (c : Content) (puts : PutsCopies c) → SameBlocks image (overlay puts.put3 (overlay puts.put2 (overlay puts.put1 (overlay puts.put0 image))))
+four_copies image c puts a =
+    let image0 = overlay puts.put0 image in
+    let image1 = overlay puts.put1 image0 in
+    let image2 = overlay puts.put2 image1 in
+    other_copy puts.put3 image2 3 c puts.one3 a ∙ other_copy puts.put2 image1 2 c puts.one2 a ∙ other_copy puts.put1 image0 1 c puts.one1 a ∙ other_copy puts.put0 image 0 c puts.one0 a
+
+finish_on : (sh : Shape) (spell : Parts → List ℕ) (log : UnitLog) (w : Work) (sum : ℕ) (r : Running) (steps : List Step) → IsKeptBy sh spell log w → w.running ≡ Some r → r.left ≡ []
+    → DoesFinish w.view (checkpoint_of sh spell w r sum) steps → Both sh spell log w (after_running sh spell w sum r []).0 steps
+finish_on sh spell log w sum r steps keeps at done does =
+    let c : Checkpoint = checkpoint_of sh spell w r sum in
+    let u = (after_running sh spell w sum r []).0 in
+    let on = tidy_finish_law sh log w.view c does.puts keeps.tidy (may_finish sh spell w r sum keeps.sense (keeps.sense.running r at) done) (keeps.written r at) in
+    let same = four_copies (now log) c.content does.puts in
+    let later = overlay does.puts.put3 (overlay does.puts.put2 (overlay does.puts.put1 (overlay does.puts.put0 (now log)))) in
+    subst (λ (ss : List Step). Both sh spell log w u ss) (sym does.are) (
+      record { leads = on.0; keeps = record { sense = finish_keeps sh spell w r sum keeps.sense at done; tidy = on.0.tidy; written = λ q none. absurd (cc) } },
+      λ backed.
+          let stands = on.1 backed.standing (backed.captured r at) in
+          record {
+            stands = stands;
+            backed = record {
+              standing = stands.standing;
+              live = λ a k is. own_same (now log) later a k (same a) (backed.live a k is);
+              captured = λ q none. absurd (cc);
+            };
+          },
+    )
+
+-- ---- all of them
+
+outcome_does : {E A : Type 0} (sh : Shape) (spell : Parts → List ℕ) (log : UnitLog) (o : Option E) (w u : Work) (a : A) (steps : List Step) (Done : Type 0) → IsKeptBy sh spell log w → (o ≡ None → Done → Both sh spell log w u steps) → UnlessRefused o steps Done
+    → Both sh spell log w (outcome o w u a).0 steps
+outcome_does sh spell log (Some e) w u a steps Done keeps more does = stay sh spell log w steps keeps does
+outcome_does sh spell log None w u a steps Done keeps more does = more refl does
+
+-- what does nothing, whether it is refused or not
+outcome_idle : {E A : Type 0} (sh : Shape) (spell : Parts → List ℕ) (log : UnitLog) (o : Option E) (w u : Work) (a : A) (steps : List Step) → IsKeptBy sh spell log w → (o ≡ None → Both sh spell log w u steps) → steps ≡ [] → Both sh spell log w (outcome o w u a).0 steps
+outcome_idle sh spell log (Some e) w u a steps keeps more none = stay sh spell log w steps keeps none
+outcome_idle sh spell log None w u a steps keeps more none = more refl
+
+released : (log : UnitLog) (w : Work) (a : ℕ) → IsBacked log w → IsBacked log (with_live w a None)
+released log w a backed = record { standing = backed.standing; live = λ k c is. go k c (k == a) is; captured = backed.captured }
+  where
+    go : (k c : ℕ) (e : Bool) → (if e then None else w.live k) ≡ Some c → ShowsOwnBlock (now log) k c
+    go k c true is = absurd (cc)
+    go k c false is = backed.live k c is
+
+begun_backed : (sh : Shape) (spell : Parts → List ℕ) (log : UnitLog) (w : Work) (root : List ℕ) → IsBacked log w → IsBacked log (with_running w (Some (begun sh spell w root)))
+begun_backed sh spell log w root backed = record {
+  standing = backed.standing;
+  live = backed.live;
+  captured = λ r at a c is.
+      let one : begun sh spell w root ≡ r = (let both : Some (begun sh spell w root) ≡ Some r = at in cc) in
+      backed.live a c (entry_in w.live (addresses sh.layout) a c (ap (λ (x : Running). x.parts.references a) one ∙ is));
+}
+
+begun_written : (sh : Shape) (spell : Parts → List ℕ) (image : Units) (w : Work) (root : List ℕ) → ShowsWritten image (with_running w (Some (begun sh spell w root)))
+begun_written sh spell image w root r at a b is =
+    let one : begun sh spell w root ≡ r = (let both : Some (begun sh spell w root) ≡ Some r = at in cc) in
+    absurd (subst (λ (x : Running). InChain a b x.written) (sym one) is)
+
+-- a check of the scrubber changes neither blocks nor checkpoints
+checked : (log : UnitLog) (w u : Work) → u.view ≡ w.view → u.live ≡ w.live → u.running ≡ w.running → IsBacked log w → IsBacked log u
+checked log w u view live running backed = record {
+  standing = subst (IsStanding log) (sym view) backed.standing;
+  live = λ a c is. backed.live a c (ap (λ (f : ℕ → Option ℕ). f a) (sym live) ∙ is);
+  captured = λ r at a c is. backed.captured r (sym running ∙ at) a c is;
+}
+
+advance_on : (sh : Shape) (spell : Parts → List ℕ) (log : UnitLog) (w : Work) (sum : ℕ) (steps : List Step) → IsKeptBy sh spell log w → DoesAdvance sh spell w sum w.running steps → Both sh spell log w (after_step_of sh spell w sum w.running).0 steps
+advance_on sh spell log w sum steps keeps does = go w.running refl does
+  where
+    to : (r : Running) (l : List ℕ) → w.running ≡ Some r → r.left ≡ l → DoesAdvanceTo sh spell w sum r l steps → Both sh spell log w (after_running sh spell w sum r l).0 steps
+    to r [] at left done = finish_on sh spell log w sum r steps keeps at left done
+    to r (a ∷ more) at left done = trailer_on sh spell log w sum r a more steps keeps at left done
+
+    go : (o : Option Running) → w.running ≡ o → DoesAdvance sh spell w sum o steps → Both sh spell log w (after_step_of sh spell w sum o).0 steps
+    go None at done = stay sh spell log w steps keeps done
+    go (Some r) at done = to r r.left at refl done
+
+pub command_law : CommandLaw
+command_law sh spell log w given (Append client request body) steps input keeps does =
+    let p = prepare_of (memory_of sh spell w) given.checksum client request body in
+    outcome_does sh spell log (first_refusal (append_refusals (memory_of sh spell w) client request body)) w (with_prepare w p) (p.header.op, given.checksum) steps (DoesAppend sh (now log) w.view p steps) keeps
+    (λ none done. append_on sh spell log w given.checksum client request body steps input.fields keeps none done) does
+command_law sh spell log w given (Reply op body) steps input keeps does =
+    let place = place_of_reply (memory_of sh spell w) in
+    let r = reply_of (memory_of sh spell w) given.checksum body in
+    outcome_does sh spell log (first_refusal (reply_refusals (memory_of sh spell w) op body)) w (with_reply w place r) given.checksum steps (DoesReply w.view place r steps) keeps
+    (λ none done. reply_on sh spell log w given.checksum op body steps keeps none done) does
+command_law sh spell log w given (WriteBlock kind body) steps input keeps does =
+    let a = next_address (memory_of sh spell w) in
+    outcome_does sh spell log (first_refusal (block_refusals (memory_of sh spell w) kind body)) w (with_live w a (Some given.checksum)) (a, given.checksum) steps (DoesBlock w.view a (block_of given.checksum kind body) steps) keeps
+    (λ none done. block_on sh spell log w a (block_of given.checksum kind body) steps input.checksum (kind_some sh spell w kind body none) keeps (next_free sh spell w kind body none) done) does
+command_law sh spell log w given (Release address) steps input keeps does =
+    outcome_idle {A = Unit {0}} sh spell log (first_refusal (release_refusals (memory_of sh spell w) address)) w (with_live w address None) tt steps keeps
+    (λ none. idle sh spell log w (with_live w address None) steps refl keeps (release_keeps sh spell w address keeps.sense) keeps.written (released log w address) does) does
+command_law sh spell log w given (Begin root) steps input keeps does =
+    let needed = needed_of spell (memory_of sh spell w) root in
+    let u = with_running w (Some (begun sh spell w root)) in
+    outcome_idle sh spell log (first_refusal (begin_refusals (memory_of sh spell w) needed root)) w u needed steps keeps
+    (λ none. idle sh spell log w u steps refl keeps (begin_keeps sh spell w root input.fields keeps.sense none) (begun_written sh spell (now log) w root) (begun_backed sh spell log w root) does) does
+command_law sh spell log w given Advance steps input keeps does = advance_on sh spell log w given.checksum steps keeps does
+command_law sh spell log w given (ReadPrepare op) steps input keeps does = stay sh spell log w steps keeps does
+command_law sh spell log w given (ReadReply client) steps input keeps does = stay sh spell log w steps keeps does
+command_law sh spell log w given (ReadBlock address) steps input keeps does = stay sh spell log w steps keeps does
+command_law sh spell log w given Scrub steps input keeps does =
+    let xs = to_check (memory_of sh spell w) in
+    let u = (after_check w given.verdict xs).0 in
+    idle sh spell log w u steps (check_view w given.verdict xs) keeps (check_keeps sh spell w given.verdict xs keeps.sense) (λ r at. keeps.written r (sym (check_running w given.verdict xs) ∙ at))
+    (checked log w u (check_view w given.verdict xs) (check_live w given.verdict xs) (check_running w given.verdict xs)) does
+command_law sh spell log w given (Recent place) steps input keeps does = stay sh spell log w steps keeps does

@@ -1,0 +1,175 @@
+-- The end of a checkpoint.
+use Rattle.std.proofs.Common.{◌≡◌, inl, ℕ, zero, suc, ◌+◌, ◌-◌, ◌*◌, ◌<◌, ◌||◌, Bool, true, false, List, [], ◌∷◌, length, take, drop, Option, Some, refl, sym, ◌∙◌, ap, subst, arith, length-drop}
+use Rattle.std.proofs.lemmas.List.{take_all}
+use Rattle.std.proofs.Math.Nat.{mul-add}
+use Rattle.df_theory.specs.Units.{Block, Content, Parts, Session}
+use Rattle.df_theory.specs.Sessions.{sessions_after}
+use Rattle.df_theory.specs.Trailer.{InChain, IsCount, IsReference, IsTrailer, Links, Says, piece_size, text_of}
+use Rattle.df_theory.specs.Shape.{Shape}
+use Rattle.df_theory.specs.View.{Checkpoint, View, head, sequence, sessions}
+use Rattle.df_theory.specs.Next.{IsFinish, MayFinish, Records, checkpointed}
+use Rattle.df_theory.specs.Tails.{last_checksum}
+use Rattle.df_theory.proofs.Laws.{checkpoint_sound}
+use Rattle.df_theory.proofs.Laws.{sessions-drop}
+use Rattle.df_theory.proofs.Laws.{in_dropped}
+use Rattle.df_model.specs.Work.{Running, Work, is_captured, is_in, is_known, is_of}
+use Rattle.df_model.specs.Codec.{AreLawful, IsCodec}
+use Rattle.df_model.specs.After.{checkpoint_of, finished}
+use Rattle.df_model.specs.Sense.{IsCapture, IsSpare, IsWork, draft}
+use Rattle.df_model.proofs.Knows.{finish_knows, one_fewer}
+use Rattle.df_model.specs.Laws.{FinishExactLaw, FinishMayLaw}
+use Rattle.df_model.specs.Memory.{block_room, last_address, last_sum}
+
+-- the links of a chain speak of the sequence and the size alone
+same_links : (room : ℕ) (c d : Content) (chain : List (ℕ × Block)) (address checksum : ℕ) → c.sequence ≡ d.sequence → c.trailer_size ≡ d.trailer_size → Links room c chain address checksum → Links room d chain address checksum
+same_links room c d [] address checksum sequence size links = links
+same_links room c d (x ∷ xs) address checksum sequence size links =
+    (links.0, links.1, links.2, links.3 ∙ sequence, links.4, links.5 ∙ ap (λ (n : ℕ). piece_size room n (length xs)) size, links.6, same_links room c d xs x.1.before x.1.before_checksum sequence size links.7)
+
+-- the last block of a chain that isn't empty
+last_in : (chain : List (ℕ × Block)) → 0 < length chain → (b : Block) × InChain (last_address chain) b chain
+last_in [] some = absurd (omega arith)
+last_in (x ∷ xs) some = (x.1, inl (refl, refl))
+
+says_of : (sh : Shape) (op : ℕ) (chain : List (ℕ × Block)) (parts : Parts) → 0 < length chain → sh.parse op (text_of chain) ≡ Some parts → Says sh op chain parts
+says_of sh op [] parts some read = absurd (omega arith)
+says_of sh op (x ∷ xs) parts some read = read
+
+widen : (x y z u t : Bool) → (x || (false || (y || z))) ≡ true → (x || ((y || (z || u)) || t)) ≡ true
+widen true y z u t is = refl
+widen false true z u t is = refl
+widen false false true u t is = refl
+widen false false false u t is = absurd (cc)
+
+module _ (sh : Shape) (spell : Parts → List ℕ) (w : Work) (r : Running) (sum : ℕ) (work : IsWork sh spell w) (is : IsCapture sh spell w.view r) (done : r.left ≡ []) where
+  abbrev v : View
+  v = w.view
+
+  codec : IsCodec sh spell
+  codec = work.codec
+
+  abbrev c : Checkpoint
+  c = checkpoint_of sh spell w r sum
+
+  size_some : 0 < length (spell r.parts)
+  size_some = codec.some r.parts
+
+  count : IsCount (block_room sh.layout) (length (spell r.parts)) (length r.written)
+  count = subst (IsCount (block_room sh.layout) (length (spell r.parts))) (let e : length r.written + length r.left ≡ length r.written = omega (arith, ap length done) in e) is.count
+
+  some_of : (n : ℕ) → IsCount (block_room sh.layout) (length (spell r.parts)) n → 0 < n
+  some_of zero counts = absurd (let none : block_room sh.layout * 0 ≡ 0 = omega arith in omega (arith, counts.holds, size_some))
+  some_of (suc n) counts = omega arith
+
+  some : 0 < length r.written
+  some = some_of (length r.written) count
+
+  last_spare : IsSpare sh r (last_address r.written)
+  last_spare = let last = last_in r.written some in (is.written (last_address r.written) last.0 last.1).0
+
+  text : text_of r.written ≡ spell r.parts
+  text = is.text ∙ take_all (block_room sh.layout * length r.written) (spell r.parts) count.holds
+
+  reference : IsReference sh.layout c.content
+  reference = record {
+    address = last_spare.inside.1;
+    some = λ any. last_spare.inside.0;
+    none = λ none. absurd (let above = last_spare.inside.0 in omega arith);
+    size = λ any. (size_some, codec.size r.op r.parts is.lawful);
+  }
+
+  pub is_trailer : IsTrailer sh c.content c.chain c.parts
+  is_trailer = record {
+    reference = reference;
+    links = same_links (block_room sh.layout) (draft sh spell v r) c.content r.written (last_address r.written) (last_sum r.written) refl refl is.links;
+    count = count;
+    inside = λ a b at. (is.written a b at).0.inside.1;
+    size = ap length text;
+    says = says_of sh r.op r.written r.parts some (ap (sh.parse r.op) text ∙ codec.reads r.op r.parts is.lawful);
+    spare = λ a b at. (is.written a b at).0.unreferenced;
+  }
+
+  -- version 1: boot 0, the pin is the op, and no reply is named
+  v_version : v.checkpoint.content.version ≡ 1
+  v_version = work.view.checkpoint.tests.version ∙ work.version.version
+
+  abbrev before : Content
+  before = v.checkpoint.content
+
+  first : (before.boot ≡ 0) × (before.pin ≡ before.op) × (before.pin_checksum ≡ before.op_checksum) × (before.answered ≡ 0)
+  first = work.view.checkpoint.tests.of.one v_version
+
+  boot_zero : before.boot ≡ 0
+  boot_zero = first.0
+
+  records : Records v c.content
+  records = record {
+    pin_from = (omega (arith, first.1, is.op_from), omega arith);
+    pin_to = is.op_to;
+    checksum = ap (λ (n : ℕ). last_checksum r.op_checksum (take n (drop (r.op - before.op) v.tail))) (let none : r.op - r.op ≡ 0 = omega arith in none);
+    answered = (omega arith, omega (arith, first.3));
+    stored = λ k m at below. absurd (omega (arith, below, first.3));
+  }
+
+  pub is_finish : IsFinish v c
+  is_finish = record {
+    file = (refl, refl, refl, refl);
+    sequence = refl;
+    op_from = is.op_from;
+    op_to = is.op_to;
+    op_checksum = is.op_checksum;
+    sessions = is.sessions;
+    boot = refl;
+    head = refl;
+    replies = refl;
+    records = records;
+    of = record { one = λ one. (boot_zero, refl, refl, first.3); two = λ two. absurd (omega (arith, two, v_version)) };
+  }
+
+  pub may_finish : MayFinish sh v c
+  may_finish = record { is = is_finish; trailer = is_trailer; unspent = is.unspent }
+
+  pub same_sessions : sessions (checkpointed v c) ≡ sessions v
+  same_sessions = ap (λ (l : List Session). sessions_after l (drop (r.op - v.checkpoint.content.op) v.tail)) is.sessions ∙ sessions-drop (r.op - v.checkpoint.content.op) v.checkpoint.parts.sessions v.tail
+
+  pub head_same : head (checkpointed v c) ≡ head v
+  head_same = omega (arith, length-drop (r.op - v.checkpoint.content.op) v.tail, is.op_from, is.op_to)
+
+pub finish_keeps : (sh : Shape) (spell : Parts → List ℕ) (w : Work) (r : Running) (sum : ℕ) → IsWork sh spell w → w.running ≡ Some r → r.left ≡ [] → IsWork sh spell (finished sh spell w r sum)
+finish_keeps sh spell w r sum work at done =
+    let is : IsCapture sh spell w.view r = work.running r at in
+    let same : head (checkpointed w.view (checkpoint_of sh spell w r sum)) ≡ head w.view = head_same sh spell w r sum work is done in
+    record {
+      codec = work.codec;
+      version = record { version = work.version.version; names = work.version.names };
+      view = checkpoint_sound sh w.view (checkpoint_of sh spell w r sum) work.view (may_finish sh spell w r sum work is done);
+      sessions = subst (AreLawful sh.layout.clients) (sym (same_sessions sh spell w r sum work is done)) work.sessions;
+      grid = λ a held. work.grid a (
+          ap (λ (o : Option Running). is_known (w.live a) || (is_captured a o || (is_known (w.view.checkpoint.parts.references a) || is_of a w.view.checkpoint.chain))) at
+          ∙ widen (is_known (w.live a)) (is_known (r.parts.references a)) (is_of a r.written) (is_in a r.left) (is_known (w.view.checkpoint.parts.references a) || is_of a w.view.checkpoint.chain) held
+          );
+      waiting = record {
+        count = omega (arith, work.waiting.count, same);
+        each = λ i p there op. work.waiting.each i p (in_dropped (r.op - w.view.checkpoint.content.op) p w.view.tail there) op;
+      };
+      running = λ q none. absurd (cc);
+      one = one_fewer w (finished sh spell w r sum) (finish_knows sh spell w r sum at) work.one;
+      sums = work.sums;
+      few = work.few;
+      clear = λ q none. absurd (cc);
+    }
+
+pub finish_may_law : FinishMayLaw
+finish_may_law sh spell w r sum work at done = may_finish sh spell w r sum work (work.running r at) done
+
+-- a text of some size has one count of pieces: what is written already isn't one where more is left
+less_left : (room size n : ℕ) (left : List ℕ) → IsCount room size (n + length left) → IsCount room size n → left ≡ []
+less_left room size n [] all some = refl
+less_left room size n (a ∷ more) all some =
+    let before : n + length (a ∷ more) - 1 ≡ n + length more = omega arith in
+    let parts : room * (n + length more) ≡ room * n + room * length more = mul-add room n (length more) in
+    let needed : room * (n + length more) < size = subst (λ (k : ℕ). room * k < size) before (all.needed (omega arith)) in
+    absurd (omega (arith, some.holds, needed, parts))
+
+pub finish_exact_law : FinishExactLaw
+finish_exact_law sh spell w r sum work at may = less_left (block_room sh.layout) (length (spell r.parts)) (length r.written) r.left (work.running r at).count may.trailer.count

@@ -1,0 +1,271 @@
+-- Each command keeps the state's sense.
+use Rattle.std.proofs.Common.{◌≡◌, ◌⊎◌, inl, inr, ℕ, ◌+◌, ◌-◌, ◌<◌, ◌≤◌, ◌==◌, ◌||◌, Bool, true, false, if◌then◌else◌, List, [], ◌∷◌, map, ◌++◌, length, Option, Some, None, refl, sym, ◌∙◌, ap, subst, zero, suc, nat_lt, arith, length-drop}
+use Rattle.std.specs.List.{range_with_len, slice_get}
+use Rattle.std.proofs.lemmas.Bool.Decides.{nat_tests}
+use Rattle.std.proofs.lemmas.List.FromFn.{length-map-range_with_len}
+use Rattle.df_layout.specs.declared.damage.Finding.{Finding}
+use Rattle.df_theory.specs.Units.{Block, BlockUnit, Content, Message, Session, Parts}
+use Rattle.df_theory.specs.Sessions.{noted}
+use Rattle.df_theory.specs.Tails.{Chain, In}
+use Rattle.df_theory.specs.Trailer.{InChain, Links, Says, text_of}
+use Rattle.df_model.proofs.Tests.{eq_true}
+use Rattle.df_model.specs.Blocks.{addresses, entries, sum_at}
+use Rattle.df_model.proofs.Entries.{entry_known}
+use Rattle.df_model.proofs.Sessions.{chain_lawful}
+use Rattle.df_theory.specs.Shape.{Shape}
+use Rattle.df_theory.specs.View.{head}
+use Rattle.df_theory.specs.Next.{Append, Finish, Next, Reply, Same}
+use Rattle.df_theory.proofs.Laws.{chain_ops}
+use Rattle.df_model.specs.Work.{Running, Work, checksum_of, is_captured, is_in, is_known, is_of, opened, waiting_checksum}
+use Rattle.df_model.specs.Codec.{AreBytes, IsCodec, IsLawful}
+use Rattle.df_model.specs.Refusals.{append_refusals, begin_refusals, block_refusals, first_refusal, release_refusals, reply_refusals}
+use Rattle.df_model.specs.After.{newest, with_running, next_trailer, after_check, after_running, after_step_of, begun, checkpoint_of, outcome, to_check, with_live, with_prepare, with_reply, with_trailer_block}
+use Rattle.df_model.specs.Sense.{AtEachOf, IsCapture, IsClear, IsWork}
+use Rattle.df_model.specs.declared.answers.Verdict.{Verdict}
+use Rattle.df_model.specs.declared.answers.Verdict.TheVariants.{Sound as IsFine, Failing}
+use Rattle.df_model.specs.Laws.{NextLaw, OpenedLaw, SenseLaw}
+use Rattle.df_model.proofs.Grid.{IsFree, are_free, each_take, each_weaker, in_each, nowhere, or_right}
+use Rattle.df_model.proofs.Knows.{begin_knows, one_fewer, one_more, opened_one, scrub_one, trailer_knows, trailer_new}
+use Rattle.df_model.proofs.Appends.{append_keeps, may_append}
+use Rattle.df_model.proofs.Replies.{may_reply, reply_keeps}
+use Rattle.df_model.proofs.Blocks.{live_keeps, next_free, release_keeps}
+use Rattle.df_model.proofs.Steps.{begin_capture, step_capture}
+use Rattle.df_model.proofs.Finishes.{finish_keeps, is_finish}
+use Rattle.df_model.specs.Memory.{free_of, memory_of}
+use Rattle.df_model.specs.Making.{needed_of, next_address, place_of_reply, prepare_of, reply_of}
+use Rattle.df_model.specs.Commands.{Advance, Append as ToAppendOf, Begin, ReadBlock, ReadPrepare, ReadReply, Recent, Release, Reply as ToReplyOf, Scrub, WriteBlock}
+
+-- ---- a begin
+
+begin_case : (x y i c t : Bool) → (y ≡ true → x ≡ true) → (x || ((y || (false || i)) || t)) ≡ true → (i ≡ true) ⊎ ((x || (c || t)) ≡ true)
+begin_case true y i c t known is = inr refl
+begin_case false true i c t known is = absurd (let none = known refl in cc (none))
+begin_case false false true c t known is = inl refl
+begin_case false false false c t known is = inr (or_right c t is)
+
+pub begin_keeps : (sh : Shape) (spell : Parts → List ℕ) (w : Work) (root : List ℕ) → AreBytes root → IsWork sh spell w → first_refusal (begin_refusals (memory_of sh spell w) (needed_of spell (memory_of sh spell w) root) root) ≡ None → IsWork sh spell (with_running w (Some (begun sh spell w root)))
+begin_keeps sh spell w root bytes work none =
+    let frees = each_take (IsFree sh w) (needed_of spell (memory_of sh spell w) root) (free_of (memory_of sh spell w)) (are_free sh spell w) in
+    record {
+      codec = work.codec;
+      version = work.version;
+      view = work.view;
+      sessions = work.sessions;
+      grid = λ a held. elim (begin_case (is_known (w.live a)) (is_known (sum_at a (entries w.live (addresses sh.layout)))) (is_in a (begun sh spell w root).left) (is_captured a w.running) (is_known (w.view.checkpoint.parts.references a) || is_of a w.view.checkpoint.chain) (entry_known w.live (addresses sh.layout) a) held) [
+        | inl there ↦ (in_each (IsFree sh w) (begun sh spell w root).left a frees there).inside
+        | inr old ↦ work.grid a old
+      ];
+      waiting = work.waiting;
+      running = λ r at. subst (IsCapture sh spell w.view) (let e : begun sh spell w root ≡ r = cc in e) (begin_capture sh spell w root bytes work none);
+      one = one_fewer w (with_running w (Some (begun sh spell w root))) (begin_knows sh spell w root) work.one;
+      sums = work.sums;
+      few = work.few;
+      clear = λ r at. subst (λ (q : Running). AtEachOf (IsClear w.live w.view.checkpoint) q.left) (let e : begun sh spell w root ≡ r = cc in e)
+          (each_weaker (IsFree sh w) (IsClear w.live w.view.checkpoint) (λ a free. let none_there = nowhere w a free.unheld in record { dead = none_there.live; unreferenced = none_there.durable; no_trailer = none_there.chain }) (begun sh spell w root).left frees);
+    }
+
+-- ---- a step
+
+step_case : (x y e o m t : Bool) → (x || ((y || ((e || o) || m)) || t)) ≡ true → (x || ((y || (o || (e || m))) || t)) ≡ true
+step_case true y e o m t is = refl
+step_case false true e o m t is = refl
+step_case false false true true m t is = refl
+step_case false false true false m t is = refl
+step_case false false false true m t is = refl
+step_case false false false false m t is = is
+
+pub trailer_keeps : (sh : Shape) (spell : Parts → List ℕ) (w : Work) (sum : ℕ) (r : Running) (a : ℕ) (more : List ℕ) → IsWork sh spell w → w.running ≡ Some r → r.left ≡ a ∷ more → IsWork sh spell (with_trailer_block w r a (next_trailer sh spell w r sum) more)
+trailer_keeps sh spell w sum r a more work at left =
+    let u : Running = record r { written = (a, next_trailer sh spell w r sum) ∷ r.written; left = more } in
+    record {
+      codec = work.codec;
+      version = work.version;
+      view = work.view;
+      sessions = work.sessions;
+      grid = λ k held. work.grid k (
+          ap (λ (o : Option Running). is_known (w.live k) || (is_captured k o || (is_known (w.view.checkpoint.parts.references k) || is_of k w.view.checkpoint.chain))) at
+          ∙ ap (λ (l : List ℕ). is_known (w.live k) || ((is_known (r.parts.references k) || (is_of k r.written || is_in k l)) || (is_known (w.view.checkpoint.parts.references k) || is_of k w.view.checkpoint.chain))) left
+          ∙ step_case (is_known (w.live k)) (is_known (r.parts.references k)) (k == a) (is_of k r.written) (is_in k more) (is_known (w.view.checkpoint.parts.references k) || is_of k w.view.checkpoint.chain) held
+          );
+      waiting = work.waiting;
+      running = λ q is. subst (IsCapture sh spell w.view) (let e : u ≡ q = cc in e) (step_capture sh spell w r sum a more (work.running r at) left);
+      one = one_more w (with_trailer_block w r a (next_trailer sh spell w r sum) more) a sum (trailer_knows w r a (next_trailer sh spell w r sum) more at) (trailer_new sh spell w r a more at left (work.running r at) (work.clear r at)) work.one;
+      sums = work.sums;
+      few = work.few;
+      clear = λ q is. subst (λ (x : Running). AtEachOf (IsClear w.live w.view.checkpoint) x.left) (let e : u ≡ q = cc in e)
+          (let all : AtEachOf (IsClear w.live w.view.checkpoint) (a ∷ more) = subst (AtEachOf (IsClear w.live w.view.checkpoint)) left (work.clear r at) in all.1);
+    }
+
+-- ---- the scrubber
+
+pub newest_few : (fs : List Finding) → length (newest fs) ≤ 64
+newest_few fs = omega (arith, length-drop (length fs - 64) fs)
+
+pub check_keeps : (sh : Shape) (spell : Parts → List ℕ) (w : Work) (verdict : Verdict) (xs : List (ℕ × ℕ)) → IsWork sh spell w → IsWork sh spell (after_check w verdict xs).0
+check_keeps sh spell w verdict [] work = record { codec = work.codec; version = work.version; view = work.view; sessions = work.sessions; grid = work.grid; waiting = work.waiting; running = work.running; one = scrub_one w (after_check w verdict []).0 refl refl refl work.one; sums = work.sums; few = work.few; clear = work.clear }
+check_keeps sh spell w IsFine (a ∷ more) work = record { codec = work.codec; version = work.version; view = work.view; sessions = work.sessions; grid = work.grid; waiting = work.waiting; running = work.running; one = scrub_one w (after_check w IsFine (a ∷ more)).0 refl refl refl work.one; sums = work.sums; few = work.few; clear = work.clear }
+check_keeps sh spell w (Failing kind) (a ∷ more) work = record { codec = work.codec; version = work.version; view = work.view; sessions = work.sessions; grid = work.grid; waiting = work.waiting; running = work.running; one = scrub_one w (after_check w (Failing kind) (a ∷ more)).0 refl refl refl work.one; sums = work.sums; few = newest_few (w.findings ++ record { address = a.0; «class» = kind } ∷ []); clear = work.clear }
+
+pub check_view : (w : Work) (verdict : Verdict) (xs : List (ℕ × ℕ)) → (after_check w verdict xs).0.view ≡ w.view
+check_view w verdict [] = refl
+check_view w IsFine (a ∷ more) = refl
+check_view w (Failing kind) (a ∷ more) = refl
+
+pub check_live : (w : Work) (verdict : Verdict) (xs : List (ℕ × ℕ)) → (after_check w verdict xs).0.live ≡ w.live
+check_live w verdict [] = refl
+check_live w IsFine (a ∷ more) = refl
+check_live w (Failing kind) (a ∷ more) = refl
+
+pub check_running : (w : Work) (verdict : Verdict) (xs : List (ℕ × ℕ)) → (after_check w verdict xs).0.running ≡ w.running
+check_running w verdict [] = refl
+check_running w IsFine (a ∷ more) = refl
+check_running w (Failing kind) (a ∷ more) = refl
+
+-- ---- every command
+
+-- what holds of the state before where the call is refused, and else of the state after it
+outcome_has : {E A : Type 0} (P : Work → Type 0) (o : Option E) (w u : Work) (a : A) → P w → (o ≡ None → P u) → P (outcome o w u a).0
+outcome_has P (Some e) w u a before later = before
+outcome_has P None w u a before later = later refl
+
+-- what holds of the state after a step
+step_has : (P : Work → Type 0) (sh : Shape) (spell : Parts → List ℕ) (w : Work) (sum : ℕ) → P w
+    → ((r : Running) → w.running ≡ Some r → r.left ≡ [] → P (after_running sh spell w sum r []).0)
+    → ((r : Running) (a : ℕ) (more : List ℕ) → w.running ≡ Some r → r.left ≡ a ∷ more → P (after_running sh spell w sum r (a ∷ more)).0)
+    → P (after_step_of sh spell w sum w.running).0
+step_has P sh spell w sum before last next = go w.running refl
+  where
+    advance : (r : Running) (l : List ℕ) → w.running ≡ Some r → r.left ≡ l → P (after_running sh spell w sum r l).0
+    advance r [] at left = last r at left
+    advance r (a ∷ more) at left = next r a more at left
+
+    go : (o : Option Running) → w.running ≡ o → P (after_step_of sh spell w sum o).0
+    go None at = before
+    go (Some r) at = advance r r.left at refl
+
+pub sense_law : SenseLaw
+sense_law sh spell w given (ToAppendOf client request body) input work =
+    let p = prepare_of (memory_of sh spell w) given.checksum client request body in
+    outcome_has (IsWork sh spell) (first_refusal (append_refusals (memory_of sh spell w) client request body)) w (with_prepare w p) (p.header.op, given.checksum) work (λ none. append_keeps sh spell w given.checksum client request body work none input.fields)
+sense_law sh spell w given (ToReplyOf op body) input work =
+    outcome_has (IsWork sh spell) (first_refusal (reply_refusals (memory_of sh spell w) op body)) w (with_reply w (place_of_reply (memory_of sh spell w)) (reply_of (memory_of sh spell w) given.checksum body)) given.checksum work (reply_keeps sh spell w given.checksum op body work)
+sense_law sh spell w given (WriteBlock kind body) input work =
+    outcome_has (IsWork sh spell) (first_refusal (block_refusals (memory_of sh spell w) kind body)) w (with_live w (next_address (memory_of sh spell w)) (Some given.checksum)) (next_address (memory_of sh spell w), given.checksum) work (λ none. live_keeps sh spell w (next_address (memory_of sh spell w)) given.checksum input.checksum work (next_free sh spell w kind body none))
+sense_law sh spell w given (Release address) input work =
+    outcome_has {A = Unit {0}} (IsWork sh spell) (first_refusal (release_refusals (memory_of sh spell w) address)) w (with_live w address None) tt work (λ none. release_keeps sh spell w address work)
+sense_law sh spell w given (Begin root) input work =
+    outcome_has (IsWork sh spell) (first_refusal (begin_refusals (memory_of sh spell w) (needed_of spell (memory_of sh spell w) root) root)) w (with_running w (Some (begun sh spell w root))) (needed_of spell (memory_of sh spell w) root) work (begin_keeps sh spell w root input.fields work)
+sense_law sh spell w given Advance input work =
+    step_has (IsWork sh spell) sh spell w given.checksum work (λ r at left. finish_keeps sh spell w r given.checksum work at left) (λ r a more at left. trailer_keeps sh spell w given.checksum r a more work at left)
+sense_law sh spell w given (ReadPrepare op) input work = work
+sense_law sh spell w given (ReadReply client) input work = work
+sense_law sh spell w given (ReadBlock address) input work = work
+sense_law sh spell w given Scrub input work = check_keeps sh spell w given.verdict (to_check (memory_of sh spell w)) work
+sense_law sh spell w given (Recent place) input work = work
+
+pub next_law : NextLaw
+next_law sh spell w given (ToAppendOf client request body) work =
+    let p = prepare_of (memory_of sh spell w) given.checksum client request body in
+    outcome_has (λ u. Next w.view u.view) (first_refusal (append_refusals (memory_of sh spell w) client request body)) w (with_prepare w p) (p.header.op, given.checksum) Same (λ none. Append (p ∷ []) (may_append sh spell w given.checksum client request body work none).is)
+next_law sh spell w given (ToReplyOf op body) work =
+    outcome_has (λ u. Next w.view u.view) (first_refusal (reply_refusals (memory_of sh spell w) op body)) w (with_reply w (place_of_reply (memory_of sh spell w)) (reply_of (memory_of sh spell w) given.checksum body)) given.checksum Same (λ none. Reply (place_of_reply (memory_of sh spell w)) (reply_of (memory_of sh spell w) given.checksum body) (may_reply sh spell w given.checksum op body work none).is)
+next_law sh spell w given (WriteBlock kind body) work =
+    outcome_has (λ u. Next w.view u.view) (first_refusal (block_refusals (memory_of sh spell w) kind body)) w (with_live w (next_address (memory_of sh spell w)) (Some given.checksum)) (next_address (memory_of sh spell w), given.checksum) Same (λ none. Same)
+next_law sh spell w given (Release address) work =
+    outcome_has {A = Unit {0}} (λ u. Next w.view u.view) (first_refusal (release_refusals (memory_of sh spell w) address)) w (with_live w address None) tt Same (λ none. Same)
+next_law sh spell w given (Begin root) work =
+    outcome_has (λ u. Next w.view u.view) (first_refusal (begin_refusals (memory_of sh spell w) (needed_of spell (memory_of sh spell w) root) root)) w (with_running w (Some (begun sh spell w root))) (needed_of spell (memory_of sh spell w) root) Same (λ none. Same)
+next_law sh spell w given Advance work =
+    step_has (λ u. Next w.view u.view) sh spell w given.checksum Same (λ r at left. Finish (checkpoint_of sh spell w r given.checksum) (is_finish sh spell w r given.checksum work (work.running r at) left)) (λ r a more at left. Same)
+next_law sh spell w given (ReadPrepare op) work = Same
+next_law sh spell w given (ReadReply client) work = Same
+next_law sh spell w given (ReadBlock address) work = Same
+next_law sh spell w given Scrub work = subst (Next w.view) (sym (check_view w given.verdict (to_check (memory_of sh spell w)))) Same
+next_law sh spell w given (Recent place) work = Same
+
+-- ---- the start
+
+pub get_range : {X : Type 0} (f : ℕ → X) (a n i k : ℕ) → i < n → k ≡ a + i → slice_get (map f (range_with_len a n)) i ≡ Some (f k)
+get_range f a zero i k less is = absurd (omega arith)
+get_range f a (suc n) zero k less is = ap (λ (x : ℕ). Some (f x)) (let e : a ≡ k = omega arith in e)
+get_range f a (suc n) (suc i) k less is = get_range f (a + 1) n i k (omega arith) (omega arith)
+
+-- the place of a prepare in a chain
+pub chain_get : (clients op parent mark : ℕ) (ss : List Session) (ps : List Message) (p : Message) (i : ℕ) → Chain clients op parent mark ss ps → In p ps → p.header.op ≡ op + i → slice_get ps i ≡ Some p
+chain_get clients op parent mark ss [] p i chain at is = absurd at
+chain_get clients op parent mark ss (x ∷ ps) p zero chain (inl here) is = ap Some (sym here)
+chain_get clients op parent mark ss (x ∷ ps) p (suc i) chain (inl here) is =
+    let same : p.header.op ≡ x.header.op = ap (λ (w : Message). w.header.op) here in
+    absurd (omega (arith, chain.0.op_is))
+chain_get clients op parent mark ss (x ∷ ps) p zero chain (inr there) is =
+    let above = chain_ops clients (op + 1) x.header.checksum x.header.mark (noted x.header ss) ps p chain.1 there in
+    absurd (omega (arith, above.0))
+chain_get clients op parent mark ss (x ∷ ps) p (suc i) chain (inr there) is = chain_get clients (op + 1) x.header.checksum x.header.mark (noted x.header ss) ps p i chain.1 there (omega arith)
+
+if_below : (a b : ℕ) (x y : ℕ) → a < b → (if nat_lt a b then x else y) ≡ x
+if_below a b x y less = grind (arith, nat_tests)
+
+or_either : (a b : Bool) → (a || b) ≡ true → (a ≡ true) ⊎ (b ≡ true)
+or_either true b is = inl refl
+or_either false b is = inr is
+
+either_three : (a b : Bool) → (a || (false || (a || b))) ≡ true → (a || b) ≡ true
+either_three true b is = refl
+either_three false b is = is
+
+some_known : (o : Option ℕ) → is_known o ≡ true → (c : ℕ) × (o ≡ Some c)
+some_known None is = absurd (cc)
+some_known (Some c) is = (c, refl)
+
+of_case : (a : ℕ) (x : ℕ × Block) (xs : List (ℕ × Block)) (b : Bool) → (a == x.0) ≡ b → (b || is_of a xs) ≡ true → (is_of a xs ≡ true → (y : Block) × InChain a y xs) → (y : Block) × InChain a y (x ∷ xs)
+of_case a x xs true same is more = (x.1, inl (eq_true a x.0 same, refl))
+of_case a x xs false same is more = let rest = more is in (rest.0, inr rest.1)
+
+some_of : (a : ℕ) (xs : List (ℕ × Block)) → is_of a xs ≡ true → (y : Block) × InChain a y xs
+some_of a [] is = absurd (cc)
+some_of a (x ∷ xs) is = of_case a x xs (a == x.0) refl is (λ more. some_of a xs more)
+
+links_above : (room : ℕ) (c : Content) (chain : List (ℕ × Block)) (address checksum a : ℕ) (b : Block) → Links room c chain address checksum → InChain a b chain → 0 < a
+links_above room c [] address checksum a b links at = absurd at
+links_above room c (x ∷ xs) address checksum a b links (inl here) = omega (arith, links.0, links.1, here.0)
+links_above room c (x ∷ xs) address checksum a b links (inr there) = links_above room c xs x.1.before x.1.before_checksum a b links.7 there
+
+-- what a trailer says is lawful
+parts_lawful : (sh : Shape) (spell : Parts → List ℕ) → IsCodec sh spell → (op : ℕ) (chain : List (ℕ × Block)) (parts : Parts) → AreBytes (text_of chain) → Says sh op chain parts → IsLawful sh.layout op parts
+parts_lawful sh spell codec op [] parts bytes says = subst (IsLawful sh.layout op) (sym says) (record {
+  root = (omega arith, λ i. omega arith);
+  sessions = record { few = omega arith; each = λ k s at. absurd (cc); apart = λ j k s t at other same. absurd (cc) };
+  reached = λ k s at. absurd (cc);
+  ops = λ j k s t at other same. absurd (cc);
+  references = λ a c is. absurd (cc);
+})
+parts_lawful sh spell codec op (x ∷ xs) parts bytes says = codec.lawful op (text_of (x ∷ xs)) parts bytes says
+
+pub opened_law : OpenedLaw
+opened_law sh spell image v codec version sound fields shows = record {
+  codec = codec;
+  version = version;
+  view = sound;
+  sessions = chain_lawful sh.layout.clients (v.checkpoint.content.op + 1) v.checkpoint.content.op_checksum 0 v.checkpoint.parts.sessions v.tail parts.sessions sound.chain fields.prepares;
+  grid = λ a held. elim (or_either (is_known (v.checkpoint.parts.references a)) (is_of a v.checkpoint.chain) (either_three (is_known (v.checkpoint.parts.references a)) (is_of a v.checkpoint.chain) held)) [
+    | inl known ↦ let c = some_known (v.checkpoint.parts.references a) known in (parts.references a c.0 c.1).0
+    | inr chained ↦
+        let b = some_of a v.checkpoint.chain chained in
+        (links_above (sh.layout.block_size - 256) v.checkpoint.content v.checkpoint.chain v.checkpoint.content.trailer v.checkpoint.content.trailer_checksum a b.0 sound.checkpoint.trailer.links b.1, sound.checkpoint.trailer.inside a b.0 b.1)
+  ];
+  waiting = record {
+    count = omega (arith, sound.pipeline.0, length-map-range_with_len (waiting_checksum sh image v) (v.replies + 1) (head v - v.replies));
+    each = λ i p at op.
+        let ops = chain_ops sh.layout.clients (v.checkpoint.content.op + 1) v.checkpoint.content.op_checksum 0 v.checkpoint.parts.sessions v.tail p sound.chain at in
+        get_range (waiting_checksum sh image v) (v.replies + 1) (head v - v.replies) i p.header.op (omega (arith, ops.1)) op
+        ∙ ap Some (if_below v.checkpoint.content.op p.header.op _ _ (omega (arith, ops.0)) ∙ ap checksum_of (chain_get sh.layout.clients (v.checkpoint.content.op + 1) v.checkpoint.content.op_checksum 0 v.checkpoint.parts.sessions v.tail p (p.header.op - v.checkpoint.content.op - 1) sound.chain at (omega (arith, ops.0))));
+  };
+  running = λ r none. absurd (cc);
+  one = opened_one sh v (opened sh image v) sound (λ a b c first second. let both : Some (BlockUnit b) ≡ Some (BlockUnit c) = sym (shows a b first) ∙ shows a c second in cc) refl refl refl;
+  sums = λ a c is. (parts.references a c is).1;
+  few = omega arith;
+  clear = λ r none. absurd (cc);
+}
+  where
+    parts : IsLawful sh.layout v.checkpoint.content.op v.checkpoint.parts
+    parts = parts_lawful sh spell codec v.checkpoint.content.op v.checkpoint.chain v.checkpoint.parts fields.bytes sound.checkpoint.trailer.says

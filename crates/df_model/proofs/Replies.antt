@@ -1,0 +1,85 @@
+-- A reply.
+use Rattle.std.proofs.Common.{◌≡◌, ℕ, suc, ◌+◌, ◌<◌, List, [], ◌∷◌, drop, None, refl, sym, ap, arith}
+use Rattle.df_theory.specs.Units.{Message, Parts}
+use Rattle.df_theory.specs.Shape.{Shape}
+use Rattle.df_theory.specs.View.{View, head, sessions}
+use Rattle.df_theory.specs.Next.{MayReply, replied}
+use Rattle.df_theory.proofs.Laws.{reply_sound, tracks}
+use Rattle.df_model.specs.Work.{Work}
+use Rattle.df_model.specs.Refusals.{first_refusal, reply_refusals}
+use Rattle.df_model.specs.After.{with_reply}
+use Rattle.df_model.specs.Sense.{AreWaiting, IsWork}
+use Rattle.df_model.specs.Laws.{ReplyMayLaw}
+use Rattle.df_model.proofs.Tests.{eq_false, all_pass}
+use Rattle.df_model.proofs.Knows.{one_fewer, reply_knows}
+use Rattle.df_model.proofs.Sessions.{IsAtOp, op_found}
+use Rattle.df_model.specs.Memory.{memory_of}
+use Rattle.df_model.specs.Making.{client_of, place_of_reply, reply_of, request_of}
+
+module _ (sh : Shape) (spell : Parts → List ℕ) (w : Work) (sum op : ℕ) (body : List ℕ) (work : IsWork sh spell w) (none : first_refusal (reply_refusals (memory_of sh spell w) op body) ≡ None) where
+  abbrev v : View
+  v = w.view
+
+  abbrev r : Message
+  r = reply_of (memory_of sh spell w) sum body
+
+  waits : v.replies < head v
+  waits =
+      let tests = all_pass (reply_refusals (memory_of sh spell w) op body) none in
+      let differs : v.replies ≡ head v → ⊥ = eq_false v.replies (head v) tests.0 in
+      omega (arith, work.view.pipeline)
+
+  found : IsAtOp (v.replies + 1) (sessions v)
+  found = op_found (v.replies + 1) (sessions v) ((tracks sh v work.view).pending (v.replies + 1) (omega arith) (omega (arith, waits)))
+
+  pub may_reply : MayReply v (place_of_reply (memory_of sh spell w)) r
+  may_reply = record {
+    is = record {
+      op = refl;
+      mark = refl;
+      checkpoint = refl;
+      boot = refl;
+      alone = record { first = refl; last = refl };
+      session = (found.0, found.1, record { client = ap client_of found.1; request = ap request_of found.1; op = sym found.2 });
+    };
+    waits = waits;
+  }
+
+  waiting_of : (sums : List ℕ) → AreWaiting v sums → AreWaiting (replied v (place_of_reply (memory_of sh spell w)) r) (drop 1 sums)
+  waiting_of [] old = absurd (omega (arith, old.count, waits))
+  waiting_of (s ∷ sums) old = record {
+    count = omega (arith, old.count);
+    each = λ i p at is. old.each (suc i) p at (omega (arith, is));
+  }
+
+  pub reply_keeps : IsWork sh spell (with_reply w (place_of_reply (memory_of sh spell w)) r)
+  reply_keeps = record {
+    codec = work.codec;
+    version = record { version = work.version.version; names = work.version.names };
+    view = reply_sound sh v (place_of_reply (memory_of sh spell w)) r work.view may_reply.is waits;
+    sessions = work.sessions;
+    grid = work.grid;
+    waiting = waiting_of w.waiting work.waiting;
+    running = λ q at.
+        let old = work.running q at in
+        record {
+          op_from = old.op_from;
+          op_to = old.op_to;
+          op_checksum = old.op_checksum;
+          sessions = old.sessions;
+          unspent = old.unspent;
+          lawful = old.lawful;
+          count = old.count;
+          links = old.links;
+          text = old.text;
+          written = old.written;
+          left = old.left;
+        };
+    one = one_fewer w (with_reply w (place_of_reply (memory_of sh spell w)) r) (reply_knows w (place_of_reply (memory_of sh spell w)) r) work.one;
+    sums = work.sums;
+    few = work.few;
+    clear = work.clear;
+  }
+
+pub reply_may_law : ReplyMayLaw
+reply_may_law sh spell w sum op body work none = may_reply sh spell w sum op body work none

@@ -1,0 +1,97 @@
+-- Runs of commands, and what they begin with.
+use Rattle.std.proofs.Common.{◌≡◌, ℕ, ◌%◌, List, [], ◌∷◌, Some, None, refl, sym, ap, subst, arith}
+use Rattle.df_theory.specs.Units.{Block, BlockPlace, BlockUnit, Message, Parts, PreparePlace, PrepareUnit, Units}
+use Rattle.df_theory.specs.Sessions.{session_of}
+use Rattle.df_theory.specs.Tails.{In}
+use Rattle.df_theory.specs.Trailer.{InChain, no_parts, text_of}
+use Rattle.df_theory.specs.Shape.{Shape}
+use Rattle.df_theory.specs.Found.{AreOfPlaces, IsInRange}
+use Rattle.df_theory.specs.UnitLog.{UnitLog, now}
+use Rattle.df_theory.specs.Runs.{after_steps, steps_of}
+use Rattle.df_theory.specs.TidyLaws.{KeepStanding, LeadTidily}
+use Rattle.df_theory.proofs.Laws.{after_append, standing_run_law, text_bytes, tidy_run_law}
+use Rattle.df_model.specs.Work.{Work, kept}
+use Rattle.df_model.specs.Codec.{AreBytes, IsLawfulSession}
+use Rattle.df_model.specs.Commands.{after}
+use Rattle.df_model.specs.Sense.{IsBacked}
+use Rattle.df_model.specs.Laws.{IsKeptBy}
+use Rattle.df_model.specs.Runs.{Act, DoAll, FirstKeptLaw, OpenedKeptLaw, RunLaw, led_by, work_after}
+use Rattle.df_model.proofs.Keeps.{opened_law}
+use Rattle.df_model.proofs.Does.{command_law}
+use Rattle.df_model.proofs.Writing.{Both}
+
+-- ---- runs
+
+leads_all : (sh : Shape) (spell : Parts → List ℕ) (log : UnitLog) (w : Work) (acts : List Act) → IsKeptBy sh spell log w → DoAll sh spell log w acts
+    → LeadTidily sh log (kept w) (led_by sh spell w acts) × IsKeptBy sh spell (after_steps (steps_of (led_by sh spell w acts)) log) (work_after sh spell w acts)
+leads_all sh spell log w [] keeps does = (tt, keeps)
+leads_all sh spell log w (act ∷ acts) keeps does =
+    let u : Work = (after sh spell w act.given act.command).0 in
+    let one : Both sh spell log w u act.steps = command_law sh spell log w act.given act.command act.steps does.1 keeps does.0 in
+    let rest = leads_all sh spell (after_steps act.steps log) u acts one.0.keeps does.2 in
+    ((one.0.leads, rest.0), subst (λ (l : UnitLog). IsKeptBy sh spell l (work_after sh spell u acts)) (sym (after_append act.steps (steps_of (led_by sh spell u acts)) log)) rest.1)
+
+stands_all : (sh : Shape) (spell : Parts → List ℕ) (log : UnitLog) (w : Work) (acts : List Act) → IsKeptBy sh spell log w → DoAll sh spell log w acts → IsBacked log w
+    → KeepStanding sh log (kept w) (led_by sh spell w acts) × IsBacked (after_steps (steps_of (led_by sh spell w acts)) log) (work_after sh spell w acts)
+stands_all sh spell log w [] keeps does backed = (tt, backed)
+stands_all sh spell log w (act ∷ acts) keeps does backed =
+    let u : Work = (after sh spell w act.given act.command).0 in
+    let one : Both sh spell log w u act.steps = command_law sh spell log w act.given act.command act.steps does.1 keeps does.0 in
+    let on = one.1 backed in
+    let rest = stands_all sh spell (after_steps act.steps log) u acts one.0.keeps does.2 on.backed in
+    ((on.stands, rest.0), subst (λ (l : UnitLog). IsBacked l (work_after sh spell u acts)) (sym (after_append act.steps (steps_of (led_by sh spell u acts)) log)) rest.1)
+
+pub run_law : RunLaw
+run_law sh spell log w acts keeps does =
+    let all = leads_all sh spell log w acts keeps does in
+    let cs = led_by sh spell w acts in (
+      record { leads = all.0; survives = (tidy_run_law sh log (kept w) cs keeps.tidy all.0).0; keeps = all.1 },
+      λ backed.
+          let stands = stands_all sh spell log w acts keeps does backed in
+          record { survives = (standing_run_law sh log (kept w) cs keeps.tidy all.0 backed.standing stands.0).0; backed = stands.1 },
+    )
+
+-- ---- what they begin with
+
+-- a prepare that is shown has its fields in range
+shown_lawful : (sh : Shape) (image : Units) (p : Message) → AreOfPlaces sh image → image (PreparePlace (p.header.op % sh.layout.slots)) ≡ Some (PrepareUnit p) → IsLawfulSession (session_of p.header)
+shown_lawful sh image p places shows =
+    let of = places (PreparePlace (p.header.op % sh.layout.slots)) (PrepareUnit p) shows in
+    let same : of.0 ≡ p = cc (of.1) in
+    let range : IsInRange p.header = subst (λ (q : Message). IsInRange q.header) same of.3 in
+    record { client = range.client; request = range.request; op = range.op }
+
+pub opened_kept_law : OpenedKeptLaw
+opened_kept_law sh spell log v codec version tidy places = (
+  record {
+    sense = opened_law sh spell (now log) v codec version tidy.rests.holds.bears.sound
+        (record { prepares = λ p at. shown_lawful sh (now log) p places (tidy.rests.holds.bears.needs (PreparePlace (p.header.op % sh.layout.slots)) (PrepareUnit p) (p, at, refl, refl)); bytes = text_bytes sh (now log) v.checkpoint.chain places (λ a b at. tidy.rests.holds.bears.needs (BlockPlace a) (BlockUnit b) (b, at, refl)) })
+        (λ a b at. tidy.rests.holds.bears.needs (BlockPlace a) (BlockUnit b) (b, at, refl));
+    tidy = tidy;
+    written = λ r none. absurd (cc);
+  },
+  λ standing. record {
+    standing = standing;
+    live = standing.shown;
+    captured = λ r none. absurd (cc);
+  },
+)
+
+no_reference : (parts : Parts) (a c : ℕ) → parts ≡ no_parts → parts.references a ≡ Some c → ⊥
+no_reference parts a c none is = (let empty : parts.references a ≡ None = ap (λ (p : Parts). p.references a) none in cc (is, empty))
+
+pub first_kept_law : FirstKeptLaw
+first_kept_law sh spell log v codec version tidy standing first = (
+  record {
+    sense = opened_law sh spell (now log) v codec version tidy.rests.holds.bears.sound
+        (record { prepares = λ p at. absurd (subst (In p) first.tail at); bytes = subst (λ (chain : List (ℕ × Block)). AreBytes (text_of chain)) (sym first.chain) (λ i. omega arith) })
+        (λ a b at. absurd (subst (InChain a b) first.chain at));
+    tidy = tidy;
+    written = λ r none. absurd (cc);
+  },
+  record {
+    standing = standing;
+    live = λ a c is. absurd (no_reference v.checkpoint.parts a c first.parts is);
+    captured = λ r none. absurd (cc);
+  },
+)

@@ -1,0 +1,92 @@
+-- Commands, what is supplied to them and what they answer, and the machine: one function for all.
+use Rattle.std.specs.Prelude.{ℕ, ◌<◌, ◌^◌, List, Option, Result}
+use Rattle.std.specs.List.{slice_get}
+use Rattle.df_layout.specs.declared.damage.Class.{Class}
+use Rattle.df_layout.specs.declared.damage.Finding.{Finding}
+use Rattle.df_theory.specs.Units.{Block, Message, Parts}
+use Rattle.df_theory.specs.Shape.{Shape}
+use Rattle.df_model.specs.Work.{Work}
+use Rattle.df_model.specs.Memory.{memory_of}
+use Rattle.df_model.specs.Codec.{AreBytes, IsChecksum}
+use Rattle.df_model.specs.After.{after_advance, after_append, after_begin, after_block, after_release, after_reply, after_scrub, lookup_answer, prepare_answer, read_answer}
+use Rattle.df_model.specs.declared.errors.AppendError.{AppendError}
+use Rattle.df_model.specs.declared.errors.ReplyError.{ReplyError}
+use Rattle.df_model.specs.declared.errors.BlockError.{BlockError}
+use Rattle.df_model.specs.declared.errors.NotLive.{NotLive}
+use Rattle.df_model.specs.declared.errors.BeginError.{BeginError}
+use Rattle.df_model.specs.declared.errors.StepError.{StepError}
+use Rattle.df_model.specs.declared.answers.Progress.{Progress}
+use Rattle.df_model.specs.declared.reading.PrepareError.{PrepareError}
+use Rattle.df_model.specs.declared.reading.LookupError.{LookupError}
+use Rattle.df_model.specs.declared.reading.ReadError.{ReadError}
+use Rattle.df_model.specs.declared.answers.Verdict.{Verdict}
+use Rattle.df_model.specs.declared.answers.Scrubbed.{Scrubbed}
+
+pub data Command : Type 0 where
+  Append : (client request : ℕ) (body : List ℕ) → Command
+  Reply : (op : ℕ) (body : List ℕ) → Command
+  WriteBlock : (kind : ℕ) (body : List ℕ) → Command
+  Release : (address : ℕ) → Command
+  Begin : (root : List ℕ) → Command
+  Advance : Command
+  ReadPrepare : (op : ℕ) → Command
+  ReadReply : (client : ℕ) → Command
+  ReadBlock : (address : ℕ) → Command
+  Scrub : Command
+  Recent : (place : ℕ) → Command
+
+-- what the device and the codecs supply: the checksum of the unit that the command makes, and the unit that is wanted at the place that it reads, or the class of what is shown there
+pub record Given : Type 0 where
+  pub checksum : ℕ
+  pub message : Result Message Class
+  pub block : Result Block Class
+  pub verdict : Verdict
+
+-- the fields are in the range of their types
+abbrev pub IsInRange : Command → Type 0
+IsInRange (Append client request body) = client < 2 ^ 128
+IsInRange (Reply op body) = Unit {0}
+IsInRange (WriteBlock kind body) = Unit {0}
+IsInRange (Release address) = Unit {0}
+IsInRange (Begin root) = AreBytes root
+IsInRange Advance = Unit {0}
+IsInRange (ReadPrepare op) = Unit {0}
+IsInRange (ReadReply client) = Unit {0}
+IsInRange (ReadBlock address) = Unit {0}
+IsInRange Scrub = Unit {0}
+IsInRange (Recent place) = Unit {0}
+
+-- what is supplied is in range too
+pub record IsInput (given : Given) (command : Command) : Type 0 where
+  pub checksum : IsChecksum given.checksum
+  pub fields : IsInRange command
+
+pub data Answer : Type 0 where
+  ToAppend : (answer : Result (ℕ × ℕ) AppendError) → Answer
+  ToReply : (answer : Result ℕ ReplyError) → Answer
+  ToWriteBlock : (answer : Result (ℕ × ℕ) BlockError) → Answer
+  ToRelease : (answer : Result (Unit {0}) NotLive) → Answer
+  ToBegin : (answer : Result ℕ BeginError) → Answer
+  ToAdvance : (answer : Result Progress StepError) → Answer
+  ToReadPrepare : (answer : Result Message PrepareError) → Answer
+  ToReadReply : (answer : Result Message LookupError) → Answer
+  ToReadBlock : (answer : Result Block ReadError) → Answer
+  ToScrub : (answer : Scrubbed) → Answer
+  ToRecent : (answer : Option Finding) → Answer
+
+abbrev pub as_answer : {A : Type 0} → (A → Answer) → Work × A → Work × Answer
+as_answer answer pair = (pair.0, answer pair.1)
+
+-- the state after a command, and its answer
+abbrev pub after : Shape → (Parts → List ℕ) → Work → Given → Command → Work × Answer
+after sh spell w given (Append client request body) = as_answer ToAppend (after_append sh spell w given.checksum client request body)
+after sh spell w given (Reply op body) = as_answer ToReply (after_reply sh spell w given.checksum op body)
+after sh spell w given (WriteBlock kind body) = as_answer ToWriteBlock (after_block sh spell w given.checksum kind body)
+after sh spell w given (Release address) = as_answer ToRelease (after_release sh spell w address)
+after sh spell w given (Begin root) = as_answer ToBegin (after_begin sh spell w root)
+after sh spell w given Advance = as_answer ToAdvance (after_advance sh spell w given.checksum)
+after sh spell w given (ReadPrepare op) = (w, ToReadPrepare (prepare_answer (memory_of sh spell w) given.message op))
+after sh spell w given (ReadReply client) = (w, ToReadReply (lookup_answer (memory_of sh spell w) given.message client))
+after sh spell w given (ReadBlock address) = (w, ToReadBlock (read_answer (memory_of sh spell w) given.block address))
+after sh spell w given Scrub = as_answer ToScrub (after_scrub sh spell w given.verdict)
+after sh spell w given (Recent place) = (w, ToRecent (slice_get w.findings place))

@@ -1,0 +1,17 @@
+pub mod Work
+pub mod Blocks
+pub mod Memory
+pub mod Refusals
+pub mod Making
+pub mod After
+pub mod Codec
+pub mod Commands
+pub mod Supply
+pub mod Sense
+pub mod Laws
+pub mod Runs
+pub mod Reading
+pub mod Result
+pub mod OnDisk
+pub mod Answering
+pub mod Changing

@@ -1,0 +1,117 @@
+-- The units that commands make, and what a checkpoint captures: functions of what is in memory.
+use Rattle.std.specs.Prelude.{ℕ, suc, ◌+◌, ◌-◌, ◌*◌, ◌/◌, ◌==◌, if◌then◌else◌, List, [], ◌∷◌, length, take, drop, Option, Some, None}
+use Rattle.std.specs.List.{slice_get}
+use Rattle.df_theory.specs.Units.{Block, Content, Message, Parts, Session}
+use Rattle.df_model.specs.Memory.{Course, Memory, block_room, free_of}
+use Rattle.df_model.specs.Blocks.{sum_at}
+
+-- the next prepare, with this checksum: a group of its own
+abbrev pub prepare_of : Memory → (sum client request : ℕ) → List ℕ → Message
+prepare_of m sum client request body = record {
+  header = record {
+    checksum = sum;
+    parent = m.head_checksum;
+    client = client;
+    op = m.head + 1;
+    request = request;
+    mark = m.replies;
+    checkpoint = m.content.sequence;
+    boot = m.content.boot;
+    group = m.head + 1;
+    group_last = m.head + 1;
+  };
+  body = body;
+}
+
+-- the place of the session whose last request has this op
+abbrev pub place_of_op : ℕ → List Session → ℕ
+place_of_op op [] = 0
+place_of_op op (s ∷ ss) = if s.op == op then 0 else suc (place_of_op op ss)
+
+abbrev pub client_of : Option Session → ℕ
+client_of None = 0
+client_of (Some s) = s.client
+
+abbrev pub request_of : Option Session → ℕ
+request_of None = 0
+request_of (Some s) = s.request
+
+abbrev pub first_of : List ℕ → ℕ
+first_of [] = 0
+first_of (x ∷ xs) = x
+
+-- the place of the next reply
+abbrev pub place_of_reply : Memory → ℕ
+place_of_reply m = place_of_op (m.replies + 1) m.sessions
+
+-- the next reply, with this checksum: its parent is the prepare that waits the longest
+abbrev pub reply_of : Memory → (sum : ℕ) → List ℕ → Message
+reply_of m sum body =
+    let session = slice_get m.sessions (place_of_reply m) in
+    record {
+      header = record {
+        checksum = sum;
+        parent = first_of m.waiting;
+        client = client_of session;
+        op = m.replies + 1;
+        request = request_of session;
+        mark = m.head;
+        checkpoint = m.content.sequence;
+        boot = m.content.boot;
+        group = m.replies + 1;
+        group_last = m.replies + 1;
+      };
+      body = body;
+    }
+
+abbrev pub block_of : (sum kind : ℕ) → List ℕ → Block
+block_of sum kind body = record { checksum = sum; kind = kind; sequence = 0; index = 0; before = 0; before_checksum = 0; body = body }
+
+-- the least address that isn't held
+abbrev pub next_address : Memory → ℕ
+next_address m = first_of (free_of m)
+
+-- ---- checkpoints
+
+-- what a checkpoint that is begun now captures
+abbrev pub parts_of : Memory → (root : List ℕ) → Parts
+parts_of m root = record { root = root; sessions = m.sessions; references = λ a. sum_at a m.blocks.live }
+
+-- how many pieces of this room a text of this size has
+abbrev pub pieces_of : (room size : ℕ) → ℕ
+pieces_of room size = (size + room - 1) / room
+
+-- how many blocks its trailer has
+abbrev pub needed_of : (Parts → List ℕ) → Memory → (root : List ℕ) → ℕ
+needed_of spell m root = pieces_of (block_room m.layout) (length (spell (parts_of m root)))
+
+abbrev pub piece_of : (room index : ℕ) → List ℕ → List ℕ
+piece_of room index text = take room (drop (room * index) text)
+
+-- the next block of the running trailer, with this checksum
+abbrev pub trailer_block : Memory → Course → (sum : ℕ) → Block
+trailer_block m r sum = record {
+  checksum = sum;
+  kind = 0;
+  sequence = m.content.sequence + 1;
+  index = r.count;
+  before = r.last;
+  before_checksum = r.last_checksum;
+  body = piece_of (block_room m.layout) r.count r.text;
+}
+
+-- the superblock that ends the running checkpoint, with this checksum: its pin is its op
+abbrev pub content_of : Memory → Course → (sum : ℕ) → Content
+content_of m r sum = record m.content {
+  checksum = sum;
+  sequence = m.content.sequence + 1;
+  op = r.op;
+  op_checksum = r.op_checksum;
+  head = m.head;
+  replies = m.replies;
+  pin = r.op;
+  pin_checksum = r.op_checksum;
+  trailer = r.last;
+  trailer_checksum = r.last_checksum;
+  trailer_size = length r.text;
+}

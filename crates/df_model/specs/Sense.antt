@@ -1,0 +1,108 @@
+-- A state that makes sense: what each call may rely on, and keeps.
+use Rattle.std.specs.Prelude.{◌≡◌, ◌<◌, ◌≤◌, ◌+◌, ◌-◌, ◌*◌, ◌^◌, ℕ, true, List, [], ◌∷◌, length, take, Option, Some, None}
+use Rattle.std.specs.List.{slice_get}
+use Rattle.df_theory.specs.Units.{Block, BlockPlace, BlockUnit, Content, Message, Units, Parts}
+use Rattle.df_theory.specs.Sessions.{sessions_after}
+use Rattle.df_theory.specs.Tails.{In, last_checksum}
+use Rattle.df_theory.specs.Trailer.{InChain, IsCount, Links, text_of}
+use Rattle.df_theory.specs.Shape.{Shape, clients}
+use Rattle.df_theory.specs.View.{Checkpoint, View, head, sequence, sessions}
+use Rattle.df_theory.specs.Holds.{Sound}
+use Rattle.df_theory.specs.UnitLog.{UnitLog, now}
+use Rattle.df_theory.specs.WholeLaws.{IsStanding}
+use Rattle.df_model.specs.Work.{Running, Work, is_held}
+use Rattle.df_model.specs.Codec.{AreLawful, InGrid, IsChecksum, IsCodec, IsLawful}
+use Rattle.df_model.specs.Memory.{block_room, last_address, last_sum}
+
+-- addresses that rise, from this one on
+abbrev pub RiseFrom : ℕ → List ℕ → Type 0
+RiseFrom a [] = Unit {0}
+RiseFrom a (x ∷ xs) = (a ≤ x) × RiseFrom (x + 1) xs
+
+-- a fact of each address
+abbrev pub AtEachOf : (ℕ → Type 0) → List ℕ → Type 0
+AtEachOf P [] = Unit {0}
+AtEachOf P (x ∷ xs) = P x × AtEachOf P xs
+
+-- the prepares that wait are those from the op after the last reply on, and their checksums are the tail's
+pub record AreWaiting (v : View) (sums : List ℕ) : Type 0 where
+  pub count : v.replies + length sums ≡ head v
+  pub each : (i : ℕ) (p : Message) → In p v.tail → p.header.op ≡ v.replies + 1 + i → slice_get sums i ≡ Some p.header.checksum
+
+-- the superblock that the running checkpoint leads to, as far as its trailer's blocks name it
+abbrev pub draft : Shape → (Parts → List ℕ) → View → Running → Content
+draft sh spell v r = record v.checkpoint.content { sequence = sequence v + 1; trailer_size = length (spell r.parts) }
+
+-- an address of the running trailer: it isn't referenced
+pub record IsSpare (sh : Shape) (r : Running) (a : ℕ) : Type 0 where
+  pub inside : InGrid sh.layout a
+  pub unreferenced : r.parts.references a ≡ None
+
+-- a running checkpoint: it captured the state after a part of the tail, and the front of its trailer is written
+pub record IsCapture (sh : Shape) (spell : Parts → List ℕ) (v : View) (r : Running) : Type 0 where
+  pub op_from : v.checkpoint.content.op ≤ r.op
+  pub op_to : r.op ≤ head v
+  pub op_checksum : r.op_checksum ≡ last_checksum v.checkpoint.content.op_checksum (take (r.op - v.checkpoint.content.op) v.tail)
+  pub sessions : r.parts.sessions ≡ sessions_after v.checkpoint.parts.sessions (take (r.op - v.checkpoint.content.op) v.tail)
+  pub unspent : sequence v < 2 ^ 62
+  pub lawful : IsLawful sh.layout r.op r.parts
+  pub count : IsCount (block_room sh.layout) (length (spell r.parts)) (length r.written + length r.left)
+  pub links : Links (block_room sh.layout) (draft sh spell v r) r.written (last_address r.written) (last_sum r.written)
+  pub text : text_of r.written ≡ take (block_room sh.layout * length r.written) (spell r.parts)
+  pub written : (a : ℕ) (b : Block) → InChain a b r.written → IsSpare sh r a × RiseFrom (a + 1) r.left
+  pub left : AtEachOf (IsSpare sh r) r.left × RiseFrom 1 r.left
+
+-- a block may be written there at any time: the address isn't live, and the durable checkpoint neither references it nor has its trailer there
+pub record IsClear (live : ℕ → Option ℕ) (c : Checkpoint) (a : ℕ) : Type 0 where
+  pub dead : live a ≡ None
+  pub unreferenced : c.parts.references a ≡ None
+  pub no_trailer : (b : Block) → InChain a b c.chain → ⊥
+
+-- the block with this checksum is to be shown at this address
+pub data IsKnown (w : Work) (a c : ℕ) : Type 0 where
+  Live : w.live a ≡ Some c → IsKnown w a c
+  Captured : (r : Running) → w.running ≡ Some r → r.parts.references a ≡ Some c → IsKnown w a c
+  Written : (r : Running) (b : Block) → w.running ≡ Some r → InChain a b r.written → b.checksum ≡ c → IsKnown w a c
+  Durable : w.view.checkpoint.parts.references a ≡ Some c → IsKnown w a c
+  Chained : (b : Block) → InChain a b w.view.checkpoint.chain → b.checksum ≡ c → IsKnown w a c
+
+-- one block an address
+abbrev pub AreOne : Work → Type 0
+AreOne w = (a c d : ℕ) → IsKnown w a c → IsKnown w a d → c ≡ d
+
+-- the file is of version 1: its superblock names no replies, and by its tests it has boot 0 and its op is its pin
+pub record IsVersionOne (sh : Shape) (v : View) : Type 0 where
+  pub version : sh.version ≡ 1
+  pub names : v.checkpoint.content.reply_checksums ≡ []
+
+-- the state makes sense
+pub record IsWork (sh : Shape) (spell : Parts → List ℕ) (w : Work) : Type 0 where
+  pub codec : IsCodec sh spell
+  pub version : IsVersionOne sh w.view
+  pub view : Sound sh w.view
+  pub sessions : AreLawful (clients sh) (sessions w.view)
+  pub grid : (a : ℕ) → is_held w a ≡ true → InGrid sh.layout a
+  pub waiting : AreWaiting w.view w.waiting
+  pub running : (r : Running) → w.running ≡ Some r → IsCapture sh spell w.view r
+  pub one : AreOne w
+  pub sums : (a c : ℕ) → w.live a ≡ Some c → IsChecksum c
+  pub few : length w.findings ≤ 64
+  pub clear : (r : Running) → w.running ≡ Some r → AtEachOf (IsClear w.live w.view.checkpoint) r.left
+
+-- the image shows a block with this checksum
+abbrev pub ShowsBlock : Units → ℕ → ℕ → Type 0
+ShowsBlock image a c = (b : Block) × (image (BlockPlace a) ≡ Some (BlockUnit b)) × (b.checksum ≡ c)
+
+-- and it is no trailer's
+abbrev pub ShowsOwnBlock : Units → ℕ → ℕ → Type 0
+ShowsOwnBlock image a c = (b : Block) × (image (BlockPlace a) ≡ Some (BlockUnit b)) × (b.checksum ≡ c) × (0 < b.kind)
+
+-- the running trailer is shown as far as it is written
+abbrev pub ShowsWritten : Units → Work → Type 0
+ShowsWritten image w = (r : Running) → w.running ≡ Some r → (a : ℕ) (b : Block) → InChain a b r.written → image (BlockPlace a) ≡ Some (BlockUnit b)
+
+-- each block that is live or that a checkpoint references is shown, and no later write reaches the durable checkpoint's
+pub record IsBacked (log : UnitLog) (w : Work) : Type 0 where
+  pub standing : IsStanding log w.view
+  pub live : (a c : ℕ) → w.live a ≡ Some c → ShowsOwnBlock (now log) a c
+  pub captured : (r : Running) → w.running ≡ Some r → (a c : ℕ) → r.parts.references a ≡ Some c → ShowsOwnBlock (now log) a c

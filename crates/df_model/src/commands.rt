@@ -1,0 +1,76 @@
+// The calls of a replica as plain data: what is asked, and what is answered.
+use crate::{
+    AppendError, BeginError, BlockError, LookupError, NotLive, PrepareError, Progress, ReadError,
+    Receipt, ReplyError, Scrubbed, StepError,
+};
+use df_base::Check;
+use df_format::Reference;
+use df_layout::Finding;
+
+/// One call of a replica; bodies and roots are lent.
+#[derive(Clone, Copy, Debug, PartialEq, Eq)]
+pub enum Command<'a> {
+    /// Appends a client's next request as a prepare.
+    Append {
+        client: u128,
+        request: u64,
+        body: &'a [u8],
+    },
+    /// Stores the reply to this op.
+    Reply {
+        op: u64,
+        body: &'a [u8],
+    },
+    /// Writes a block of this kind, not 0, at the least address that isn't held.
+    WriteBlock {
+        kind: u8,
+        body: &'a [u8],
+    },
+    /// Gives up the block at this address.
+    Release {
+        address: u64,
+    },
+    /// Begins a checkpoint with this root.
+    Begin {
+        root: &'a [u8],
+    },
+    /// Does the next step of the running checkpoint.
+    Advance,
+    /// Reads the prepare with this op.
+    ReadPrepare {
+        op: u64,
+    },
+    /// Reads the reply to this client's last request.
+    ReadReply {
+        client: u128,
+    },
+    /// Reads the block at this address.
+    ReadBlock {
+        address: u64,
+    },
+    /// Checks the next referenced block.
+    Scrub,
+    /// Asks for the finding at this place of the ring, the oldest at 0.
+    Recent {
+        place: u64,
+    },
+}
+
+/// What a call answers; the unit that was read is lent by the call itself.
+#[derive(Clone, Copy, Debug, PartialEq, Eq)]
+pub enum Answer {
+    Append(Result<Receipt, AppendError>),
+    /// The checksum of the reply's header.
+    Reply(Result<Check, ReplyError>),
+    WriteBlock(Result<Reference, BlockError>),
+    Release(Result<(), NotLive>),
+    /// How many blocks the trailer has.
+    Begin(Result<u64, BeginError>),
+    Advance(Result<Progress, StepError>),
+    ReadPrepare(Result<(), PrepareError>),
+    ReadReply(Result<(), LookupError>),
+    ReadBlock(Result<(), ReadError>),
+    Scrub(Scrubbed),
+    /// None past the ring's end.
+    Recent(Option<Finding>),
+}

@@ -1,0 +1,37 @@
+-- Worked sessions compute.
+use Rattle.std.proofs.Common.{refl}
+use Rattle.std.specs.Fmt.{digits}
+use Rattle.hex.specs.Hex.{encode_with}
+use Rattle.df_script_model.specs.Sessions.{BlockSession, FirstSession, FullGrid, FullPipeline, FullTable, LongTrailer, RingSession, ScrubSession}
+
+pub first_session : FirstSession
+unfolding digits encode_with
+first_session named some = refl
+
+pub ring_session : RingSession
+unfolding digits encode_with
+ring_session named some = refl
+
+pub full_table : FullTable
+unfolding digits encode_with
+full_table named some = refl
+
+pub full_pipeline : FullPipeline
+unfolding digits encode_with
+full_pipeline named some = refl
+
+pub block_session : BlockSession
+unfolding digits encode_with
+block_session named some = refl
+
+pub full_grid : FullGrid
+unfolding digits encode_with
+full_grid named some = refl
+
+pub long_trailer : LongTrailer
+unfolding digits encode_with
+long_trailer named some = (refl, refl)
+
+pub scrub_session : ScrubSession
+unfolding digits encode_with
+scrub_session named some = refl

@@ -1,0 +1,5 @@
+use Rattle.df_script_model.proofs.Worked.{long_trailer}
+use Rattle.df_script_model.proofs.sessions.a_long_trailer.Goals as goal
+
+pub returns : goal.returns
+returns c = long_trailer
