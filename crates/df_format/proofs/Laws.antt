@@ -2,7 +2,7 @@
 pub use Rattle.df_format.proofs.Codes.{some-eq}
 pub use Rattle.df_format.proofs.Parts.{bytes-drop, bytes-take}
 pub use Rattle.df_format.proofs.Messages.{AreBytes-zeros}
-pub use Rattle.df_format.proofs.Owned.{has-from, has-true, is_own}
+pub use Rattle.df_format.proofs.Owned.{has-from, has-true, is_own, own_is}
 pub use Rattle.df_format.proofs.Sectors.{written_begins}
 pub use Rattle.df_format.proofs.Shown.{blank_image, none_unless}
 pub use Rattle.df_format.proofs.Wholes.{stale_valid, valid_stale}

@@ -1,8 +1,10 @@
 // Writes and reads of one slot of the ring. A prepare is durable before its writer answers.
-ghost use Rattle.std.specs.Prelude.{◌≡◌, ◌<◌, ◌^◌, OnOk};
+ghost use Rattle.std.specs.Prelude.{◌≡◌, ◌<◌, ◌^◌, take, OnOk};
 ghost use Rattle.df_base.specs.Causes.{HasCause};
 ghost use Rattle.df_disk.specs.Told.{Shows};
 ghost use Rattle.df_disk.specs.Adds.{Adds};
+ghost use Rattle.df_format.specs.Brings.{Brings};
+ghost use Rattle.df_format.specs.Message.{sectors_end};
 ghost use Rattle.df_buffers.specs.Rooms.{FillsRoom};
 ghost use Rattle.df_prepares.specs.Slots.{slot_place, slot_first, IsInOwnSlot, write_events, write_steps};
 ghost use Rattle.df_theory.specs.Device.{AreSteps};
@@ -43,6 +45,7 @@ pub fn write_prepare<D: Disk>(
     ensures events { Adds (write_events layout.now unit.now) (D.told disk.old) (D.told disk.new) result }
     ensures steps { AreSteps (format_of layout.now unit.now.unit.header.cluster) (write_events layout.now unit.now) (write_steps unit.now.unit) }
     ensures own { IsInOwnSlot layout.now unit.now.unit }
+    ensures brings { Brings layout.now unit.now.unit.header.cluster (slot_place unit.now.unit.header.slot) unit.now.unit (take (sectors_end unit.now.unit.header.size) unit.now.bytes) }
     ensures cause { HasCause (D.faults disk.old) (D.faults disk.new) result }
 {
     let slot = unit.header().slot;

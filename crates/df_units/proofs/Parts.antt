@@ -21,7 +21,7 @@ extends_on last later earlier one two =
     (one.0 ++ two.0, one.1 ∙ ap (λ (l : List Event). one.0 ++ l) two.1 ∙ sym (append_assoc one.0 two.0 earlier.events), one.2 ∙ two.2)
 
 -- the moments of a part are moments of the whole
-part_moments : (es : List Event) (before after : Told) (Q : Log → Type 0) → AddsPart es (Some before) (Some after) → EachMoment before.log (adds es before.log) Q → EachMoment before.log after.log Q
+pub part_moments : (es : List Event) (before after : Told) (Q : Log → Type 0) → AddsPart es (Some before) (Some after) → EachMoment before.log (adds es before.log) Q → EachMoment before.log after.log Q
 part_moments es before after Q part each log moment =
     each log (record { since = moment.since; until = extends_on (adds es before.log) after.log log (part_grows es before after part) moment.until })
 
@@ -41,7 +41,7 @@ pub call_whole : CallIsWhole
 call_whole f sh v c es before after is call keeps =
     part_moments es before after (IsGoodWholeDisk f sh v c.view) call.adds (standing_moments_law f sh v c before.log es is call.log call.steps keeps).0
 
-all_added : (es : List Event) (before after : Told) → Some after ≡ after_all es (Some before) → after.log ≡ adds es before.log
+pub all_added : (es : List Event) (before after : Told) → Some after ≡ after_all es (Some before) → after.log ≡ adds es before.log
 all_added [] before after is = ap (λ (t : Told). t.log) (some-eq is)
 all_added (e ∷ es) before after is = all_added es (did e before) after is
 

@@ -1,0 +1,13 @@
+//! The ring of redundant headers: the table of what each slot of it is to show, and the writes and reads of its sectors.
+#![tactic(auto)]
+
+mod reserved;
+mod sectors;
+mod spelled;
+mod table;
+#[cfg(test)]
+mod tests;
+
+pub use reserved::reserved_header;
+pub use sectors::read_sector;
+pub use table::{HeaderTable, tables_are_written};

@@ -1,0 +1,41 @@
+// Where the sectors of the header ring lie, and reads of them.
+ghost use Rattle.std.specs.Prelude.{◌≡◌, ◌<◌, ◌*◌, ◌/◌, ◌^◌, length, OnOk};
+ghost use Rattle.df_base.specs.Causes.{HasCause};
+ghost use Rattle.df_disk.specs.Told.{Shows};
+ghost use Rattle.df_layout.specs.declared.layout.Layout.{Layout};
+ghost use Rattle.df_theory.specs.Units.{HeaderPlace};
+ghost use Rattle.df_units.specs.Bytes.{first_at};
+
+use df_base::Failed;
+use df_buffers::{HeaderSector, Raw};
+use df_disk::Disk;
+
+// The first sector of the ring, behind the four copies of the superblock in every layout.
+const FIRST: u64 = 4;
+
+/// The number of a sector of the ring, which is counted from the ring's first one.
+#[tactic(auto, unfolding(df_layout::specs::Spans::span_of, df_layout::specs::Spans::sectors_before, df_layout::specs::Zones::first_sector, df_layout::specs::Zones::zone_sectors))]
+pub(crate) fn first_of(sector: u32) -> u64
+    requires { sector < 64 }
+    ensures first { (layout : Layout) → result ≡ first_at layout (HeaderPlace (16 * sector)) }
+    ensures below { result < 2 ^ 22 }
+{
+    FIRST + u64::from(sector)
+}
+
+/// Reads a sector of the ring, which is counted from the ring's first one, by one device call. After an error the room
+/// holds any bytes.
+pub fn read_sector<D: Disk>(
+    disk: &mut D,
+    room: &mut Raw<HeaderSector>,
+    sector: u32,
+) -> Result<(), Failed>
+    requires { sector < 64 }
+    ensures bytes { (layout : Layout) → OnOk result (Shows (D.told disk.old) (first_at layout (HeaderPlace (16 * sector))) room.new.bytes) }
+    ensures size { length room.new.bytes ≡ 4096 }
+    ensures room { room.new.layout ≡ room.old.layout }
+    ensures same { D.told disk.new ≡ D.told disk.old }
+    ensures cause { HasCause (D.faults disk.old) (D.faults disk.new) result }
+{
+    disk.read(first_of(sector), room.bytes_mut())
+}

@@ -1,0 +1,111 @@
+-- The sectors of a place are sectors of the disk, and what is read of them is what the place shows.
+use Rattle.std.proofs.Common.{◌≡◌, ◌≢◌, ℕ, ◌/◌, ◌%◌, ◌<◌, ◌≤◌, List, length, Option, Some, None, refl, sym, ◌∙◌, ap, subst, arith}
+use Rattle.std.specs.Prelude.{Result, Err}
+use Rattle.df_base.specs.Image.{Image, bytes_at}
+use Rattle.df_disk.specs.Told.{AreSectors, Shows, Told}
+use Rattle.df_layout.specs.declared.damage.Class.{Class}
+use Rattle.df_layout.specs.declared.layout.Layout.{Layout}
+use Rattle.df_layout.specs.declared.places.Place.{Place}
+use Rattle.df_layout.specs.declared.places.Zone.{Zone}
+use Rattle.df_layout.specs.declared.places.Zone.TheVariants.{Superblock, WalHeaders, WalPrepares, ClientReplies, Grid}
+use Rattle.df_layout.specs.Spans.{HasPlace, span_of}
+use Rattle.df_layout.proofs.Laws.{lies_inside}
+use Rattle.df_layout.proofs.Zones.{zones_follow}
+use Rattle.df_format.specs.declared.header.Header.{Header}
+use Rattle.df_format.specs.declared.kind.Kind.{Kind}
+use Rattle.df_format.specs.declared.kind.Kind.TheVariants.{Reserved, Prepare, Reply, Block, Trailer}
+use Rattle.df_format.specs.Message.{Message}
+use Rattle.df_format.specs.Shown.{bytes_of, part_in, class_at, class_of, header_or_class, unit_at, unit_in}
+use Rattle.df_format.specs.Valid.{Belongs, IsInSlot, IsOfSession}
+use Rattle.df_format.proofs.Laws.{read_belongs}
+use Rattle.df_buffers.specs.declared.identity.Wanted.TheVariants.{Any}
+use Rattle.df_buffers.specs.Found.{FindsKind}
+use Rattle.df_buffers.specs.Rooms.{StandsIn, room_size}
+use Rattle.df_places.specs.Units.{IsSeen, header_at}
+
+-- no kind of unit has a whole slot of the header ring
+pub no_ring : (kind : Kind) (zone : Zone) → StandsIn kind zone → zone ≢ WalHeaders
+no_ring kind Superblock stands same = cc
+no_ring Reserved WalHeaders stands same = stands
+no_ring Prepare WalHeaders stands same = stands
+no_ring Reply WalHeaders stands same = stands
+no_ring Block WalHeaders stands same = stands
+no_ring Trailer WalHeaders stands same = stands
+no_ring kind WalPrepares stands same = cc
+no_ring kind ClientReplies stands same = cc
+no_ring kind Grid stands same = cc
+
+-- a front of a place's sectors, one at least, is one of the disk's
+pub are_sectors : (layout : Layout) (place : Place) (zone : Zone) (first n : ℕ) → HasPlace layout place → place.zone ≡ zone → first ≡ (span_of layout place).first → 0 < n → n % 4096 ≡ 0 → n ≤ room_size layout zone → AreSectors first n
+unfolding span_of
+are_sectors layout place zone first n has in_zone is some whole fits =
+    let inside = lies_inside layout place has in
+    let room : n ≤ room_size layout place.zone = subst (λ (z : Zone). n ≤ room_size layout z) (sym in_zone) fits in
+    record { some = some; whole = whole; last = omega (arith, is, room, inside.in_file, (zones_follow layout).bound) }
+
+pub room_sectors : (layout : Layout) (place : Place) (zone : Zone) (first n : ℕ) → HasPlace layout place → place.zone ≡ zone → first ≡ (span_of layout place).first → n ≡ room_size layout zone → AreSectors first n
+unfolding span_of
+room_sectors layout place zone first n has in_zone is size =
+    let inside = lies_inside layout place has in
+    let room : n ≡ room_size layout place.zone = subst (λ (z : Zone). n ≡ room_size layout z) (sym in_zone) size in
+    are_sectors layout place zone first n has in_zone is (omega (arith, room, inside.some)) (omega (arith, size)) (omega (arith, size))
+
+-- a unit of a zone that isn't the grid is of the zone's kind
+kind_there : (kind : Kind) (zone : Zone) (layout : Layout) (index : ℕ) (h : Header) → StandsIn kind zone → zone ≢ Grid → Belongs layout zone index h → h.kind ≡ kind
+kind_there Reserved zone layout index h stands slot belongs = absurd stands
+kind_there Prepare WalPrepares layout index h stands slot belongs = let in_slot : IsInSlot layout index h = belongs in in_slot.kind
+kind_there Prepare zone layout index h stands slot belongs = absurd stands
+kind_there Reply ClientReplies layout index h stands slot belongs = let of : IsOfSession index h = belongs in of.kind
+kind_there Reply zone layout index h stands slot belongs = absurd stands
+kind_there Block Grid layout index h stands slot belongs = absurd (slot refl)
+kind_there Block zone layout index h stands slot belongs = absurd stands
+kind_there Trailer Grid layout index h stands slot belongs = absurd (slot refl)
+kind_there Trailer zone layout index h stands slot belongs = absurd stands
+
+-- what isn't found where any unit is wanted isn't there
+pub none_shown : (kind : Kind) (zone : Zone) (layout : Layout) (cluster : ℕ) (place : Place) (bytes : List ℕ) (class : Class) → StandsIn kind zone → zone ≢ Grid → place.zone ≡ zone
+    → ((u : Message) → FindsKind kind (record { layout = layout; cluster = cluster; place = place; wanted = Any }) bytes u → ⊥)
+    → class ≡ class_of layout cluster place bytes → Err class ≡ header_or_class (unit_in layout cluster place bytes) (class_of layout cluster place bytes)
+none_shown kind zone layout cluster place bytes class stands slot in_zone none is = by (unit_in layout cluster place bytes) refl
+  where
+    by : (o : Option Message) → unit_in layout cluster place bytes ≡ o → Err class ≡ header_or_class o (class_of layout cluster place bytes)
+    by None shown = ap Err is
+    by (Some u) shown =
+        let belongs : Belongs layout zone place.index u.header = subst (λ (z : Zone). Belongs layout z place.index u.header) in_zone (read_belongs layout cluster place bytes u shown).belongs in
+        absurd (none u (record { found = record { valid = shown; wanted = tt }; of_kind = kind_there kind zone layout place.index u.header stands slot belongs }))
+
+sectors_read : (layout : Layout) (place : Place) (zone : Zone) (n : ℕ) → place.zone ≡ zone → n ≡ room_size layout zone → n / 4096 ≡ (span_of layout place).count
+unfolding span_of
+sectors_read layout place zone n in_zone is =
+    let room : n ≡ room_size layout place.zone = subst (λ (z : Zone). n ≡ room_size layout z) (sym in_zone) is in
+    omega (arith, room)
+
+-- the bytes that were read are those of the place
+read_part : (layout : Layout) (image : Image) (place : Place) (zone : Zone) (bytes : List ℕ) → zone ≢ WalHeaders → place.zone ≡ zone → length bytes ≡ room_size layout zone
+    → bytes ≡ bytes_at image (span_of layout place).first (length bytes / 4096) → bytes ≡ bytes_at image (span_of layout place).first (span_of layout place).count
+read_part layout image place zone bytes alone in_zone size is = is ∙ ap (λ (n : ℕ). bytes_at image (span_of layout place).first n) (sectors_read layout place zone (length bytes) in_zone size)
+
+-- all bytes of a place that is no header slot are its own
+all_own : (zone : Zone) (index : ℕ) (bytes : List ℕ) → zone ≢ WalHeaders → bytes ≡ part_in zone index bytes
+all_own WalHeaders index bytes alone = absurd (alone refl)
+all_own Superblock index bytes alone = refl
+all_own WalPrepares index bytes alone = refl
+all_own ClientReplies index bytes alone = refl
+all_own Grid index bytes alone = refl
+
+place_part : (layout : Layout) (image : Image) (place : Place) → place.zone ≢ WalHeaders → bytes_at image (span_of layout place).first (span_of layout place).count ≡ bytes_of layout image place
+unfolding bytes_of
+place_part layout image place alone = all_own place.zone place.index (bytes_at image (span_of layout place).first (span_of layout place).count) alone
+
+shown_part : (layout : Layout) (cluster : ℕ) (image : Image) (place : Place) (bytes : List ℕ) → bytes ≡ bytes_of layout image place
+    → header_or_class (unit_in layout cluster place bytes) (class_of layout cluster place bytes) ≡ header_at layout cluster image place
+unfolding unit_at class_at
+shown_part layout cluster image place bytes is = ap (λ (b : List ℕ). header_or_class (unit_in layout cluster place b) (class_of layout cluster place b)) is
+
+-- so what they show is what the disk shows
+pub read_seen : (layout : Layout) (cluster : ℕ) (place : Place) (zone : Zone) (told : Option Told) (bytes : List ℕ) (seen : Result Header Class) → zone ≢ WalHeaders → place.zone ≡ zone → length bytes ≡ room_size layout zone
+    → Shows told (span_of layout place).first bytes → seen ≡ header_or_class (unit_in layout cluster place bytes) (class_of layout cluster place bytes) → IsSeen layout cluster told place seen
+read_seen layout cluster place zone None bytes seen alone in_zone size shows is = tt
+read_seen layout cluster place zone (Some t) bytes seen alone in_zone size shows is =
+    let part = read_part layout t.shown place zone bytes alone in_zone size shows in
+    is ∙ shown_part layout cluster t.shown place bytes (part ∙ place_part layout t.shown place (subst (λ (z : Zone). z ≢ WalHeaders) (sym in_zone) alone))

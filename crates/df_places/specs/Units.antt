@@ -1,0 +1,34 @@
+-- What a write of a unit into its place does, and what a place shows.
+use Rattle.std.specs.Prelude.{◌≡◌, ℕ, List, [], ◌∷◌, take, Option, Some, None, Result}
+use Rattle.df_base.specs.Image.{Image}
+use Rattle.df_base.specs.Log.{Event, Write, Sync}
+use Rattle.df_disk.specs.Told.{Told}
+use Rattle.df_layout.specs.declared.layout.Layout.{Layout}
+use Rattle.df_layout.specs.declared.damage.Class.{Class}
+use Rattle.df_layout.specs.declared.places.Place.{Place}
+use Rattle.df_layout.specs.Spans.{span_of}
+use Rattle.df_format.specs.declared.header.Header.{Header}
+use Rattle.df_format.specs.Message.{sectors_end}
+use Rattle.df_format.specs.Shown.{class_at, header_or_class, unit_at}
+use Rattle.df_buffers.specs.Sounds.{Holding}
+use Rattle.df_theory.specs.Units
+use Rattle.df_theory.specs.Units.{AnyUnit}
+use Rattle.df_theory.specs.UnitLog.{put_one}
+use Rattle.df_theory.specs.Runs.{Puts, Step, Syncs}
+
+-- the whole sectors that a unit covers go into its place, and are synced
+abbrev pub unit_events : Layout → Place → Holding → List Event
+unit_events layout place held = Write (span_of layout place).first (take (sectors_end held.unit.header.size) held.bytes) ∷ Sync ∷ []
+
+-- in the words of the model: the unit is put into its place, and synced
+abbrev pub unit_steps : Units.Place → AnyUnit → List Step
+unit_steps place x = Puts (put_one place x) ∷ Syncs ∷ []
+
+-- the header of the unit that an image shows at a place, or the class of what it shows
+abbrev pub header_at : Layout → ℕ → Image → Place → Result Header Class
+header_at layout cluster image place = header_or_class (unit_at layout cluster image place) (class_at layout cluster image place)
+
+-- what is seen is what the disk shows there, where it tells that
+abbrev pub IsSeen : Layout → ℕ → Option Told → Place → Result Header Class → Type 0
+IsSeen layout cluster None place seen = Unit {0}
+IsSeen layout cluster (Some t) place seen = seen ≡ header_at layout cluster t.shown place
