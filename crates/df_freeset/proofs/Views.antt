@@ -1,10 +1,13 @@
 -- What taking and giving back make of the set as its callers see it.
-use Rattle.std.proofs.Common.{◌≡◌, ℕ, ◌+◌, ◌-◌, ◌/◌, ◌%◌, ◌<◌, Bool, true, false, List, length, set, ap, subst, ◌∙◌, arith}
+use Rattle.std.proofs.Common.{◌≡◌, ℕ, ◌+◌, ◌-◌, ◌/◌, ◌<◌, Bool, true, false, List, length, get_or, set, ap, subst, ◌∙◌, arith}
 use Rattle.std.specs.Prelude.{slice_index, sum_by, count_ones}
+use Rattle.std.specs.Global.{Vec}
+use Rattle.std.specs.Vec.{with_items}
+use Rattle.std.proofs.lemmas.List.{with_items_is, length-set, get_or_read}
 use Rattle.df_freeset.specs.Addresses.{HasAddress, free_of}
-use Rattle.df_freeset.specs.Bits.{IsRoom, taken_in, with_bit, without_bit}
+use Rattle.df_freeset.specs.Bits.{IsRoom, taken_in, setting, clearing}
 use Rattle.df_freeset.proofs.Counts.{free_and_ones}
-use Rattle.df_freeset.proofs.Words.{WritesBit, length_taken, taken_written, room_written, set_writes, clear_writes, word_inside}
+use Rattle.df_freeset.proofs.Words.{length_taken, taken_written, set_writes, clear_writes, word_inside}
 
 -- the bit of an address of the set is one of the room's
 pub bit_below : (words : List ℕ) (n : ℕ) (now : List Bool) (address : ℕ) → taken_in words n ≡ now → HasAddress now address → address - 1 < n
@@ -13,29 +16,28 @@ bit_below words n now address view has = omega (arith, length_taken words n, ap 
 pub word_there : (words : List ℕ) (n : ℕ) (now : List Bool) (address : ℕ) → IsRoom words n → taken_in words n ≡ now → HasAddress now address → (address - 1) / 64 < length words
 word_there words n now address room view has = word_inside words n (address - 1) room (bit_below words n now address view has)
 
--- the words are a room, and the set is as before but for this address
-pub record WritesAddress (new : List ℕ) (n : ℕ) (now : List Bool) (address : ℕ) (value : Bool) : Type 0 where
-  pub room : IsRoom new n
-  pub view : taken_in new n ≡ set now (address - 1) value
+-- words that are written back into their room are its words
+pub written_back : (room : Vec ℕ) (new : List ℕ) (k word : ℕ) → new ≡ set room.items k word → (with_items room new).items ≡ new
+written_back room new k word is = with_items_is room new (omega (arith, room.ok.0, length-set room.items k word, ap length is))
 
-written : (words new : List ℕ) (n : ℕ) (now : List Bool) (address : ℕ) (value : Bool) → IsRoom words n → taken_in words n ≡ now → HasAddress now address
-    → WritesBit words new (address - 1) value → WritesAddress new n now address value
-written words new n now address value room view has writes =
+-- and a word read of them is theirs
+pub read_back : (room : Vec ℕ) (new : List ℕ) (k w word read : ℕ) → new ≡ set room.items k word → w < length room.items → read ≡ get_or (with_items room new).items w read → read ≡ slice_index (set room.items k word) w
+read_back room new k w word read is inside found =
+    let whole : read ≡ get_or (set room.items k word) w read = rw (written_back room new k word is, is) at found in
+    get_or_read (set room.items k word) w read (omega (arith, length-set room.items k word)) whole 0
+
+-- the list of taken addresses, as its callers see it, has this address taken, or given back
+pub taken_view : (words : List ℕ) (n : ℕ) (now : List Bool) (address : ℕ) → IsRoom words n → taken_in words n ≡ now → HasAddress now address
+    → taken_in (setting words (address - 1)) n ≡ set now (address - 1) true
+taken_view words n now address room view has =
     let inside : address - 1 < n = bit_below words n now address view has in
-    record {
-      room = room_written words new n (address - 1) value inside room writes;
-      view = taken_written words new n (address - 1) value inside writes ∙ ap (λ (all : List Bool). set all (address - 1) value) view;
-    }
+    taken_written words (setting words (address - 1)) n (address - 1) true inside (set_writes words n (address - 1) room inside) ∙ ap (λ (all : List Bool). set all (address - 1) true) view
 
-pub takes : (words : List ℕ) (n : ℕ) (now : List Bool) (address word : ℕ) → IsRoom words n → taken_in words n ≡ now → HasAddress now address → word ≡ slice_index words ((address - 1) / 64)
-    → WritesAddress (set words ((address - 1) / 64) (with_bit word ((address - 1) % 64))) n now address true
-takes words n now address word room view has is =
-    rw is (written words _ n now address true room view has (set_writes words n (address - 1) room (bit_below words n now address view has)))
-
-pub gives : (words : List ℕ) (n : ℕ) (now : List Bool) (address word : ℕ) → IsRoom words n → taken_in words n ≡ now → HasAddress now address → word ≡ slice_index words ((address - 1) / 64)
-    → WritesAddress (set words ((address - 1) / 64) (without_bit word ((address - 1) % 64))) n now address false
-gives words n now address word room view has is =
-    rw is (written words _ n now address false room view has (clear_writes words n (address - 1) room (bit_below words n now address view has)))
+pub given_view : (words : List ℕ) (n : ℕ) (now : List Bool) (address : ℕ) → IsRoom words n → taken_in words n ≡ now → HasAddress now address
+    → taken_in (clearing words (address - 1)) n ≡ set now (address - 1) false
+given_view words n now address room view has =
+    let inside : address - 1 < n = bit_below words n now address view has in
+    taken_written words (clearing words (address - 1)) n (address - 1) false inside (clear_writes words n (address - 1) room inside) ∙ ap (λ (all : List Bool). set all (address - 1) false) view
 
 -- the free ones are those that aren't counted
 pub free_left : (words : List ℕ) (n : ℕ) (now : List Bool) → IsRoom words n → taken_in words n ≡ now → free_of now + sum_by count_ones words ≡ n

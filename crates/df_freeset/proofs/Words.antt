@@ -8,7 +8,7 @@ use Rattle.std.proofs.lemmas.List.FromFn.{length-map-range_with_len, get_or-map-
 use Rattle.std.proofs.lemmas.Option.{slice_get-get_or}
 use Rattle.std.proofs.lemmas.Nat.{or_lt, and_le_l, mod_below, pow_pos}
 use Rattle.std.proofs.lemmas.Nat.Bits.{bit_at-zero, bit_at_set_same, bit_at_set_other, bit_at_clear_same, bit_at_clear_other}
-use Rattle.df_freeset.specs.Bits.{IsRoom, bit_in, taken_in, with_bit, without_bit}
+use Rattle.df_freeset.specs.Bits.{IsRoom, bit_in, taken_in, with_bit, without_bit, setting, clearing}
 
 pub length_taken : (words : List ℕ) (n : ℕ) → length (taken_in words n) ≡ n
 length_taken words n = length-map-range_with_len (bit_in words) 0 n
@@ -93,12 +93,12 @@ pub word_inside : (words : List ℕ) (n bit : ℕ) → IsRoom words n → bit < 
 word_inside words n bit room within = let size = room.size in omega arith
 
 pub set_writes : (words : List ℕ) (n bit : ℕ) → IsRoom words n → bit < n
-    → WritesBit words (set words (bit / 64) (with_bit (slice_index words (bit / 64)) (bit % 64))) bit true
+    → WritesBit words (setting words bit) bit true
 set_writes words n bit room within =
     word_writes words bit _ true room.words_fit (word_inside words n bit room within) (set_word (slice_index words (bit / 64)) (bit % 64) (room.words_fit (bit / 64)) (omega arith))
 
 pub clear_writes : (words : List ℕ) (n bit : ℕ) → IsRoom words n → bit < n
-    → WritesBit words (set words (bit / 64) (without_bit (slice_index words (bit / 64)) (bit % 64))) bit false
+    → WritesBit words (clearing words bit) bit false
 clear_writes words n bit room within =
     word_writes words bit _ false room.words_fit (word_inside words n bit room within) (clear_word (slice_index words (bit / 64)) (bit % 64) (room.words_fit (bit / 64)) (omega arith))
 

@@ -1,43 +1,52 @@
-// The free set over a room of words that its owner lends.
+// The free set over rooms that its owner lends: words of a bit for each address, and a summary of a bit for each full word.
 ghost use Rattle.std.specs.Prelude.{◌≡◌, ◌+◌, ◌-◌, ◌/◌, ◌↔◌, Bool, true, false, List, length, replicate, vec_len, slice_set, All, IsNone, IfSome};
 ghost use Rattle.df_freeset.specs.Addresses.{HasAddress, IsTaken, IsFree, IsLeastFree, AreAllTaken, free_of};
 
-use crate::bits::{WORD, first_open, ones_in};
+use crate::bits::{WORD, clear_bit, lowest_zero, ones_in, set_bit};
 use std::marker::Model;
 
 /// Which of the addresses 1 to `blocks` are taken; contracts see a Bool for each address in order.
 #[derive(Drop)]
 pub struct FreeSet {
     words: Vec<u64>,
+    summary: Vec<u64>,
     blocks: u32,
 }
 
 impl Model for FreeSet {
     ghost use Rattle.std.specs.Prelude.{List, Bool};
-    ghost use Rattle.df_freeset.specs.Bits.{taken_in, IsRoom};
+    ghost use Rattle.df_freeset.specs.Bits.{taken_in, IsFreeSet};
 
     ghost Value = { List Bool };
 
     ghost view = { λ s. taken_in s.words.items s.blocks };
 
-    ghost invariant = { λ s. IsRoom s.words.items s.blocks };
+    ghost invariant = { λ s. IsFreeSet s.words.items s.summary.items s.blocks };
 }
 
 impl FreeSet {
-    /// A set of `blocks` addresses that are all free, in a room of as many words as their bits need, all zero.
-    pub fn over(words: Vec<u64>, blocks: u32) -> FreeSet
+    /// A set of `blocks` addresses that are all free, in a room of as many words as their bits need, and one of as many
+    /// as the bits of these words need, all zero.
+    pub fn over(words: Vec<u64>, summary: Vec<u64>, blocks: u32) -> FreeSet
         requires room { vec_len words ≡ (blocks + 63) / 64 }
+        requires summary_room { vec_len summary ≡ (vec_len words + 63) / 64 }
         requires zero { All (λ word. word ≡ 0) words.items }
+        requires summary_zero { All (λ word. word ≡ 0) summary.items }
         ensures { result ≡ replicate blocks false }
     {
-        FreeSet { words, blocks }
+        FreeSet {
+            words,
+            summary,
+            blocks,
+        }
     }
 
-    /// Gives the room back, with any bits in it.
-    pub fn into_room(self) -> Vec<u64>
-        ensures { vec_len result ≡ (length self + 63) / 64 }
+    /// Gives the room and the summary's back, with any bits in them.
+    pub fn into_room(self) -> (Vec<u64>, Vec<u64>)
+        ensures room { vec_len result.0 ≡ (length self + 63) / 64 }
+        ensures summary_room { vec_len result.1 ≡ (vec_len result.0 + 63) / 64 }
     {
-        self.words
+        (self.words, self.summary)
     }
 
     /// Takes an address; one that is taken stays so.
@@ -47,7 +56,10 @@ impl FreeSet {
         ensures fewer { IsFree self.old address → free_of self.new + 1 ≡ free_of self.old }
     {
         let bit = address - 1;
-        self.words[(bit / WORD) as usize] |= 1 << (bit % WORD);
+        set_bit(&mut self.words, bit);
+        if self.words[(bit / WORD) as usize] == u64::MAX {
+            set_bit(&mut self.summary, bit / WORD);
+        }
     }
 
     /// Gives an address back; one that is free stays so.
@@ -57,16 +69,18 @@ impl FreeSet {
         ensures more { IsTaken self.old address → free_of self.new ≡ free_of self.old + 1 }
     {
         let bit = address - 1;
-        self.words[(bit / WORD) as usize] &= !(1 << (bit % WORD));
+        clear_bit(&mut self.words, bit);
+        clear_bit(&mut self.summary, bit / WORD);
     }
 
-    /// The least free address, None exactly where all are taken.
+    /// The least free address, None exactly where all are taken. It looks at words of the summary, and at one of the set's.
     pub fn least_free(&self) -> Option<u64>
         ensures none { IsNone result ↔ AreAllTaken self.now }
         ensures least { IfSome result (IsLeastFree self.now) }
     {
-        let word = first_open(&self.words)?;
-        let address = word as u64 * WORD + u64::from(self.words[word].trailing_ones()) + 1;
+        let word = lowest_zero(&self.summary)?;
+        let ones = self.words.get(word as usize)?.trailing_ones();
+        let address = word * WORD + u64::from(ones) + 1;
         if address <= u64::from(self.blocks) {
             Some(address)
         } else {

@@ -1,4 +1,4 @@
-// A set in use: addresses are given out lowest first, and across words.
+// Sets in use: addresses are given out lowest first, across words, and across words of the summary.
 use crate::FreeSet;
 use std::test::Fail;
 
@@ -6,7 +6,9 @@ use std::test::Fail;
 fn addresses_are_given_out_lowest_first(rt: HostRuntime) -> Result<(), Fail> {
     let words = [0u64; 2].to_vec(rt.alloc())?;
     assert_eq!(rt; words.len(), 2);
-    let mut set = FreeSet::over(words, 70);
+    let summary = [0u64; 1].to_vec(rt.alloc())?;
+    assert_eq!(rt; summary.len(), 1);
+    let mut set = FreeSet::over(words, summary, 70);
     for address in 1..=70 {
         assert_eq!(rt; set.least_free(), Some(address));
         set.take(address);
@@ -19,7 +21,25 @@ fn addresses_are_given_out_lowest_first(rt: HostRuntime) -> Result<(), Fail> {
     assert_eq!(rt; set.least_free(), Some(7));
     set.take(7);
     assert_eq!(rt; set.least_free(), Some(66));
-    let room = set.into_room();
+    let (room, summary) = set.into_room();
     assert_eq!(rt; room.len(), 2);
+    assert_eq!(rt; summary.len(), 1);
+    Ok(())
+}
+
+#[test]
+fn last_of_a_large_grid_is_found_through_the_summary(rt: HostRuntime) -> Result<(), Fail> {
+    let words = vec![in rt.alloc(); 0u64; 256]?;
+    let summary = vec![in rt.alloc(); 0u64; 4]?;
+    let mut set = FreeSet::over(words, summary, 16384);
+    for address in 1..=16384 {
+        set.take(address);
+    }
+    assert_eq!(rt; set.least_free(), None);
+    set.give(16384);
+    assert_eq!(rt; set.least_free(), Some(16384));
+    set.give(8191);
+    assert_eq!(rt; set.least_free(), Some(8191));
+    assert_eq!(rt; set.free(), 2);
     Ok(())
 }

@@ -1,28 +1,36 @@
--- The word of the address is read, and written with its bit cleared.
-use Rattle.std.proofs.Common.{◌-◌, ◌/◌, arith}
-use Rattle.std.proofs.lemmas.List.{get_or_read}
+-- The address's bit is cleared, and the bit of its word.
+use Rattle.std.proofs.Common.{◌≡◌, ◌-◌, ◌/◌, refl}
+use Rattle.df_freeset.specs.Bits.{clearing}
 use Rattle.df_freeset.proofs.Counts.{one_more}
-use Rattle.df_freeset.proofs.Views.{gives, word_there}
+use Rattle.df_freeset.proofs.Views.{bit_below, given_view, word_there, written_back}
+use Rattle.df_freeset.proofs.Summary.{empties, summary_inside}
 use Rattle.df_freeset.proofs.set.FreeSet.give.Goals as goal
 
-pub index_mut-requires : goal.index_mut-requires
-index_mut-requires c =
+pub clear_bit-requires : goal.clear_bit-requires
+clear_bit-requires c =
     let s = c.self.inside in
-    omega (arith, s.words.ok, word_there s.words.items s.blocks c.args.self.now c.args.address c.self.invariant c.self.view_is c.requires)
+    rw c.deref_mut.ensures.value (word_there s.words.items s.blocks c.args.self.now c.args.address c.self.invariant.room c.self.view_is c.requires)
+
+pub clear_bit-requires-2 : goal.clear_bit-requires-2
+clear_bit-requires-2 c =
+    let s = c.self.inside in
+    rw c.deref_mut-2.ensures.value
+    (summary_inside s.words.items s.summary.items s.blocks (c.args.address - 1) c.self.invariant (bit_below s.words.items s.blocks c.args.self.now c.args.address c.self.view_is c.requires))
 
 pub invariant_of-self : goal.invariant_of-self
 invariant_of-self c =
     let s = c.self.inside in
-    let a = c.args in
-    let inside = word_there s.words.items s.blocks a.self.now a.address c.self.invariant c.self.view_is c.requires in
-    let is = get_or_read s.words.items ((a.address - 1) / 64) c.index_mut.result.now inside c.index_mut.ensures.value 0 in
-    (gives s.words.items s.blocks a.self.now a.address c.index_mut.result.now c.self.invariant c.self.view_is c.requires is).room
+    let bit = c.args.address - 1 in
+    let words : c.clear_bit.new.words ≡ clearing s.words.items bit = rw c.deref_mut.ensures.value at c.clear_bit.ensures in
+    let summary : c.clear_bit-2.new.words ≡ clearing s.summary.items (bit / 64) = rw c.deref_mut-2.ensures.value at c.clear_bit-2.ensures in
+    let inside = bit_below s.words.items s.blocks c.args.self.now c.args.address c.self.view_is c.requires in
+    rw (written_back s.words _ _ _ words, written_back s.summary _ _ _ summary, words, summary)
+    (empties s.words.items s.summary.items s.blocks bit c.self.invariant inside)
 
 pub returns : goal.returns
 returns c =
     let s = c.self.inside in
-    let a = c.args in
-    let inside = word_there s.words.items s.blocks a.self.now a.address c.self.invariant c.self.view_is c.requires in
-    let is = get_or_read s.words.items ((a.address - 1) / 64) c.index_mut.result.now inside c.index_mut.ensures.value 0 in
-    let view = (gives s.words.items s.blocks a.self.now a.address c.index_mut.result.now c.self.invariant c.self.view_is c.requires is).view in
-    record { free = view; more = λ taken. rw view (one_more a.self.now (a.address - 1) taken) }
+    let now = c.args.self.now in
+    let words : c.clear_bit.new.words ≡ clearing s.words.items (c.args.address - 1) = rw c.deref_mut.ensures.value at c.clear_bit.ensures in
+    let view = given_view s.words.items s.blocks now c.args.address c.self.invariant.room c.self.view_is c.requires in
+    rw (written_back s.words _ _ _ words, words, view) record { free = refl; more = one_more now (c.args.address - 1) }

@@ -1,28 +1,62 @@
--- The word of the address is read, and written with its bit set.
-use Rattle.std.proofs.Common.{◌-◌, ◌/◌, arith}
-use Rattle.std.proofs.lemmas.List.{get_or_read}
+-- The address's bit is set, and the bit of its word where this fills it.
+use Rattle.std.proofs.Common.{◌≡◌, ◌-◌, ◌/◌, refl, sym, ◌∙◌, arith}
+use Rattle.std.specs.Prelude.{slice_index}
+use Rattle.df_freeset.specs.Bits.{setting}
 use Rattle.df_freeset.proofs.Counts.{one_fewer}
-use Rattle.df_freeset.proofs.Views.{takes, word_there}
+use Rattle.df_freeset.proofs.Views.{bit_below, taken_view, word_there, written_back, read_back}
+use Rattle.df_freeset.proofs.Summary.{fills, leaves_open, summary_inside}
 use Rattle.df_freeset.proofs.set.FreeSet.take.Goals as goal
 
-pub index_mut-requires : goal.index_mut-requires
-index_mut-requires c =
+pub set_bit-requires : goal.set_bit-requires
+set_bit-requires c =
     let s = c.self.inside in
-    omega (arith, s.words.ok, word_there s.words.items s.blocks c.args.self.now c.args.address c.self.invariant c.self.view_is c.requires)
+    rw c.deref_mut.ensures.value (word_there s.words.items s.blocks c.args.self.now c.args.address c.self.invariant.room c.self.view_is c.requires)
+
+pub index-requires : goal.index-requires
+index-requires c =
+    let s = c.self.inside in
+    omega (arith, s.words.ok, word_there s.words.items s.blocks c.args.self.now c.args.address c.self.invariant.room c.self.view_is c.requires)
+
+pub set_bit-requires-then-index : goal.set_bit-requires-then-index
+set_bit-requires-then-index c =
+    let s = c.self.inside in
+    rw c.deref_mut-then-index.ensures.value
+    (summary_inside s.words.items s.summary.items s.blocks (c.args.address - 1) c.self.invariant (bit_below s.words.items s.blocks c.args.self.now c.args.address c.self.view_is c.requires))
 
 pub invariant_of-self : goal.invariant_of-self
 invariant_of-self c =
     let s = c.self.inside in
-    let a = c.args in
-    let inside = word_there s.words.items s.blocks a.self.now a.address c.self.invariant c.self.view_is c.requires in
-    let is = get_or_read s.words.items ((a.address - 1) / 64) c.index_mut.result.now inside c.index_mut.ensures.value 0 in
-    (takes s.words.items s.blocks a.self.now a.address c.index_mut.result.now c.self.invariant c.self.view_is c.requires is).room
+    let bit = c.args.address - 1 in
+    let words : c.set_bit.new.words ≡ setting s.words.items bit = rw c.deref_mut.ensures.value at c.set_bit.ensures in
+    let summary : c.set_bit-then-index.new.words ≡ setting s.summary.items (bit / 64) = rw c.deref_mut-then-index.ensures.value at c.set_bit-then-index.ensures in
+    let inside = bit_below s.words.items s.blocks c.args.self.now c.args.address c.self.view_is c.requires in
+    let row = word_there s.words.items s.blocks c.args.self.now c.args.address c.self.invariant.room c.self.view_is c.requires in
+    let read : c.index.result.now ≡ slice_index (setting s.words.items bit) (bit / 64) = read_back s.words c.set_bit.new.words _ _ _ c.index.result.now words row c.index.ensures in
+    rw (written_back s.words _ _ _ words, written_back s.summary _ _ _ summary, words, summary)
+    (fills s.words.items s.summary.items s.blocks bit c.self.invariant inside (sym read ∙ c.if-index.true))
 
-pub returns : goal.returns
-returns c =
+pub invariant_of-self-else-index : goal.invariant_of-self-else-index
+invariant_of-self-else-index c =
     let s = c.self.inside in
-    let a = c.args in
-    let inside = word_there s.words.items s.blocks a.self.now a.address c.self.invariant c.self.view_is c.requires in
-    let is = get_or_read s.words.items ((a.address - 1) / 64) c.index_mut.result.now inside c.index_mut.ensures.value 0 in
-    let view = (takes s.words.items s.blocks a.self.now a.address c.index_mut.result.now c.self.invariant c.self.view_is c.requires is).view in
-    record { taken = view; fewer = λ free. rw view (one_fewer a.self.now (a.address - 1) free) }
+    let bit = c.args.address - 1 in
+    let words : c.set_bit.new.words ≡ setting s.words.items bit = rw c.deref_mut.ensures.value at c.set_bit.ensures in
+    let inside = bit_below s.words.items s.blocks c.args.self.now c.args.address c.self.view_is c.requires in
+    let row = word_there s.words.items s.blocks c.args.self.now c.args.address c.self.invariant.room c.self.view_is c.requires in
+    let read : c.index.result.now ≡ slice_index (setting s.words.items bit) (bit / 64) = read_back s.words c.set_bit.new.words _ _ _ c.index.result.now words row c.index.ensures in
+    rw (written_back s.words _ _ _ words, words) (leaves_open s.words.items s.summary.items s.blocks bit c.self.invariant inside (λ full. c.if-index.false (read ∙ full)))
+
+pub returns-then-index : goal.returns-then-index
+returns-then-index c =
+    let s = c.self.inside in
+    let now = c.args.self.now in
+    let words : c.set_bit.new.words ≡ setting s.words.items (c.args.address - 1) = rw c.deref_mut.ensures.value at c.set_bit.ensures in
+    let view = taken_view s.words.items s.blocks now c.args.address c.self.invariant.room c.self.view_is c.requires in
+    rw (written_back s.words _ _ _ words, words, view) record { taken = refl; fewer = one_fewer now (c.args.address - 1) }
+
+pub returns-else-index : goal.returns-else-index
+returns-else-index c =
+    let s = c.self.inside in
+    let now = c.args.self.now in
+    let words : c.set_bit.new.words ≡ setting s.words.items (c.args.address - 1) = rw c.deref_mut.ensures.value at c.set_bit.ensures in
+    let view = taken_view s.words.items s.blocks now c.args.address c.self.invariant.room c.self.view_is c.requires in
+    rw (written_back s.words _ _ _ words, words, view) record { taken = refl; fewer = one_fewer now (c.args.address - 1) }
