@@ -1,0 +1,171 @@
+-- What a text in which no part fails says: lawful parts, of which it is the spelling.
+use Rattle.std.proofs.Common.{◌≡◌, ℕ, zero, suc, ◌+◌, ◌-◌, ◌*◌, ◌/◌, ◌^◌, ◌<◌, ◌≤◌, ◌==◌, Bool, true, false, Option, Some, None, List, [], ◌∷◌, ◌++◌, length, take, drop, refl, sym, ap, ◌∙◌, subst, arith, length-drop}
+use Rattle.std.specs.Prelude.{map, min}
+use Rattle.std.specs.List.{slice_get}
+use Rattle.std.proofs.lemmas.List.{length-take-le}
+use Rattle.std.proofs.lemmas.Bool.{ltb-false, leb-false, eqb-true}
+use Rattle.df_base.specs.Fields.{AreBytes, field_at, spelled}
+use Rattle.df_base.proofs.FieldBytes.{field_at-lt}
+use Rattle.df_theory.specs.Units.{Layout, Parts, Session}
+use Rattle.df_model.specs.Codec.{InGrid, IsChecksum, IsLawful}
+use Rattle.df_model.specs.Refusals.{first_refusal}
+use Rattle.df_trailer.proofs.Passing.{all_pass, not_false}
+use Rattle.df_trailer.specs.declared.fault.Failing.{Failing}
+use Rattle.df_trailer.specs.declared.fault.Fault.{Fault}
+use Rattle.df_trailer.specs.Spelling.{bits_size, blocks_of, is_referenced, listed, number_of, spell, spell_blocks, spell_checks, spell_sessions}
+use Rattle.df_trailer.specs.Text.{at_address, at_place, bits, bits_at, bits_of, checks_at, count, count_at, end_at, fault, fault_in, first_wrong, parse, parts_of, read_blocks, read_sessions, root_size, sessions_at, tests, unless, whole}
+use Rattle.df_trailer.proofs.Pieces.{joined, number_joined}
+use Rattle.df_trailer.proofs.Bytes.{AreBytes-drop, AreBytes-take}
+use Rattle.df_trailer.proofs.Bits.{length_bits, number_bits}
+use Rattle.df_trailer.proofs.Blocks as blocks
+use Rattle.df_trailer.proofs.Sessions as sessions
+use Rattle.df_trailer.proofs.Rules.{KeepRules, rules_kept}
+
+-- what the tests say of a text in which no part fails
+pub record IsFine (l : Layout) (op : ℕ) (text : List ℕ) : Type 0 where
+  pub start : 4 ≤ length text
+  pub root : root_size text ≤ 1024
+  pub few : count text ≤ l.clients
+  pub rules : KeepRules op [] (read_sessions (count text) (sessions_at text) text)
+  pub bits_are : bits l text < 2 ^ l.blocks
+  pub ends : length text ≡ end_at l text
+
+pub no_fault : (o : Option Failing) → fault_in o ≡ None → o ≡ None
+no_fault None is = refl
+no_fault (Some f) is = absurd (cc)
+
+fits_whole : (c len s : ℕ) → s + 32 * c ≤ len → min c ((len - s) / 32) ≡ c
+fits_whole c len s h = omega arith
+
+pub fine : (l : Layout) (op : ℕ) (text : List ℕ) → fault l op text ≡ None → IsFine l op text
+fine l op text none =
+    let t = all_pass (tests l op text) (no_fault (first_refusal (tests l op text)) none) in
+    let t1 = t.1 in let t2 = t1.1 in let t3 = t2.1 in let t4 = t3.1 in let t5 = t4.1 in let t6 = t5.1 in let t7 = t6.1 in let t8 = t7.1 in let t9 = t8.1 in
+    let reach : bits_at text ≤ length text = ltb-false (length text) (bits_at text) t6.0 in
+    let all : whole text ≡ count text = fits_whole (count text) (length text) (sessions_at text) reach in
+    let right : whole text ≤ first_wrong op text = ltb-false (first_wrong op text) (whole text) t5.0 in
+    let sizes : length (read_sessions (whole text) (sessions_at text) text) ≡ whole text = sessions.length_read (whole text) (sessions_at text) text in
+    let kept : KeepRules op [] (read_sessions (whole text) (sessions_at text) text) = rules_kept op [] (read_sessions (whole text) (sessions_at text) text) (below sizes right) in
+    record {
+      start = ltb-false (length text) 4 t.0;
+      root = ltb-false 1024 (root_size text) t1.0;
+      few = ltb-false l.clients (count text) t4.0;
+      rules = subst (λ (n : ℕ). KeepRules op [] (read_sessions n (sessions_at text) text)) all kept;
+      bits_are = leb-false (2 ^ l.blocks) (bits l text) t8.0;
+      ends = eqb-true (length text) (end_at l text) (not_false (length text == end_at l text) t9.0);
+    }
+  where
+    below : {a b c : ℕ} → a ≡ b → b ≤ c → a ≤ c
+    below e h = omega arith
+
+-- ---- the text is the spelling of its parts
+
+pub spelled_again : (l : Layout) (op : ℕ) (text : List ℕ) → AreBytes text → IsFine l op text → spell l (parts_of l text) ≡ text
+spelled_again l op text are f =
+    let bs : List (Option ℕ) = read_blocks (bits_of l.blocks (bits l text)) (checks_at l text) text in
+    let ss : List Session = read_sessions (count text) (sessions_at text) text in
+    let root : List ℕ = take (root_size text) (drop 4 text) in
+    let n_bits : length (bits_of l.blocks (bits l text)) ≡ l.blocks = length_bits l.blocks (bits l text) in
+    let n_blocks : length bs ≡ l.blocks = blocks.length_read (bits_of l.blocks (bits l text)) (checks_at l text) text ∙ n_bits in
+    let listed_is : blocks_of l (parts_of l text) ≡ bs = ap (λ (n : ℕ). listed (at_place bs) n) (sym n_blocks) ∙ blocks.listed_places bs in
+    let number_is : number_of (map is_referenced bs) ≡ bits l text =
+    ap (λ (xs : List Bool). number_of xs) (blocks.bits_read (bits_of l.blocks (bits l text)) (checks_at l text) text) ∙ number_bits l.blocks (bits l text) f.bits_are in
+    let d5 : spell_checks bs ≡ drop (checks_at l text) text = blocks.checks_spelled (bits_of l.blocks (bits l text)) (checks_at l text) text are (sym f.ends) in
+    let d4 : spelled (bits_size l) (bits l text) ++ spell_checks bs ≡ drop (bits_at text) text = number_joined (bits_at text) (bits_size l) text (spell_checks bs) are (omega (arith, f.ends)) (sym d5) in
+    let d4' : spell_blocks l bs ≡ drop (bits_at text) text = ap (λ (x : ℕ). spelled (bits_size l) x ++ spell_checks bs) number_is ∙ d4 in
+    let d3 : spell_sessions ss ++ spell_blocks l bs ≡ drop (sessions_at text) text =
+    sessions.sessions_spelled (count text) (sessions_at text) text (spell_blocks l bs) are (omega (arith, f.ends)) (sym d4') in
+    let d2 : spelled 4 (count text) ++ (spell_sessions ss ++ spell_blocks l bs) ≡ drop (count_at text) text =
+    number_joined (count_at text) 4 text (spell_sessions ss ++ spell_blocks l bs) are (omega (arith, f.ends)) (sym d3) in
+    let n_ss : length ss ≡ count text = sessions.length_read (count text) (sessions_at text) text in
+    let d2' : spelled 4 (length ss) ++ (spell_sessions ss ++ spell_blocks l bs) ≡ drop (count_at text) text =
+    ap (λ (n : ℕ). spelled 4 n ++ (spell_sessions ss ++ spell_blocks l bs)) n_ss ∙ d2 in
+    let d1 : root ++ (spelled 4 (length ss) ++ (spell_sessions ss ++ spell_blocks l bs)) ≡ drop 4 text =
+    ap (λ (ys : List ℕ). root ++ ys) d2' ∙ joined 4 (root_size text) text in
+    let n_root : length root ≡ root_size text = length-take-le (root_size text) (drop 4 text) (omega (arith, f.ends, length-drop 4 text)) in
+    let d0 : spelled 4 (root_size text) ++ (root ++ (spelled 4 (length ss) ++ (spell_sessions ss ++ spell_blocks l bs))) ≡ text =
+    number_joined 0 4 text (root ++ (spelled 4 (length ss) ++ (spell_sessions ss ++ spell_blocks l bs))) are f.start (sym d1) in
+    ap (λ (xs : List (Option ℕ)). spelled 4 (length root) ++ (root ++ (spelled 4 (length ss) ++ (spell_sessions ss ++ spell_blocks l xs)))) listed_is
+    ∙ ap (λ (n : ℕ). spelled 4 n ++ (root ++ (spelled 4 (length ss) ++ (spell_sessions ss ++ spell_blocks l bs)))) n_root
+    ∙ d0
+
+-- ---- the parts are lawful
+
+clients_small : (n at : ℕ) (text : List ℕ) → AreBytes text → (k : ℕ) (s : Session) → slice_get (read_sessions n at text) k ≡ Some s → s.client < 2 ^ 128
+clients_small zero at text are k s is = absurd (cc)
+clients_small (suc n) at text are zero s is = under (ap (λ (t : Session). t.client) (one is)) (field_at-lt 16 at text are)
+  where
+    one : {t : Session} → Some t ≡ Some s → t ≡ s
+    one e = cc
+
+    under : {x c : ℕ} → x ≡ c → x < 256 ^ 16 → c < 2 ^ 128
+    under e h = omega arith
+clients_small (suc n) at text are (suc k) s is = clients_small n (at + 32) text are k s is
+
+-- what is at a place of the blocks
+pub record IsBlock (n k c : ℕ) : Type 0 where
+  pub within : k < n
+  pub small : c < 2 ^ 128
+
+block_is : (bits : List Bool) (at : ℕ) (text : List ℕ) → AreBytes text → (k c : ℕ) → at_place (read_blocks bits at text) k ≡ Some c → IsBlock (length bits) k c
+block_is [] at text are k c is = absurd (cc)
+block_is (false ∷ bits) at text are zero c is = absurd (cc)
+block_is (false ∷ bits) at text are (suc k) c is = let b = block_is bits at text are k c is in record { within = omega (arith, b.within); small = b.small }
+block_is (true ∷ bits) at text are zero c is = let e : field_at 16 at text ≡ c = cc in record { within = omega arith; small = under e (field_at-lt 16 at text are) }
+  where
+    under : {x c : ℕ} → x ≡ c → x < 256 ^ 16 → c < 2 ^ 128
+    under e h = omega arith
+block_is (true ∷ bits) at text are (suc k) c is = let b = block_is bits (at + 16) text are k c is in record { within = omega (arith, b.within); small = b.small }
+
+pub parts_lawful : (l : Layout) (op : ℕ) (text : List ℕ) → op ≤ 2 ^ 62 → AreBytes text → IsFine l op text → IsLawful l op (parts_of l text)
+parts_lawful l op text most are f = record {
+  root = (root_short, AreBytes-take (root_size text) (drop 4 text) (AreBytes-drop 4 text are));
+  sessions = record {
+    few = below (sessions.length_read (count text) (sessions_at text) text) f.few;
+    each = λ k s at. let r = f.rules.each k s at in record {
+      client = (r.0, clients_small (count text) (sessions_at text) text are k s at);
+      request = (r.1, r.2);
+      op = (r.3, trans r.4 most);
+    };
+    apart = f.rules.clients;
+  };
+  reached = λ k s at. (f.rules.each k s at).4;
+  ops = f.rules.ops;
+  references = inside;
+}
+  where
+    below : {a b c : ℕ} → a ≡ b → b ≤ c → a ≤ c
+    below e h = omega arith
+
+    trans : {a b c : ℕ} → a ≤ b → b ≤ c → a ≤ c
+    trans g h = omega arith
+
+    root_short : length (take (root_size text) (drop 4 text)) ≤ 1024
+    root_short = let n = length-take-le (root_size text) (drop 4 text) (omega (arith, f.ends, length-drop 4 text)) in omega (arith, f.root)
+
+    inside : (a c : ℕ) → at_address (read_blocks (bits_of l.blocks (bits l text)) (checks_at l text) text) a ≡ Some c → InGrid l a × IsChecksum c
+    inside zero c is = absurd (cc)
+    inside (suc k) c is =
+        let b = block_is (bits_of l.blocks (bits l text)) (checks_at l text) text are k c is in
+        let n = length_bits l.blocks (bits l text) in
+        ((omega arith, omega (arith, b.within)), b.small)
+
+fine_if : (o : Option Fault) (p parts : Parts) → unless o p ≡ Some parts → (o ≡ None) × (p ≡ parts)
+fine_if None p parts is = (refl, some_is p parts is)
+  where
+    some_is : (p parts : Parts) → Some p ≡ Some parts → p ≡ parts
+    some_is p parts is = cc
+fine_if (Some f) p parts is = absurd (cc)
+
+pub record IsSpelling (l : Layout) (op : ℕ) (text : List ℕ) (parts : Parts) : Type 0 where
+  pub lawful : IsLawful l op parts
+  pub spells : spell l parts ≡ text
+
+pub text_read : (l : Layout) (op : ℕ) (text : List ℕ) (parts : Parts) → op ≤ 2 ^ 62 → AreBytes text → parse l op text ≡ Some parts → IsSpelling l op text parts
+text_read l op text parts most are is =
+    let p = fine_if (fault l op text) (parts_of l text) parts is in
+    let f = fine l op text p.0 in
+    subst (λ (q : Parts). IsSpelling l op text q) p.1 (record {
+      lawful = parts_lawful l op text most are f;
+      spells = spelled_again l op text are f;
+    })

@@ -1,0 +1,106 @@
+-- What a reader gives of a text in which nothing fails: its parts.
+use Rattle.std.proofs.Common.{◌≡◌, ℕ, ◌+◌, ◌-◌, ◌*◌, ◌/◌, ◌%◌, ◌<◌, ◌≤◌, ◌==◌, Bool, true, false, Option, Some, None, List, [], ◌++◌, length, take, drop, map, get_or, refl, sym, ap, ◌∙◌, subst, arith, length-drop}
+use Rattle.std.specs.Prelude.{if◌then◌else◌, slice_index}
+use Rattle.std.specs.Int.{bit_at}
+use Rattle.std.proofs.lemmas.List.{drop-append-le, take-append-le}
+use Rattle.df_base.specs.Fields.{field_at}
+use Rattle.df_layout.specs.declared.layout.Layout as file
+use Rattle.df_sessions.specs.declared.session.Session as table
+use Rattle.df_theory.specs.Units.{Session}
+use Rattle.df_units.specs.Meaning.{layout_of}
+use Rattle.df_model.specs.Refusals.{first_refusal}
+use Rattle.df_trailer.specs.declared.fault.Failing.{Failing}
+use Rattle.df_trailer.specs.declared.parts.Parts.{Parts}
+use Rattle.df_trailer.specs.declared.reader.Reader.{Reader}
+use Rattle.df_trailer.specs.Reading.{AreChecksKept, HasRead, bits_room, checks_room, failing_in, rest_tests}
+use Rattle.df_trailer.specs.Rooms.{AreParts, bits_in_words, byte_in_checks, reference_in, session_of}
+use Rattle.df_trailer.specs.Spelling.{bits_size, listed}
+use Rattle.df_trailer.specs.Text.{bits_in, bits_of, count, fault, fault_in, head_tests, ones, parts_of, read_sessions, root_size, sessions_at, tests}
+use Rattle.df_trailer.proofs.Fed.{fails_as_read, room_size}
+use Rattle.df_trailer.proofs.Kept.{IsEnd, append_first, head_ends, or_first}
+use Rattle.df_trailer.proofs.Longer.{count_front, root_front, sessions_front}
+use Rattle.df_trailer.proofs.References.{few_ones, field_moved, reference_at}
+use Rattle.df_trailer.proofs.Words.{at_listed, length_listed}
+
+root_said : (h rest : List ℕ) → IsEnd h → take (root_size h) (drop 4 h) ≡ take (root_size (h ++ rest)) (drop 4 (h ++ rest))
+root_said h rest e =
+    let r : root_size (h ++ rest) ≡ root_size h = root_front h rest e.four in
+    let d : drop 4 (h ++ rest) ≡ drop 4 h ++ rest = drop-append-le 4 h rest e.four in
+    let t : take (root_size h) (drop 4 h ++ rest) ≡ take (root_size h) (drop 4 h) = take-append-le (root_size h) (drop 4 h) rest (omega (arith, length-drop 4 h, e.ends)) in
+    sym (ap (λ (n : ℕ). take n (drop 4 (h ++ rest))) r ∙ ap (λ (xs : List ℕ). take (root_size h) xs) d ∙ t)
+
+sessions_said : (h rest : List ℕ) → IsEnd h → read_sessions (count h) (sessions_at h) h ≡ read_sessions (count (h ++ rest)) (sessions_at (h ++ rest)) (h ++ rest)
+sessions_said h rest e =
+    let r : root_size (h ++ rest) ≡ root_size h = root_front h rest e.four in
+    let c : count (h ++ rest) ≡ count h = count_front h rest e.four e.sessions in
+    let at : sessions_at (h ++ rest) ≡ sessions_at h = ap (λ (n : ℕ). 4 + n + 4) r in
+    sym (ap (λ (n : ℕ). read_sessions n (sessions_at (h ++ rest)) (h ++ rest)) c ∙ ap (λ (n : ℕ). read_sessions (count h) n (h ++ rest)) at ∙ sessions_front (count h) (sessions_at h) h rest (omega (arith, e.ends)))
+
+-- a checksum at its place is the one that stood in its turn
+moved_said : (x blocks place : ℕ) (old new : List (List ℕ)) → place < blocks
+    → ((bit_at x place == 1) ≡ true → get_or new place [] ≡ get_or old (ones (bits_of place x)) [])
+    → (if bit_at x place == 1 then Some (field_at 16 0 (get_or new place [])) else None)
+    ≡ (if bit_at x place == 1 then Some (field_at 16 (16 * ones (bits_of place x)) (listed (byte_in_checks old) (16 * blocks))) else None)
+moved_said x blocks place old new within moved = pick (bit_at x place == 1) same
+  where
+    n : ℕ
+    n = ones (bits_of place x)
+
+    here : (j : ℕ) → j < 16 → slice_index (get_or old n []) (0 + j) ≡ slice_index (listed (byte_in_checks old) (16 * blocks)) (16 * n + j)
+    here j h =
+        let few = few_ones place x in
+        let q : (16 * n + j) / 16 ≡ n = omega arith in
+        let r : (16 * n + j) % 16 ≡ 0 + j = omega arith in
+        sym (at_listed (byte_in_checks old) (16 * blocks) (16 * n + j) 0 (omega arith)
+        ∙ ap (λ (i : ℕ). slice_index (get_or old i []) ((16 * n + j) % 16)) q
+        ∙ ap (λ (i : ℕ). slice_index (get_or old n []) i) r)
+
+    same : (bit_at x place == 1) ≡ true → field_at 16 0 (get_or new place []) ≡ field_at 16 (16 * n) (listed (byte_in_checks old) (16 * blocks))
+    same set = ap (λ (c : List ℕ). field_at 16 0 c) (moved set) ∙ field_moved 16 0 (16 * n) (get_or old n []) (listed (byte_in_checks old) (16 * blocks)) here
+
+    pick : {a b : ℕ} (t : Bool) → (t ≡ true → a ≡ b) → (if t then Some a else None) ≡ (if t then Some b else None)
+    pick true same = ap (λ (c : ℕ). Some c) (same refl)
+    pick false same = refl
+
+-- what was made of a reader's rooms
+pub record IsMade (r : Reader) (parts : Parts) : Type 0 where
+  pub root : parts.root.items ≡ take (root_size r.front.head.items) (drop 4 r.front.head.items)
+  pub sessions : map session_of parts.sessions.items ≡ read_sessions (count r.front.head.items) (sessions_at r.front.head.items) r.front.head.items
+  pub bits : parts.bits.items ≡ r.parts.bits.items
+  pub moved : (place : ℕ) → place < r.layout.blocks → (bit_at (bits_in (bits_room r)) place == 1) ≡ true
+      → get_or parts.checks.items place [] ≡ get_or r.parts.checks.items (ones (bits_of place (bits_in (bits_room r)))) []
+
+-- the checksums were moved by the bits, in rooms that were lent
+pub moved_room : (r : Reader) (bits : List ℕ) (checks new : List (List ℕ)) → bits ≡ r.parts.bits.items → checks ≡ r.parts.checks.items
+    → ((place : ℕ) → place < r.layout.blocks → (bit_at (bits_in_words ((r.layout.blocks + 7) / 8) bits) place == 1) ≡ true → get_or new place [] ≡ get_or checks (ones (bits_of place (bits_in_words ((r.layout.blocks + 7) / 8) bits))) [])
+    → (place : ℕ) → place < r.layout.blocks → (bit_at (bits_in (bits_room r)) place == 1) ≡ true → get_or new place [] ≡ get_or r.parts.checks.items (ones (bits_of place (bits_in (bits_room r)))) []
+moved_room r bits checks new same there moved place within one =
+    let n : ℕ = (r.layout.blocks + 7) / 8 in
+    moved place within (ap (λ (ws : List ℕ). bit_at (bits_in_words n ws) place == 1) same ∙ one)
+    ∙ ap (λ (ws : List ℕ). get_or checks (ones (bits_of place (bits_in_words n ws))) []) same
+    ∙ ap (λ (cs : List (List ℕ)). get_or cs (ones (bits_of place (bits_in_words n r.parts.bits.items))) []) there
+
+pub parts_said : (layout : file.Layout) (op : ℕ) (text : List ℕ) (r : Reader) (parts : Parts) → failing_in r ≡ None → IsMade r parts → HasRead layout op r text → AreParts (layout_of layout) parts (parts_of (layout_of layout) text)
+parts_said layout op text r parts none made read =
+    let head : List ℕ = r.front.head.items in
+    let blocks : r.layout.blocks ≡ layout.blocks = ap (λ (l : file.Layout). l.blocks) read.of_layout in
+    let clean : fault (layout_of layout) op text ≡ None = ap (λ (o : Option Failing). fault_in o) (sym (fails_as_read layout op text r read) ∙ none) in
+    let rest : List (Bool × Failing) = rest_tests r.layout.blocks (length head) (bits_size (layout_of r.layout)) (bits_in (bits_room r)) r.behind in
+    let e : IsEnd head = head_ends r.layout.clients r.op head read.kept.fits
+    (first_none (first_refusal (head_tests r.layout.clients r.op head)) (first_refusal rest) (sym (append_first (head_tests r.layout.clients r.op head) rest) ∙ none)) in
+    let size : length (bits_room r) ≡ bits_size (layout_of layout) = room_size r ∙ ap (λ (n : ℕ). (n + 7) / 8) blocks in
+    let kept : AreChecksKept text (length head + length (bits_room r)) (checks_room r) = subst (λ (m : ℕ). AreChecksKept text (length head + m) (checks_room r)) (sym size) read.checks in
+    let room : length (checks_room r) ≡ 16 * layout.blocks = length_listed (byte_in_checks r.parts.checks.items) (16 * r.layout.blocks) ∙ ap (λ (n : ℕ). 16 * n) blocks in
+    record {
+      root = made.root ∙ root_said head read.kept.rest e ∙ ap (λ (t : List ℕ). take (root_size t) (drop 4 t)) (sym read.kept.is);
+      sessions = made.sessions ∙ sessions_said head read.kept.rest e ∙ ap (λ (t : List ℕ). read_sessions (count t) (sessions_at t) t) (sym read.kept.is);
+      references = λ address some most.
+          ap (λ (n : ℕ). reference_in n parts address) (sym blocks)
+          ∙ ap (λ (ws : List ℕ). if bit_at (bits_in_words ((r.layout.blocks + 7) / 8) ws) (address - 1) == 1 then Some (field_at 16 0 (get_or parts.checks.items (address - 1) [])) else None) made.bits
+          ∙ moved_said (bits_in (bits_room r)) r.layout.blocks (address - 1) r.parts.checks.items parts.checks.items (omega (arith, blocks)) (made.moved (address - 1) (omega (arith, blocks)))
+          ∙ reference_at (layout_of layout) op text head (bits_room r) (checks_room r) r.behind address layout.clients_within.1 read.kept room kept clean some most;
+    }
+  where
+    first_none : (o g : Option Failing) → or_first o g ≡ None → o ≡ None
+    first_none None g is = refl
+    first_none (Some f) g is = absurd (cc)

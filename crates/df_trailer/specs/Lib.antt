@@ -1,0 +1,6 @@
+pub mod Laws
+pub mod Reading
+pub mod Rooms
+pub mod Spelling
+pub mod Text
+pub mod Writing

@@ -1,0 +1,66 @@
+// Bits in words of 64, from the lowest bit of the first word on: as bytes, and counted.
+ghost use Rattle.std.specs.Prelude.{◌≡◌, ◌≢◌, ◌+◌, ◌*◌, ◌/◌, ◌^◌, ◌<◌, ◌≤◌, ◌==◌, ℕ, length, nat_le};
+ghost use Rattle.std.specs.Int.{bit_at};
+ghost use Rattle.df_trailer.specs.Rooms.{bits_in_words, byte_of_word, byte_in_words};
+ghost use Rattle.df_trailer.specs.Text.{bits_of, ones};
+
+/// Bits of a word.
+const WORD: u64 = 64;
+
+/// A word with one of its eight bytes changed.
+pub(crate) fn with_byte(word: u64, place: usize, byte: u8) -> u64
+    requires { place < 8 }
+    ensures here { byte_of_word result place ≡ byte }
+    ensures others { (other : ℕ) → other < 8 → other ≢ place → byte_of_word result other ≡ byte_of_word word other }
+{
+    let mut bytes = word.to_le_bytes();
+    bytes[place] = byte;
+    u64::from_le_bytes(bytes)
+}
+
+/// Changes a byte of the words.
+pub(crate) fn put_byte(words: &mut [u64], place: usize, byte: u8)
+    requires { place < 8 * length words.old }
+    ensures length { length words.new ≡ length words.old }
+    ensures here { byte_in_words words.new place ≡ byte }
+    ensures others { (other : ℕ) → other < 8 * length words.old → other ≢ place → byte_in_words words.new other ≡ byte_in_words words.old other }
+{
+    let word = place / 8;
+    words[word] = with_byte(words[word], place % 8, byte);
+}
+
+/// Tells whether a bit is set.
+pub(crate) fn is_set(words: &[u64], place: u64) -> bool
+    requires { place < 64 * length words.now }
+    ensures { (bytes : ℕ) → place < 8 * bytes → result ≡ (bit_at (bits_in_words bytes words.now) place == 1) }
+{
+    (words[(place / WORD) as usize] >> (place % WORD)) & 1 == 1
+}
+
+/// Tells whether a bit behind the first `blocks` is set, in as many whole bytes as these need.
+pub(crate) fn has_unused(words: &[u64], blocks: u32) -> bool
+    requires { blocks ≤ 64 * length words.now }
+    ensures { result ≡ nat_le (2 ^ blocks) (bits_in_words ((blocks + 7) / 8) words.now) }
+{
+    for place in u64::from(blocks)..8 * u64::from(blocks).div_ceil(8) {
+        if is_set(words, place) {
+            return true;
+        }
+    }
+    false
+}
+
+/// How many of the first `blocks` bits are set.
+pub(crate) fn count_set(words: &[u64], blocks: u32) -> u64
+    requires { blocks ≤ 64 * length words.now }
+    ensures most { result ≤ blocks }
+    ensures value { result ≡ ones (bits_of blocks (bits_in_words ((blocks + 7) / 8) words.now)) }
+{
+    let mut count = 0;
+    for place in 0..u64::from(blocks) {
+        if is_set(words, place) {
+            count += 1;
+        }
+    }
+    count
+}

@@ -1,0 +1,130 @@
+// Root and sessions, which a text begins with: how much of a text is its head, and the first part of it that fails.
+ghost use Rattle.std.specs.Prelude.{◌≡◌, ◌+◌, ◌*◌, ◌<◌, ◌≤◌, ◌^◌, ℕ, Some, [], length};
+ghost use Rattle.df_model.specs.Refusals.{first_refusal};
+ghost use Rattle.df_trailer.specs.declared.fault.Cause.TheVariants.{Ends, Says};
+ghost use Rattle.df_trailer.specs.Text.{earlier, fails, head_end, head_tests, is_repeated, is_wrong, session, wrong_place, read_sessions};
+
+use crate::fault::{Cause, Failing, Fault};
+use df_base::{u32_at, u64_at, u128_at};
+use df_layout::Field;
+
+/// The most bytes of a head: two lengths, a root, and 64 sessions.
+pub(crate) const HEAD: usize = 3080;
+
+/// The longest root.
+const ROOT: u64 = 1024;
+
+/// How many bytes the head of a text has, as far as its front tells.
+pub(crate) fn end_of_head(front: &[u8]) -> u64
+    requires { length front.now < 2 ^ 62 }
+    ensures { result ≡ head_end front.now }
+{
+    if front.len() < 4 {
+        return 4;
+    }
+    let sessions = u64::from(u32_at(front, 0)) + 8;
+    if (front.len() as u64) < sessions {
+        return sessions;
+    }
+    sessions + 32 * u64::from(u32_at(front, sessions as usize - 4))
+}
+
+/// Tells whether the session at an offset breaks a rule, where `before` sessions stand from offset `from` on.
+fn breaks_rule(head: &[u8], op: u64, from: usize, before: usize) -> bool
+    requires inside { from + 32 * before + 32 ≤ length head.now }
+    requires small { length head.now < 2 ^ 62 }
+    ensures { result ≡ is_wrong op (earlier before from head.now) (session (from + 32 * before) head.now) }
+{
+    let at = from + 32 * before;
+    let client = u128_at(head, at);
+    let request = u64_at(head, at + 16);
+    let number = u64_at(head, at + 24);
+    client == 0
+        || request == 0
+        || request > 1 << 62
+        || number == 0
+        || number > op
+        || stands_before(head, from, before, client, number)
+}
+
+/// Tells whether one of the sessions from an offset on has this client or this op.
+fn stands_before(head: &[u8], from: usize, before: usize, client: u128, number: u64) -> bool
+    requires inside { from + 32 * before ≤ length head.now }
+    requires small { length head.now < 2 ^ 62 }
+    ensures { result ≡ is_repeated client number (earlier before from head.now) }
+{
+    for place in 0..before {
+        let at = from + 32 * place;
+        if u128_at(head, at) == client || u64_at(head, at + 24) == number {
+            return true;
+        }
+    }
+    false
+}
+
+/// The place of the first of so many sessions that breaks a rule, their number where none does.
+fn first_wrong_of(head: &[u8], op: u64, from: usize, whole: usize) -> usize
+    requires inside { from + 32 * whole ≤ length head.now }
+    requires small { length head.now < 2 ^ 62 }
+    ensures { result ≡ wrong_place op [] (read_sessions whole from head.now) }
+{
+    for place in 0..whole {
+        if breaks_rule(head, op, from, place) {
+            return place;
+        }
+    }
+    whole
+}
+
+pub(crate) fn ends(field: Field, value: u64) -> Option<Failing>
+    ensures { result ≡ Some (fails Ends field value) }
+{
+    Some(Failing {
+        cause: Cause::Ends,
+        fault: Fault { field, value },
+    })
+}
+
+pub(crate) fn says(field: Field, value: u64) -> Option<Failing>
+    ensures { result ≡ Some (fails Says field value) }
+{
+    Some(Failing {
+        cause: Cause::Says,
+        fault: Fault { field, value },
+    })
+}
+
+/// The first part of a head that fails.
+pub(crate) fn failing_head(head: &[u8], clients: u32, op: u64) -> Option<Failing>
+    requires { length head.now < 2 ^ 62 }
+    ensures { result ≡ first_refusal (head_tests clients op head.now) }
+{
+    let size = head.len() as u64;
+    if size < 4 {
+        return ends(Field::TrailerRoot, size);
+    }
+    let root = u64::from(u32_at(head, 0));
+    if root > ROOT {
+        return says(Field::TrailerRoot, root);
+    }
+    if size < 4 + root {
+        return ends(Field::TrailerRoot, root);
+    }
+    if size < 8 + root {
+        return ends(Field::TrailerSessions, size);
+    }
+    let count = u32_at(head, root as usize + 4);
+    if count > clients {
+        return says(Field::TrailerSessions, u64::from(count));
+    }
+    let from = root as usize + 8;
+    let whole = (count as usize).min((head.len() - from) / 32);
+    let wrong = first_wrong_of(head, op, from, whole);
+    if wrong < whole {
+        return says(Field::TrailerSessions, wrong as u64);
+    }
+    if size < 8 + root + 32 * u64::from(count) {
+        return ends(Field::TrailerSessions, u64::from(count));
+    }
+    None
+}

@@ -1,0 +1,28 @@
+#![tactic(auto)]
+
+mod behind;
+mod bitmap;
+mod captured;
+mod fault;
+mod front;
+mod head;
+mod meaning;
+mod parts;
+mod reader;
+mod rest;
+mod size;
+mod window;
+mod writer;
+
+pub use captured::Captured;
+pub use fault::Fault;
+pub use meaning::{
+    parts_have_one_text, refusals_stay, sizes_are_exact, spelling_is_a_codec, text_has_one_parts,
+};
+pub use parts::Parts;
+pub use reader::Reader;
+pub use size::blocks_needed;
+pub use writer::piece;
+
+#[cfg(test)]
+mod tests;

@@ -1,0 +1,164 @@
+// The reader of a text that comes in pieces. It keeps what it needs of the text and nothing else: the head, the bits and the checksums.
+ghost use Rattle.std.specs.Prelude.{◌≡◌, ◌≢◌, ◌↔◌, ◌++◌, IsOk, ◌+◌, ◌-◌, ◌*◌, ◌/◌, ◌<◌, ◌≤◌, ◌^◌, ℕ, List, Option, [], None, length, vec_len};
+ghost use Rattle.df_layout.specs.declared.layout.Layout.{Layout as FileLayout};
+ghost use Rattle.df_units.specs.Meaning.{layout_of};
+ghost use Rattle.df_trailer.specs.Rooms.{byte_in_checks, byte_in_words};
+ghost use Rattle.df_trailer.specs.Text.{answer, fault_in, refusal_in};
+
+use crate::behind::{put_bits, put_checks};
+use crate::fault::{Cause, Failing};
+use crate::front::Front;
+use crate::parts::{root_in, sessions_in, spread};
+use crate::rest::failing_rest;
+use crate::{Fault, Parts};
+use df_layout::Layout;
+
+/// A reader of one text.
+#[derive(Drop)]
+pub struct Reader {
+    layout: Layout,
+    op: u64,
+    front: Front,
+    parts: Parts,
+    /// How many bytes came behind the head.
+    behind: u64,
+    ghost bits_room: { vec_len parts.bits ≡ (layout.blocks + 63) / 64 },
+    ghost checks_room: { vec_len parts.checks ≡ layout.blocks },
+}
+
+/// What fails, whatever comes behind it.
+fn refusal_of(failing: Option<Failing>) -> Result<(), Fault>
+    ensures { result ≡ answer (refusal_in failing) }
+{
+    match failing {
+        None => Ok(()),
+        Some(failing) => match failing.cause {
+            Cause::Ends => Ok(()),
+            Cause::Says => Err(failing.fault),
+        },
+    }
+}
+
+/// What fails in a whole text.
+fn fault_of(failing: Option<Failing>) -> Result<(), Fault>
+    ensures { result ≡ answer (fault_in failing) }
+{
+    match failing {
+        None => Ok(()),
+        Some(failing) => Err(failing.fault),
+    }
+}
+
+impl Reader {
+    ghost use Rattle.df_trailer.specs.Rooms.{AreParts};
+    ghost use Rattle.df_trailer.specs.Text.{fault, parts_of, refusal};
+    ghost use Rattle.df_trailer.specs.Reading.{HasRead, IsRestTaken, bytes_read, failing_in};
+
+    /// A reader that was fed nothing, of the trailer of a checkpoint of this op.
+    pub fn new(layout: Layout, op: u64, parts: Parts) -> Reader
+        requires bits { vec_len parts.bits ≡ (layout.blocks + 63) / 64 }
+        requires checks { vec_len parts.checks ≡ layout.blocks }
+        ensures fresh { HasRead layout op result [] }
+        ensures size { bytes_read result ≡ 0 }
+    {
+        Reader {
+            layout,
+            op,
+            front: Front::new(),
+            parts,
+            behind: 0,
+        }
+    }
+
+    /// Takes one byte behind the head.
+    fn take_byte(&mut self, byte: u8)
+        requires { self.old.behind < 2 ^ 62 }
+        ensures size { self.new.behind ≡ self.old.behind + 1 }
+        ensures bits { (place : ℕ) → place < (self.old.layout.blocks + 7) / 8 → place ≢ self.old.behind → byte_in_words self.new.parts.bits.items place ≡ byte_in_words self.old.parts.bits.items place }
+        ensures bit { self.old.behind < (self.old.layout.blocks + 7) / 8 → byte_in_words self.new.parts.bits.items self.old.behind ≡ byte }
+        ensures checks { (place : ℕ) → place < 16 * self.old.layout.blocks → (self.old.layout.blocks + 7) / 8 + place ≢ self.old.behind → byte_in_checks self.new.parts.checks.items place ≡ byte_in_checks self.old.parts.checks.items place }
+        ensures check { (place : ℕ) → place < 16 * self.old.layout.blocks → (self.old.layout.blocks + 7) / 8 + place ≡ self.old.behind → byte_in_checks self.new.parts.checks.items place ≡ byte }
+        ensures front { self.new.front ≡ self.old.front }
+        ensures layout { self.new.layout ≡ self.old.layout }
+        ensures op { self.new.op ≡ self.old.op }
+    {
+        put_bits(&mut self.parts.bits, self.layout.blocks, self.behind, byte);
+        put_checks(
+            &mut self.parts.checks,
+            self.layout.blocks,
+            self.behind,
+            byte,
+        );
+        self.behind += 1;
+    }
+
+    /// Takes bytes behind the head.
+    fn take_rest(&mut self, piece: &[u8])
+        requires { self.old.behind + length piece.now < 2 ^ 62 }
+        ensures size { self.new.behind ≡ self.old.behind + length piece.now }
+        ensures rest { IsRestTaken self.old self.new piece.now }
+        ensures front { self.new.front ≡ self.old.front }
+        ensures layout { self.new.layout ≡ self.old.layout }
+        ensures op { self.new.op ≡ self.old.op }
+    {
+        for byte in piece {
+            self.take_byte(*byte);
+        }
+    }
+
+    /// The first part that fails in what came so far.
+    fn failing(&self) -> Option<Failing>
+        requires { bytes_read self.now < 2 ^ 62 }
+        ensures { result ≡ failing_in self.now }
+    {
+        match self.front.failing(self.layout.clients, self.op) {
+            Some(failing) => Some(failing),
+            None => failing_rest(
+                self.layout.blocks,
+                self.front.head.len() as u64,
+                &self.parts.bits,
+                self.behind,
+            ),
+        }
+    }
+
+    /// Takes the next piece of the text. It refuses exactly where the text so far says what it may not say, whatever
+    /// comes behind it; a refusal stays for every later piece.
+    pub fn feed(&mut self, piece: &[u8]) -> Result<(), Fault>
+        requires { bytes_read self.old + length piece.now < 2 ^ 62 }
+        ensures kept { (layout : FileLayout) (op : ℕ) (text : List ℕ) → HasRead layout op self.old text → HasRead layout op self.new (text ++ piece.now) }
+        ensures refusal { (layout : FileLayout) (op : ℕ) (text : List ℕ) → HasRead layout op self.old text → result ≡ answer (refusal (layout_of layout) op (text ++ piece.now)) }
+        ensures size { bytes_read self.new ≡ bytes_read self.old + length piece.now }
+    {
+        let head = self.front.take(piece);
+        self.take_rest(&piece[head..]);
+        refusal_of(self.failing())
+    }
+
+    /// Answers the first part that fails in the whole text, which is what was fed.
+    pub fn end(&self) -> Result<(), Fault>
+        requires { bytes_read self.now < 2 ^ 62 }
+        ensures fault { (layout : FileLayout) (op : ℕ) (text : List ℕ) → HasRead layout op self.now text → result ≡ answer (fault (layout_of layout) op text) }
+        ensures whole { IsOk result ↔ (failing_in self.now ≡ None) }
+    {
+        fault_of(self.failing())
+    }
+
+    /// The parts of the text, in the rooms that the reader was given, once `end` has answered Ok.
+    pub fn into_parts(self) -> Parts
+        requires { failing_in self ≡ None }
+        ensures bits { vec_len result.bits ≡ (self.layout.blocks + 63) / 64 }
+        ensures parts { (layout : FileLayout) (op : ℕ) (text : List ℕ) → HasRead layout op self text → AreParts (layout_of layout) result (parts_of (layout_of layout) text) }
+    {
+        let Reader {
+            layout,
+            front,
+            mut parts,
+            ..
+        } = self;
+        parts.root = root_in(&front.head);
+        parts.sessions = sessions_in(&front.head);
+        spread(&parts.bits, &mut parts.checks, layout.blocks);
+        parts
+    }
+}

@@ -1,0 +1,30 @@
+// What comes behind the head: bits, and what is told of the text by them.
+ghost use Rattle.std.specs.Prelude.{◌≡◌, ◌+◌, ◌*◌, ◌/◌, ◌<◌, ◌≤◌, ◌^◌, length};
+ghost use Rattle.df_model.specs.Refusals.{first_refusal};
+ghost use Rattle.df_trailer.specs.Reading.{rest_tests};
+ghost use Rattle.df_trailer.specs.Rooms.{bits_in_words};
+
+use crate::bitmap::{count_set, has_unused};
+use crate::fault::Failing;
+use crate::head::{ends, says};
+use df_layout::Field;
+
+/// The first part that fails behind a head of so many bytes, where so many bytes came behind it.
+pub(crate) fn failing_rest(blocks: u32, head: u64, words: &[u64], behind: u64) -> Option<Failing>
+    requires room { blocks ≤ 64 * length words.now }
+    requires some { 0 < blocks }
+    requires small { head + behind < 2 ^ 62 }
+    ensures { result ≡ first_refusal (rest_tests blocks head ((blocks + 7) / 8) (bits_in_words ((blocks + 7) / 8) words.now) behind) }
+{
+    let size = u64::from(blocks.div_ceil(8));
+    if behind < size {
+        return ends(Field::TrailerBits, head + behind);
+    }
+    if has_unused(words, blocks) {
+        return says(Field::TrailerBits, head + size - 1);
+    }
+    if behind != size + 16 * count_set(words, blocks) {
+        return ends(Field::TrailerEnd, head + behind);
+    }
+    None
+}

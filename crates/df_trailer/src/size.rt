@@ -1,0 +1,31 @@
+// How long a trailer is, and how many blocks it needs.
+ghost use Rattle.std.specs.Prelude.{◌≡◌, ◌+◌, ◌-◌, ◌*◌, ◌/◌, ◌≤◌, ◌<◌};
+ghost use Rattle.df_theory.specs.Trailer.{IsCount};
+ghost use Rattle.df_units.specs.Meaning.{layout_of};
+ghost use Rattle.df_trailer.specs.Spelling.{text_size};
+
+use df_layout::Layout;
+
+/// Bytes of a block that aren't body.
+const HEADER: u32 = 256;
+
+/// Bytes of a trailer with a root of so many bytes, so many sessions and so many referenced blocks.
+fn size_of(layout: &Layout, root: u64, sessions: u64, references: u64) -> u64
+    requires root { root ≤ 1024 }
+    requires sessions { sessions ≤ 64 }
+    requires references { references ≤ layout.now.blocks }
+    ensures { result ≡ text_size (layout_of layout.now) root sessions references }
+{
+    4 + root + 4 + 32 * sessions + u64::from(layout.blocks.div_ceil(8)) + 16 * references
+}
+
+/// How many trailer blocks a checkpoint needs: at most 70, whatever the layout.
+pub fn blocks_needed(layout: &Layout, root: u64, sessions: u64, references: u64) -> u64
+    requires root { root ≤ 1024 }
+    requires sessions { sessions ≤ 64 }
+    requires references { references ≤ layout.now.blocks }
+    ensures count { IsCount (layout.now.block_size - 256) (text_size (layout_of layout.now) root sessions references) result }
+    ensures most { result ≤ 70 }
+{
+    size_of(layout, root, sessions, references).div_ceil(u64::from(layout.block_size - HEADER))
+}
