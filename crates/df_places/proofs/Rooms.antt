@@ -9,8 +9,7 @@ use Rattle.df_layout.specs.declared.places.Place.{Place}
 use Rattle.df_layout.specs.declared.places.Zone.{Zone}
 use Rattle.df_layout.specs.declared.places.Zone.TheVariants.{Superblock, WalHeaders, WalPrepares, ClientReplies, Grid}
 use Rattle.df_layout.specs.Spans.{HasPlace, span_of}
-use Rattle.df_layout.proofs.Laws.{lies_inside}
-use Rattle.df_layout.proofs.Zones.{zones_follow}
+use Rattle.df_layout.proofs.Laws.{lies_inside, zones_follow}
 use Rattle.df_format.specs.declared.header.Header.{Header}
 use Rattle.df_format.specs.declared.kind.Kind.{Kind}
 use Rattle.df_format.specs.declared.kind.Kind.TheVariants.{Reserved, Prepare, Reply, Block, Trailer}

@@ -1,0 +1,163 @@
+-- The greatest numbers of the replies, turn by turn, and what they say of the model's image.
+use Rattle.std.proofs.Common.{◌≡◌, ◌⊎◌, ◌↔◌, inl, inr, ℕ, ◌+◌, ◌<◌, ◌≤◌, List, length, get_or, max, Option, Some, None, refl, sym, ◌∙◌, ap, subst, arith}
+use Rattle.std.specs.Prelude.{Result, Ok, Err}
+use Rattle.std.specs.List.{slice_get}
+use Rattle.std.proofs.lemmas.Bool.{cases_lt}
+use Rattle.std.proofs.lemmas.Option.{slice_get_cases, slice_get-get_or}
+use Rattle.df_layout.specs.declared.damage.Class.{Class}
+use Rattle.df_format.specs.declared.header.Header.{Header}
+use Rattle.df_stamps.specs.declared.counters.Counters.{Counters}
+use Rattle.df_theory.specs.Units
+use Rattle.df_theory.specs.Units.{AnyUnit, Content, Message, ReplyPlace, ReplyUnit}
+use Rattle.df_theory.specs.Found.{IsReplies}
+use Rattle.df_theory.specs.Tails.{last_mark}
+use Rattle.df_units.specs.Meaning.{header_of}
+use Rattle.df_replies.specs.Shown.{ShowsReplies, ShowsReply}
+use Rattle.df_replies.specs.Counts.{AreWithin, CountsSome, IsGreatest, NoReplyIsAbove, NoReplyIsLater, checkpoint_in, mark_in, op_in, with_reply}
+
+-- ---- numbers of the first entries
+
+within_more : (number : Result Header Class → ℕ) (n k : ℕ) (replies : List (Result Header Class)) (reply : Result Header Class) → slice_get replies k ≡ Some reply → AreWithin number n k replies → number reply ≤ n → AreWithin number n (k + 1) replies
+within_more number n k replies reply at all le j other less there = elim (cases_lt j k) [
+  | inl before ↦ all j other before there
+  | inr here ↦
+      let same : j ≡ k = omega arith in
+      let both : Some other ≡ Some reply = sym there ∙ ap (slice_get replies) same ∙ at in
+      let one : reply ≡ other = cc in
+      subst (λ (x : Result Header Class). number x ≤ n) one le
+]
+
+within_fewer : (number : Result Header Class → ℕ) (n k : ℕ) (replies : List (Result Header Class)) → AreWithin number n (k + 1) replies → AreWithin number n k replies
+within_fewer number n k replies all j reply less at = all j reply (omega arith) at
+
+-- ---- the counters
+
+counts_next : (start : Counters) (replies : List (Result Header Class)) (k : ℕ) (seen : Counters) (reply : Result Header Class) → slice_get replies k ≡ Some reply → CountsSome start replies k seen
+    → CountsSome start replies (k + 1) (with_reply seen reply)
+counts_next start replies k seen reply at is = record {
+  ring_op = is.ring_op;
+  checkpoint = λ n. (
+    λ le. let old = (is.checkpoint n).0 (omega arith) in (old.0, within_more checkpoint_in n k replies reply at old.1 (omega (arith, le))),
+    λ all. let old = (is.checkpoint n).1 (all.0, within_fewer checkpoint_in n k replies all.1) in omega (arith, old, all.1 k reply (omega arith) at),
+  );
+  reply_top = λ n. (
+    λ le. let old = (is.reply_top n).0 (omega arith) in (old.0, within_more op_in n k replies reply at old.1 (omega (arith, le)), within_more mark_in n k replies reply at old.2 (omega (arith, le))),
+    λ all. let old = (is.reply_top n).1 (all.0, within_fewer op_in n k replies all.1, within_fewer mark_in n k replies all.2) in omega (arith, old, all.1 k reply (omega arith) at, all.2 k reply (omega arith) at),
+  );
+}
+
+pub counts_more : (start : Counters) (replies : List (Result Header Class)) (k : ℕ) (seen new : Counters) (d : Result Header Class) → k < length replies → new ≡ with_reply seen (get_or replies k d) → CountsSome start replies k seen
+    → CountsSome start replies (k + 1) new
+counts_more start replies k seen new d within is counts = subst (CountsSome start replies (k + 1)) (sym is) (counts_next start replies k seen (get_or replies k d) (slice_get-get_or replies k d within) counts)
+
+-- ---- the greatest op
+
+-- that of the first k entries, or the start
+abbrev IsReached : ℕ → List (Result Header Class) → ℕ → Type 0
+IsReached start replies top = (start ≡ top) ⊎ ((j : ℕ) × (h : Header) × (slice_get replies j ≡ Some (Ok h)) × (h.op ≡ top))
+
+greatest_next : (start : ℕ) (replies : List (Result Header Class)) (k top : ℕ) (r : Result Header Class) → slice_get replies k ≡ Some r → IsReached start replies top → IsReached start replies (max top (op_in r))
+greatest_next start replies k top (Err class) at is = elim is [ inl same ↦ inl (omega arith) | inr there ↦ inr (there.0, there.1, there.2, omega (arith, there.3)) ]
+greatest_next start replies k top (Ok h) at is = elim (cases_lt top h.op) [
+  | inl more ↦ inr (k, h, at, omega arith)
+  | inr less ↦ elim is [ inl same ↦ inl (omega arith) | inr there ↦ inr (there.0, there.1, there.2, omega (arith, there.3)) ]
+]
+
+within_higher : (number : Result Header Class → ℕ) (n m k : ℕ) (replies : List (Result Header Class)) → n ≤ m → AreWithin number n k replies → AreWithin number m k replies
+within_higher number n m k replies le all j reply less at = omega (arith, le, all j reply less at)
+
+pub greatest_more : (start : ℕ) (replies : List (Result Header Class)) (k top new : ℕ) (d : Result Header Class) → k < length replies → new ≡ max top (op_in (get_or replies k d)) → IsGreatest start replies k top → IsGreatest start replies (k + 1) new
+greatest_more start replies k top new d within is old =
+    let r = get_or replies k d in
+    let at : slice_get replies k ≡ Some r = slice_get-get_or replies k d within in
+    subst (IsGreatest start replies (k + 1)) (sym is) (record {
+      from = omega (arith, old.from);
+      each = within_more op_in (max top (op_in r)) k replies r at (within_higher op_in top (max top (op_in r)) k replies (omega arith) old.each) (omega arith);
+      reached = greatest_next start replies k top r at old.reached;
+    })
+
+-- ---- in the model
+
+-- the reply that an entry is, where the image shows one there
+entry_is : (x : Option AnyUnit) (r : Result Header Class) (m : Message) → ShowsReply x r → x ≡ Some (ReplyUnit m) → (h : Header) × (r ≡ Ok h) × (m.header ≡ header_of h)
+entry_is x (Ok h) m (q, is, same) shown = let both : Some (ReplyUnit m) ≡ Some (ReplyUnit q) = sym shown ∙ is in let one : m ≡ q = cc in (h, refl, ap (λ (n : Message). n.header) one ∙ same)
+entry_is x (Err class) m none shown = let both : None ≡ Some (ReplyUnit m) = sym none ∙ shown in absurd (cc)
+
+-- each reply that the image shows is an entry
+pub reply_there : (image : Units.Units) (replies : List (Result Header Class)) (k : ℕ) (m : Message) → ShowsReplies image replies → image (ReplyPlace k) ≡ Some (ReplyUnit m)
+    → (h : Header) × (k < length replies) × (slice_get replies k ≡ Some (Ok h)) × (m.header ≡ header_of h)
+reply_there image replies k m shows shown = elim (slice_get_cases replies k).1 [
+  | inl there ↦
+      let entry = entry_is (image (ReplyPlace k)) there.0 m (shows.each k there.0 there.2) shown in
+      (entry.0, there.1, there.2 ∙ ap Some entry.1, entry.2)
+  | inr past ↦ let both : None ≡ Some (ReplyUnit m) = sym (shows.no_more k past.0) ∙ shown in absurd (cc)
+]
+
+-- and each entry that is a reply is one that the image shows
+pub entry_shown : (image : Units.Units) (replies : List (Result Header Class)) (k : ℕ) (h : Header) → ShowsReplies image replies → slice_get replies k ≡ Some (Ok h) → (m : Message) × (image (ReplyPlace k) ≡ Some (ReplyUnit m)) × (m.header ≡ header_of h)
+entry_shown image replies k h shows at = shows.each k (Ok h) at
+
+later_of : (image : Units.Units) (replies : List (Result Header Class)) (c : Content) (n : ℕ) → n ≡ c.sequence → ShowsReplies image replies → c.boot ≡ 0 → AreWithin checkpoint_in n (length replies) replies → NoReplyIsLater image c
+later_of image replies c n is shows boot all k r shown =
+    let there = reply_there image replies k r shows shown in
+    let le = all k (Ok there.0) there.1 there.2 in
+    (omega (arith, le, is, ap (λ (h : Units.Header). h.checkpoint) there.3), omega (arith, boot, ap (λ (h : Units.Header). h.boot) there.3))
+
+of_later : (image : Units.Units) (replies : List (Result Header Class)) (c : Content) → ShowsReplies image replies → NoReplyIsLater image c → AreWithin checkpoint_in c.sequence (length replies) replies
+of_later image replies c shows none k (Err class) less at = omega arith
+of_later image replies c shows none k (Ok h) less at =
+    let there = entry_shown image replies k h shows at in
+    omega (arith, (none k there.0 there.1).0, ap (λ (x : Units.Header). x.checkpoint) there.2)
+
+pub counts_later : (start seen : Counters) (replies : List (Result Header Class)) (image : Units.Units) (c : Content) → CountsSome start replies (length replies) seen → ShowsReplies image replies → c.boot ≡ 0
+    → (seen.checkpoint ≤ c.sequence) ↔ ((start.checkpoint ≤ c.sequence) × NoReplyIsLater image c)
+counts_later start seen replies image c counts shows boot = (
+  λ le. let both = (counts.checkpoint c.sequence).0 le in (both.0, later_of image replies c c.sequence refl shows boot both.1),
+  λ both. (counts.checkpoint c.sequence).1 (both.0, of_later image replies c shows both.1),
+)
+
+above_of : (image : Units.Units) (replies : List (Result Header Class)) (c : Content) (n : ℕ) → ShowsReplies image replies → AreWithin op_in n (length replies) replies → AreWithin mark_in n (length replies) replies → NoReplyIsAbove image c n
+above_of image replies c n shows ops marks k r shown of_boot =
+    let there = reply_there image replies k r shows shown in
+    let op = ops k (Ok there.0) there.1 there.2 in
+    let mark = marks k (Ok there.0) there.1 there.2 in
+    (omega (arith, op, ap (λ (h : Units.Header). h.op) there.3), omega (arith, mark, ap (λ (h : Units.Header). h.mark) there.3))
+
+of_boot : (c : Content) (h : Header) (m : Message) → c.boot ≡ 0 → m.header ≡ header_of h → m.header.boot ≡ c.boot
+of_boot c h m boot is = ap (λ (x : Units.Header). x.boot) is ∙ sym boot
+
+ops_of_above : (image : Units.Units) (replies : List (Result Header Class)) (c : Content) (n : ℕ) → ShowsReplies image replies → c.boot ≡ 0 → NoReplyIsAbove image c n → AreWithin op_in n (length replies) replies
+ops_of_above image replies c n shows boot none k (Err class) less at = omega arith
+ops_of_above image replies c n shows boot none k (Ok h) less at =
+    let there = entry_shown image replies k h shows at in
+    omega (arith, (none k there.0 there.1 (of_boot c h there.0 boot there.2)).0, ap (λ (x : Units.Header). x.op) there.2)
+
+marks_of_above : (image : Units.Units) (replies : List (Result Header Class)) (c : Content) (n : ℕ) → ShowsReplies image replies → c.boot ≡ 0 → NoReplyIsAbove image c n → AreWithin mark_in n (length replies) replies
+marks_of_above image replies c n shows boot none k (Err class) less at = omega arith
+marks_of_above image replies c n shows boot none k (Ok h) less at =
+    let there = entry_shown image replies k h shows at in
+    omega (arith, (none k there.0 there.1 (of_boot c h there.0 boot there.2)).1, ap (λ (x : Units.Header). x.mark) there.2)
+
+pub counts_above : (start seen : Counters) (replies : List (Result Header Class)) (image : Units.Units) (c : Content) (n : ℕ) → CountsSome start replies (length replies) seen → ShowsReplies image replies → c.boot ≡ 0
+    → (seen.reply_top ≤ n) ↔ ((start.reply_top ≤ n) × NoReplyIsAbove image c n)
+counts_above start seen replies image c n counts shows boot = (
+  λ le. let all = (counts.reply_top n).0 le in (all.0, above_of image replies c n shows all.1 all.2),
+  λ both. (counts.reply_top n).1 (both.0, ops_of_above image replies c n shows boot both.1, marks_of_above image replies c n shows boot both.1),
+)
+
+-- the greatest of the superblock's number, the mark and the ops is the model's number of replies
+pub greatest_is_replies : (superblock mark top : ℕ) (replies : List (Result Header Class)) (image : Units.Units) (c : Content) (tail : List Message) → IsGreatest (max superblock mark) replies (length replies) top → ShowsReplies image replies
+    → c.boot ≡ 0 → c.replies ≡ superblock → last_mark 0 tail ≡ mark → IsReplies image c tail top
+greatest_is_replies superblock mark top replies image c tail is shows boot replies_is mark_is = record {
+  superblock = omega (arith, is.from, replies_is);
+  mark = omega (arith, is.from, mark_is);
+  reply = λ k m shown of.
+      let there = reply_there image replies k m shows shown in
+      omega (arith, is.each k (Ok there.0) there.1 there.2, ap (λ (h : Units.Header). h.op) there.3);
+  reached = elim is.reached [
+    | inl same ↦ elim (cases_lt superblock mark) [ inl less ↦ inr (inl (omega arith)) | inr more ↦ inl (omega arith) ]
+    | inr there ↦
+        let shown = entry_shown image replies there.0 there.1 shows there.2 in
+        inr (inr (there.0, shown.0, shown.1, ap (λ (h : Units.Header). h.op) shown.2 ∙ there.3, of_boot c there.1 shown.0 boot shown.2))
+  ];
+}

@@ -1,0 +1,4 @@
+pub mod Counted
+pub mod Own
+pub mod Scanned
+pub mod Stored

@@ -1,0 +1,19 @@
+-- A sound reply stands in the slot that its header names.
+use Rattle.std.proofs.Common.{◌≡◌, sym, subst}
+use Rattle.df_layout.specs.declared.layout.Layout.{Layout}
+use Rattle.df_layout.specs.declared.places.Place.{Place}
+use Rattle.df_layout.specs.declared.places.Zone.{Zone}
+use Rattle.df_layout.specs.declared.places.Zone.TheVariants.{ClientReplies}
+use Rattle.df_format.specs.declared.kind.Kind.TheVariants.{Reply as AsReply}
+use Rattle.df_format.specs.Valid.{Belongs, IsOfSession, IsUnit}
+use Rattle.df_format.proofs.Laws.{valid_belongs}
+use Rattle.df_buffers.specs.Sounds.{Holding, IsSound}
+use Rattle.df_replies.specs.Slots.{IsInOwnSlot, reply_place}
+
+pub in_own_slot : (layout : Layout) (held : Holding) → IsSound ClientReplies AsReply held → held.layout ≡ layout → IsInOwnSlot layout held.unit
+in_own_slot layout held sound same =
+    let u = held.unit in
+    let there = valid_belongs held.layout u.header.cluster sound.place u sound.is in
+    let of : IsOfSession sound.place.index u.header = subst (λ (z : Zone). Belongs held.layout z sound.place.index u.header) sound.in_zone there.belongs in
+    let here : sound.place ≡ reply_place u.header.slot = λ i. record { zone = sound.in_zone i; index = sym of.slot i } in
+    subst (λ (l : Layout). IsUnit l u.header.cluster (reply_place u.header.slot) u) same (subst (λ (p : Place). IsUnit held.layout u.header.cluster p u) here sound.is)

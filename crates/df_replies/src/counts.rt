@@ -1,0 +1,56 @@
+// The greatest numbers of the replies that are shown.
+ghost use Rattle.std.specs.Prelude.{◌≡◌, length};
+ghost use Rattle.df_replies.specs.Counts.{CountsSome, checkpoint_in, mark_in, op_in, with_reply};
+
+use df_format::Header;
+use df_layout::Class;
+use df_stamps::Counters;
+
+pub(crate) fn op_in(seen: &Result<Header, Class>) -> u64
+    ensures { result ≡ op_in seen.now }
+{
+    match seen {
+        Ok(header) => header.op,
+        Err(_) => 0,
+    }
+}
+
+fn mark_in(seen: &Result<Header, Class>) -> u64
+    ensures { result ≡ mark_in seen.now }
+{
+    match seen {
+        Ok(header) => header.mark,
+        Err(_) => 0,
+    }
+}
+
+fn checkpoint_in(seen: &Result<Header, Class>) -> u64
+    ensures { result ≡ checkpoint_in seen.now }
+{
+    match seen {
+        Ok(header) => header.checkpoint,
+        Err(_) => 0,
+    }
+}
+
+// The counters with one more reply.
+fn with_reply(seen: &Counters, reply: &Result<Header, Class>) -> Counters
+    ensures { result ≡ with_reply seen.now reply.now }
+{
+    Counters {
+        ring_op: seen.ring_op,
+        reply_top: seen.reply_top.max(op_in(reply).max(mark_in(reply))),
+        checkpoint: seen.checkpoint.max(checkpoint_in(reply)),
+    }
+}
+
+// The counters with all of them.
+pub(crate) fn count_replies(start: &Counters, replies: &[Result<Header, Class>]) -> Counters
+    ensures { CountsSome start.now replies.now (length replies.now) result }
+{
+    let mut seen = *start;
+    for reply in replies {
+        seen = with_reply(&seen, reply);
+    }
+    seen
+}

@@ -1,0 +1,110 @@
+// The table of replies: what the slots show, place by place, for an open to look at.
+ghost use Rattle.std.specs.Prelude.{◌≡◌, ◌↔◌, ◌<◌, ◌≤◌, List, ℕ, Some, length, slice_get, IfOk, IfSome, OnOk};
+ghost use Rattle.df_base.specs.Causes.{HasCause};
+ghost use Rattle.df_replies.specs.Answers.{HasClass, Lacks, NamesNone};
+ghost use Rattle.df_replies.specs.Counts.{NoReplyIsAbove, NoReplyIsLater};
+ghost use Rattle.df_replies.specs.Shown.{IsScanned, ShowsReplies};
+ghost use Rattle.df_theory.specs.Found.{IsReplies};
+ghost use Rattle.df_theory.specs.Tails.{last_mark};
+ghost use Rattle.df_theory.specs.Units.{Content, Message, Units};
+
+use crate::Lacking;
+use crate::answers::{first_lacking, greatest_op};
+use crate::counts::count_replies;
+use crate::scans::scan_replies;
+use df_base::{Failed, OutOfMemory};
+use df_buffers::{Raw, Reply};
+use df_disk::Disk;
+use df_format::Header;
+use df_layout::{Class, Layout};
+use df_sessions::SessionTable;
+use df_stamps::Counters;
+use std::alloc::Global;
+use std::marker::Model;
+
+/// For each reply slot of a layout the header of the reply that is valid there, or the class of what is shown. Contracts see
+/// the list of them.
+#[derive(Drop)]
+pub struct ReplyTable {
+    replies: Vec<Result<Header, Class>>,
+}
+
+impl Model for ReplyTable {
+    ghost use Rattle.std.specs.Prelude.{List, Result};
+    ghost use Rattle.df_format.specs.declared.header.Header.{Header};
+    ghost use Rattle.df_layout.specs.declared.damage.Class.{Class};
+
+    ghost Value = { List (Result Header Class) };
+
+    ghost view = { λ t. t.replies.items };
+}
+
+impl ReplyTable {
+    /// A table of blank slots, as a new file has them, or the refusal of its memory.
+    pub fn reserve(alloc: Global, layout: &Layout) -> Result<ReplyTable, OutOfMemory>
+        ensures { IfOk result (λ table. length table ≡ layout.now.clients) }
+    {
+        let blank: Result<Header, Class> = Err(Class::Blank);
+        match vec![in alloc; blank; layout.clients as usize] {
+            Ok(replies) => Ok(ReplyTable { replies }),
+            Err(_) => Err(OutOfMemory),
+        }
+    }
+
+    /// What the slot of a place shows.
+    pub fn get(&self, place: u32) -> Result<Header, Class>
+        requires { place < length self.now }
+        ensures { slice_get self.now place ≡ Some result }
+    {
+        self.replies[place as usize]
+    }
+
+    /// Reads each slot of the layout once, also those that no session has yet, and keeps what they show. The room comes back with
+    /// either result; after an error the table holds any entries.
+    pub fn scan<D: Disk>(
+        &mut self,
+        disk: &mut D,
+        layout: &Layout,
+        cluster: u128,
+        room: Raw<Reply>,
+    ) -> (Raw<Reply>, Result<(), Failed>)
+        requires size { length self.old ≡ layout.now.clients }
+        requires room { room.layout ≡ layout.now }
+        ensures scanned { OnOk result.1 (IsScanned layout.now cluster (D.told disk.old) self.new) }
+        ensures size { length self.new ≡ length self.old }
+        ensures room { result.0.layout ≡ layout.now }
+        ensures same { D.told disk.new ≡ D.told disk.old }
+        ensures cause { HasCause (D.faults disk.old) (D.faults disk.new) result.1 }
+    {
+        scan_replies(disk, layout, cluster, &mut self.replies, room)
+    }
+
+    /// The counters of the rings with those of the replies: none is above a number exactly where no reply is.
+    pub fn count(&self, rings: &Counters) -> Counters
+        ensures rings { result.ring_op ≡ rings.now.ring_op }
+        ensures behind { (image : Units) (c : Content) → ShowsReplies image self.now → c.boot ≡ 0
+            → (result.checkpoint ≤ c.sequence) ↔ ((rings.now.checkpoint ≤ c.sequence) × NoReplyIsLater image c) }
+        ensures lost { (image : Units) (c : Content) (head : ℕ) → ShowsReplies image self.now → c.boot ≡ 0
+            → (result.reply_top ≤ head) ↔ ((rings.now.reply_top ≤ head) × NoReplyIsAbove image c head) }
+    {
+        count_replies(rings, &self.replies)
+    }
+
+    /// The number of replies: the greatest of the superblock's, the mark of the tail's last prepare, and the ops of the replies.
+    pub fn replies(&self, superblock: u64, mark: u64) -> u64
+        ensures { (image : Units) (c : Content) (tail : List Message) → ShowsReplies image self.now → c.boot ≡ 0 → c.replies ≡ superblock → last_mark 0 tail ≡ mark
+            → IsReplies image c tail result }
+    {
+        greatest_op(superblock.max(mark), &self.replies)
+    }
+
+    /// The first session, by place, whose op is at most `stored` and whose slot doesn't show the reply to its last request.
+    pub fn first_lacking(&self, sessions: &SessionTable, stored: u64) -> Option<Lacking>
+        requires { sessions.now.max ≡ length self.now }
+        ensures lacks { (image : Units) (c : Content) → ShowsReplies image self.now → NamesNone c → Lacks image c sessions.now.sessions stored result }
+        ensures class { IfSome result (HasClass self.now) }
+        ensures within { IfSome result (λ lacking. lacking.place < length self.now) }
+    {
+        first_lacking(sessions, stored, &self.replies)
+    }
+}
