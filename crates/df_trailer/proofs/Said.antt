@@ -62,6 +62,13 @@ moved_said x blocks place old new within moved = pick (bit_at x place == 1) same
     pick true same = ap (λ (c : ℕ). Some c) (same refl)
     pick false same = refl
 
+-- rooms of one layout are as long
+pub same_words : (l m : file.Layout) → l ≡ m → (l.blocks + 63) / 64 ≡ (m.blocks + 63) / 64
+same_words l m e = ap (λ (k : file.Layout). (k.blocks + 63) / 64) e
+
+pub same_rows : (l m : file.Layout) → l ≡ m → l.blocks ≡ m.blocks
+same_rows l m e = ap (λ (k : file.Layout). k.blocks) e
+
 -- what was made of a reader's rooms
 pub record IsMade (r : Reader) (parts : Parts) : Type 0 where
   pub root : parts.root.items ≡ take (root_size r.front.head.items) (drop 4 r.front.head.items)

@@ -147,7 +147,8 @@ impl Reader {
     /// The parts of the text, in the rooms that the reader was given, once `end` has answered Ok.
     pub fn into_parts(self) -> Parts
         requires { failing_in self ≡ None }
-        ensures bits { vec_len result.bits ≡ (self.layout.blocks + 63) / 64 }
+        ensures bits { (layout : FileLayout) (op : ℕ) (text : List ℕ) → HasRead layout op self text → vec_len result.bits ≡ (layout.blocks + 63) / 64 }
+        ensures checks { (layout : FileLayout) (op : ℕ) (text : List ℕ) → HasRead layout op self text → vec_len result.checks ≡ layout.blocks }
         ensures parts { (layout : FileLayout) (op : ℕ) (text : List ℕ) → HasRead layout op self text → AreParts (layout_of layout) result (parts_of (layout_of layout) text) }
     {
         let Reader {

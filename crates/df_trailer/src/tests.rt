@@ -1,5 +1,5 @@
 // Trailers that are written in pieces and read in others, and texts that nobody wrote.
-ghost use Rattle.std.specs.Prelude.{◌≡◌, ◌≤◌, ◌+◌, ◌/◌, ◌%◌, ◌<◌, IfOk, length, Some, None, nat_le, if◌then◌else◌, replicate};
+ghost use Rattle.std.specs.Prelude.{◌≡◌, ◌≤◌, ◌+◌, ◌/◌, ◌%◌, ◌<◌, ◌^◌, IfOk, length, Some, None, nat_le, if◌then◌else◌, replicate};
 ghost use Rattle.df_base.specs.Fields.{field_at};
 ghost use Rattle.df_trailer.specs.Reading.{bytes_read};
 
@@ -214,8 +214,8 @@ fn a_reader_gives_what_was_written(rt: HostRuntime) -> Result<(), AllocError> {
     let parts = reader.into_parts();
     assert_eq!(rt; parts.root.as_slice(), [5, 6].as_slice());
     assert_eq!(rt; parts.sessions.as_slice(), [session].as_slice());
-    assert_eq!(rt; parts.bits[0], 3);
-    assert_eq!(rt; parts.checks[1], [2; 16]);
-    assert_eq!(rt; parts.checks[2], [0; 16]);
+    assert_eq!(rt; parts.bits.first().copied(), Some(3));
+    assert_eq!(rt; parts.checks.get(1).copied(), Some([2; 16]));
+    assert_eq!(rt; parts.checks.get(2).copied(), Some([0; 16]));
     Ok(())
 }

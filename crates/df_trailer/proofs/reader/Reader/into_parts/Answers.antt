@@ -1,6 +1,6 @@
-use Rattle.std.proofs.Common.{◌≡◌, ◌∙◌, ℕ, List, get_or, [], take, drop, ap, refl}
+use Rattle.std.proofs.Common.{◌≡◌, ◌∙◌, ◌+◌, ◌/◌, ℕ, List, get_or, [], take, drop, ap, refl}
 use Rattle.df_trailer.specs.Text.{count, read_sessions, root_size, sessions_at}
-use Rattle.df_trailer.proofs.Said.{moved_room, parts_said}
+use Rattle.df_trailer.proofs.Said.{moved_room, parts_said, same_rows, same_words}
 use Rattle.df_trailer.proofs.Words.{lent_back}
 use Rattle.df_trailer.proofs.reader.Reader.into_parts.Goals as goal
 
@@ -13,3 +13,9 @@ returns-clause-parts c = λ layout op text read. parts_said layout op text c.arg
       ap (λ (cs : List (List ℕ)). get_or cs place []) (lent_back c.args.self.parts.checks.len c.spread.new.checks c.args.self.parts.checks.items (c.spread.ensures.length ∙ c.deref_mut.ensures.len))
       ∙ moved_room c.args.self c.deref-3.result.now c.deref_mut.result.now c.spread.new.checks c.deref-3.ensures.value c.deref_mut.ensures.value c.spread.ensures.moved place within one;
 }) read
+
+pub returns-clause-bits : goal.returns-clause-bits
+returns-clause-bits c = λ layout op text read. c.args.self.bits_room ∙ same_words c.args.self.layout layout read.of_layout
+
+pub returns-clause-checks : goal.returns-clause-checks
+returns-clause-checks c = λ layout op text read. c.args.self.checks_room ∙ same_rows c.args.self.layout layout read.of_layout

@@ -1,0 +1,192 @@
+-- What is read of the rings is what they show.
+use Rattle.std.proofs.Common.{◌≡◌, ◌≢◌, inl, inr, ℕ, zero, suc, ◌+◌, ◌*◌, ◌/◌, ◌%◌, ◌<◌, ◌≤◌, List, [], ◌∷◌, length, set, Option, Some, None, refl, sym, ◌∙◌, ap, subst, arith}
+use Rattle.std.specs.Prelude.{Err}
+use Rattle.std.specs.List.{slice_get}
+use Rattle.std.proofs.lemmas.Bool.{cases_eq}
+use Rattle.std.proofs.lemmas.Option.{slice_get_cases, slice_get_within}
+use Rattle.df_base.specs.Image.{Image, bytes_at}
+use Rattle.df_disk.specs.Told.{Told, Shows}
+use Rattle.df_layout.specs.declared.damage.Class.{Class}
+use Rattle.df_layout.specs.declared.layout.Layout.{Layout}
+use Rattle.df_layout.specs.declared.places.Place.{Place}
+use Rattle.df_layout.specs.declared.places.Zone.TheVariants.{WalHeaders, WalPrepares}
+use Rattle.df_layout.specs.Spans.{place_sectors, sectors_before, span_of}
+use Rattle.df_format.specs.declared.kind.Kind.TheVariants.{Prepare}
+use Rattle.df_format.specs.Message.{Message}
+use Rattle.df_format.specs.Own.{place_in}
+use Rattle.df_format.specs.Shown.{bytes_of, class_at, class_of, header_or_class, unit_at, unit_in}
+use Rattle.df_format.specs.Valid.{IsInSlot}
+use Rattle.df_format.proofs.Laws.{read_belongs, shown_belongs}
+use Rattle.df_format.proofs.Laws.{valid_stale}
+use Rattle.df_buffers.specs.declared.identity.Wanted.TheVariants.{Any}
+use Rattle.df_buffers.specs.Found.{Finds, FindsKind}
+use Rattle.df_buffers.specs.Rooms.{header_bytes, room_size}
+use Rattle.df_prepares.specs.Slots.{slot_first}
+use Rattle.df_theory.specs.Units.{HeaderPlace, PreparePlace}
+use Rattle.df_units.specs.Meaning.{message_of}
+use Rattle.df_units.specs.Bytes
+use Rattle.df_units.specs.Bytes.{message_unit}
+use Rattle.df_buffers.specs.declared.slots.SlotSeen.{SlotSeen}
+use Rattle.df_journal.specs.Seen.{class_of as class_where}
+use Rattle.df_journal.specs.Shows.{IsSlot, ShowsHeader, ShowsPrepare, ShowsTable}
+use Rattle.df_journal.specs.Scan.{Scan, entry, or_blank}
+use Rattle.df_journal.specs.Scanned.{AreSeen, ClassIsShown, IsScanned, IsSeen, ScannedIsShown, header_first, seen_at}
+
+-- ---- bytes
+
+-- what is found where any unit is wanted
+pub none_found : (layout : Layout) (cluster : ℕ) (place : Place) (bytes : List ℕ) (class : Class) → ((u : Message) → Finds (record { layout = layout; cluster = cluster; place = place; wanted = Any }) bytes u → ⊥)
+    → class ≡ class_of layout cluster place bytes → Err class ≡ header_or_class (unit_in layout cluster place bytes) (class_of layout cluster place bytes)
+none_found layout cluster place bytes class none is = by (unit_in layout cluster place bytes) refl
+  where
+    by : (o : Option Message) → unit_in layout cluster place bytes ≡ o → Err class ≡ header_or_class o (class_of layout cluster place bytes)
+    by None shown = ap Err is
+    by (Some u) shown = absurd (none u (record { valid = shown; wanted = tt }))
+
+pub none_prepare : (layout : Layout) (cluster slot : ℕ) (bytes : List ℕ) (class : Class)
+    → ((u : Message) → FindsKind Prepare (record { layout = layout; cluster = cluster; place = place_in WalPrepares slot; wanted = Any }) bytes u → ⊥)
+    → class ≡ class_of layout cluster (place_in WalPrepares slot) bytes → Err class ≡ header_or_class (unit_in layout cluster (place_in WalPrepares slot) bytes) (class_of layout cluster (place_in WalPrepares slot) bytes)
+none_prepare layout cluster slot bytes class none is = none_found layout cluster (place_in WalPrepares slot) bytes class (λ u found.
+    let in_slot : IsInSlot layout slot u.header = (read_belongs layout cluster (place_in WalPrepares slot) bytes u found.valid).belongs in
+    none u (record { found = found; of_kind = in_slot.kind })) is
+
+header_part : (layout : Layout) (image : Image) (slot : ℕ) (bytes : List ℕ) → length bytes ≡ 4096 → bytes ≡ bytes_at image (header_first layout slot) (length bytes / 4096) → header_bytes (slot % 16) bytes ≡ bytes_of layout image (place_in WalHeaders slot)
+unfolding bytes_of span_of place_sectors
+header_part layout image slot bytes size is =
+    let one : length bytes / 4096 ≡ 1 = omega arith in
+    ap (λ (b : List ℕ). header_bytes (slot % 16) b) (is ∙ ap (λ (n : ℕ). bytes_at image (header_first layout slot) n) one)
+
+count_is : (layout : Layout) (slot n : ℕ) → n ≡ room_size layout WalPrepares → n / 4096 ≡ (span_of layout (place_in WalPrepares slot)).count
+unfolding span_of
+count_is layout slot n is = omega (arith, is)
+
+prepare_part : (layout : Layout) (image : Image) (slot : ℕ) (bytes : List ℕ) → length bytes ≡ room_size layout WalPrepares → bytes ≡ bytes_at image (slot_first layout slot) (length bytes / 4096) → bytes ≡ bytes_of layout image (place_in WalPrepares slot)
+unfolding bytes_of
+prepare_part layout image slot bytes size is = is ∙ ap (λ (n : ℕ). bytes_at image (slot_first layout slot) n) (count_is layout slot (length bytes) size)
+
+at_place : (layout : Layout) (cluster : ℕ) (image : Image) (place : Place) (bytes : List ℕ) → bytes ≡ bytes_of layout image place
+    → header_or_class (unit_in layout cluster place bytes) (class_of layout cluster place bytes) ≡ header_or_class (unit_at layout cluster image place) (class_at layout cluster image place)
+unfolding unit_at class_at
+at_place layout cluster image place bytes is = ap (λ (b : List ℕ). header_or_class (unit_in layout cluster place b) (class_of layout cluster place b)) is
+
+-- what is read of a slot is what the disk shows there
+pub slot_seen : (layout : Layout) (cluster slot : ℕ) (told : Option Told) (sector bytes : List ℕ) (seen : SlotSeen) → length sector ≡ 4096 → length bytes ≡ room_size layout WalPrepares
+    → Shows told (header_first layout slot) sector → Shows told (slot_first layout slot) bytes
+    → seen.header ≡ header_or_class (unit_in layout cluster (place_in WalHeaders slot) (header_bytes (slot % 16) sector)) (class_of layout cluster (place_in WalHeaders slot) (header_bytes (slot % 16) sector))
+    → seen.prepare ≡ header_or_class (unit_in layout cluster (place_in WalPrepares slot) bytes) (class_of layout cluster (place_in WalPrepares slot) bytes)
+    → IsSeen layout cluster told slot seen
+slot_seen layout cluster slot None sector bytes seen size fills shows_header shows_prepare header prepare = tt
+slot_seen layout cluster slot (Some t) sector bytes seen size fills shows_header shows_prepare header prepare =
+    let one = header ∙ at_place layout cluster t.shown (place_in WalHeaders slot) (header_bytes (slot % 16) sector) (header_part layout t.shown slot sector size shows_header) in
+    let two = prepare ∙ at_place layout cluster t.shown (place_in WalPrepares slot) bytes (prepare_part layout t.shown slot bytes fills shows_prepare) in
+    λ i. record { header = one i; prepare = two i }
+
+-- ---- a header sector
+
+first_same : (layout : Layout) (from slot : ℕ) → from % 16 ≡ 0 → from ≤ slot → slot < from + 16 → header_first layout (16 * (from / 16)) ≡ header_first layout slot
+unfolding span_of sectors_before
+first_same layout from slot even low high = let same : 16 * (from / 16) / 16 ≡ slot / 16 = omega arith in omega (arith, same)
+
+pub shows_still : (layout : Layout) (from slot : ℕ) (before now : Option Told) (bytes : List ℕ) → from % 16 ≡ 0 → from ≤ slot → slot < from + 16 → now ≡ before → Shows before (header_first layout (16 * (from / 16))) bytes → Shows now (header_first layout slot) bytes
+shows_still layout from slot before now bytes even low high same shows =
+    subst (λ (t : Option Told). Shows t (header_first layout slot) bytes) (sym same) (subst (λ (n : ℕ). Shows before n bytes) (first_same layout from slot even low high) shows)
+
+-- ---- the table
+
+pub seen_none : (layout : Layout) (cluster : ℕ) (told : Option Told) (table : List SlotSeen) → AreSeen layout cluster told 0 table
+seen_none layout cluster told table = record { seen = λ s seen less at. absurd (omega arith); valid = λ s seen less at. absurd (omega arith) }
+
+get_set_same : {X : Type 0} (xs : List X) (i : ℕ) (x : X) → i < length xs → slice_get (set xs i x) i ≡ Some x
+get_set_same [] i x within = absurd (omega arith)
+get_set_same (y ∷ xs) zero x within = refl
+get_set_same (y ∷ xs) (suc i) x within = get_set_same xs i x (omega arith)
+
+get_set_other : {X : Type 0} (xs : List X) (i k : ℕ) (x : X) → k ≢ i → slice_get (set xs i x) k ≡ slice_get xs k
+get_set_other [] i k x other = refl
+get_set_other (y ∷ xs) zero zero x other = absurd (other refl)
+get_set_other (y ∷ xs) zero (suc k) x other = refl
+get_set_other (y ∷ xs) (suc i) zero x other = refl
+get_set_other (y ∷ xs) (suc i) (suc k) x other = get_set_other xs i k x (λ e. other (ap suc e))
+
+pub seen_more : (layout : Layout) (cluster : ℕ) (told : Option Told) (k : ℕ) (table new : List SlotSeen) (seen : SlotSeen) → k < length table → new ≡ set table k seen → IsSeen layout cluster told k seen → IsSlot layout cluster k seen
+    → AreSeen layout cluster told k table → AreSeen layout cluster told (k + 1) new
+seen_more layout cluster told k table new seen within put is valid are = record {
+  seen = λ s other less at. elim (cases_eq s k) [
+    | inl here ↦
+        let same : s ≡ k = here in
+        let both : Some other ≡ Some seen = sym at ∙ ap (λ (l : List SlotSeen). slice_get l s) put ∙ ap (slice_get (set table k seen)) same ∙ get_set_same table k seen within in
+        let one : seen ≡ other = cc in
+        subst (λ (n : ℕ). IsSeen layout cluster told n other) (sym same) (subst (IsSeen layout cluster told k) one is)
+    | inr elsewhere ↦ are.seen s other (omega arith) (sym (ap (λ (l : List SlotSeen). slice_get l s) put ∙ get_set_other table k s seen elsewhere) ∙ at)
+  ];
+  valid = λ s other less at. elim (cases_eq s k) [
+    | inl here ↦
+        let same : s ≡ k = here in
+        let both : Some other ≡ Some seen = sym at ∙ ap (λ (l : List SlotSeen). slice_get l s) put ∙ ap (slice_get (set table k seen)) same ∙ get_set_same table k seen within in
+        let one : seen ≡ other = cc in
+        subst (λ (n : ℕ). IsSlot layout cluster n other) (sym same) (subst (IsSlot layout cluster k) one valid)
+    | inr elsewhere ↦ are.valid s other (omega arith) (sym (ap (λ (l : List SlotSeen). slice_get l s) put ∙ get_set_other table k s seen elsewhere) ∙ at)
+  ];
+}
+
+pub seen_all : (layout : Layout) (told : Option Told) (k : ℕ) (scan : Scan) → length scan.slots ≡ layout.slots → layout.slots ≤ k → AreSeen layout scan.start.cluster told k scan.slots → IsScanned layout told scan
+seen_all layout told k scan size all are = record {
+  seen = λ s seen at. are.seen s seen (omega (arith, size, all, slice_get_within scan.slots s seen at)) at;
+  is_table = record { size = size; each = λ s seen at. are.valid s seen (omega (arith, size, all, slice_get_within scan.slots s seen at)) at };
+}
+
+-- ---- in the words of the theory
+
+header_shown : (s : ℕ) (o : Option Message) (class : Class) → ShowsHeader (message_unit (HeaderPlace s) o) (header_or_class o class)
+header_shown s None class = refl
+header_shown s (Some u) class = refl
+
+prepare_shown : (s : ℕ) (o : Option Message) (class : Class) → ShowsPrepare (message_unit (PreparePlace s) o) (header_or_class o class)
+prepare_shown s None class = refl
+prepare_shown s (Some u) class = (message_of u, refl, refl)
+
+none_past : (layout : Layout) (cluster s : ℕ) (image : Image) → layout.slots ≤ s → (unit_at layout cluster image (place_in WalHeaders s) ≡ None) × (unit_at layout cluster image (place_in WalPrepares s) ≡ None)
+none_past layout cluster s image past = (headers (unit_at layout cluster image (place_in WalHeaders s)) refl, prepares (unit_at layout cluster image (place_in WalPrepares s)) refl)
+  where
+    headers : (o : Option Message) → unit_at layout cluster image (place_in WalHeaders s) ≡ o → o ≡ None
+    headers None is = refl
+    headers (Some u) is = let has : s < layout.slots = (shown_belongs layout cluster image (place_in WalHeaders s) u is).has in absurd (omega arith)
+
+    prepares : (o : Option Message) → unit_at layout cluster image (place_in WalPrepares s) ≡ o → o ≡ None
+    prepares None is = refl
+    prepares (Some u) is = let has : s < layout.slots = (shown_belongs layout cluster image (place_in WalPrepares s) u is).has in absurd (omega arith)
+
+pub scanned_shown : ScannedIsShown
+scanned_shown layout t scan is = record { table = is.is_table; shows = shows }
+  where
+    cluster : ℕ
+    cluster = scan.start.cluster
+
+    shows : ShowsTable (Bytes.unit_at layout cluster t.shown) scan.slots
+    shows = record {
+      each = λ s seen at.
+          let same : seen ≡ seen_at layout cluster t.shown s = is.seen s seen at in
+          record {
+            header = subst (λ (x : SlotSeen). ShowsHeader (Bytes.unit_at layout cluster t.shown (HeaderPlace s)) x.header) (sym same) (header_shown s (unit_at layout cluster t.shown (place_in WalHeaders s)) (class_at layout cluster t.shown (place_in WalHeaders s)));
+            prepare = subst (λ (x : SlotSeen). ShowsPrepare (Bytes.unit_at layout cluster t.shown (PreparePlace s)) x.prepare) (sym same) (prepare_shown s (unit_at layout cluster t.shown (place_in WalPrepares s)) (class_at layout cluster t.shown (place_in WalPrepares s)));
+          };
+      no_header = λ s past. ap (message_unit (HeaderPlace s)) (none_past layout cluster s t.shown (omega (arith, past, is.is_table.size))).0;
+      no_prepare = λ s past. ap (message_unit (PreparePlace s)) (none_past layout cluster s t.shown (omega (arith, past, is.is_table.size))).1;
+    }
+
+class_by : (layout : Layout) (cluster : ℕ) (image : Image) (place : Place) (o : Option Message) → unit_at layout cluster image place ≡ o → class_where (header_or_class o (class_at layout cluster image place)) ≡ class_at layout cluster image place
+unfolding unit_at class_at
+class_by layout cluster image place None is = refl
+class_by layout cluster image place (Some u) is = sym (valid_stale layout cluster place (bytes_of layout image place) u is)
+
+pub class_shown : ClassIsShown
+class_shown layout t scan s is inside = elim (slice_get_cases scan.slots s).1 [
+  | inl there ↦
+      let cluster = scan.start.cluster in
+      let here : entry scan s ≡ there.0 = ap or_blank there.2 in
+      let seen : entry scan s ≡ seen_at layout cluster t.shown s = here ∙ is.seen s there.0 there.2 in (
+        ap (λ (x : SlotSeen). class_where x.header) seen ∙ class_by layout cluster t.shown (place_in WalHeaders s) (unit_at layout cluster t.shown (place_in WalHeaders s)) refl,
+        ap (λ (x : SlotSeen). class_where x.prepare) seen ∙ class_by layout cluster t.shown (place_in WalPrepares s) (unit_at layout cluster t.shown (place_in WalPrepares s)) refl,
+      )
+  | inr past ↦ absurd (omega (arith, past.0, is.is_table.size, inside))
+]

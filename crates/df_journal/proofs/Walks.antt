@@ -1,0 +1,202 @@
+-- The tail is found prepare by prepare.
+use Rattle.std.proofs.Common.{◌≡◌, take, ◌-◌, inl, inr, ℕ, ◌+◌, ◌%◌, ◌<◌, ◌≤◌, List, [], ◌∷◌, ◌++◌, length, Option, Some, None, refl, sym, ◌∙◌, ap, subst, arith, length-append}
+use Rattle.std.specs.Prelude.{Result, Ok, Err}
+use Rattle.std.specs.List.{slice_get}
+use Rattle.std.proofs.lemmas.Option.{slice_get_cases}
+use Rattle.std.proofs.Math.Nat.{mod-lt}
+use Rattle.df_layout.specs.declared.damage.Class.{Class}
+use Rattle.df_layout.specs.declared.layout.Layout.{Layout}
+use Rattle.df_layout.proofs.Laws.{some_slots}
+use Rattle.df_format.specs.declared.header.Header.{Header}
+use Rattle.df_sessions.specs.declared.session.Session.{Session}
+use Rattle.df_sessions.specs.Table.{with_request}
+use Rattle.df_theory.specs.Units
+use Rattle.df_theory.specs.Units.{AnyUnit, PreparePlace, PrepareUnit}
+use Rattle.df_theory.specs.Sessions.{MayAsk, noted, sessions_after}
+use Rattle.df_theory.specs.Tails.{Chain, Fits, In, last_checksum, last_mark}
+use Rattle.df_theory.specs.Shape.{Shape, clients, slots}
+use Rattle.df_theory.specs.View.{Checkpoint}
+use Rattle.df_theory.specs.Cases
+use Rattle.df_theory.specs.Found.{slot_behind}
+use Rattle.df_theory.proofs.Laws.{chain_append, last_mark-append, sessions-append}
+use Rattle.df_theory.proofs.Laws.{chain_ops, in_either, in_single}
+use Rattle.df_units.specs.Meaning.{header_of, number_of}
+use Rattle.df_units.specs.Recovery.{decided_of}
+use Rattle.df_buffers.specs.declared.slots.SlotSeen.{SlotSeen}
+use Rattle.df_journal.specs.declared.tail.Tail.{Tail}
+use Rattle.df_journal.specs.Seen.{IsTaken, decision_on}
+use Rattle.df_journal.specs.Shows.{IsTable, ShowsPrepare, ShowsTable}
+use Rattle.df_journal.specs.Tail.{EndsAt, FindsTail, IsNext, StartsAt, sessions_of, tail_to}
+use Rattle.df_journal.proofs.Asks.{noted_is}
+use Rattle.df_journal.proofs.Decisions.{decision_is, take_from, take_to}
+
+-- ---- taken prepares, in the table and in the image
+
+pub prepare_of : (x : Option AnyUnit) (r : Result Header Class) (p : Units.Message) → ShowsPrepare x r → x ≡ Some (PrepareUnit p) → (h : Header) × (r ≡ Ok h) × (p.header ≡ header_of h)
+prepare_of x (Ok h) p (q, is, same) shown = let both : Some (PrepareUnit p) ≡ Some (PrepareUnit q) = sym shown ∙ is in let one : p ≡ q = cc in (h, refl, ap (λ (m : Units.Message). m.header) one ∙ same)
+prepare_of x (Err class) p none shown = let both : None ≡ Some (PrepareUnit p) = sym none ∙ shown in absurd (cc)
+
+-- ---- the walk
+
+-- prepares that are taken and fit, down to this end
+pub record IsWalk (layout : Layout) (image : Units.Units) (b : Checkpoint) (last : Tail) (sessions : List Session) : Type 0 where
+  pub ps : List Units.Message
+  pub chain : Chain layout.clients (b.content.op + 1) b.content.op_checksum 0 b.parts.sessions ps
+  pub takes : (p : Units.Message) → In p ps → Cases.Takes layout.slots image b.content p
+  pub alone : (p : Units.Message) → In p ps → p.header.group_last ≡ p.header.op
+  pub ends : EndsAt b ps last sessions
+
+pub walk_none : (layout : Layout) (image : Units.Units) (sh : Shape) (b : Checkpoint) (op : ℕ) (checksum : List ℕ) (sessions : List Session) → StartsAt sh b layout op checksum sessions → IsWalk layout image b (record { op = op; checksum = checksum; mark = 0 }) sessions
+walk_none layout image sh b op checksum sessions starts = record {
+  ps = [];
+  chain = tt;
+  takes = λ p none. absurd none;
+  alone = λ p none. absurd none;
+  ends = record { op = omega (arith, starts.op_is); checksum = sym starts.checksum_is; mark = refl; sessions_are = sym starts.sessions_are };
+}
+
+module _ (layout : Layout) (cluster : ℕ) (table : List SlotSeen) (image : Units.Units) (is : IsTable layout cluster table) (shows : ShowsTable image table) where
+  taken_shown : (c : Units.Content) (op : ℕ) (seen : SlotSeen) (h : Header) → c.boot ≡ 0 → slice_get table (op % layout.slots) ≡ Some seen → IsTaken op seen h → (p : Units.Message) × Cases.Takes layout.slots image c p × (p.header ≡ header_of h)
+  taken_shown c op seen h boot at taken =
+      let slot = op % layout.slots in
+      let found : ShowsPrepare (image (PreparePlace slot)) (Ok h) = subst (λ (r : Result Header Class). ShowsPrepare (image (PreparePlace slot)) r) taken.shown (shows.each slot seen at).prepare in
+      let p : Units.Message = found.0 in
+      let op_is : p.header.op ≡ op = ap (λ (k : Units.Header). k.op) found.2 ∙ taken.op_is in
+      let decided : Cases.decision layout.slots 0 image op ≡ decided_of (decision_on op seen) = decision_is layout cluster layout.slots op image seen (shows.each slot seen at) (is.each slot seen at) in (
+        p,
+        record {
+          shown = subst (λ (o : ℕ). image (PreparePlace (o % layout.slots)) ≡ Some (PrepareUnit p)) (sym op_is) found.1;
+          take = λ above. subst (λ (k : ℕ). Cases.IsTake (Cases.decision layout.slots k image p.header.op)) (sym boot) (subst (λ (o : ℕ). Cases.IsTake (Cases.decision layout.slots 0 image o)) (sym op_is) (subst Cases.IsTake (sym decided) (take_to (decision_on op seen) taken.take)));
+        },
+        found.2,
+      )
+
+  pub record TakenOf (op : ℕ) (p : Units.Message) : Type 0 where
+    pub seen : SlotSeen
+    pub header : Header
+    pub at : slice_get table (op % layout.slots) ≡ Some seen
+    pub taken : IsTaken op seen header
+    pub same : p.header ≡ header_of header
+
+  shown_taken : (c : Units.Content) (op : ℕ) (p : Units.Message) → c.boot ≡ 0 → c.pin < p.header.op → p.header.op ≡ op → Cases.Takes layout.slots image c p → TakenOf op p
+  shown_taken c op p boot above op_is takes =
+      let slot = op % layout.slots in
+      let inside : slot < length table = omega (arith, mod-lt op (some_slots layout), is.size) in
+      let shown : image (PreparePlace slot) ≡ Some (PrepareUnit p) = subst (λ (o : ℕ). image (PreparePlace (o % layout.slots)) ≡ Some (PrepareUnit p)) op_is takes.shown in
+      elim (slice_get_cases table slot).1 [
+        | inl there ↦
+            let at : slice_get table slot ≡ Some there.0 = there.2 in
+            let found = prepare_of (image (PreparePlace slot)) there.0.prepare p (shows.each slot there.0 at).prepare shown in
+            let decided : Cases.decision layout.slots 0 image op ≡ decided_of (decision_on op there.0) = decision_is layout cluster layout.slots op image there.0 (shows.each slot there.0 at) (is.each slot there.0 at) in
+            record {
+              seen = there.0;
+              header = found.0;
+              at = at;
+              taken = record {
+                shown = found.1;
+                op_is = sym (ap (λ (k : Units.Header). k.op) found.2) ∙ op_is;
+                take = take_from (decision_on op there.0) (subst Cases.IsTake decided (subst (λ (o : ℕ). Cases.IsTake (Cases.decision layout.slots 0 image o)) op_is (subst (λ (k : ℕ). Cases.IsTake (Cases.decision layout.slots k image p.header.op)) boot (takes.take above))));
+              };
+              same = found.2;
+            }
+        | inr past ↦ absurd (omega (arith, past.0, inside))
+      ]
+
+  last_checksum-append : (c : ℕ) (ps qs : List Units.Message) → last_checksum c (ps ++ qs) ≡ last_checksum (last_checksum c ps) qs
+  last_checksum-append c [] qs = refl
+  last_checksum-append c (p ∷ ps) qs = last_checksum-append p.header.checksum ps qs
+
+  -- what fits by the words of the end fits by those of the prepares
+  fits_behind : (b : Checkpoint) (last : Tail) (sessions : List Session) (ps : List Units.Message) (k : Units.Header) → EndsAt b ps last sessions
+      → Fits layout.clients (last.op + 1) (number_of last.checksum) last.mark (sessions_of sessions) k
+      → Fits layout.clients (b.content.op + 1 + length ps) (last_checksum b.content.op_checksum ps) (last_mark 0 ps) (sessions_after b.parts.sessions ps) k
+  fits_behind b last sessions ps k ends fits =
+      let op : last.op + 1 ≡ b.content.op + 1 + length ps = omega (arith, ends.op) in
+      record {
+        op_is = fits.op_is ∙ op;
+        parent_is = fits.parent_is ∙ ends.checksum;
+        mark_from = omega (arith, fits.mark_from, ends.mark);
+        mark_below = omega (arith, fits.mark_below, op);
+        mark_near = omega (arith, fits.mark_near, op);
+        group = omega (arith, fits.group, op);
+        asks = subst (λ (l : List Units.Session). MayAsk layout.clients k l) ends.sessions_are fits.asks;
+      }
+
+  fits_before : (b : Checkpoint) (last : Tail) (sessions : List Session) (ps : List Units.Message) (k : Units.Header) → EndsAt b ps last sessions
+      → Fits layout.clients (b.content.op + 1 + length ps) (last_checksum b.content.op_checksum ps) (last_mark 0 ps) (sessions_after b.parts.sessions ps) k
+      → Fits layout.clients (last.op + 1) (number_of last.checksum) last.mark (sessions_of sessions) k
+  fits_before b last sessions ps k ends fits =
+      let op : last.op + 1 ≡ b.content.op + 1 + length ps = omega (arith, ends.op) in
+      record {
+        op_is = fits.op_is ∙ sym op;
+        parent_is = fits.parent_is ∙ sym ends.checksum;
+        mark_from = omega (arith, fits.mark_from, ends.mark);
+        mark_below = omega (arith, fits.mark_below, op);
+        mark_near = omega (arith, fits.mark_near, op);
+        group = omega (arith, fits.group, op);
+        asks = subst (λ (l : List Units.Session). MayAsk layout.clients k l) (sym ends.sessions_are) fits.asks;
+      }
+
+  pub walk_more : (b : Checkpoint) (last : Tail) (sessions : List Session) (h : Header) → b.content.boot ≡ 0 → IsWalk layout image b last sessions → IsNext layout table last sessions h → IsWalk layout image b (tail_to h) (with_request h.client h.request h.op sessions)
+  walk_more b last sessions h boot walk next =
+      let found = taken_shown b.content (last.op + 1) next.seen h boot next.at next.taken in
+      let p : Units.Message = found.0 in
+      let ps = walk.ps in
+      let fits : Fits layout.clients (b.content.op + 1 + length ps) (last_checksum b.content.op_checksum ps) (last_mark 0 ps) (sessions_after b.parts.sessions ps) p.header =
+      subst (λ (k : Units.Header). Fits layout.clients (b.content.op + 1 + length ps) (last_checksum b.content.op_checksum ps) (last_mark 0 ps) (sessions_after b.parts.sessions ps) k) (sym found.2) (fits_behind b last sessions ps (header_of h) walk.ends next.fits) in
+      let alone : p.header.group_last ≡ p.header.op = ap (λ (k : Units.Header). k.group_last) found.2 ∙ sym (ap (λ (k : Units.Header). k.op) found.2) in
+      record {
+        ps = ps ++ p ∷ [];
+        chain = chain_append layout.clients (b.content.op + 1) b.content.op_checksum 0 b.parts.sessions ps (p ∷ []) walk.chain (fits, tt);
+        takes = λ q at. elim (in_either q ps (p ∷ []) at) [ inl old ↦ walk.takes q old | inr new ↦ subst (λ (m : Units.Message). Cases.Takes layout.slots image b.content m) (sym (in_single q p new)) found.1 ];
+        alone = λ q at. elim (in_either q ps (p ∷ []) at) [ inl old ↦ walk.alone q old | inr new ↦ subst (λ (m : Units.Message). m.header.group_last ≡ m.header.op) (sym (in_single q p new)) alone ];
+        ends = record {
+          op = omega (arith, next.taken.op_is, walk.ends.op, length-append ps (p ∷ []));
+          checksum = sym (ap (λ (k : Units.Header). k.checksum) found.2) ∙ sym (last_checksum-append b.content.op_checksum ps (p ∷ []));
+          mark = sym (ap (λ (k : Units.Header). k.mark) found.2) ∙ sym (last_mark-append 0 ps (p ∷ []));
+          sessions_are =
+              noted_is h sessions
+              ∙ ap (noted (header_of h)) walk.ends.sessions_are
+              ∙ ap (λ (k : Units.Header). noted k (sessions_after b.parts.sessions ps)) (sym found.2)
+              ∙ sym (sessions-append b.parts.sessions ps (p ∷ []));
+        };
+      }
+
+  pub walk_ends : (sh : Shape) (b : Checkpoint) (op : ℕ) (checksum : List ℕ) (first : List Session) (last : Tail) (sessions : List Session) → StartsAt sh b layout op checksum first → IsWalk layout image b last sessions → last.op ≤ op + layout.slots
+      → ((h : Header) → last.op < op + layout.slots → IsNext layout table last sessions h → ⊥) → FindsTail sh image b last sessions
+  walk_ends sh b op checksum first last sessions starts walk within none = record {
+    tail = walk.ps;
+    is = record {
+      chain = subst (λ (n : ℕ). Chain n (b.content.op + 1) b.content.op_checksum 0 b.parts.sessions walk.ps) (sym starts.clients_are) walk.chain;
+      takes = λ p at. subst (λ (n : ℕ). Cases.Takes n image b.content p) (sym starts.slots_are) (walk.takes p at);
+      room = omega (arith, within, walk.ends.op, starts.op_is, starts.slots_are);
+      groups = λ p at. omega (arith, walk.alone p at, (chain_ops layout.clients (b.content.op + 1) b.content.op_checksum 0 b.parts.sessions walk.ps p walk.chain at).1);
+      reaches = omega (arith, starts.pin);
+      pinned = ap (λ (n : ℕ). last_checksum b.content.op_checksum (take n walk.ps)) none_pinned ∙ sym starts.pin_checksum;
+      longest = longest;
+    };
+    ends = walk.ends;
+  }
+    where
+      none_pinned : b.content.pin - b.content.op ≡ 0
+      none_pinned = omega (arith, starts.pin)
+
+      longest : (p : Units.Message) → length walk.ps < slots sh → Cases.Takes (slots sh) image b.content p
+          → Fits (clients sh) (b.content.op + 1 + length walk.ps) (last_checksum b.content.op_checksum walk.ps) (last_mark 0 walk.ps) (sessions_after b.parts.sessions walk.ps) p.header → ⊥
+      longest p room takes fits =
+          let next : p.header.op ≡ last.op + 1 = omega (arith, fits.op_is, walk.ends.op) in
+          let taken : TakenOf (last.op + 1) p = shown_taken b.content (last.op + 1) p starts.boot (omega (arith, starts.pin, fits.op_is)) next (subst (λ (n : ℕ). Cases.Takes n image b.content p) starts.slots_are takes) in
+          let here : Fits layout.clients (b.content.op + 1 + length walk.ps) (last_checksum b.content.op_checksum walk.ps) (last_mark 0 walk.ps) (sessions_after b.parts.sessions walk.ps) p.header =
+          subst (λ (n : ℕ). Fits n (b.content.op + 1 + length walk.ps) (last_checksum b.content.op_checksum walk.ps) (last_mark 0 walk.ps) (sessions_after b.parts.sessions walk.ps) p.header) starts.clients_are fits in
+          none taken.header (omega (arith, room, walk.ends.op, starts.op_is, starts.slots_are)) (record {
+            seen = taken.seen;
+            at = taken.at;
+            taken = taken.taken;
+            fits = subst (λ (k : Units.Header). Fits layout.clients (last.op + 1) (number_of last.checksum) last.mark (sessions_of sessions) k) taken.same (fits_before b last sessions walk.ps p.header walk.ends here);
+          })
+
+-- the slot of the op behind the end of a tail
+pub blamed_is : (sh : Shape) (b : Checkpoint) (ps : List Units.Message) (last : Tail) (sessions : List Session) (n : ℕ) → slots sh ≡ n → EndsAt b ps last sessions → (last.op + 1) % n ≡ slot_behind sh b ps
+blamed_is sh b ps last sessions n same ends =
+    let op : last.op + 1 ≡ b.content.op + length ps + 1 = omega (arith, ends.op) in
+    ap (λ (k : ℕ). k % n) op ∙ ap (λ (m : ℕ). (b.content.op + length ps + 1) % m) (sym same)

@@ -1,0 +1,18 @@
+-- The slots before this one are in the table.
+use Rattle.std.proofs.Common.{◌≡◌, ◌-◌, ◌%◌, length}
+use Rattle.df_journal.specs.Scanned.{AreSeen}
+use Rattle.df_journal.proofs.reads.scan_all.Given as goal
+
+abbrev pub invariant-loop-slot : goal.invariant-loop-slot
+invariant-loop-slot g l = record {
+  first : l.slot % 16 ≡ 0;
+  size : length l.found.slots ≡ l.layout.slots;
+  start : l.found.start ≡ l.initial.found.start;
+  room : l.room.layout ≡ l.layout;
+  same : g.D.Disk.told l.disk ≡ g.D.Disk.told l.initial.disk;
+  faults : g.D.Disk.faults l.disk ≡ g.D.Disk.faults l.initial.disk;
+  seen : AreSeen l.layout l.initial.found.start.cluster (g.D.Disk.told l.initial.disk) l.slot l.found.slots;
+}
+
+abbrev pub decreases-loop-slot : goal.decreases-loop-slot
+decreases-loop-slot g l = l.layout.slots - l.slot

@@ -1,0 +1,21 @@
+-- What is shown is a unit, so its fields are in range.
+use Rattle.std.proofs.Common.{◌+◌, ◌<◌, ◌⊎◌, ℕ, length, arith, subst, sym}
+use Rattle.df_sessions.specs.Table.{IsKnown}
+use Rattle.df_journal.proofs.Asks.{asks_room}
+use Rattle.df_journal.proofs.Decisions.{taken_check, taken_client, taken_parent, taken_unit}
+use Rattle.df_journal.proofs.tail.next.Goals as goal
+
+pub fits-requires-clause-parent : goal.fits-requires-clause-parent
+fits-requires-clause-parent c =
+    taken_parent c.args.layout.now c.args.found.now.start.cluster _ c.in_ok-header.header (taken_unit c.args.layout.now c.args.found.now.start.cluster _ (c.args.last.now.op + 1) c.args.found.now.slots c.seen-seen.result c.in_ok-header.header c.requires.table c.seen-seen.ensures c.in_ok-header.ensures)
+
+pub returns-then-fits-clause-sound : goal.returns-then-fits-clause-sound
+returns-then-fits-clause-sound c =
+    let there = taken_unit c.args.layout.now c.args.found.now.start.cluster _ (c.args.last.now.op + 1) c.args.found.now.slots c.seen-seen.result c.in_ok-header.header c.requires.table c.seen-seen.ensures c.in_ok-header.ensures in
+    let fits = c.fits.ensures.0 c.if-fits.true in
+    let client : 0 < c.in_ok-header.header.client = taken_client c.args.layout.now c.args.found.now.start.cluster _ c.in_ok-header.header there in
+    record {
+      client = λ none. omega (arith, client, none);
+      room = subst (λ (n : ℕ). IsKnown c.in_ok-header.header.client c.args.sessions.now.sessions ⊎ (length c.args.sessions.now.sessions < n)) (sym c.requires.places) (asks_room c.args.layout.now.clients c.in_ok-header.header c.args.sessions.now.sessions fits.asks);
+      checksum = taken_check c.args.layout.now c.args.found.now.start.cluster _ c.in_ok-header.header there;
+    }

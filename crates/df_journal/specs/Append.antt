@@ -1,0 +1,73 @@
+-- An append: its device calls, what they are in the words of the model, and what a stop at any moment of it leaves.
+use Rattle.std.specs.Prelude.{◌≡◌, ◌<◌, ◌≤◌, ◌+◌, ◌/◌, ℕ, List, [], ◌∷◌, take, slice_get, slice_set, Option, Some}
+use Rattle.df_base.specs.Image.{Image}
+use Rattle.df_base.specs.Log
+use Rattle.df_base.specs.Log.{Event, IsLeft, IsLog}
+use Rattle.df_disk.specs.Told.{Told}
+use Rattle.df_layout.specs.declared.layout.Layout.{Layout}
+use Rattle.df_format.specs.declared.header.Header.{Header}
+use Rattle.df_format.specs.Message.{Message, sectors_end}
+use Rattle.df_buffers.specs.Sounds.{Holding}
+use Rattle.df_theory.specs.Units
+use Rattle.df_theory.specs.Units.{HeaderPlace, HeaderUnit, PreparePlace, PrepareUnit}
+use Rattle.df_theory.specs.Cases.{IsEmpty, IsTake, decision}
+use Rattle.df_theory.specs.Device.{IsGoodDisk, NoChanceOf, units_log}
+use Rattle.df_theory.specs.Next.{MayAppend, appended}
+use Rattle.df_theory.specs.Runs.{Puts, Step, Syncs}
+use Rattle.df_theory.specs.Shape.{Shape, slots}
+use Rattle.df_theory.specs.TidyLaws.{IsTidy}
+use Rattle.df_theory.specs.UnitLog.{put_one}
+use Rattle.df_theory.specs.View.{View, head}
+use Rattle.df_units.specs.Meaning.{header_of, message_of}
+use Rattle.df_units.specs.Append.{append_events}
+use Rattle.df_units.specs.Bytes.{unit_at}
+use Rattle.df_units.specs.Format.{format_of, shape_of}
+use Rattle.df_units.specs.Puts.{put_headers}
+use Rattle.df_headers.specs.Ring.{in_sector}
+
+-- the table with the header of a prepare in its slot
+abbrev pub with_header : Message → List Header → List Header
+with_header u table = slice_set table u.header.slot u.header
+
+-- the sixteen headers that are written with it
+abbrev pub new_sector : Message → List Header → List Header
+new_sector u table = in_sector (u.header.slot / 16) (with_header u table)
+
+-- the device calls: the prepare's sectors, a sync, the header sector, a sync
+abbrev pub journal_events : Layout → Holding → List Header → List Event
+journal_events layout held table =
+    append_events layout held.unit.header.slot (take (sectors_end held.unit.header.size) held.bytes) (held.unit.header.slot / 16) (new_sector held.unit table)
+
+-- in the words of the model
+abbrev pub journal_steps : Message → List Header → List Step
+journal_steps u table = Puts (put_one (PreparePlace u.header.slot) (PrepareUnit (message_of u))) ∷ Syncs ∷ Puts (put_headers (u.header.slot / 16) (new_sector u table)) ∷ Syncs ∷ []
+
+-- the header ring of an image shows the table
+abbrev pub ShowsRing : Layout → ℕ → Image → List Header → Type 0
+ShowsRing layout cluster image table = (s : ℕ) (h : Header) → slice_get table s ≡ Some h → unit_at layout cluster image (HeaderPlace s) ≡ Some (HeaderUnit (header_of h))
+
+-- the file is tidy, the prepare may be its next one, and the header ring shows the table
+pub record MayAppendOn (layout : Layout) (u : Message) (table : List Header) (t : Told) : Type 0 where
+  pub named : 0 < u.header.cluster
+  pub parse : ℕ → List ℕ → Option Units.Parts
+  pub view : View
+  pub is_log : IsLog t.log
+  pub tidy : IsTidy (shape_of layout u.header.cluster named parse) (units_log (format_of layout u.header.cluster) t.log) view
+  pub may : MayAppend (shape_of layout u.header.cluster named parse) view (message_of u ∷ [])
+  pub ring : ShowsRing layout u.header.cluster (Log.now t.log) table
+
+-- every slot but that of the next op stays taken or stays empty; what is to be mended may change
+pub record OthersStay (sh : Shape) (image : Units.Units) (v : View) : Type 0 where
+  pub taken : (o : ℕ) → v.checkpoint.content.op < o → o ≤ head v → IsTake (decision (slots sh) 0 image o)
+  pub empty : (o : ℕ) → head v + 1 < o → o ≤ v.checkpoint.content.op + slots sh → IsEmpty (decision (slots sh) 0 image o)
+
+-- at a moment of the append the log is good for the view before it and the one behind it, and in whatever a stop leaves, under no chance, every other slot stays taken or stays empty
+pub record Leaves (layout : Layout) (u : Message) (table : List Header) (t : Told) (may : MayAppendOn layout u table t) (log : Log.Log) : Type 0 where
+  pub good : IsGoodDisk (format_of layout u.header.cluster) (shape_of layout u.header.cluster may.named may.parse) may.view (appended may.view (message_of u ∷ [])) log
+  pub others : (image : Image) → IsLeft log image → NoChanceOf (format_of layout u.header.cluster) log image
+      → OthersStay (shape_of layout u.header.cluster may.named may.parse) (unit_at layout u.header.cluster image) may.view
+
+-- at its end the file is tidy again, with the prepare, and the header ring shows the table
+pub record EndsAppended (layout : Layout) (u : Message) (table : List Header) (t : Told) (may : MayAppendOn layout u table t) (after : Told) (new : List Header) : Type 0 where
+  pub tidy : IsTidy (shape_of layout u.header.cluster may.named may.parse) (units_log (format_of layout u.header.cluster) after.log) (appended may.view (message_of u ∷ []))
+  pub ring : ShowsRing layout u.header.cluster (Log.now after.log) new

@@ -1,0 +1,47 @@
+-- The greatest numbers of the units in the two rings, and in the reply slots.
+use Rattle.std.specs.Prelude.{◌≡◌, ◌↔◌, ◌≤◌, ℕ, Some, Result, Ok, Err, max}
+use Rattle.df_layout.specs.declared.damage.Class.{Class}
+use Rattle.df_format.specs.declared.header.Header.{Header as FileHeader}
+use Rattle.df_theory.specs.Units.{Header, HeaderPlace, HeaderUnit, Message, PreparePlace, PrepareUnit, ReplyPlace, ReplyUnit, Units}
+use Rattle.df_stamps.specs.declared.counters.Counters.{Counters}
+
+-- in each unit of the two rings the number is at most n
+pub record RingsWithin (image : Units) (number : Header → ℕ) (n : ℕ) : Type 0 where
+  pub header : (s : ℕ) (h : Header) → image (HeaderPlace s) ≡ Some (HeaderUnit h) → number h ≤ n
+  pub prepare : (s : ℕ) (p : Message) → image (PreparePlace s) ≡ Some (PrepareUnit p) → number p.header ≤ n
+
+-- in each reply
+abbrev pub RepliesWithin : Units → (Header → ℕ) → ℕ → Type 0
+RepliesWithin image number n = (k : ℕ) (r : Message) → image (ReplyPlace k) ≡ Some (ReplyUnit r) → number r.header ≤ n
+
+-- the greatest numbers of the rings; none is of a boot, in a file of version 1
+pub record CountsRings (image : Units) (seen : Counters) : Type 0 where
+  pub ring_op : (n : ℕ) → (seen.ring_op ≤ n) ↔ RingsWithin image (λ h. h.op) n
+  pub checkpoint : (n : ℕ) → (seen.checkpoint ≤ n) ↔ RingsWithin image (λ h. h.checkpoint) n
+  pub boot : RingsWithin image (λ h. h.boot) 0
+
+-- of the replies
+pub record CountsReplies (image : Units) (seen : Counters) : Type 0 where
+  pub reply_top : (n : ℕ) → (seen.reply_top ≤ n) ↔ (RepliesWithin image (λ h. h.op) n × RepliesWithin image (λ h. h.mark) n)
+  pub checkpoint : (n : ℕ) → (seen.checkpoint ≤ n) ↔ RepliesWithin image (λ h. h.checkpoint) n
+  pub boot : RepliesWithin image (λ h. h.boot) 0
+
+-- of both
+pub record CountsAll (image : Units) (seen : Counters) : Type 0 where
+  pub ring_op : (n : ℕ) → (seen.ring_op ≤ n) ↔ RingsWithin image (λ h. h.op) n
+  pub reply_top : (n : ℕ) → (seen.reply_top ≤ n) ↔ (RepliesWithin image (λ h. h.op) n × RepliesWithin image (λ h. h.mark) n)
+  pub checkpoint : (n : ℕ) → (seen.checkpoint ≤ n) ↔ (RingsWithin image (λ h. h.checkpoint) n × RepliesWithin image (λ h. h.checkpoint) n)
+  pub boot : RingsWithin image (λ h. h.boot) 0 × RepliesWithin image (λ h. h.boot) 0
+
+-- the op of what is seen, 0 where it is no unit, and so on
+abbrev pub op_in : Result FileHeader Class → ℕ
+op_in (Ok h) = h.op
+op_in (Err class) = 0
+
+abbrev pub checkpoint_in : Result FileHeader Class → ℕ
+checkpoint_in (Ok h) = h.checkpoint
+checkpoint_in (Err class) = 0
+
+-- the counters with one more unit of the rings
+abbrev pub with_unit : Counters → Result FileHeader Class → Counters
+with_unit seen ring = record { ring_op = max seen.ring_op (op_in ring); reply_top = seen.reply_top; checkpoint = max seen.checkpoint (checkpoint_in ring) }

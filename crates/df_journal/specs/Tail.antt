@@ -1,0 +1,70 @@
+-- The tail that a table of slots shows behind a checkpoint.
+use Rattle.std.specs.Prelude.{◌≡◌, ◌≢◌, ◌⊎◌, ◌<◌, ◌+◌, ◌%◌, ℕ, List, length, map, slice_get, Option, Some, None}
+use Rattle.df_layout.specs.declared.layout.Layout.{Layout}
+use Rattle.df_format.specs.declared.header.Header.{Header}
+use Rattle.df_format.specs.Spelling.{IsCheck}
+use Rattle.df_sessions.specs.declared.session.Session.{Session}
+use Rattle.df_sessions.specs.Table.{IsKnown, Table}
+use Rattle.df_theory.specs.Units
+use Rattle.df_theory.specs.Sessions.{sessions_after}
+use Rattle.df_theory.specs.Tails.{Fits, last_checksum, last_mark}
+use Rattle.df_theory.specs.Shape.{Shape, clients, slots}
+use Rattle.df_theory.specs.View.{Checkpoint}
+use Rattle.df_theory.specs.Found
+use Rattle.df_units.specs.Meaning.{header_of, number_of}
+use Rattle.df_buffers.specs.declared.slots.SlotSeen.{SlotSeen}
+use Rattle.df_journal.specs.declared.tail.Tail.{Tail}
+use Rattle.df_journal.specs.Seen.{IsTaken}
+
+-- the sessions, whatever replies are stored
+abbrev pub session_of : Session → Units.Session
+session_of s = record { client = s.client; request = s.request; op = s.op }
+
+abbrev pub sessions_of : List Session → List Units.Session
+sessions_of ss = map session_of ss
+
+-- the end of a tail whose last prepare has this header
+abbrev pub tail_to : Header → Tail
+tail_to h = record { op = h.op; checksum = h.checksum; mark = h.mark }
+
+-- the checkpoint that the search starts from, of a file of version 1: it names no prepare beside its own
+pub record StartsAt (sh : Shape) (b : Checkpoint) (layout : Layout) (op : ℕ) (checksum : List ℕ) (sessions : List Session) : Type 0 where
+  pub slots_are : slots sh ≡ layout.slots
+  pub clients_are : clients sh ≡ layout.clients
+  pub op_is : b.content.op ≡ op
+  pub checksum_is : b.content.op_checksum ≡ number_of checksum
+  pub boot : b.content.boot ≡ 0
+  pub pin : b.content.pin ≡ b.content.op
+  pub pin_checksum : b.content.pin_checksum ≡ b.content.op_checksum
+  pub sessions_are : b.parts.sessions ≡ sessions_of sessions
+
+-- these prepares end so, with these sessions
+pub record EndsAt (b : Checkpoint) (ps : List Units.Message) (end : Tail) (sessions : List Session) : Type 0 where
+  pub op : end.op ≡ b.content.op + length ps
+  pub checksum : number_of end.checksum ≡ last_checksum b.content.op_checksum ps
+  pub mark : end.mark ≡ last_mark 0 ps
+  pub sessions_are : sessions_of sessions ≡ sessions_after b.parts.sessions ps
+
+-- the tail of the image ends so
+pub record FindsTail (sh : Shape) (image : Units.Units) (b : Checkpoint) (end : Tail) (sessions : List Session) : Type 0 where
+  pub tail : List Units.Message
+  pub is : Found.IsTail sh image b tail
+  pub ends : EndsAt b tail end sessions
+
+-- the header of the prepare that comes next: it is taken from the slot of its op, and fits
+pub record IsNext (layout : Layout) (table : List SlotSeen) (last : Tail) (sessions : List Session) (h : Header) : Type 0 where
+  pub seen : SlotSeen
+  pub at : slice_get table ((last.op + 1) % layout.slots) ≡ Some seen
+  pub taken : IsTaken (last.op + 1) seen h
+  pub fits : Fits layout.clients (last.op + 1) (number_of last.checksum) last.mark (sessions_of sessions) (header_of h)
+
+-- as an answer
+abbrev pub GoesOn : Layout → List SlotSeen → Tail → List Session → Option Header → Type 0
+GoesOn layout table last sessions None = (h : Header) → IsNext layout table last sessions h → ⊥
+GoesOn layout table last sessions (Some h) = IsNext layout table last sessions h
+
+-- the prepare's request can be noted
+pub record IsSound (sessions : Table) (h : Header) : Type 0 where
+  pub client : h.client ≢ 0
+  pub room : IsKnown h.client sessions.sessions ⊎ (length sessions.sessions < sessions.max)
+  pub checksum : IsCheck h.checksum

@@ -1,0 +1,50 @@
+// What is decided of a slot where an op is wanted there.
+ghost use Rattle.std.specs.Prelude.{◌≡◌, ◌↔◌, IsTrue};
+ghost use Rattle.df_journal.specs.Seen.{decision_on, seen_in, IsTake, TakesNow};
+
+use df_buffers::SlotSeen;
+use df_cases::{Decision, Seen, case};
+use df_format::Header;
+use df_layout::Class;
+
+// What a ring shows, where the op is wanted.
+fn seen_in(ring: &Result<Header, Class>, op: u64) -> Seen
+    ensures { result ≡ seen_in op ring.now }
+{
+    match ring {
+        Ok(header) => {
+            if header.op == op {
+                Seen::Now(header.checksum)
+            } else if header.op < op {
+                Seen::Old
+            } else {
+                Seen::Far
+            }
+        }
+        Err(_) => Seen::Nothing,
+    }
+}
+
+// The decision on a slot.
+pub(crate) fn decision_on(seen: &SlotSeen, op: u64) -> Decision
+    ensures { result ≡ decision_on op seen.now }
+{
+    case(seen_in(&seen.header, op), seen_in(&seen.prepare, op))
+}
+
+fn is_take(decision: &Decision) -> bool
+    ensures { IsTrue result ↔ IsTake decision.now }
+{
+    matches!(decision, Decision::Take { .. })
+}
+
+/// The header of the prepare that is taken from a slot, where the op is wanted.
+pub(crate) fn taken(seen: &SlotSeen, op: u64) -> Option<Header>
+    ensures { TakesNow op seen.now result }
+{
+    if is_take(&decision_on(seen, op)) {
+        seen.prepare.ok()
+    } else {
+        None
+    }
+}

@@ -1,0 +1,151 @@
+// The table of slots: what the two rings show, slot by slot, and what is decided of each.
+ghost use Rattle.std.specs.Prelude.{◌≡◌, ◌<◌, ◌≤◌, ◌^◌, ℕ, length, slice_get};
+ghost use Rattle.df_layout.specs.declared.layout.Layout.{Layout as AnyLayout};
+ghost use Rattle.df_theory.specs.Units.{Units};
+ghost use Rattle.df_theory.specs.Cases.{decision as decided};
+ghost use Rattle.df_units.specs.Recovery.{decided_of};
+ghost use Rattle.df_journal.specs.Scan.{entry, with_slot};
+ghost use Rattle.df_journal.specs.Seen.{IsOpOf, class_of, header_of_seen};
+ghost use Rattle.df_journal.specs.Shows.{Tells};
+
+use crate::seen::decision_on;
+use df_buffers::SlotSeen;
+use df_cases::Decision;
+use df_format::Header;
+use df_layout::Class;
+use std::marker::Model;
+
+/// The file and the checkpoint that a scan starts from: its op is at most 2^62.
+#[derive(Clone, Copy, Debug, PartialEq, Eq)]
+pub struct Start {
+    pub cluster: u128,
+    pub op: u64,
+}
+
+/// What a scan saw of each slot, behind the checkpoint that it started from. Before the first scan it holds any entries.
+#[derive(Drop)]
+pub struct SlotTable {
+    pub(crate) start: Start,
+    pub(crate) slots: Vec<SlotSeen>,
+}
+
+impl Model for SlotTable {
+    ghost use Rattle.std.specs.Prelude.{◌≤◌, ◌^◌, length};
+    ghost use Rattle.df_journal.specs.Scan.{Scan, IsScan};
+
+    ghost Value = { Scan };
+
+    ghost view = { λ t. record { start = t.start; slots = t.slots.items } };
+
+    ghost invariant = { λ t. IsScan (record { start = t.start; slots = t.slots.items }) };
+}
+
+fn header_in(ring: &Result<Header, Class>) -> Option<Header>
+    ensures { result ≡ header_of_seen ring.now }
+{
+    ring.ok()
+}
+
+fn class_in(ring: &Result<Header, Class>) -> Class
+    ensures { result ≡ class_of ring.now }
+{
+    match ring {
+        Ok(_) => Class::Stale,
+        Err(class) => *class,
+    }
+}
+
+// The op above the checkpoint's that belongs in the slot.
+fn op_of(slots: u64, op: u64, slot: u64) -> u64
+    requires few { slots ≤ 1024 }
+    requires op { op ≤ 2 ^ 62 }
+    requires slot { slot < slots }
+    ensures { IsOpOf slots op slot result }
+{
+    let first = op + 1;
+    first + (slot + slots - first % slots) % slots
+}
+
+impl SlotTable {
+    /// A table over these entries, one for each slot of the layout, which a scan replaces.
+    pub fn over(room: Vec<SlotSeen>) -> SlotTable
+        requires { length room.items ≤ 1024 }
+        ensures { result.slots ≡ room.items }
+    {
+        SlotTable {
+            start: Start { cluster: 0, op: 0 },
+            slots: room,
+        }
+    }
+
+    /// What the rings show at a slot.
+    pub(crate) fn seen(&self, slot: u32) -> SlotSeen
+        requires { slot < length self.now.slots }
+        ensures { slice_get self.now.slots slot ≡ Some result }
+    {
+        self.slots[slot as usize]
+    }
+
+    /// Replaces the entry of a slot.
+    pub(crate) fn set(&mut self, slot: u32, seen: SlotSeen)
+        requires { slot < length self.old.slots }
+        ensures { self.new ≡ with_slot self.old slot seen }
+    {
+        self.slots[slot as usize] = seen;
+    }
+
+    /// Begins anew behind a checkpoint.
+    pub(crate) fn begin(&mut self, start: &Start)
+        requires { start.now.op ≤ 2 ^ 62 }
+        ensures start { self.new.start ≡ start.now }
+        ensures slots { self.new.slots ≡ self.old.slots }
+    {
+        self.start = *start;
+    }
+
+    /// What is decided of a slot, by the table of recovery cases: of the op above the checkpoint's that belongs there.
+    pub fn decision(&self, slot: u32) -> Decision
+        requires { slot < length self.now.slots }
+        ensures model { (layout : AnyLayout) (image : Units) (o : ℕ) → Tells layout image self.now → IsOpOf layout.slots self.now.start.op slot o
+            → decided_of result ≡ decided layout.slots 0 image o }
+    {
+        let op = op_of(
+            self.slots.as_slice().len() as u64,
+            self.start.op,
+            u64::from(slot),
+        );
+        decision_on(&self.seen(slot), op)
+    }
+
+    /// The header of the valid prepare that is shown in a slot.
+    pub fn prepare(&self, slot: u32) -> Option<Header>
+        requires { slot < length self.now.slots }
+        ensures { result ≡ header_of_seen (entry self.now slot).prepare }
+    {
+        header_in(&self.seen(slot).prepare)
+    }
+
+    /// The valid header that the header ring shows in a slot; it may be a reserved one.
+    pub fn header(&self, slot: u32) -> Option<Header>
+        requires { slot < length self.now.slots }
+        ensures { result ≡ header_of_seen (entry self.now slot).header }
+    {
+        header_in(&self.seen(slot).header)
+    }
+
+    /// The class of what the ring of prepares shows in a slot, Stale where a valid unit is there.
+    pub fn class(&self, slot: u32) -> Class
+        requires { slot < length self.now.slots }
+        ensures { result ≡ class_of (entry self.now slot).prepare }
+    {
+        class_in(&self.seen(slot).prepare)
+    }
+
+    /// The class of what the header ring shows in a slot, Stale where a valid header is there.
+    pub fn header_class(&self, slot: u32) -> Class
+        requires { slot < length self.now.slots }
+        ensures { result ≡ class_of (entry self.now slot).header }
+    {
+        class_in(&self.seen(slot).header)
+    }
+}

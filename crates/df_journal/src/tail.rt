@@ -1,0 +1,113 @@
+// The tail: the longest list of taken prepares behind the checkpoint, each of which fits what precedes it.
+ghost use Rattle.std.specs.Prelude.{◌≡◌, ◌≤◌, ◌<◌, ◌+◌, ◌^◌, List, IfSome};
+ghost use Rattle.df_format.specs.Spelling.{IsCheck};
+ghost use Rattle.df_sessions.specs.declared.session.Session.{Session};
+ghost use Rattle.df_theory.specs.Units.{Message, Units};
+ghost use Rattle.df_theory.specs.Shape.{Shape, slots};
+ghost use Rattle.df_theory.specs.Found.{slot_behind as blamed};
+ghost use Rattle.df_theory.specs.View.{Checkpoint};
+ghost use Rattle.df_journal.specs.Shows.{IsTable, Tells};
+ghost use Rattle.df_journal.specs.Tail.{EndsAt, FindsTail, GoesOn, IsSound, StartsAt, tail_to};
+
+use crate::SlotTable;
+use crate::fits::fits;
+use crate::seen::taken;
+use df_base::Check;
+use df_format::Header;
+use df_layout::Layout;
+use df_sessions::SessionTable;
+
+/// The last prepare of a tail, as far as the next one needs to know it; of an empty tail, the checkpoint's.
+#[derive(Clone, Copy, Debug, PartialEq, Eq)]
+pub struct Tail {
+    pub op: u64,
+    pub checksum: Check,
+    /// Its mark, 0 of an empty tail.
+    pub mark: u64,
+}
+
+// The end of a tail without prepares.
+fn empty_tail(op: u64, checksum: &Check) -> Tail
+    ensures { result ≡ record { op = op; checksum = checksum.now; mark = 0 } }
+{
+    let checksum = *checksum;
+    Tail {
+        op,
+        checksum,
+        mark: 0,
+    }
+}
+
+// The end of a tail whose last prepare has this header.
+fn tail_to(header: &Header) -> Tail
+    ensures { result ≡ tail_to header.now }
+{
+    let checksum = header.checksum;
+    Tail {
+        op: header.op,
+        checksum,
+        mark: header.mark,
+    }
+}
+
+// The header of the prepare that comes next, if there is one.
+fn next(layout: &Layout, found: &SlotTable, last: &Tail, sessions: &SessionTable) -> Option<Header>
+    requires table { IsTable layout.now found.now.start.cluster found.now.slots }
+    requires op { last.now.op < 2 ^ 63 }
+    requires checksum { IsCheck last.now.checksum }
+    requires places { sessions.now.max ≡ layout.now.clients }
+    ensures next { GoesOn layout.now found.now.slots last.now sessions.now.sessions result }
+    ensures op { IfSome result (λ h. h.op ≡ last.now.op + 1) }
+    ensures sound { IfSome result (IsSound sessions.now) }
+{
+    let op = last.op + 1;
+    let seen = found.seen((op % u64::from(layout.slots)) as u32);
+    let header = taken(&seen, op)?;
+    if fits(last, sessions, layout.clients, &header) {
+        Some(header)
+    } else {
+        None
+    }
+}
+
+/// The end of the tail behind the checkpoint that a scan started from, whose prepare has this checksum (zeros where its op is
+/// 0). The sessions, at first the checkpoint's, become those after the tail.
+pub fn find_tail(
+    layout: &Layout,
+    found: &SlotTable,
+    checksum: &Check,
+    sessions: &mut SessionTable,
+) -> Tail
+    requires table { IsTable layout.now found.now.start.cluster found.now.slots }
+    requires op { found.now.start.op ≤ 2 ^ 62 }
+    requires checksum { IsCheck checksum.now }
+    requires places { sessions.old.max ≡ layout.now.clients }
+    ensures tail { (sh : Shape) (image : Units) (b : Checkpoint) → Tells layout.now image found.now
+        → StartsAt sh b layout.now found.now.start.op checksum.now sessions.old.sessions → FindsTail sh image b result sessions.new.sessions }
+    ensures from { found.now.start.op ≤ result.op }
+    ensures within { result.op ≤ found.now.start.op + layout.now.slots }
+    ensures checksum { IsCheck result.checksum }
+    ensures places { sessions.new.max ≡ sessions.old.max }
+{
+    let first = found.start.op;
+    let mut last = empty_tail(first, checksum);
+    while last.op - first < u64::from(layout.slots) {
+        match next(layout, found, &last, sessions) {
+            Some(header) => {
+                sessions.apply(header.client, header.request, header.op);
+                last = tail_to(&header);
+            }
+            None => return last,
+        }
+    }
+    last
+}
+
+/// The slot that is blamed where something was lost behind a tail: that of the next op. Its class is the table's.
+pub fn slot_behind(layout: &Layout, tail: &Tail) -> u32
+    requires { tail.now.op < 2 ^ 63 }
+    ensures slot { (sh : Shape) (b : Checkpoint) (ps : List Message) (sessions : List Session) → slots sh ≡ layout.now.slots → EndsAt b ps tail.now sessions → result ≡ blamed sh b ps }
+    ensures below { result < layout.now.slots }
+{
+    ((tail.op + 1) % u64::from(layout.slots)) as u32
+}
