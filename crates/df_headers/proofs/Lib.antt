@@ -1,4 +1,5 @@
 pub mod Bytes
+pub mod Offsets
 pub mod Rooms
 pub mod Tables
 pub mod Laws

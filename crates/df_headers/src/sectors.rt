@@ -14,7 +14,6 @@ use df_disk::Disk;
 const FIRST: u64 = 4;
 
 /// The number of a sector of the ring, which is counted from the ring's first one.
-#[tactic(auto, unfolding(df_layout::specs::Spans::span_of, df_layout::specs::Spans::sectors_before, df_layout::specs::Zones::first_sector, df_layout::specs::Zones::zone_sectors))]
 pub(crate) fn first_of(sector: u32) -> u64
     requires { sector < 64 }
     ensures first { (layout : Layout) → result ≡ first_at layout (HeaderPlace (16 * sector)) }

@@ -40,9 +40,10 @@ fn with_unit(seen: &Counters, ring: &Result<Header, Class>) -> Counters
     }
 }
 
-/// The counters that the units of the two rings show.
+/// The counters that the units of the two rings show; they count no reply.
 pub fn count_rings(found: &SlotTable) -> Counters
-    ensures { (image : Units) → ShowsTable image found.now.slots → CountsRings image result }
+    ensures rings { (image : Units) → ShowsTable image found.now.slots → CountsRings image result }
+    ensures replies { result.reply_top ≡ 0 }
 {
     let mut seen = Counters::default();
     for slot in &found.slots {

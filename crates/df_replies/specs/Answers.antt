@@ -39,6 +39,11 @@ abbrev pub TestsReply : Session → Result Header Class → Option Class → Typ
 TestsReply s reply None = AnswersIn s reply
 TestsReply s reply (Some class) = (AnswersIn s reply → ⊥) × (class ≡ class_of reply)
 
+-- the same of a session whose reply is stored
+abbrev pub TestsStored : Session → ℕ → Result Header Class → Option Class → Type 0
+TestsStored s n reply None = s.op ≤ n → AnswersIn s reply
+TestsStored s n reply (Some class) = (s.op ≤ n) × (AnswersIn s reply → ⊥) × (class ≡ class_of reply)
+
 -- each of the first k sessions whose reply is stored is answered
 abbrev pub AnsweredTo : List Session → ℕ → List (Result Header Class) → ℕ → Type 0
 AnsweredTo ss n replies k = (j : ℕ) (s : Session) → j < k → slice_get ss j ≡ Some s → s.op ≤ n → (reply : Result Header Class) × (slice_get replies j ≡ Some reply) × AnswersIn s reply

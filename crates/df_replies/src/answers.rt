@@ -1,6 +1,6 @@
 // The number of replies, and the first session whose reply is missing.
 ghost use Rattle.std.specs.Prelude.{◌≡◌, ◌↔◌, ◌≤◌, ◌<◌, Option, Some, length, max, slice_get, IfSome, IsTrue};
-ghost use Rattle.df_replies.specs.Answers.{IsOf, LacksHere, TestsReply};
+ghost use Rattle.df_replies.specs.Answers.{IsOf, LacksHere, TestsReply, TestsStored};
 ghost use Rattle.df_replies.specs.Counts.{IsGreatest};
 
 use crate::counts::op_in;
@@ -51,6 +51,17 @@ fn lacks(session: &Session, reply: &Result<Header, Class>) -> Option<Class>
     }
 }
 
+// The class of a slot that doesn't show the reply to a session's last request, where that reply is stored.
+fn lacks_stored(session: &Session, stored: u64, reply: &Result<Header, Class>) -> Option<Class>
+    ensures { TestsStored session.now stored reply.now result }
+{
+    if session.op <= stored {
+        lacks(session, reply)
+    } else {
+        None
+    }
+}
+
 // The first session, by place, whose reply is stored and not shown.
 pub(crate) fn first_lacking(
     sessions: &SessionTable,
@@ -62,16 +73,9 @@ pub(crate) fn first_lacking(
 {
     let mut place = 0;
     while place < sessions.len() {
-        match sessions.get(place) {
-            Some(session) => {
-                if session.op <= stored {
-                    match lacks(&session, &replies[place as usize]) {
-                        Some(class) => return Some(Lacking { place, class }),
-                        None => {}
-                    }
-                }
-            }
-            None => return None,
+        let session = sessions.get(place)?;
+        if let Some(class) = lacks_stored(&session, stored, &replies[place as usize]) {
+            return Some(Lacking { place, class });
         }
         place += 1;
     }

@@ -1,6 +1,7 @@
 // The table of replies: what the slots show, place by place, for an open to look at.
-ghost use Rattle.std.specs.Prelude.{◌≡◌, ◌↔◌, ◌<◌, ◌≤◌, List, ℕ, Some, length, slice_get, IfOk, IfSome, OnOk};
+ghost use Rattle.std.specs.Prelude.{◌≡◌, ◌↔◌, ◌<◌, ◌≤◌, List, ℕ, Some, Err, length, replicate, slice_get, IfOk, IfSome, OnOk};
 ghost use Rattle.df_base.specs.Causes.{HasCause};
+ghost use Rattle.df_layout.specs.declared.damage.Class.TheVariants.{Blank};
 ghost use Rattle.df_replies.specs.Answers.{HasClass, Lacks, NamesNone};
 ghost use Rattle.df_replies.specs.Counts.{NoReplyIsAbove, NoReplyIsLater};
 ghost use Rattle.df_replies.specs.Shown.{IsScanned, ShowsReplies};
@@ -42,7 +43,7 @@ impl Model for ReplyTable {
 impl ReplyTable {
     /// A table of blank slots, as a new file has them, or the refusal of its memory.
     pub fn reserve(alloc: Global, layout: &Layout) -> Result<ReplyTable, OutOfMemory>
-        ensures { IfOk result (λ table. length table ≡ layout.now.clients) }
+        ensures { IfOk result (λ table. table ≡ replicate layout.now.clients (Err Blank)) }
     {
         let blank: Result<Header, Class> = Err(Class::Blank);
         match vec![in alloc; blank; layout.clients as usize] {

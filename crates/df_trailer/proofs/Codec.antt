@@ -1,14 +1,14 @@
 -- The spelling serves the machine of the replica's commands.
-use Rattle.std.proofs.Common.{◌≡◌, ℕ, zero, suc, ◌+◌, ◌*◌, ◌/◌, ◌^◌, ◌<◌, ◌≤◌, Bool, true, false, nat_lt, if◌then◌else◌, Option, Some, None, List, [], ◌∷◌, ◌++◌, length, refl, sym, ap, ◌∙◌, arith, length-append}
+use Rattle.std.proofs.Common.{◌≡◌, ℕ, suc, ◌+◌, ◌*◌, ◌/◌, ◌^◌, ◌<◌, ◌≤◌, Bool, true, false, Option, Some, None, List, [], ◌∷◌, ◌++◌, length, refl, ap, arith, length-append}
 use Rattle.std.specs.Prelude.{map, min}
 use Rattle.df_base.specs.Fields.{AreBytes, spelled}
-use Rattle.df_base.proofs.FieldBytes.{AreBytes-spelled, length-spelled}
+use Rattle.df_base.proofs.Laws.{AreBytes-spelled, length-spelled}
 use Rattle.df_theory.specs.Units.{Layout, Parts, Session}
 use Rattle.df_theory.specs.Shape.{Shape}
 use Rattle.df_model.specs.Codec.{IsCodec, IsLawful}
 use Rattle.df_trailer.specs.Laws.{HasLimits}
 use Rattle.df_trailer.specs.Spelling.{bits_size, blocks_of, is_referenced, number_of, spell, spell_blocks, spell_checks, spell_sessions}
-use Rattle.df_trailer.specs.Text.{ones, parse, parse_of}
+use Rattle.df_trailer.specs.Text.{ones, parse_of}
 use Rattle.df_trailer.proofs.Bytes.{AreBytes-append, AreBytes-nil}
 use Rattle.df_trailer.proofs.Blocks as blocks
 use Rattle.df_trailer.proofs.Read.{text_read}

@@ -1,12 +1,11 @@
 -- A piece more that a reader was fed, and what it answers.
-use Rattle.std.proofs.Common.{◌≡◌, ℕ, ◌+◌, ◌-◌, ◌*◌, ◌/◌, ◌<◌, ◌≤◌, true, Option, List, ◌++◌, length, take, drop, refl, sym, ap, ◌∙◌, subst, arith, length-drop}
-use Rattle.std.specs.Prelude.{slice_index}
+use Rattle.std.proofs.Common.{◌≡◌, ℕ, ◌+◌, ◌-◌, ◌*◌, ◌/◌, ◌<◌, ◌≤◌, true, Option, List, ◌++◌, length, take, drop, sym, ap, ◌∙◌, subst, arith, length-drop}
 use Rattle.df_layout.specs.declared.layout.Layout as file
 use Rattle.df_units.specs.Meaning.{layout_of}
 use Rattle.df_model.specs.Refusals.{first_refusal}
 use Rattle.df_trailer.specs.declared.fault.Failing.{Failing}
 use Rattle.df_trailer.specs.declared.reader.Reader.{Reader}
-use Rattle.df_trailer.specs.Reading.{AreChecksKept, HasRead, IsKept, IsRestTaken, bits_room, checks_room, failing_in, failing_of}
+use Rattle.df_trailer.specs.Reading.{AreChecksKept, HasRead, IsRestTaken, bits_room, checks_room, failing_in, failing_of}
 use Rattle.df_trailer.specs.Rooms.{byte_in_checks, byte_in_words}
 use Rattle.df_trailer.specs.Spelling.{bits_size}
 use Rattle.df_trailer.specs.Text.{head_end, is_whole, tests}

@@ -4,6 +4,7 @@ pub mod Blocks
 pub mod Bytes
 pub mod Codec
 pub mod Places
+pub mod Laws
 pub mod Longer
 pub mod OneBit
 pub mod Passing

@@ -5,7 +5,7 @@ use Rattle.std.specs.List.{slice_get}
 use Rattle.std.proofs.lemmas.List.{length-take-le}
 use Rattle.std.proofs.lemmas.Bool.{ltb-false, leb-false, eqb-true}
 use Rattle.df_base.specs.Fields.{AreBytes, field_at, spelled}
-use Rattle.df_base.proofs.FieldBytes.{field_at-lt}
+use Rattle.df_base.proofs.Laws.{field_at-lt}
 use Rattle.df_theory.specs.Units.{Layout, Parts, Session}
 use Rattle.df_model.specs.Codec.{InGrid, IsChecksum, IsLawful}
 use Rattle.df_model.specs.Refusals.{first_refusal}

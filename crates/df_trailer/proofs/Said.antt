@@ -1,21 +1,19 @@
 -- What a reader gives of a text in which nothing fails: its parts.
-use Rattle.std.proofs.Common.{◌≡◌, ℕ, ◌+◌, ◌-◌, ◌*◌, ◌/◌, ◌%◌, ◌<◌, ◌≤◌, ◌==◌, Bool, true, false, Option, Some, None, List, [], ◌++◌, length, take, drop, map, get_or, refl, sym, ap, ◌∙◌, subst, arith, length-drop}
+use Rattle.std.proofs.Common.{◌≡◌, ℕ, ◌+◌, ◌-◌, ◌*◌, ◌/◌, ◌%◌, ◌<◌, ◌≤◌, ◌==◌, Bool, true, false, Option, Some, None, List, [], ◌++◌, length, take, drop, map, get_or, replicate, refl, sym, ap, ◌∙◌, subst, arith, length-drop}
 use Rattle.std.specs.Prelude.{if◌then◌else◌, slice_index}
 use Rattle.std.specs.Int.{bit_at}
 use Rattle.std.proofs.lemmas.List.{drop-append-le, take-append-le}
 use Rattle.df_base.specs.Fields.{field_at}
 use Rattle.df_layout.specs.declared.layout.Layout as file
-use Rattle.df_sessions.specs.declared.session.Session as table
-use Rattle.df_theory.specs.Units.{Session}
 use Rattle.df_units.specs.Meaning.{layout_of}
 use Rattle.df_model.specs.Refusals.{first_refusal}
 use Rattle.df_trailer.specs.declared.fault.Failing.{Failing}
 use Rattle.df_trailer.specs.declared.parts.Parts.{Parts}
 use Rattle.df_trailer.specs.declared.reader.Reader.{Reader}
 use Rattle.df_trailer.specs.Reading.{AreChecksKept, HasRead, bits_room, checks_room, failing_in, rest_tests}
-use Rattle.df_trailer.specs.Rooms.{AreParts, bits_in_words, byte_in_checks, reference_in, session_of}
+use Rattle.df_trailer.specs.Rooms.{AreParts, bits_in_words, byte_in_checks, reference_in, without_reply}
 use Rattle.df_trailer.specs.Spelling.{bits_size, listed}
-use Rattle.df_trailer.specs.Text.{bits_in, bits_of, count, fault, fault_in, head_tests, ones, parts_of, read_sessions, root_size, sessions_at, tests}
+use Rattle.df_trailer.specs.Text.{bits_in, bits_of, count, fault, fault_in, head_tests, ones, parts_of, read_sessions, root_size, sessions_at}
 use Rattle.df_trailer.proofs.Fed.{fails_as_read, room_size}
 use Rattle.df_trailer.proofs.Kept.{IsEnd, append_first, head_ends, or_first}
 use Rattle.df_trailer.proofs.Longer.{count_front, root_front, sessions_front}
@@ -72,10 +70,11 @@ same_rows l m e = ap (λ (k : file.Layout). k.blocks) e
 -- what was made of a reader's rooms
 pub record IsMade (r : Reader) (parts : Parts) : Type 0 where
   pub root : parts.root.items ≡ take (root_size r.front.head.items) (drop 4 r.front.head.items)
-  pub sessions : map session_of parts.sessions.items ≡ read_sessions (count r.front.head.items) (sessions_at r.front.head.items) r.front.head.items
+  pub sessions : parts.sessions.items ≡ map without_reply (read_sessions (count r.front.head.items) (sessions_at r.front.head.items) r.front.head.items)
   pub bits : parts.bits.items ≡ r.parts.bits.items
   pub moved : (place : ℕ) → place < r.layout.blocks → (bit_at (bits_in (bits_room r)) place == 1) ≡ true
       → get_or parts.checks.items place [] ≡ get_or r.parts.checks.items (ones (bits_of place (bits_in (bits_room r)))) []
+  pub empty : (place : ℕ) → place < r.layout.blocks → (bit_at (bits_in (bits_room r)) place == 1) ≡ false → get_or parts.checks.items place [] ≡ replicate 16 0
 
 -- the checksums were moved by the bits, in rooms that were lent
 pub moved_room : (r : Reader) (bits : List ℕ) (checks new : List (List ℕ)) → bits ≡ r.parts.bits.items → checks ≡ r.parts.checks.items
@@ -86,6 +85,12 @@ moved_room r bits checks new same there moved place within one =
     moved place within (ap (λ (ws : List ℕ). bit_at (bits_in_words n ws) place == 1) same ∙ one)
     ∙ ap (λ (ws : List ℕ). get_or checks (ones (bits_of place (bits_in_words n ws))) []) same
     ∙ ap (λ (cs : List (List ℕ)). get_or cs (ones (bits_of place (bits_in_words n r.parts.bits.items))) []) there
+
+-- zeros were put where no bit is set, in rooms that were lent
+pub empty_room : (r : Reader) (bits : List ℕ) (new : List (List ℕ)) → bits ≡ r.parts.bits.items
+    → ((place : ℕ) → place < r.layout.blocks → (bit_at (bits_in_words ((r.layout.blocks + 7) / 8) bits) place == 1) ≡ false → get_or new place [] ≡ replicate 16 0)
+    → (place : ℕ) → place < r.layout.blocks → (bit_at (bits_in (bits_room r)) place == 1) ≡ false → get_or new place [] ≡ replicate 16 0
+empty_room r bits new same empty place within unset = empty place within (ap (λ (ws : List ℕ). bit_at (bits_in_words ((r.layout.blocks + 7) / 8) ws) place == 1) same ∙ unset)
 
 pub parts_said : (layout : file.Layout) (op : ℕ) (text : List ℕ) (r : Reader) (parts : Parts) → failing_in r ≡ None → IsMade r parts → HasRead layout op r text → AreParts (layout_of layout) parts (parts_of (layout_of layout) text)
 parts_said layout op text r parts none made read =
@@ -98,16 +103,24 @@ parts_said layout op text r parts none made read =
     let size : length (bits_room r) ≡ bits_size (layout_of layout) = room_size r ∙ ap (λ (n : ℕ). (n + 7) / 8) blocks in
     let kept : AreChecksKept text (length head + length (bits_room r)) (checks_room r) = subst (λ (m : ℕ). AreChecksKept text (length head + m) (checks_room r)) (sym size) read.checks in
     let room : length (checks_room r) ≡ 16 * layout.blocks = length_listed (byte_in_checks r.parts.checks.items) (16 * r.layout.blocks) ∙ ap (λ (n : ℕ). 16 * n) blocks in
+    let shown : (address : ℕ) → reference_in layout.blocks parts address ≡ (if bit_at (bits_in (bits_room r)) (address - 1) == 1 then Some (field_at 16 0 (get_or parts.checks.items (address - 1) [])) else None) = λ address.
+    ap (λ (n : ℕ). reference_in n parts address) (sym blocks)
+    ∙ ap (λ (ws : List ℕ). if bit_at (bits_in_words ((r.layout.blocks + 7) / 8) ws) (address - 1) == 1 then Some (field_at 16 0 (get_or parts.checks.items (address - 1) [])) else None) made.bits in
+    let said : (address : ℕ) → 1 ≤ address → address ≤ layout.blocks → reference_in layout.blocks parts address ≡ (parts_of (layout_of layout) text).references address = λ address some most.
+    shown address
+    ∙ moved_said (bits_in (bits_room r)) r.layout.blocks (address - 1) r.parts.checks.items parts.checks.items (omega (arith, blocks)) (made.moved (address - 1) (omega (arith, blocks)))
+    ∙ reference_at (layout_of layout) op text head (bits_room r) (checks_room r) r.behind address layout.clients_within.1 read.kept room kept clean some most in
     record {
       root = made.root ∙ root_said head read.kept.rest e ∙ ap (λ (t : List ℕ). take (root_size t) (drop 4 t)) (sym read.kept.is);
-      sessions = made.sessions ∙ sessions_said head read.kept.rest e ∙ ap (λ (t : List ℕ). read_sessions (count t) (sessions_at t) t) (sym read.kept.is);
-      references = λ address some most.
-          ap (λ (n : ℕ). reference_in n parts address) (sym blocks)
-          ∙ ap (λ (ws : List ℕ). if bit_at (bits_in_words ((r.layout.blocks + 7) / 8) ws) (address - 1) == 1 then Some (field_at 16 0 (get_or parts.checks.items (address - 1) [])) else None) made.bits
-          ∙ moved_said (bits_in (bits_room r)) r.layout.blocks (address - 1) r.parts.checks.items parts.checks.items (omega (arith, blocks)) (made.moved (address - 1) (omega (arith, blocks)))
-          ∙ reference_at (layout_of layout) op text head (bits_room r) (checks_room r) r.behind address layout.clients_within.1 read.kept room kept clean some most;
+      sessions = made.sessions ∙ ap (map without_reply) (sessions_said head read.kept.rest e ∙ ap (λ (t : List ℕ). read_sessions (count t) (sessions_at t) t) (sym read.kept.is));
+      references = said;
+      zeros = λ address some most none-there. made.empty (address - 1) (omega (arith, blocks)) (is_unset (bit_at (bits_in (bits_room r)) (address - 1) == 1) _ (sym (shown address) ∙ said address some most ∙ none-there));
     }
   where
+    is_unset : (b : Bool) (x : ℕ) → (if b then Some x else None) ≡ None → b ≡ false
+    is_unset true x is = absurd (cc)
+    is_unset false x is = refl
+
     first_none : (o g : Option Failing) → or_first o g ≡ None → o ≡ None
     first_none None g is = refl
     first_none (Some f) g is = absurd (cc)

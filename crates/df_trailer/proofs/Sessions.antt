@@ -1,7 +1,7 @@
 -- The sessions of a trailer, spelled and read back.
 use Rattle.std.proofs.Common.{◌≡◌, ℕ, zero, suc, ◌+◌, ◌*◌, ◌^◌, ◌<◌, ◌≤◌, List, [], ◌∷◌, ◌++◌, length, drop, refl, sym, ap, ◌∙◌, arith, length-append, append_assoc}
 use Rattle.df_base.specs.Fields.{AreBytes, field_at, spelled}
-use Rattle.df_base.proofs.FieldBytes.{length-spelled, field_spelled}
+use Rattle.df_base.proofs.Laws.{length-spelled, field_spelled}
 use Rattle.df_theory.specs.Units.{Session}
 use Rattle.df_trailer.specs.Spelling.{spell_sessions}
 use Rattle.df_trailer.specs.Text.{read_sessions, session}

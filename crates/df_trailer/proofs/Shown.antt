@@ -5,7 +5,7 @@ use Rattle.std.proofs.lemmas.Bool.{cases_lt}
 use Rattle.std.proofs.lemmas.List.{get_or_append_left, get_or-append-add, ext_get_or, get_or-drop, get_or-take, length-take-le, take_all, take-append-le, take_more, map-append}
 use Rattle.std.specs.Int.{bit_at}
 use Rattle.df_base.specs.Fields.{spelled}
-use Rattle.df_base.proofs.FieldBytes.{length-spelled}
+use Rattle.df_base.proofs.Laws.{length-spelled}
 use Rattle.df_sessions.specs.declared.session.Session as table
 use Rattle.df_theory.specs.Units.{Session}
 use Rattle.df_trailer.specs.Rooms.{session_of}

@@ -7,7 +7,7 @@ use Rattle.std.proofs.Math.Nat.{pow-le-pow_right}
 use Rattle.std.proofs.lemmas.Nat.{pow-add}
 use Rattle.std.proofs.lemmas.Bool.{le-ltb, lt-leb, eq-eqb}
 use Rattle.df_base.specs.Fields.{spelled}
-use Rattle.df_base.proofs.FieldBytes.{length-spelled, field_spelled}
+use Rattle.df_base.proofs.Laws.{length-spelled, field_spelled}
 use Rattle.df_theory.specs.Units.{Layout, Parts, Session}
 use Rattle.df_model.specs.Codec.{IsLawful, IsLawfulSession}
 use Rattle.df_trailer.specs.Spelling.{bits_size, blocks_of, is_referenced, number_of, spell, spell_blocks, spell_checks, spell_sessions}

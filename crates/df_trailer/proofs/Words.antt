@@ -1,6 +1,6 @@
 -- Bits in words of 64: their bytes, and each of them as a bit of one number.
-use Rattle.std.proofs.Common.{◌≡◌, ◌≢◌, ℕ, zero, suc, ◌+◌, ◌*◌, ◌/◌, ◌%◌, ◌^◌, ◌<◌, ◌≤◌, ◌==◌, List, [], ◌∷◌, ◌++◌, length, take, drop, get_or, set, nat_eq, refl, sym, ap, ◌∙◌, subst, arith, inl, inr, bit_and}
-use Rattle.std.specs.Prelude.{slice_index, slice_set}
+use Rattle.std.proofs.Common.{◌≡◌, ◌≢◌, ℕ, zero, suc, ◌+◌, ◌*◌, ◌/◌, ◌%◌, ◌^◌, ◌<◌, ◌==◌, List, ◌++◌, length, take, drop, get_or, set, nat_eq, refl, sym, ap, ◌∙◌, subst, arith, inl, inr, bit_and}
+use Rattle.std.specs.Prelude.{slice_index}
 use Rattle.std.specs.Int.{bit_at, byte_at, bytes_low_first, to_le_bytes, from_le_bytes, w64}
 use Rattle.std.proofs.lemmas.Nat.Bits.{shr_and_one, bit_at_cat_low}
 use Rattle.std.proofs.lemmas.Nat.{le_bytes_8}

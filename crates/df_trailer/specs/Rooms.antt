@@ -1,5 +1,5 @@
 -- How bits and checksums stand in a reader's rooms, and what they say of the blocks.
-use Rattle.std.specs.Prelude.{◌≡◌, ℕ, zero, suc, ◌+◌, ◌-◌, ◌*◌, ◌/◌, ◌%◌, ◌≤◌, ◌<◌, ◌==◌, if◌then◌else◌, List, [], ◌∷◌, length, map, get_or, Option, Some, None, slice_index}
+use Rattle.std.specs.Prelude.{◌≡◌, ℕ, ◌+◌, ◌-◌, ◌/◌, ◌%◌, ◌≤◌, ◌==◌, if◌then◌else◌, List, [], map, get_or, replicate, Option, Some, None, slice_index}
 use Rattle.std.specs.Int.{bit_at, to_le_bytes, w64}
 use Rattle.df_base.specs.Fields.{field_at}
 use Rattle.df_sessions.specs.declared.session.Session as table
@@ -28,6 +28,10 @@ byte_in_checks checks place = slice_index (get_or checks (place / 16) []) (place
 abbrev pub session_of : table.Session → model.Session
 session_of s = record { client = s.client; request = s.request; op = s.op }
 
+-- a session of a trailer, as the table has it while no reply is stored
+abbrev pub without_reply : model.Session → table.Session
+without_reply s = record { client = s.client; request = s.request; op = s.op; reply = None }
+
 -- what the parts say of the block at an address
 abbrev pub reference_in : ℕ → Parts → ℕ → Option ℕ
 reference_in blocks parts address =
@@ -36,8 +40,10 @@ reference_in blocks parts address =
 -- these are the parts of a trailer, in the reader's rooms
 pub record AreParts (l : model.Layout) (parts : Parts) (said : model.Parts) : Type 0 where
   pub root : parts.root.items ≡ said.root
-  pub sessions : map session_of parts.sessions.items ≡ said.sessions
+  pub sessions : parts.sessions.items ≡ map without_reply said.sessions
   pub references : (address : ℕ) → 1 ≤ address → address ≤ l.blocks → reference_in l.blocks parts address ≡ said.references address
+  -- zeros stand where no block is referenced
+  pub zeros : (address : ℕ) → 1 ≤ address → address ≤ l.blocks → said.references address ≡ None → get_or parts.checks.items (address - 1) [] ≡ replicate 16 0
 
 -- a checksum as the number that its bytes spell
 abbrev pub number_in : Option (List ℕ) → Option ℕ

@@ -1,3 +1,4 @@
+//! The text of a checkpoint's trailer: root, sessions, and which blocks of the grid are referenced, made and read in pieces.
 #![tactic(auto)]
 
 mod behind;

@@ -1,7 +1,7 @@
 // The parts of a trailer, as a reader gives them, in rooms that its caller gave.
 ghost use Rattle.std.specs.Prelude.{◌≡◌, ◌+◌, ◌*◌, ◌/◌, ◌≤◌, ◌<◌, ◌^◌, ◌==◌, ℕ, [], length, take, drop, map, get_or, slice_set, replicate, true, false};
 ghost use Rattle.std.specs.Int.{bit_at};
-ghost use Rattle.df_trailer.specs.Rooms.{bits_in_words, session_of};
+ghost use Rattle.df_trailer.specs.Rooms.{bits_in_words, without_reply};
 ghost use Rattle.df_trailer.specs.Text.{session, bits_at, bits_of, count, count_at, ones, read_sessions, root_size, sessions_at};
 
 use crate::bitmap::{count_set, is_set};
@@ -39,7 +39,7 @@ pub(crate) fn root_in(head: &[u8]) -> ArrayVec<u8, 1024>
 /// The session at an offset of a head.
 fn session_at(head: &[u8], at: usize) -> Session
     requires { at + 32 ≤ length head.now }
-    ensures { session_of result ≡ session at head.now }
+    ensures { result ≡ without_reply (session at head.now) }
 {
     Session {
         client: u128_at(head, at),
@@ -55,7 +55,7 @@ pub(crate) fn sessions_in(head: &[u8]) -> ArrayVec<Session, 64>
     requires there { sessions_at head.now ≤ length head.now }
     requires few { count head.now ≤ 64 }
     requires inside { bits_at head.now ≤ length head.now }
-    ensures { map session_of result.items ≡ read_sessions (count head.now) (sessions_at head.now) head.now }
+    ensures { result.items ≡ map without_reply (read_sessions (count head.now) (sessions_at head.now) head.now) }
 {
     let from = u32_at(head, 0) as usize + 8;
     let mut sessions = ArrayVec::new();

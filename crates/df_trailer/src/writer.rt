@@ -174,6 +174,7 @@ pub fn piece<G: Captured>(
     requires sessions { length sessions.now ≤ 64 }
     requires index { index < 2 ^ 32 }
     requires room { layout.now.block_size - 256 ≤ length into.old }
+    ensures within { result ≤ length into.new }
     ensures piece { take result into.new ≡ piece_of (layout.now.block_size - 256) index (spell (layout_of layout.now) (captured_parts root.now sessions.now (G.captured grid.now))) }
     ensures length { length into.new ≡ length into.old }
 {

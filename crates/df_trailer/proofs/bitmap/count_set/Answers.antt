@@ -1,4 +1,4 @@
-use Rattle.std.proofs.Common.{◌≡◌, ◌+◌, ◌*◌, ◌<◌, ◌/◌, ℕ, arith}
+use Rattle.std.proofs.Common.{◌+◌, ◌*◌, ◌<◌, ◌/◌, ℕ, arith}
 use Rattle.df_trailer.specs.Rooms.{bits_in_words}
 use Rattle.df_trailer.proofs.OneBit.{count_next, count_same}
 use Rattle.df_trailer.proofs.bitmap.count_set.Goals as goal

@@ -1,4 +1,4 @@
-use Rattle.std.proofs.Common.{◌≡◌, ◌-◌, ◌+◌, ◌*◌, ◌/◌, ◌^◌, ◌<◌, ◌∙◌, ℕ, List, length, sym, subst, arith, rules}
+use Rattle.std.proofs.Common.{◌≡◌, ◌-◌, ◌+◌, ◌*◌, ◌/◌, ◌^◌, ◌<◌, ◌∙◌, ℕ, List, length, sym, subst, arith}
 use Rattle.std.proofs.lemmas.Bool.{le-leb, lt-leb, eqb-true}
 use Rattle.df_trailer.specs.Rooms.{bits_in_words, byte_in_words}
 use Rattle.df_trailer.specs.Spelling.{listed}

@@ -1,4 +1,3 @@
-use Rattle.std.proofs.Common.{ℕ}
 use Rattle.df_trailer.proofs.Words.{set_is}
 use Rattle.df_trailer.proofs.bitmap.is_set.Goals as goal
 

@@ -1,4 +1,3 @@
-use Rattle.std.proofs.Common.{◌≡◌}
 use Rattle.df_trailer.proofs.Words.{word_set}
 use Rattle.df_trailer.proofs.bitmap.put_byte.Goals as goal
 

@@ -1,4 +1,4 @@
-use Rattle.std.proofs.Common.{rules, ◌≡◌, ap, ◌∙◌, arith}
+use Rattle.std.proofs.Common.{rules, arith}
 use Rattle.df_trailer.proofs.Words.{byte_elsewhere, byte_there}
 use Rattle.df_trailer.proofs.bitmap.with_byte.Goals as goal
 

@@ -1,8 +1,8 @@
-use Rattle.std.proofs.Common.{◌≡◌, ◌+◌, ◌*◌, ◌∙◌, ◌++◌, ℕ, List, [], ◌∷◌, map, ap, arith}
+use Rattle.std.proofs.Common.{◌+◌, ◌*◌, ◌∙◌, ◌++◌, ℕ, List, [], ◌∷◌, map, ap, sym, arith}
 use Rattle.df_sessions.specs.declared.session.Session as table
 use Rattle.df_theory.specs.Units as model
 use Rattle.std.proofs.lemmas.List.{map-append}
-use Rattle.df_trailer.specs.Rooms.{session_of}
+use Rattle.df_trailer.specs.Rooms.{without_reply}
 use Rattle.df_trailer.specs.Text.{read_sessions, session}
 use Rattle.df_trailer.proofs.Sessions.{read_more}
 use Rattle.df_trailer.proofs.parts.sessions_in.Goals as goal
@@ -11,11 +11,11 @@ pub loop-place-preserved : goal.loop-place-preserved
 loop-place-preserved c =
     let n : ℕ = c.loop-place.place in
     let from : ℕ = c.u32_at.result + 8 in
-    let done : List table.Session = c.loop-place.sessions.items in (
+    let read : List model.Session = read_sessions n from c.args.head.now in (
       omega (arith, c.push.ensures.len, c.loop-place.invariant.0),
-      ap (λ (ss : List table.Session). map session_of ss) c.push.ensures.items
-          ∙ map-append session_of done (c.session_at.result ∷ [])
-          ∙ ap (λ (ss : List model.Session). ss ++ session_of c.session_at.result ∷ []) c.loop-place.invariant.1
-          ∙ ap (λ (s : model.Session). read_sessions n from c.args.head.now ++ s ∷ []) c.session_at.ensures
-          ∙ read_more n from c.args.head.now,
+      c.push.ensures.items
+          ∙ ap (λ (ss : List table.Session). ss ++ c.session_at.result ∷ []) c.loop-place.invariant.1
+          ∙ ap (λ (s : table.Session). map without_reply read ++ s ∷ []) c.session_at.ensures
+          ∙ sym (map-append without_reply read (session (from + 32 * n) c.args.head.now ∷ []))
+          ∙ ap (map without_reply) (read_more n from c.args.head.now),
     )

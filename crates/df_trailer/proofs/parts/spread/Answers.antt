@@ -1,9 +1,7 @@
-use Rattle.std.proofs.Common.{◌≡◌, ◌+◌, ◌-◌, ◌/◌, ◌<◌, ◌==◌, ◌∙◌, ℕ, List, [], length, map, get_or, replicate, subst, sym, true, false, arith, rules}
-use Rattle.std.specs.Int.{bit_at}
+use Rattle.std.proofs.Common.{◌≡◌, ◌+◌, ◌-◌, ◌/◌, ◌∙◌, ℕ, sym, arith}
 use Rattle.df_trailer.specs.Rooms.{bits_in_words}
-use Rattle.df_trailer.specs.Text.{bits_of, ones}
 use Rattle.df_trailer.proofs.References.{few_ones}
-use Rattle.df_trailer.proofs.Spread.{IsSpread, rank_set, spread_first, spread_set, spread_unset}
+use Rattle.df_trailer.proofs.Spread.{rank_set, spread_first, spread_set, spread_unset}
 use Rattle.df_trailer.proofs.parts.spread.Goals as goal
 
 pub loop-place-init : goal.loop-place-init

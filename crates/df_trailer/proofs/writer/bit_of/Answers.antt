@@ -1,4 +1,4 @@
-use Rattle.std.proofs.Common.{◌≡◌, ◌+◌, ◌≤◌, ℕ, suc, Option, Some, None, ap, sym, ◌∙◌, arith}
+use Rattle.std.proofs.Common.{ℕ, Option, ap, sym, ◌∙◌, arith}
 use Rattle.df_trailer.specs.Rooms.{number_in}
 use Rattle.df_trailer.proofs.BitBytes.{bit_for}
 use Rattle.df_trailer.proofs.Shown.{captured_bit, captured_past}

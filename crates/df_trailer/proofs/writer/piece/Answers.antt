@@ -1,4 +1,4 @@
-use Rattle.std.proofs.Common.{◌≡◌, ◌-◌, ◌*◌, ◌∙◌, ℕ, List, length, take, drop, arith, ap}
+use Rattle.std.proofs.Common.{◌≡◌, ◌-◌, ◌*◌, ℕ, List, length, take, drop, arith, ap}
 use Rattle.std.proofs.lemmas.List.{length-take-le}
 use Rattle.df_units.specs.Meaning.{layout_of}
 use Rattle.df_trailer.specs.Spelling.{spell}

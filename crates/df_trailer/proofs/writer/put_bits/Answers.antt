@@ -1,4 +1,4 @@
-use Rattle.std.proofs.Common.{◌≡◌, ◌∷◌, [], ◌++◌, ℕ, List, ap, sym, refl, ◌∙◌, arith, append-nil, append_assoc, length, length-append}
+use Rattle.std.proofs.Common.{◌∷◌, [], ◌++◌, ℕ, List, ap, sym, refl, ◌∙◌, arith, append-nil, append_assoc, length-append}
 use Rattle.df_base.specs.Fields.{spelled}
 use Rattle.df_base.proofs.Laws.{length-spelled}
 use Rattle.df_trailer.specs.Writing.{captured_bits}

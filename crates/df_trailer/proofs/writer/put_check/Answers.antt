@@ -1,4 +1,4 @@
-use Rattle.std.proofs.Common.{◌≡◌, ◌+◌, ℕ, Option, Some, List, [], ◌∷◌, length, ap, sym, ◌∙◌, arith, append-nil}
+use Rattle.std.proofs.Common.{◌≡◌, ℕ, Option, Some, List, [], ◌∷◌, length, ap, sym, ◌∙◌, arith, append-nil}
 use Rattle.df_base.specs.Fields.{spelled}
 use Rattle.df_base.proofs.Laws.{length-spelled}
 use Rattle.df_trailer.specs.Rooms.{number_in}

@@ -1,4 +1,4 @@
-use Rattle.std.proofs.Common.{◌≡◌, ◌++◌, ℕ, List}
+use Rattle.std.proofs.Common.{◌++◌, ℕ, List}
 use Rattle.df_base.specs.Fields.{spelled}
 use Rattle.df_trailer.specs.Rooms.{session_of}
 use Rattle.df_trailer.proofs.Shown.{grown, one_session, shown_all}

@@ -1,5 +1,5 @@
-use Rattle.std.proofs.Common.{◌≡◌, Option, ap, ◌∙◌, arith, subst, ◌≤◌, ◌-◌, ◌+◌, ◌++◌, ℕ, List, take, drop, sym, length, length-drop, length-append}
-use Rattle.std.proofs.lemmas.List.{length-take-le, take_all}
+use Rattle.std.proofs.Common.{◌≡◌, Option, ap, ◌∙◌, arith, subst, ◌-◌, ◌+◌, ◌++◌, ℕ, List, take, drop, length, length-drop}
+use Rattle.std.proofs.lemmas.List.{take_all}
 use Rattle.df_trailer.specs.declared.fault.Failing.{Failing}
 use Rattle.df_trailer.specs.Reading.{IsRestTaken}
 use Rattle.df_trailer.specs.Text.{answer, refusal_in}

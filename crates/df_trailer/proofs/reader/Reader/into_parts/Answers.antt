@@ -1,17 +1,21 @@
-use Rattle.std.proofs.Common.{◌≡◌, ◌∙◌, ◌+◌, ◌/◌, ℕ, List, get_or, [], take, drop, ap, refl}
+use Rattle.std.proofs.Common.{◌∙◌, ℕ, List, get_or, [], take, drop, map, ap, refl}
+use Rattle.df_trailer.specs.Rooms.{without_reply}
 use Rattle.df_trailer.specs.Text.{count, read_sessions, root_size, sessions_at}
-use Rattle.df_trailer.proofs.Said.{moved_room, parts_said, same_rows, same_words}
+use Rattle.df_trailer.proofs.Said.{empty_room, moved_room, parts_said, same_rows, same_words}
 use Rattle.df_trailer.proofs.Words.{lent_back}
 use Rattle.df_trailer.proofs.reader.Reader.into_parts.Goals as goal
 
 pub returns-clause-parts : goal.returns-clause-parts
 returns-clause-parts c = λ layout op text read. parts_said layout op text c.args.self _ c.requires (record {
   root = c.root_in-parts.ensures ∙ ap (λ (h : List ℕ). take (root_size h) (drop 4 h)) c.deref.ensures.0;
-  sessions = c.sessions_in-parts.ensures ∙ ap (λ (h : List ℕ). read_sessions (count h) (sessions_at h) h) c.deref-2.ensures.0;
+  sessions = c.sessions_in-parts.ensures ∙ ap (λ (h : List ℕ). map without_reply (read_sessions (count h) (sessions_at h) h)) c.deref-2.ensures.0;
   bits = refl;
   moved = λ place within one.
       ap (λ (cs : List (List ℕ)). get_or cs place []) (lent_back c.args.self.parts.checks.len c.spread.new.checks c.args.self.parts.checks.items (c.spread.ensures.length ∙ c.deref_mut.ensures.len))
       ∙ moved_room c.args.self c.deref-3.result.now c.deref_mut.result.now c.spread.new.checks c.deref-3.ensures.value c.deref_mut.ensures.value c.spread.ensures.moved place within one;
+  empty = λ place within unset.
+      ap (λ (cs : List (List ℕ)). get_or cs place []) (lent_back c.args.self.parts.checks.len c.spread.new.checks c.args.self.parts.checks.items (c.spread.ensures.length ∙ c.deref_mut.ensures.len))
+      ∙ empty_room c.args.self c.deref-3.result.now c.spread.new.checks c.deref-3.ensures.value c.spread.ensures.empty place within unset;
 }) read
 
 pub returns-clause-bits : goal.returns-clause-bits

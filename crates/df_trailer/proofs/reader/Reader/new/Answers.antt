@@ -1,4 +1,4 @@
-use Rattle.std.proofs.Common.{◌≡◌, [], ◌+◌, ◌/◌, ℕ, refl, arith, length}
+use Rattle.std.proofs.Common.{◌+◌, ◌/◌, refl, arith}
 use Rattle.df_trailer.specs.Rooms.{byte_in_words}
 use Rattle.df_trailer.proofs.Kept.{nothing_kept}
 use Rattle.df_trailer.proofs.Words.{length_listed}

@@ -1,5 +1,5 @@
-use Rattle.std.proofs.Common.{◌≡◌, ◌∙◌, ℕ, ap, arith, rules, refl}
-use Rattle.df_trailer.proofs.Taken.{nothing_taken, rest_more}
+use Rattle.std.proofs.Common.{◌∙◌, arith, rules}
+use Rattle.df_trailer.proofs.Taken.{rest_more}
 use Rattle.df_trailer.proofs.reader.Reader.take_rest.Goals as goal
 
 pub loop-byte-preserved : goal.loop-byte-preserved

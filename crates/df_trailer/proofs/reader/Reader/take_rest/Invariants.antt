@@ -1,4 +1,4 @@
-use Rattle.std.proofs.Common.{◌≡◌, ◌+◌, ℕ, take}
+use Rattle.std.proofs.Common.{◌≡◌, ◌+◌, take}
 use Rattle.df_trailer.specs.Reading.{IsRestTaken}
 use Rattle.df_trailer.proofs.reader.Reader.take_rest.Given as goal
 

@@ -1,0 +1,11 @@
+-- Where the sectors of the ring lie: behind the four copies of the superblock, in every layout.
+use Rattle.std.proofs.Common.{◌≡◌, ◌+◌, ◌*◌, ℕ, arith}
+use Rattle.df_layout.specs.declared.layout.Layout.{Layout}
+use Rattle.df_layout.specs.Spans.{sectors_before, span_of}
+use Rattle.df_layout.specs.Zones.{first_sector, zone_sectors}
+use Rattle.df_theory.specs.Units.{HeaderPlace}
+use Rattle.df_units.specs.Bytes.{first_at}
+
+pub ring_first : (layout : Layout) (sector : ℕ) → first_at layout (HeaderPlace (16 * sector)) ≡ 4 + sector
+unfolding span_of sectors_before first_sector zone_sectors
+ring_first layout sector = omega arith
