@@ -1,0 +1,170 @@
+// Appends that are found again, and what is decided where something of them was lost.
+ghost use Rattle.std.specs.Prelude.{◌≡◌, ◌≤◌, IfOk};
+ghost use Rattle.df_headers.specs.Ring.{IsTable};
+
+use crate::files::{prepare_header, scanned, tried};
+use df_base::{Check, Failed};
+use df_buffers::{HeaderSector, Prepare, Raw};
+use df_cases::Decision;
+use df_disk::Disk;
+use df_headers::{HeaderTable, reserved_header};
+use df_journal::{Tail, append, count_rings, find_tail, is_behind, is_lost};
+use df_layout::Layout;
+use df_memdisk::{MemoryDisk, Strike};
+use df_sessions::SessionTable;
+use std::alloc::{AllocError, Global};
+use std::test::Fail;
+
+// Appends the prepare of the next op, and hands back its checksum.
+fn append_next(
+    disk: &mut MemoryDisk,
+    layout: &Layout,
+    table: &mut HeaderTable,
+    alloc: Global,
+    op: u64,
+    parent: Check,
+) -> Result<Check, Fail>
+    requires slots { layout.now.slots ≡ 32 }
+    requires size { layout.now.message_size ≡ 8192 }
+    requires op { (1 ≤ op) × (op ≤ 1000) }
+    requires table { IsTable layout.now 7 table.old }
+    ensures { IsTable layout.now 7 table.new }
+{
+    let room: Raw<Prepare> = Raw::reserve(alloc, layout)?;
+    let mut sector: Raw<HeaderSector> = Raw::reserve(alloc, layout)?;
+    let unit = room.make(prepare_header(op, op, parent), &[]);
+    append(disk, layout, &unit, table, &mut sector)?;
+    Ok(unit.header().checksum)
+}
+
+// A table of reserved headers.
+fn reserved_table(alloc: Global, layout: &Layout) -> Result<HeaderTable, AllocError>
+    ensures { IfOk result (IsTable layout.now 7) }
+{
+    let room = vec![in alloc; reserved_header(7, 0); layout.slots as usize]?;
+    let mut table = HeaderTable::over(room);
+    table.clear(7);
+    Ok(table)
+}
+
+// Writes both sectors of the header ring.
+fn write_ring(
+    disk: &mut MemoryDisk,
+    layout: &Layout,
+    table: &HeaderTable,
+    alloc: Global,
+) -> Result<(), Fail>
+    requires slots { layout.now.slots ≡ 32 }
+    requires table { IsTable layout.now 7 table.now }
+{
+    let mut sector: Raw<HeaderSector> = Raw::reserve(alloc, layout)?;
+    table.write_sector(disk, &mut sector, 0)?;
+    table.write_sector(disk, &mut sector, 1)?;
+    disk.sync()?;
+    Ok(())
+}
+
+// A file of five prepares, one of each op from 1 on, on a disk whose calls of these numbers fail: 3 calls for the ring, and 4
+// for each prepare.
+fn five(alloc: Global, layout: &Layout, fails: Vec<u64>) -> Result<MemoryDisk, Fail>
+    requires slots { layout.now.slots ≡ 32 }
+    requires size { layout.now.message_size ≡ 8192 }
+{
+    let mut disk = MemoryDisk::new(alloc, fails);
+    let mut table = reserved_table(alloc, layout)?;
+    write_ring(&mut disk, layout, &table, alloc)?;
+    let one = append_next(&mut disk, layout, &mut table, alloc, 1, [0; 16])?;
+    let two = append_next(&mut disk, layout, &mut table, alloc, 2, one)?;
+    let three = append_next(&mut disk, layout, &mut table, alloc, 3, two)?;
+    let four = append_next(&mut disk, layout, &mut table, alloc, 4, three)?;
+    append_next(&mut disk, layout, &mut table, alloc, 5, four)?;
+    Ok(disk)
+}
+
+// What is found behind an empty checkpoint: the tail, and whether anything is behind or lost.
+fn found(alloc: Global, disk: &mut MemoryDisk, layout: &Layout) -> Result<(Tail, bool, bool), Fail>
+    requires slots { layout.now.slots ≡ 32 }
+    requires clients { layout.now.clients ≡ 4 }
+{
+    let found = scanned(alloc, disk, layout, 0)?;
+    let mut sessions = SessionTable::new(4);
+    let tail = find_tail(layout, &found, &[0; 16], &mut sessions);
+    let seen = count_rings(&found);
+    Ok((tail, is_behind(&seen, 1, 0, 32), is_lost(&seen, 0, tail.op)))
+}
+
+// The decisions on the first eight slots.
+fn decisions(alloc: Global, disk: &mut MemoryDisk, layout: &Layout) -> Result<[Decision; 8], Fail>
+    requires slots { layout.now.slots ≡ 32 }
+{
+    let found = scanned(alloc, disk, layout, 0)?;
+    Ok([
+        found.decision(0),
+        found.decision(1),
+        found.decision(2),
+        found.decision(3),
+        found.decision(4),
+        found.decision(5),
+        found.decision(6),
+        found.decision(7),
+    ])
+}
+
+const TAKE: Decision = Decision::Take { mend: false };
+
+const MEND: Decision = Decision::Take { mend: true };
+
+const EMPTY: Decision = Decision::Empty { mend: false };
+
+const CLEAR: Decision = Decision::Empty { mend: true };
+
+#[test]
+fn five_appends_are_found(rt: HostRuntime) -> Result<(), Fail> {
+    let layout = Layout::small();
+    let mut disk = five(rt.alloc(), &layout, Vec::new(rt.alloc()))?;
+    let (tail, behind, lost) = found(rt.alloc(), &mut disk, &layout)?;
+    assert_eq!(rt; (tail.op, tail.mark, behind, lost), (5, 4, false, false));
+    let seen = decisions(rt.alloc(), &mut disk, &layout)?;
+    assert_eq!(rt; seen, [EMPTY, TAKE, TAKE, TAKE, TAKE, TAKE, EMPTY, EMPTY]);
+    Ok(())
+}
+
+// The 34 calls of a scan come behind the 23 that made the file.
+#[test]
+fn a_scan_of_five_appends_makes_two_and_thirty_two_calls(rt: HostRuntime) -> Result<(), Fail> {
+    let layout = Layout::small();
+    for (listed, ends) in [(23 + 34, Err(Failed)), (23 + 35, Ok(()))] {
+        let fails = Vec::from_slice(rt.alloc(), &[listed])?;
+        let mut disk = five(rt.alloc(), &layout, fails)?;
+        let (_, done) = tried(rt.alloc(), &mut disk, &layout, 0)?;
+        assert_eq!(rt; done, ends, "call {listed}");
+    }
+    Ok(())
+}
+
+#[test]
+fn a_spoilt_header_sector_loses_no_prepare(rt: HostRuntime) -> Result<(), Fail> {
+    let layout = Layout::small();
+    let mut disk = five(rt.alloc(), &layout, Vec::new(rt.alloc()))?;
+    disk.strike(4, Strike::Fill { byte: 0xa5 })?;
+    let (tail, behind, lost) = found(rt.alloc(), &mut disk, &layout)?;
+    assert_eq!(rt; (tail.op, tail.mark, behind, lost), (5, 4, false, false));
+    let seen = decisions(rt.alloc(), &mut disk, &layout)?;
+    assert_eq!(rt; seen, [CLEAR, MEND, MEND, MEND, MEND, MEND, CLEAR, CLEAR]);
+    Ok(())
+}
+
+#[test]
+fn a_spoilt_prepare_is_lost_and_ends_the_tail(rt: HostRuntime) -> Result<(), Fail> {
+    let layout = Layout::small();
+    let mut disk = five(rt.alloc(), &layout, Vec::new(rt.alloc()))?;
+    disk.strike(12, Strike::Fill { byte: 0xa5 })?;
+    let (tail, behind, lost) = found(rt.alloc(), &mut disk, &layout)?;
+    assert_eq!(rt; (tail.op, tail.mark, behind, lost), (2, 1, false, true));
+    let seen = decisions(rt.alloc(), &mut disk, &layout)?;
+    assert_eq!(rt;
+        seen,
+        [EMPTY, TAKE, TAKE, Decision::Lost, TAKE, TAKE, EMPTY, EMPTY]
+    );
+    Ok(())
+}
