@@ -1,4 +1,5 @@
 pub mod FieldBytes
+pub mod FieldMoves
 pub mod Fronts
 pub mod Goes
 pub mod Images

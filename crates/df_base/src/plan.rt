@@ -45,6 +45,13 @@ impl FaultPlan {
         self.failing.as_slice().contains(&self.calls)
     }
 
+    /// How many calls were counted. The count stops at `u64::MAX`.
+    pub fn calls(&self) -> u64
+        ensures { result ≡ self.now.calls }
+    {
+        self.calls
+    }
+
     /// Counts a fault.
     pub fn fail(&mut self) -> Failed
         ensures counted { self.new ≡ record self.old { faults = counted self.old.faults } }

@@ -71,6 +71,14 @@ impl MemoryDisk {
         self.past.as_slice().len() as u64
     }
 
+    /// How many device calls there were, reads, writes and syncs together, those that failed among them.
+    /// The count stops at `u64::MAX`.
+    pub fn calls(&self) -> u64
+        ensures { result ≡ self.now.plan.calls }
+    {
+        self.plan.calls()
+    }
+
     /// How many device calls failed because memory was refused. The count stops at `u64::MAX`.
     pub fn refused(&self) -> u64
         ensures { result ≡ self.now.refused }

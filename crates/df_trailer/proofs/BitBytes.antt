@@ -6,6 +6,7 @@ use Rattle.std.proofs.lemmas.Nat.{pow-add, mod-pow-add}
 use Rattle.std.proofs.lemmas.Nat.Bits.{bit_at-suc, bit_at-zero}
 use Rattle.std.proofs.Math.Nat.{div-div-eq-div-mul, div-one}
 use Rattle.df_base.specs.Fields.{spelled}
+use Rattle.df_base.proofs.Laws.{bits_of_bytes}
 use Rattle.df_trailer.specs.Spelling.{is_referenced, number_of}
 
 abbrev pub bit_for : Option ℕ → ℕ
@@ -27,21 +28,11 @@ number_bit (Some c ∷ bs) zero = first_bit true (number_of (map is_referenced b
 number_bit (None ∷ bs) (suc k) = bit_at-suc _ k ∙ ap (λ (x : ℕ). bit_at x k) (half false (number_of (map is_referenced bs))) ∙ number_bit bs k
 number_bit (Some c ∷ bs) (suc k) = bit_at-suc _ k ∙ ap (λ (x : ℕ). bit_at x k) (half true (number_of (map is_referenced bs))) ∙ number_bit bs k
 
-eight : (m : ℕ) → 2 ^ (8 * m) ≡ 256 ^ m
-eight zero = refl
-eight (suc m) = ap (λ (k : ℕ). 2 ^ k) (more m) ∙ pow-add 2 8 (8 * m) ∙ ap (λ (k : ℕ). 256 * k) (eight m) ∙ sym (pow-add 256 1 m) ∙ ap (λ (k : ℕ). 256 ^ k) (one m)
-  where
-    more : (m : ℕ) → 8 * suc m ≡ 8 + 8 * m
-    more m = omega arith
-
-    one : (m : ℕ) → 1 + m ≡ suc m
-    one m = omega arith
-
 -- bit k of the bytes from number q on
 pub bit_behind : (x q k : ℕ) → x / 256 ^ q / 2 ^ k % 2 ≡ bit_at x (8 * q + k)
 bit_behind x q k =
     ap (λ (y : ℕ). y % 2) (div-div-eq-div-mul x (256 ^ q) (2 ^ k))
-    ∙ ap (λ (p : ℕ). x / p % 2) (ap (λ (e : ℕ). e * 2 ^ k) (sym (eight q)) ∙ sym (pow-add 2 (8 * q) k))
+    ∙ ap (λ (p : ℕ). x / p % 2) (ap (λ (e : ℕ). e * 2 ^ k) (sym (bits_of_bytes q)) ∙ sym (pow-add 2 (8 * q) k))
 
 pub byte_more : (x q k byte next bit : ℕ) → byte ≡ x / 256 ^ q % 2 ^ k → bit ≡ bit_at x (8 * q + k) → next ≡ byte + bit * 2 ^ k → next ≡ x / 256 ^ q % 2 ^ (k + 1)
 byte_more x q k byte next bit before is now =

@@ -4,13 +4,14 @@ use Rattle.std.specs.Prelude.{if◌then◌else◌, slice_index}
 use Rattle.std.proofs.lemmas.Bool.{cases_eq, cases_lt, eq-eqb, ne_eqb, lt-ltb, le-ltb, ltb-false}
 use Rattle.std.proofs.lemmas.List.{ext_get_or, get_or-take, get_or_append_left, get_or-append-add, length-take-le, take-append-drop}
 use Rattle.df_base.specs.Fields.{field_at}
+use Rattle.df_base.proofs.Laws.{field_front}
 use Rattle.df_theory.specs.Units.{Layout}
 use Rattle.df_model.specs.Refusals.{first_refusal}
 use Rattle.df_trailer.proofs.Passing.{all_pass}
 use Rattle.df_trailer.specs.declared.fault.Failing.{Failing}
 use Rattle.df_trailer.specs.Reading.{AreChecksKept, IsKept, failing_of, rest_tests}
 use Rattle.df_trailer.specs.Text.{bits, bits_at, bits_in, bits_of, head_end, head_tests, is_whole, ones, sessions_at, tests}
-use Rattle.df_trailer.proofs.Longer.{count_front, field_front, head_end_is, root_front, same_tests, whole_has}
+use Rattle.df_trailer.proofs.Longer.{count_front, head_end_is, root_front, same_tests, whole_has}
 use Rattle.df_trailer.proofs.Pieces.{seam}
 
 abbrev pub or_first : Option Failing → Option Failing → Option Failing

@@ -6,19 +6,9 @@ use Rattle.std.proofs.lemmas.List.{drop-append-le, take-append-le, take_more}
 use Rattle.byteorder.specs.Endian.{little_number}
 use Rattle.byteorder.specs.Numbers.{little_from-take}
 use Rattle.df_base.specs.Fields.{field_at}
+use Rattle.df_base.proofs.Laws.{field_front}
 use Rattle.df_model.specs.Refusals.{first_refusal}
 use Rattle.df_trailer.specs.Text.{bits_at, count, count_at, head_end, head_tests, is_whole, read_sessions, root_size, sessions_at}
-
-pub field_front : (n at : ℕ) (xs ys : List ℕ) → at + n ≤ length xs → field_at n at (xs ++ ys) ≡ field_at n at xs
-unfolding field_at
-field_front n at xs ys fits =
-    let rest : List ℕ = drop at xs in
-    let moved : drop at (xs ++ ys) ≡ rest ++ ys = drop-append-le at xs ys (omega arith) in
-    let same : take n (rest ++ ys) ≡ take n rest = take-append-le n rest ys (omega (arith, length-drop at xs)) in
-    ap (λ (l : List ℕ). little_number n l) moved
-    ∙ sym (little_from-take 0 n n (rest ++ ys) (omega arith))
-    ∙ ap (λ (l : List ℕ). little_number n l) same
-    ∙ little_from-take 0 n n rest (omega arith)
 
 pub sessions_front : (n at : ℕ) (xs ys : List ℕ) → at + 32 * n ≤ length xs → read_sessions n at (xs ++ ys) ≡ read_sessions n at xs
 sessions_front zero at xs ys fits = refl

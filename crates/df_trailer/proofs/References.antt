@@ -7,6 +7,7 @@ use Rattle.std.specs.Int.{bit_at}
 use Rattle.std.proofs.lemmas.Nat.Bits.{bit_at-suc}
 use Rattle.byteorder.specs.Endian.{little_from}
 use Rattle.df_base.specs.Fields.{field_at}
+use Rattle.df_base.proofs.Laws.{field_moved}
 use Rattle.df_theory.specs.Units.{Layout}
 use Rattle.df_model.specs.Refusals.{first_refusal}
 use Rattle.df_trailer.specs.declared.fault.Failing.{Failing}
@@ -20,18 +21,6 @@ use Rattle.df_trailer.proofs.Read.{fine, no_fault}
 abbrev pub reference_of : List ℕ → List ℕ → ℕ → Option ℕ
 reference_of bits checks place =
     if bit_at (bits_in bits) place == 1 then Some (field_at 16 (16 * ones (bits_of place (bits_in bits))) checks) else None
-
--- a number whose bytes stand elsewhere too
-pub field_moved : (n a b : ℕ) (xs ys : List ℕ) → ((j : ℕ) → j < n → slice_index xs (a + j) ≡ slice_index ys (b + j)) → field_at n a xs ≡ field_at n b ys
-unfolding field_at
-field_moved n a b xs ys same = from n 0 (λ j h. get_or-drop a xs j 0 ∙ same j (omega arith) ∙ sym (get_or-drop b ys j 0))
-  where
-    from : (m i : ℕ) → ((j : ℕ) → j < i + m → slice_index (drop a xs) j ≡ slice_index (drop b ys) j) → little_from i m (drop a xs) ≡ little_from i m (drop b ys)
-    from zero i are = refl
-    from (suc m) i are =
-        let here = are i (omega arith) in
-        let others = from m (suc i) (λ j h. are j (omega arith)) in
-        rw (here, others) refl
 
 -- what is known of the block at a place: its bit, and the checksum behind those of the earlier ones
 pub block_at : (n x at : ℕ) (text : List ℕ) (k : ℕ) → k < n

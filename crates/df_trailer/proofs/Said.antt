@@ -4,6 +4,7 @@ use Rattle.std.specs.Prelude.{if◌then◌else◌, slice_index}
 use Rattle.std.specs.Int.{bit_at}
 use Rattle.std.proofs.lemmas.List.{drop-append-le, take-append-le}
 use Rattle.df_base.specs.Fields.{field_at}
+use Rattle.df_base.proofs.Laws.{field_moved}
 use Rattle.df_layout.specs.declared.layout.Layout as file
 use Rattle.df_units.specs.Meaning.{layout_of}
 use Rattle.df_model.specs.Refusals.{first_refusal}
@@ -17,7 +18,7 @@ use Rattle.df_trailer.specs.Text.{bits_in, bits_of, count, fault, fault_in, head
 use Rattle.df_trailer.proofs.Fed.{fails_as_read, room_size}
 use Rattle.df_trailer.proofs.Kept.{IsEnd, append_first, head_ends, or_first}
 use Rattle.df_trailer.proofs.Longer.{count_front, root_front, sessions_front}
-use Rattle.df_trailer.proofs.References.{few_ones, field_moved, reference_at}
+use Rattle.df_trailer.proofs.References.{few_ones, reference_at}
 use Rattle.df_trailer.proofs.Words.{at_listed, length_listed}
 
 root_said : (h rest : List ℕ) → IsEnd h → take (root_size h) (drop 4 h) ≡ take (root_size (h ++ rest)) (drop 4 (h ++ rest))

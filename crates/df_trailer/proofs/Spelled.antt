@@ -7,7 +7,7 @@ use Rattle.std.proofs.Math.Nat.{pow-le-pow_right}
 use Rattle.std.proofs.lemmas.Nat.{pow-add}
 use Rattle.std.proofs.lemmas.Bool.{le-ltb, lt-leb, eq-eqb}
 use Rattle.df_base.specs.Fields.{spelled}
-use Rattle.df_base.proofs.Laws.{length-spelled, field_spelled}
+use Rattle.df_base.proofs.Laws.{bits_of_bytes, length-spelled, field_spelled}
 use Rattle.df_theory.specs.Units.{Layout, Parts, Session}
 use Rattle.df_model.specs.Codec.{IsLawful, IsLawfulSession}
 use Rattle.df_trailer.specs.Spelling.{bits_size, blocks_of, is_referenced, number_of, spell, spell_blocks, spell_checks, spell_sessions}
@@ -34,22 +34,12 @@ length_map : (bs : List (Option ℕ)) → length (map is_referenced bs) ≡ leng
 length_map [] = refl
 length_map (b ∷ bs) = ap suc (length_map bs)
 
-eight : (m : ℕ) → 2 ^ (8 * m) ≡ 256 ^ m
-eight zero = refl
-eight (suc m) = ap (λ (k : ℕ). 2 ^ k) (more m) ∙ pow-add 2 8 (8 * m) ∙ ap (λ (k : ℕ). 256 * k) (eight m) ∙ sym (pow-add 256 1 m) ∙ ap (λ (k : ℕ). 256 ^ k) (one m)
-  where
-    more : (m : ℕ) → 8 * suc m ≡ 8 + 8 * m
-    more m = omega arith
-
-    one : (m : ℕ) → 1 + m ≡ suc m
-    one m = omega arith
-
 -- as many bytes as so many bits need
 pub bits_fit : (n : ℕ) → 2 ^ n ≤ 256 ^ ((n + 7) / 8)
 bits_fit n =
     let enough : n ≤ 8 * ((n + 7) / 8) = omega arith in
     let more : 2 ^ n ≤ 2 ^ (8 * ((n + 7) / 8)) = pow-le-pow_right (omega arith) enough in
-    let same : 2 ^ (8 * ((n + 7) / 8)) ≡ 256 ^ ((n + 7) / 8) = eight ((n + 7) / 8) in
+    let same : 2 ^ (8 * ((n + 7) / 8)) ≡ 256 ^ ((n + 7) / 8) = bits_of_bytes ((n + 7) / 8) in
     omega arith
 
 pub stands : (l : Layout) (root : List ℕ) (ss : List Session) (bs : List (Option ℕ)) → length root ≤ 1024 → length ss ≤ 64 → AreSmall ss → length bs ≡ l.blocks → AreChecks bs
