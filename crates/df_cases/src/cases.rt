@@ -3,8 +3,9 @@
 // A prepare is durable before its header sector is written. So a torn prepare has an old header and was never
 // acknowledged, a torn header sector spoils headers whose prepares are all durable, and a current header without its
 // prepare is damage.
-ghost use Rattle.std.specs.Prelude.{◌≡◌, ◌↔◌, ◌⊎◌, Bool};
-ghost use Rattle.df_cases.specs.Cases.{decision_of, IsFar, LacksPrepare, IsTaken, IsEmptied};
+ghost use Rattle.std.specs.Prelude.{◌≡◌};
+ghost use Rattle.df_theory.specs.Cases.{case as decided};
+ghost use Rattle.df_cases.specs.Cases.{HasCheck, decision_of, seen_of};
 
 use crate::Seen;
 
@@ -21,13 +22,9 @@ pub enum Decision {
     Empty { mend: bool },
 }
 
-/// What becomes of a slot whose rings show this.
+/// What becomes of a slot whose rings show this: the decision of the model's one table.
 pub fn case(header: Seen, prepare: Seen) -> Decision
-    ensures table { result ≡ decision_of header prepare }
-    ensures behind { (result ≡ Decision.Behind) ↔ (IsFar header ⊎ IsFar prepare) }
-    ensures lost { (result ≡ Decision.Lost) ↔ LacksPrepare header prepare }
-    ensures taken { (mend : Bool) → (result ≡ Decision.Take mend) ↔ IsTaken header prepare mend }
-    ensures emptied { (mend : Bool) → (result ≡ Decision.Empty mend) ↔ IsEmptied header prepare mend }
+    ensures model { HasCheck header → HasCheck prepare → decision_of result ≡ decided (seen_of header) (seen_of prepare) }
 {
     match (header, prepare) {
         (Seen::Far, _) | (_, Seen::Far) => Decision::Behind,

@@ -8,12 +8,12 @@ use Rattle.std.proofs.lemmas.List.Sums.{fails_before_first}
 use Rattle.std.proofs.lemmas.Option.{get_or_from_slice_get, slice_get_cases}
 use Rattle.df_format.specs.declared.header.Header.{Header}
 use Rattle.df_sessions.specs.declared.session.Session.{Session}
+use Rattle.df_sessions.specs.Requests.{session_of, sessions_of}
 use Rattle.df_sessions.specs.Table.{IsKnown, has_client, with_request}
 use Rattle.df_sessions.proofs.Laws.{IsFirst, first_place}
 use Rattle.df_theory.specs.Units
 use Rattle.df_theory.specs.Sessions.{MayAsk, noted}
 use Rattle.df_units.specs.Meaning.{header_of}
-use Rattle.df_journal.specs.Tail.{session_of, sessions_of}
 
 -- a request is noted as the theory notes it
 pub noted_is : (h : Header) (ss : List Session) → sessions_of (with_request h.client h.request h.op ss) ≡ noted (header_of h) (sessions_of ss)

@@ -5,3 +5,4 @@ pub mod Moments
 pub mod Ops
 pub mod Scans
 pub mod Walks
+pub mod Laws

@@ -1,6 +1,5 @@
 -- What is read of the rings is what they show.
 use Rattle.std.proofs.Common.{◌≡◌, ◌≢◌, inl, inr, ℕ, zero, suc, ◌+◌, ◌*◌, ◌/◌, ◌%◌, ◌<◌, ◌≤◌, List, [], ◌∷◌, length, set, Option, Some, None, refl, sym, ◌∙◌, ap, subst, arith}
-use Rattle.std.specs.Prelude.{Err}
 use Rattle.std.specs.List.{slice_get}
 use Rattle.std.proofs.lemmas.Bool.{cases_eq}
 use Rattle.std.proofs.lemmas.Option.{slice_get_cases, slice_get_within}
@@ -11,22 +10,18 @@ use Rattle.df_layout.specs.declared.layout.Layout.{Layout}
 use Rattle.df_layout.specs.declared.places.Place.{Place}
 use Rattle.df_layout.specs.declared.places.Zone.TheVariants.{WalHeaders, WalPrepares}
 use Rattle.df_layout.specs.Spans.{place_sectors, sectors_before, span_of}
-use Rattle.df_format.specs.declared.kind.Kind.TheVariants.{Prepare}
 use Rattle.df_format.specs.Message.{Message}
 use Rattle.df_format.specs.Own.{place_in}
 use Rattle.df_format.specs.Shown.{bytes_of, class_at, class_of, header_or_class, unit_at, unit_in}
-use Rattle.df_format.specs.Valid.{IsInSlot}
-use Rattle.df_format.proofs.Laws.{read_belongs, shown_belongs}
+use Rattle.df_format.proofs.Laws.{shown_belongs}
 use Rattle.df_format.proofs.Laws.{valid_stale}
-use Rattle.df_buffers.specs.declared.identity.Wanted.TheVariants.{Any}
-use Rattle.df_buffers.specs.Found.{Finds, FindsKind}
-use Rattle.df_buffers.specs.Rooms.{header_bytes, room_size}
-use Rattle.df_prepares.specs.Slots.{slot_first}
+use Rattle.df_buffers.specs.Rooms.{header_bytes}
 use Rattle.df_theory.specs.Units.{HeaderPlace, PreparePlace}
 use Rattle.df_units.specs.Meaning.{message_of}
 use Rattle.df_units.specs.Bytes
 use Rattle.df_units.specs.Bytes.{message_unit}
 use Rattle.df_buffers.specs.declared.slots.SlotSeen.{SlotSeen}
+use Rattle.df_places.specs.Units.{IsSeen as IsPlaceSeen}
 use Rattle.df_journal.specs.Seen.{class_of as class_where}
 use Rattle.df_journal.specs.Shows.{IsSlot, ShowsHeader, ShowsPrepare, ShowsTable}
 use Rattle.df_journal.specs.Scan.{Scan, entry, or_blank}
@@ -34,35 +29,11 @@ use Rattle.df_journal.specs.Scanned.{AreSeen, ClassIsShown, IsScanned, IsSeen, S
 
 -- ---- bytes
 
--- what is found where any unit is wanted
-pub none_found : (layout : Layout) (cluster : ℕ) (place : Place) (bytes : List ℕ) (class : Class) → ((u : Message) → Finds (record { layout = layout; cluster = cluster; place = place; wanted = Any }) bytes u → ⊥)
-    → class ≡ class_of layout cluster place bytes → Err class ≡ header_or_class (unit_in layout cluster place bytes) (class_of layout cluster place bytes)
-none_found layout cluster place bytes class none is = by (unit_in layout cluster place bytes) refl
-  where
-    by : (o : Option Message) → unit_in layout cluster place bytes ≡ o → Err class ≡ header_or_class o (class_of layout cluster place bytes)
-    by None shown = ap Err is
-    by (Some u) shown = absurd (none u (record { valid = shown; wanted = tt }))
-
-pub none_prepare : (layout : Layout) (cluster slot : ℕ) (bytes : List ℕ) (class : Class)
-    → ((u : Message) → FindsKind Prepare (record { layout = layout; cluster = cluster; place = place_in WalPrepares slot; wanted = Any }) bytes u → ⊥)
-    → class ≡ class_of layout cluster (place_in WalPrepares slot) bytes → Err class ≡ header_or_class (unit_in layout cluster (place_in WalPrepares slot) bytes) (class_of layout cluster (place_in WalPrepares slot) bytes)
-none_prepare layout cluster slot bytes class none is = none_found layout cluster (place_in WalPrepares slot) bytes class (λ u found.
-    let in_slot : IsInSlot layout slot u.header = (read_belongs layout cluster (place_in WalPrepares slot) bytes u found.valid).belongs in
-    none u (record { found = found; of_kind = in_slot.kind })) is
-
 header_part : (layout : Layout) (image : Image) (slot : ℕ) (bytes : List ℕ) → length bytes ≡ 4096 → bytes ≡ bytes_at image (header_first layout slot) (length bytes / 4096) → header_bytes (slot % 16) bytes ≡ bytes_of layout image (place_in WalHeaders slot)
 unfolding bytes_of span_of place_sectors
 header_part layout image slot bytes size is =
     let one : length bytes / 4096 ≡ 1 = omega arith in
     ap (λ (b : List ℕ). header_bytes (slot % 16) b) (is ∙ ap (λ (n : ℕ). bytes_at image (header_first layout slot) n) one)
-
-count_is : (layout : Layout) (slot n : ℕ) → n ≡ room_size layout WalPrepares → n / 4096 ≡ (span_of layout (place_in WalPrepares slot)).count
-unfolding span_of
-count_is layout slot n is = omega (arith, is)
-
-prepare_part : (layout : Layout) (image : Image) (slot : ℕ) (bytes : List ℕ) → length bytes ≡ room_size layout WalPrepares → bytes ≡ bytes_at image (slot_first layout slot) (length bytes / 4096) → bytes ≡ bytes_of layout image (place_in WalPrepares slot)
-unfolding bytes_of
-prepare_part layout image slot bytes size is = is ∙ ap (λ (n : ℕ). bytes_at image (slot_first layout slot) n) (count_is layout slot (length bytes) size)
 
 at_place : (layout : Layout) (cluster : ℕ) (image : Image) (place : Place) (bytes : List ℕ) → bytes ≡ bytes_of layout image place
     → header_or_class (unit_in layout cluster place bytes) (class_of layout cluster place bytes) ≡ header_or_class (unit_at layout cluster image place) (class_at layout cluster image place)
@@ -70,16 +41,13 @@ unfolding unit_at class_at
 at_place layout cluster image place bytes is = ap (λ (b : List ℕ). header_or_class (unit_in layout cluster place b) (class_of layout cluster place b)) is
 
 -- what is read of a slot is what the disk shows there
-pub slot_seen : (layout : Layout) (cluster slot : ℕ) (told : Option Told) (sector bytes : List ℕ) (seen : SlotSeen) → length sector ≡ 4096 → length bytes ≡ room_size layout WalPrepares
-    → Shows told (header_first layout slot) sector → Shows told (slot_first layout slot) bytes
+pub slot_seen : (layout : Layout) (cluster slot : ℕ) (told : Option Told) (sector : List ℕ) (seen : SlotSeen) → length sector ≡ 4096 → Shows told (header_first layout slot) sector
     → seen.header ≡ header_or_class (unit_in layout cluster (place_in WalHeaders slot) (header_bytes (slot % 16) sector)) (class_of layout cluster (place_in WalHeaders slot) (header_bytes (slot % 16) sector))
-    → seen.prepare ≡ header_or_class (unit_in layout cluster (place_in WalPrepares slot) bytes) (class_of layout cluster (place_in WalPrepares slot) bytes)
-    → IsSeen layout cluster told slot seen
-slot_seen layout cluster slot None sector bytes seen size fills shows_header shows_prepare header prepare = tt
-slot_seen layout cluster slot (Some t) sector bytes seen size fills shows_header shows_prepare header prepare =
-    let one = header ∙ at_place layout cluster t.shown (place_in WalHeaders slot) (header_bytes (slot % 16) sector) (header_part layout t.shown slot sector size shows_header) in
-    let two = prepare ∙ at_place layout cluster t.shown (place_in WalPrepares slot) bytes (prepare_part layout t.shown slot bytes fills shows_prepare) in
-    λ i. record { header = one i; prepare = two i }
+    → IsPlaceSeen layout cluster told (place_in WalPrepares slot) seen.prepare → IsSeen layout cluster told slot seen
+slot_seen layout cluster slot None sector seen size shows header prepare = tt
+slot_seen layout cluster slot (Some t) sector seen size shows header prepare =
+    let one = header ∙ at_place layout cluster t.shown (place_in WalHeaders slot) (header_bytes (slot % 16) sector) (header_part layout t.shown slot sector size shows) in
+    λ i. record { header = one i; prepare = prepare i }
 
 -- ---- a header sector
 

@@ -1,7 +1,8 @@
 -- The tail is found prepare by prepare.
-use Rattle.std.proofs.Common.{◌≡◌, take, ◌-◌, inl, inr, ℕ, ◌+◌, ◌%◌, ◌<◌, ◌≤◌, List, [], ◌∷◌, ◌++◌, length, Option, Some, None, refl, sym, ◌∙◌, ap, subst, arith, length-append}
+use Rattle.std.proofs.Common.{◌≡◌, take, ◌-◌, inl, inr, ℕ, ◌+◌, ◌%◌, ◌<◌, ◌^◌, ◌≤◌, List, [], ◌∷◌, ◌++◌, length, Option, Some, None, refl, sym, ◌∙◌, ap, subst, arith, length-append}
 use Rattle.std.specs.Prelude.{Result, Ok, Err}
 use Rattle.std.specs.List.{slice_get}
+use Rattle.std.proofs.lemmas.Bool.{cases_eq}
 use Rattle.std.proofs.lemmas.Option.{slice_get_cases}
 use Rattle.std.proofs.Math.Nat.{mod-lt}
 use Rattle.df_layout.specs.declared.damage.Class.{Class}
@@ -9,7 +10,8 @@ use Rattle.df_layout.specs.declared.layout.Layout.{Layout}
 use Rattle.df_layout.proofs.Laws.{some_slots}
 use Rattle.df_format.specs.declared.header.Header.{Header}
 use Rattle.df_sessions.specs.declared.session.Session.{Session}
-use Rattle.df_sessions.specs.Table.{with_request}
+use Rattle.df_sessions.specs.Requests.{sessions_of}
+use Rattle.df_sessions.specs.Table.{requested, with_request}
 use Rattle.df_theory.specs.Units
 use Rattle.df_theory.specs.Units.{AnyUnit, PreparePlace, PrepareUnit}
 use Rattle.df_theory.specs.Sessions.{MayAsk, noted, sessions_after}
@@ -21,14 +23,13 @@ use Rattle.df_theory.specs.Found.{slot_behind}
 use Rattle.df_theory.proofs.Laws.{chain_append, last_mark-append, sessions-append}
 use Rattle.df_theory.proofs.Laws.{chain_ops, in_either, in_single}
 use Rattle.df_units.specs.Meaning.{header_of, number_of}
-use Rattle.df_units.specs.Recovery.{decided_of}
 use Rattle.df_buffers.specs.declared.slots.SlotSeen.{SlotSeen}
 use Rattle.df_journal.specs.declared.tail.Tail.{Tail}
 use Rattle.df_journal.specs.Seen.{IsTaken, decision_on}
 use Rattle.df_journal.specs.Shows.{IsTable, ShowsPrepare, ShowsTable}
-use Rattle.df_journal.specs.Tail.{EndsAt, FindsTail, IsNext, StartsAt, sessions_of, tail_to}
+use Rattle.df_journal.specs.Tail.{AreNumbered, AreUnstored, EndsAt, FindsTail, IsNext, StartsAt, tail_to}
 use Rattle.df_journal.proofs.Asks.{noted_is}
-use Rattle.df_journal.proofs.Decisions.{decision_is, take_from, take_to}
+use Rattle.df_journal.proofs.Decisions.{decision_is}
 
 -- ---- taken prepares, in the table and in the image
 
@@ -62,11 +63,11 @@ module _ (layout : Layout) (cluster : ℕ) (table : List SlotSeen) (image : Unit
       let found : ShowsPrepare (image (PreparePlace slot)) (Ok h) = subst (λ (r : Result Header Class). ShowsPrepare (image (PreparePlace slot)) r) taken.shown (shows.each slot seen at).prepare in
       let p : Units.Message = found.0 in
       let op_is : p.header.op ≡ op = ap (λ (k : Units.Header). k.op) found.2 ∙ taken.op_is in
-      let decided : Cases.decision layout.slots 0 image op ≡ decided_of (decision_on op seen) = decision_is layout cluster layout.slots op image seen (shows.each slot seen at) (is.each slot seen at) in (
+      let decided : Cases.decision layout.slots 0 image op ≡ decision_on op seen = decision_is layout.slots op image seen (shows.each slot seen at) in (
         p,
         record {
           shown = subst (λ (o : ℕ). image (PreparePlace (o % layout.slots)) ≡ Some (PrepareUnit p)) (sym op_is) found.1;
-          take = λ above. subst (λ (k : ℕ). Cases.IsTake (Cases.decision layout.slots k image p.header.op)) (sym boot) (subst (λ (o : ℕ). Cases.IsTake (Cases.decision layout.slots 0 image o)) (sym op_is) (subst Cases.IsTake (sym decided) (take_to (decision_on op seen) taken.take)));
+          take = λ above. subst (λ (k : ℕ). Cases.IsTake (Cases.decision layout.slots k image p.header.op)) (sym boot) (subst (λ (o : ℕ). Cases.IsTake (Cases.decision layout.slots 0 image o)) (sym op_is) (subst Cases.IsTake (sym decided) taken.take));
         },
         found.2,
       )
@@ -87,7 +88,7 @@ module _ (layout : Layout) (cluster : ℕ) (table : List SlotSeen) (image : Unit
         | inl there ↦
             let at : slice_get table slot ≡ Some there.0 = there.2 in
             let found = prepare_of (image (PreparePlace slot)) there.0.prepare p (shows.each slot there.0 at).prepare shown in
-            let decided : Cases.decision layout.slots 0 image op ≡ decided_of (decision_on op there.0) = decision_is layout cluster layout.slots op image there.0 (shows.each slot there.0 at) (is.each slot there.0 at) in
+            let decided : Cases.decision layout.slots 0 image op ≡ decision_on op there.0 = decision_is layout.slots op image there.0 (shows.each slot there.0 at) in
             record {
               seen = there.0;
               header = found.0;
@@ -95,7 +96,7 @@ module _ (layout : Layout) (cluster : ℕ) (table : List SlotSeen) (image : Unit
               taken = record {
                 shown = found.1;
                 op_is = sym (ap (λ (k : Units.Header). k.op) found.2) ∙ op_is;
-                take = take_from (decision_on op there.0) (subst Cases.IsTake decided (subst (λ (o : ℕ). Cases.IsTake (Cases.decision layout.slots 0 image o)) op_is (subst (λ (k : ℕ). Cases.IsTake (Cases.decision layout.slots k image p.header.op)) boot (takes.take above))));
+                take = subst Cases.IsTake decided (subst (λ (o : ℕ). Cases.IsTake (Cases.decision layout.slots 0 image o)) op_is (subst (λ (k : ℕ). Cases.IsTake (Cases.decision layout.slots k image p.header.op)) boot (takes.take above)));
               };
               same = found.2;
             }
@@ -200,3 +201,23 @@ pub blamed_is : (sh : Shape) (b : Checkpoint) (ps : List Units.Message) (last : 
 blamed_is sh b ps last sessions n same ends =
     let op : last.op + 1 ≡ b.content.op + length ps + 1 = omega (arith, ends.op) in
     ap (λ (k : ℕ). k % n) op ∙ ap (λ (m : ℕ). (b.content.op + length ps + 1) % m) (sym same)
+
+-- a request leaves no reply stored where none was
+pub still_unstored : (h : Header) (before after : List Session) (place : ℕ) → slice_get after place ≡ Some (requested h.client h.request h.op) → ((k : ℕ) → (k ≡ place → ⊥) → slice_get after k ≡ slice_get before k) → AreUnstored before → AreUnstored after
+still_unstored h before after place there others none k s at = elim (cases_eq k place) [
+  | inl here ↦
+      let both : Some s ≡ Some (requested h.client h.request h.op) = sym at ∙ ap (slice_get after) here ∙ there in
+      let one : s ≡ requested h.client h.request h.op = cc in
+      ap (λ (x : Session). x.reply) one
+  | inr other ↦ none k s (sym (others k other) ∙ at)
+]
+
+-- a request within its limit leaves each session's so
+pub still_numbered : (h : Header) (before after : List Session) (place : ℕ) → h.request ≤ 2 ^ 62 → slice_get after place ≡ Some (requested h.client h.request h.op) → ((k : ℕ) → (k ≡ place → ⊥) → slice_get after k ≡ slice_get before k) → AreNumbered before → AreNumbered after
+still_numbered h before after place small there others within k s at = elim (cases_eq k place) [
+  | inl here ↦
+      let both : Some s ≡ Some (requested h.client h.request h.op) = sym at ∙ ap (slice_get after) here ∙ there in
+      let one : s ≡ requested h.client h.request h.op = cc in
+      subst (λ (x : Session). x.request ≤ 2 ^ 62) (sym one) small
+  | inr other ↦ within k s (sym (others k other) ∙ at)
+]

@@ -6,19 +6,17 @@ use Rattle.df_layout.specs.declared.layout.Layout.{Layout}
 use Rattle.df_layout.specs.declared.places.Zone.TheVariants.{WalHeaders, WalPrepares}
 use Rattle.df_layout.specs.Spans.{span_of}
 use Rattle.df_format.specs.Own.{place_in}
-use Rattle.df_format.specs.Shown.{class_at, header_or_class, unit_at}
+use Rattle.df_format.specs.Shown.{class_at}
 use Rattle.df_units.specs.Bytes
 use Rattle.df_buffers.specs.declared.slots.SlotSeen.{SlotSeen}
+use Rattle.df_places.specs.Units.{header_at}
 use Rattle.df_journal.specs.Scan.{Scan, entry}
 use Rattle.df_journal.specs.Seen.{class_of}
 use Rattle.df_journal.specs.Shows.{IsSlot, IsTable, Tells}
 
 -- what an image shows at a slot
 abbrev pub seen_at : Layout → ℕ → Image → ℕ → SlotSeen
-seen_at layout cluster image s = record {
-  header = header_or_class (unit_at layout cluster image (place_in WalHeaders s)) (class_at layout cluster image (place_in WalHeaders s));
-  prepare = header_or_class (unit_at layout cluster image (place_in WalPrepares s)) (class_at layout cluster image (place_in WalPrepares s));
-}
+seen_at layout cluster image s = record { header = header_at layout cluster image (place_in WalHeaders s); prepare = header_at layout cluster image (place_in WalPrepares s) }
 
 -- the entry is what the disk shows, where it tells that
 abbrev pub IsSeen : Layout → ℕ → Option Told → ℕ → SlotSeen → Type 0

@@ -1,26 +1,30 @@
 -- What is decided of a slot by what the table of slots says of it.
-use Rattle.std.specs.Prelude.{◌≡◌, ◌<◌, ◌≤◌, ◌+◌, ◌%◌, ◌==◌, nat_lt, ℕ, if◌then◌else◌, Option, Some, None, Result, Ok, Err}
+use Rattle.std.specs.Prelude.{◌≡◌, ◌<◌, ◌≤◌, ◌+◌, ◌%◌, ℕ, Option, Some, None, Result, Ok, Err}
 use Rattle.df_layout.specs.declared.damage.Class.{Class}
 use Rattle.df_layout.specs.declared.damage.Class.TheVariants.{Stale}
 use Rattle.df_format.specs.declared.header.Header.{Header}
-use Rattle.df_cases.specs.declared.seen.Seen.{Seen}
-use Rattle.df_cases.specs.declared.seen.Seen.TheVariants.{Nothing, Old, Now, Far}
-use Rattle.df_cases.specs.declared.cases.Decision.{Decision}
-use Rattle.df_cases.specs.declared.cases.Decision.TheVariants.{Take}
-use Rattle.df_cases.specs.Cases.{decision_of}
+use Rattle.df_format.specs.Spelling.{IsCheck}
+use Rattle.df_theory.specs.Cases.{Decision, IsTake, Nothing, Seen, case, seen as seen_of_header}
+use Rattle.df_units.specs.Meaning.{header_of}
 use Rattle.df_buffers.specs.declared.slots.SlotSeen.{SlotSeen}
 
--- what a ring shows, where the op is wanted
+-- what a ring shows, where the op is wanted in a file of version 1
 abbrev pub seen_in : ℕ → Result Header Class → Seen
-seen_in op (Ok h) = if h.op == op then Now h.checksum else (if nat_lt h.op op then Old else Far)
+seen_in op (Ok h) = seen_of_header 0 op (header_of h)
 seen_in op (Err class) = Nothing
 
+-- the decision of the one table of recovery cases
 abbrev pub decision_on : ℕ → SlotSeen → Decision
-decision_on op seen = decision_of (seen_in op seen.header) (seen_in op seen.prepare)
+decision_on op seen = case (seen_in op seen.header) (seen_in op seen.prepare)
 
-abbrev pub IsTake : Decision → Type 0
-IsTake (Take mend) = Unit {0}
-IsTake d = ⊥
+-- the checksum of a header that is shown has sixteen bytes
+abbrev pub IsOfCheck : Result Header Class → Type 0
+IsOfCheck (Ok h) = IsCheck h.checksum
+IsOfCheck (Err class) = Unit {0}
+
+-- so have both of a slot
+abbrev pub HasChecks : SlotSeen → Type 0
+HasChecks seen = IsOfCheck seen.header × IsOfCheck seen.prepare
 
 -- the prepare with this header is taken
 pub record IsTaken (op : ℕ) (seen : SlotSeen) (h : Header) : Type 0 where

@@ -9,6 +9,7 @@ use Rattle.df_format.specs.Valid.{IsUnit}
 use Rattle.df_theory.specs.Units
 use Rattle.df_theory.specs.Units.{AnyUnit, HeaderPlace, HeaderUnit, PreparePlace, PrepareUnit}
 use Rattle.df_units.specs.Meaning.{header_of}
+use Rattle.df_places.specs.Units.{IsThere}
 use Rattle.df_journal.specs.Scan.{Scan}
 use Rattle.df_buffers.specs.declared.slots.SlotSeen.{SlotSeen}
 
@@ -32,18 +33,14 @@ pub record ShowsTable (image : Units.Units) (table : List SlotSeen) : Type 0 whe
   pub no_header : (s : ℕ) → length table ≤ s → image (HeaderPlace s) ≡ None
   pub no_prepare : (s : ℕ) → length table ≤ s → image (PreparePlace s) ≡ None
 
--- a header in the table is that of a unit which is valid at its place
+-- a header of the header ring is that of a unit which is valid at its place, and has no body
 abbrev pub IsHeaderThere : Layout → ℕ → ℕ → Result Header Class → Type 0
 IsHeaderThere layout cluster s (Ok h) = IsUnit layout cluster (place_in WalHeaders s) (record { header = h; body = [] })
 IsHeaderThere layout cluster s (Err class) = Unit {0}
 
-abbrev pub IsPrepareThere : Layout → ℕ → ℕ → Result Header Class → Type 0
-IsPrepareThere layout cluster s (Ok h) = (body : List ℕ) × IsUnit layout cluster (place_in WalPrepares s) (record { header = h; body = body })
-IsPrepareThere layout cluster s (Err class) = Unit {0}
-
 pub record IsSlot (layout : Layout) (cluster s : ℕ) (seen : SlotSeen) : Type 0 where
   pub header : IsHeaderThere layout cluster s seen.header
-  pub prepare : IsPrepareThere layout cluster s seen.prepare
+  pub prepare : IsThere layout cluster (place_in WalPrepares s) seen.prepare
 
 -- a table of this layout and cluster
 pub record IsTable (layout : Layout) (cluster : ℕ) (table : List SlotSeen) : Type 0 where

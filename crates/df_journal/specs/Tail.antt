@@ -1,9 +1,10 @@
 -- The tail that a table of slots shows behind a checkpoint.
-use Rattle.std.specs.Prelude.{◌≡◌, ◌≢◌, ◌⊎◌, ◌<◌, ◌+◌, ◌%◌, ℕ, List, length, map, slice_get, Option, Some, None}
+use Rattle.std.specs.Prelude.{◌≡◌, ◌≢◌, ◌⊎◌, ◌<◌, ◌^◌, ◌≤◌, ◌+◌, ◌%◌, ℕ, List, length, slice_get, Option, Some, None}
 use Rattle.df_layout.specs.declared.layout.Layout.{Layout}
 use Rattle.df_format.specs.declared.header.Header.{Header}
 use Rattle.df_format.specs.Spelling.{IsCheck}
 use Rattle.df_sessions.specs.declared.session.Session.{Session}
+use Rattle.df_sessions.specs.Requests.{sessions_of}
 use Rattle.df_sessions.specs.Table.{IsKnown, Table}
 use Rattle.df_theory.specs.Units
 use Rattle.df_theory.specs.Sessions.{sessions_after}
@@ -15,13 +16,6 @@ use Rattle.df_units.specs.Meaning.{header_of, number_of}
 use Rattle.df_buffers.specs.declared.slots.SlotSeen.{SlotSeen}
 use Rattle.df_journal.specs.declared.tail.Tail.{Tail}
 use Rattle.df_journal.specs.Seen.{IsTaken}
-
--- the sessions, whatever replies are stored
-abbrev pub session_of : Session → Units.Session
-session_of s = record { client = s.client; request = s.request; op = s.op }
-
-abbrev pub sessions_of : List Session → List Units.Session
-sessions_of ss = map session_of ss
 
 -- the end of a tail whose last prepare has this header
 abbrev pub tail_to : Header → Tail
@@ -58,6 +52,14 @@ pub record IsNext (layout : Layout) (table : List SlotSeen) (last : Tail) (sessi
   pub taken : IsTaken (last.op + 1) seen h
   pub fits : Fits layout.clients (last.op + 1) (number_of last.checksum) last.mark (sessions_of sessions) (header_of h)
 
+-- no session's reply is stored in the table
+abbrev pub AreUnstored : List Session → Type 0
+AreUnstored sessions = (k : ℕ) (s : Session) → slice_get sessions k ≡ Some s → s.reply ≡ None
+
+-- each session's request is within its limit
+abbrev pub AreNumbered : List Session → Type 0
+AreNumbered sessions = (k : ℕ) (s : Session) → slice_get sessions k ≡ Some s → s.request ≤ 2 ^ 62
+
 -- as an answer
 abbrev pub GoesOn : Layout → List SlotSeen → Tail → List Session → Option Header → Type 0
 GoesOn layout table last sessions None = (h : Header) → IsNext layout table last sessions h → ⊥
@@ -68,3 +70,4 @@ pub record IsSound (sessions : Table) (h : Header) : Type 0 where
   pub client : h.client ≢ 0
   pub room : IsKnown h.client sessions.sessions ⊎ (length sessions.sessions < sessions.max)
   pub checksum : IsCheck h.checksum
+  pub request : h.request ≤ 2 ^ 62

@@ -2,11 +2,11 @@
 ghost use Rattle.std.specs.Prelude.{◌≡◌, ◌<◌, ◌≤◌, ◌+◌, ◌%◌, ◌^◌, length, IfOk, OnOk};
 ghost use Rattle.df_base.specs.Causes.{HasCause};
 ghost use Rattle.df_disk.specs.Told.{Shows};
-ghost use Rattle.df_layout.specs.declared.places.Zone.TheVariants.{WalHeaders, WalPrepares};
+ghost use Rattle.df_layout.specs.declared.places.Zone.TheVariants.{WalHeaders};
 ghost use Rattle.df_format.specs.Own.{place_in};
 ghost use Rattle.df_format.specs.Shown.{class_of, header_or_class, unit_in};
 ghost use Rattle.df_buffers.specs.Rooms.{header_bytes};
-ghost use Rattle.df_journal.specs.Shows.{IsHeaderThere, IsPrepareThere, IsSlot};
+ghost use Rattle.df_journal.specs.Shows.{IsHeaderThere, IsSlot};
 ghost use Rattle.df_journal.specs.Scanned.{AreSeen, ClassIsShown, IsScanned, IsSeen, ScannedIsShown, header_first};
 
 use crate::{SlotTable, Start};
@@ -16,7 +16,7 @@ use df_disk::Disk;
 use df_format::Header;
 use df_headers::read_sector;
 use df_layout::{Class, Layout, Place, Zone};
-use df_prepares::read_slot;
+use df_places::scan_place;
 
 // How many headers a sector of the header ring has.
 const HEADERS: u32 = 16;
@@ -49,33 +49,6 @@ fn header_seen(
     sector.header_at(u64::from(slot % HEADERS), &identity)
 }
 
-// What a room shows that was read from a slot.
-fn prepare_seen(
-    layout: &Layout,
-    cluster: u128,
-    slot: u32,
-    room: Raw<Prepare>,
-) -> (Raw<Prepare>, Result<Header, Class>)
-    requires room { room.layout ≡ layout.now }
-    ensures seen { result.1 ≡ header_or_class (unit_in layout.now cluster (place_in WalPrepares slot) room.bytes) (class_of layout.now cluster (place_in WalPrepares slot) room.bytes) }
-    ensures valid { IsPrepareThere layout.now cluster slot result.1 }
-    ensures room { result.0.layout ≡ layout.now }
-{
-    let identity = Identity {
-        layout: *layout,
-        cluster,
-        place: place_in(Zone::WalPrepares, slot),
-        wanted: Wanted::Any,
-    };
-    match room.prove(&identity) {
-        Ok(unit) => {
-            let header = *unit.header();
-            (unit.loosen(), Ok(header))
-        }
-        Err((room, class)) => (room, Err(class)),
-    }
-}
-
 // What both rings show at a slot, whose header sector was read.
 fn scan_slot<D: Disk>(
     disk: &mut D,
@@ -96,12 +69,10 @@ fn scan_slot<D: Disk>(
     ensures cause { HasCause (D.faults disk.old) (D.faults disk.new) result.1 }
 {
     let header = header_seen(layout, cluster, slot, sector);
-    let mut room = room;
-    match read_slot(disk, layout, slot, &mut room) {
-        Ok(()) => {
-            let (room, prepare) = prepare_seen(layout, cluster, slot, room);
-            (room, Ok(SlotSeen { header, prepare }))
-        }
+    let place = place_in(Zone::WalPrepares, slot);
+    let (room, prepare) = scan_place(disk, layout, cluster, place, room);
+    match prepare {
+        Ok(prepare) => (room, Ok(SlotSeen { header, prepare })),
         Err(failed) => (room, Err(failed)),
     }
 }
@@ -124,6 +95,7 @@ fn scan_sector<D: Disk>(
     ensures start { found.new.start ≡ found.old.start }
     ensures table { length found.new.slots ≡ length found.old.slots }
     ensures room { result.0.layout ≡ layout.now }
+    ensures sector { sector.new.layout ≡ sector.old.layout }
     ensures same { D.told disk.new ≡ D.told disk.old }
     ensures cause { HasCause (D.faults disk.old) (D.faults disk.new) result.1 }
 {
@@ -160,6 +132,7 @@ fn scan_all<D: Disk>(
     ensures start { found.new.start ≡ found.old.start }
     ensures table { length found.new.slots ≡ layout.now.slots }
     ensures room { result.0.layout ≡ layout.now }
+    ensures sector { sector.new.layout ≡ sector.old.layout }
     ensures same { D.told disk.new ≡ D.told disk.old }
     ensures cause { HasCause (D.faults disk.old) (D.faults disk.new) result.1 }
 {
@@ -194,6 +167,7 @@ pub fn scan<D: Disk>(
     ensures start { found.new.start ≡ start.now }
     ensures table { length found.new.slots ≡ layout.now.slots }
     ensures room { result.0.layout ≡ layout.now }
+    ensures sector { sector.new.layout ≡ sector.old.layout }
     ensures same { D.told disk.new ≡ D.told disk.old }
     ensures cause { HasCause (D.faults disk.old) (D.faults disk.new) result.1 }
 {

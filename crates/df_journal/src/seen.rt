@@ -1,6 +1,8 @@
 // What is decided of a slot where an op is wanted there.
 ghost use Rattle.std.specs.Prelude.{◌≡◌, ◌↔◌, IsTrue};
-ghost use Rattle.df_journal.specs.Seen.{decision_on, seen_in, IsTake, TakesNow};
+ghost use Rattle.df_theory.specs.Cases.{IsTake};
+ghost use Rattle.df_cases.specs.Cases.{HasCheck, decision_of, seen_of};
+ghost use Rattle.df_journal.specs.Seen.{decision_on, seen_in, HasChecks, IsOfCheck, TakesNow};
 
 use df_buffers::SlotSeen;
 use df_cases::{Decision, Seen, case};
@@ -9,7 +11,8 @@ use df_layout::Class;
 
 // What a ring shows, where the op is wanted.
 fn seen_in(ring: &Result<Header, Class>, op: u64) -> Seen
-    ensures { result ≡ seen_in op ring.now }
+    ensures shown { seen_of result ≡ seen_in op ring.now }
+    ensures check { IsOfCheck ring.now → HasCheck result }
 {
     match ring {
         Ok(header) => {
@@ -27,19 +30,20 @@ fn seen_in(ring: &Result<Header, Class>, op: u64) -> Seen
 
 // The decision on a slot.
 pub(crate) fn decision_on(seen: &SlotSeen, op: u64) -> Decision
-    ensures { result ≡ decision_on op seen.now }
+    ensures { HasChecks seen.now → decision_of result ≡ decision_on op seen.now }
 {
     case(seen_in(&seen.header, op), seen_in(&seen.prepare, op))
 }
 
 fn is_take(decision: &Decision) -> bool
-    ensures { IsTrue result ↔ IsTake decision.now }
+    ensures { IsTrue result ↔ IsTake (decision_of decision.now) }
 {
     matches!(decision, Decision::Take { .. })
 }
 
 /// The header of the prepare that is taken from a slot, where the op is wanted.
 pub(crate) fn taken(seen: &SlotSeen, op: u64) -> Option<Header>
+    requires { HasChecks seen.now }
     ensures { TakesNow op seen.now result }
 {
     if is_take(&decision_on(seen, op)) {

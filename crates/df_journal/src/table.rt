@@ -3,7 +3,7 @@ ghost use Rattle.std.specs.Prelude.{◌≡◌, ◌<◌, ◌≤◌, ◌^◌, ℕ,
 ghost use Rattle.df_layout.specs.declared.layout.Layout.{Layout as AnyLayout};
 ghost use Rattle.df_theory.specs.Units.{Units};
 ghost use Rattle.df_theory.specs.Cases.{decision as decided};
-ghost use Rattle.df_units.specs.Recovery.{decided_of};
+ghost use Rattle.df_cases.specs.Cases.{decision_of};
 ghost use Rattle.df_journal.specs.Scan.{entry, with_slot};
 ghost use Rattle.df_journal.specs.Seen.{IsOpOf, class_of, header_of_seen};
 ghost use Rattle.df_journal.specs.Shows.{Tells};
@@ -107,7 +107,7 @@ impl SlotTable {
     pub fn decision(&self, slot: u32) -> Decision
         requires { slot < length self.now.slots }
         ensures model { (layout : AnyLayout) (image : Units) (o : ℕ) → Tells layout image self.now → IsOpOf layout.slots self.now.start.op slot o
-            → decided_of result ≡ decided layout.slots 0 image o }
+            → decision_of result ≡ decided layout.slots 0 image o }
     {
         let op = op_of(
             self.slots.as_slice().len() as u64,

@@ -7,7 +7,7 @@ ghost use Rattle.df_theory.specs.Shape.{Shape, slots};
 ghost use Rattle.df_theory.specs.Found.{slot_behind as blamed};
 ghost use Rattle.df_theory.specs.View.{Checkpoint};
 ghost use Rattle.df_journal.specs.Shows.{IsTable, Tells};
-ghost use Rattle.df_journal.specs.Tail.{EndsAt, FindsTail, GoesOn, IsSound, StartsAt, tail_to};
+ghost use Rattle.df_journal.specs.Tail.{AreNumbered, AreUnstored, EndsAt, FindsTail, GoesOn, IsSound, StartsAt, tail_to};
 
 use crate::SlotTable;
 use crate::fits::fits;
@@ -87,7 +87,10 @@ pub fn find_tail(
     ensures from { found.now.start.op ≤ result.op }
     ensures within { result.op ≤ found.now.start.op + layout.now.slots }
     ensures checksum { IsCheck result.checksum }
+    ensures start { result.op ≡ found.now.start.op → result.checksum ≡ checksum.now }
     ensures places { sessions.new.max ≡ sessions.old.max }
+    ensures unstored { AreUnstored sessions.old.sessions → AreUnstored sessions.new.sessions }
+    ensures numbered { AreNumbered sessions.old.sessions → AreNumbered sessions.new.sessions }
 {
     let first = found.start.op;
     let mut last = empty_tail(first, checksum);

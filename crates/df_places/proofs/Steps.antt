@@ -20,7 +20,7 @@ use Rattle.df_theory.specs.UnitLog.{put_one}
 use Rattle.df_units.specs.Format.{format_of}
 use Rattle.df_units.specs.Meaning.{place_of, unit_of}
 use Rattle.df_units.proofs.Laws.{block_put, prepare_put, reply_put}
-use Rattle.df_places.specs.Units.{unit_events, unit_steps}
+use Rattle.df_places.specs.Units.{put_events, put_steps, unit_events, unit_steps}
 use Rattle.df_places.proofs.Rooms.{no_ring}
 
 -- a unit has one own place in a zone
@@ -44,15 +44,24 @@ own_brings zone layout place held lent same in_zone own brings =
     let here = one_place layout held.unit.header.cluster brings.place place held.unit (brings.in_zone ∙ sym in_zone) there own in
     subst (λ (p : Place). Brings layout held.unit.header.cluster p held.unit lent) here (subst (λ (l : Layout). Brings l held.unit.header.cluster brings.place held.unit lent) same brings.brings)
 
-pub write_is_steps : (kind : Kind) (zone : Zone) (layout : Layout) (place : Place) (held : Holding) (lent : List ℕ) → StandsIn kind zone → held.layout ≡ layout → place.zone ≡ zone → IsUnit layout held.unit.header.cluster place held.unit
+pub write_brings : (zone : Zone) (layout : Layout) (place : Place) (held : Holding) (lent : List ℕ) → held.layout ≡ layout → place.zone ≡ zone → IsUnit layout held.unit.header.cluster place held.unit
+    → lent ≡ take (sectors_end held.unit.header.size) held.bytes → BringsOwn zone held lent → Brings layout held.unit.header.cluster place held.unit (take (sectors_end held.unit.header.size) held.bytes)
+write_brings zone layout place held lent same in_zone own value brings = subst (λ (l : List ℕ). Brings layout held.unit.header.cluster place held.unit l) value (own_brings zone layout place held lent same in_zone own brings)
+
+pub put_is_steps : (kind : Kind) (zone : Zone) (layout : Layout) (place : Place) (held : Holding) (lent : List ℕ) → StandsIn kind zone → held.layout ≡ layout → place.zone ≡ zone → IsUnit layout held.unit.header.cluster place held.unit
     → lent ≡ take (sectors_end held.unit.header.size) held.bytes → BringsOwn zone held lent → (at : Units.Place) (x : AnyUnit) → place_of at ≡ place → unit_of at held.unit ≡ Some x
-    → AreSteps (format_of layout held.unit.header.cluster) (unit_events layout place held) (unit_steps at x)
-write_is_steps kind zone layout place held lent stands same in_zone own value brings at x here is =
+    → AreSteps (format_of layout held.unit.header.cluster) (put_events layout place held) (put_steps at x)
+put_is_steps kind zone layout place held lent stands same in_zone own value brings at x here is =
     let cluster = held.unit.header.cluster in
     let sectors = take (sectors_end held.unit.header.size) held.bytes in
-    let to_place : Brings layout cluster place held.unit sectors = subst (λ (l : List ℕ). Brings layout cluster place held.unit l) value (own_brings zone layout place held lent same in_zone own brings) in
+    let to_place : Brings layout cluster place held.unit sectors = write_brings zone layout place held lent same in_zone own value brings in
     let alone : (place_of at).zone ≡ WalHeaders → ⊥ = λ ring. no_ring kind zone stands (sym in_zone ∙ ap (λ (p : Place). p.zone) (sym here) ∙ ring) in
     let put = puts_at layout cluster at held.unit x sectors alone is (subst (λ (p : Place). Brings layout cluster p held.unit sectors) (sym here) to_place) in (
       subst (λ (p : Place). IsPut (format_of layout cluster) (span_of layout p).first sectors (put_one at x)) here put,
       tt,
     )
+
+-- and with a sync behind it too
+pub with_sync : (layout : Layout) (place : Place) (held : Holding) (at : Units.Place) (x : AnyUnit) → AreSteps (format_of layout held.unit.header.cluster) (put_events layout place held) (put_steps at x)
+    → AreSteps (format_of layout held.unit.header.cluster) (unit_events layout place held) (unit_steps at x)
+with_sync layout place held at x steps = (steps.0, tt)

@@ -3,4 +3,4 @@
 
 mod units;
 
-pub use units::{read_place, scan_place, write_unit};
+pub use units::{put_unit, read_place, scan_place, write_unit};

@@ -1,10 +1,12 @@
 // A write is one call of the device and a sync, a read is one call; the unit has its whole place to itself.
-ghost use Rattle.std.specs.Prelude.{◌≡◌, ◌≢◌, ◌^◌, ◌<◌, IfOk, OnOk, Some};
+ghost use Rattle.std.specs.Prelude.{◌≡◌, ◌≢◌, IfOk, OnOk, Some, take};
 ghost use Rattle.df_base.specs.Causes.{HasCause};
 ghost use Rattle.df_disk.specs.Adds.{Adds};
 ghost use Rattle.df_disk.specs.Told.{Shows};
 ghost use Rattle.df_layout.specs.declared.places.Zone.{Zone as AnyZone};
 ghost use Rattle.df_layout.specs.Spans.{HasPlace, span_of};
+ghost use Rattle.df_format.specs.Brings.{Brings};
+ghost use Rattle.df_format.specs.Message.{sectors_end};
 ghost use Rattle.df_format.specs.Shown.{class_of, header_or_class, unit_in};
 ghost use Rattle.df_format.specs.Valid.{IsUnit};
 ghost use Rattle.df_buffers.specs.Rooms.{FillsRoom};
@@ -12,13 +14,33 @@ ghost use Rattle.df_theory.specs.Device.{AreSteps};
 ghost use Rattle.df_theory.specs.Units.{AnyUnit, Place as ModelPlace};
 ghost use Rattle.df_units.specs.Format.{format_of};
 ghost use Rattle.df_units.specs.Meaning.{place_of, unit_of};
-ghost use Rattle.df_places.specs.Units.{IsSeen, unit_events, unit_steps};
+ghost use Rattle.df_places.specs.Units.{IsSeen, IsThere, put_events, put_steps, unit_events, unit_steps};
 
 use df_base::Failed;
 use df_buffers::{Identity, Raw, RoomKind, Sound, UnitKind, Wanted};
 use df_disk::Disk;
 use df_format::Header;
 use df_layout::{Class, Layout, Place, Zone};
+
+/// Writes the sectors of a unit into its own place, without a sync: until the next one they may hold anything once the machine
+/// stops. The unit's room is one of the layout.
+pub fn put_unit<D: Disk, K: UnitKind>(
+    disk: &mut D,
+    layout: &Layout,
+    place: Place,
+    unit: &Sound<K>,
+) -> Result<(), Failed>
+    requires layout { unit.now.layout ≡ layout.now }
+    requires zone { place.zone ≡ K.ZONE }
+    requires own { IsUnit layout.now unit.now.unit.header.cluster place unit.now.unit }
+    ensures events { Adds (put_events layout.now place unit.now) (D.told disk.old) (D.told disk.new) result }
+    ensures steps { (at : ModelPlace) (x : AnyUnit) → place_of at ≡ place → unit_of at unit.now.unit ≡ Some x
+        → AreSteps (format_of layout.now unit.now.unit.header.cluster) (put_events layout.now place unit.now) (put_steps at x) }
+    ensures brings { Brings layout.now unit.now.unit.header.cluster place unit.now.unit (take (sectors_end unit.now.unit.header.size) unit.now.bytes) }
+    ensures cause { HasCause (D.faults disk.old) (D.faults disk.new) result }
+{
+    disk.write(layout.sectors_of(place).first, unit.sectors())
+}
 
 /// Writes the sectors of a unit into its own place, and makes them durable. After an error they may hold anything once the
 /// machine stops. The unit's room is one of the layout.
@@ -34,9 +56,10 @@ pub fn write_unit<D: Disk, K: UnitKind>(
     ensures events { Adds (unit_events layout.now place unit.now) (D.told disk.old) (D.told disk.new) result }
     ensures steps { (at : ModelPlace) (x : AnyUnit) → place_of at ≡ place → unit_of at unit.now.unit ≡ Some x
         → AreSteps (format_of layout.now unit.now.unit.header.cluster) (unit_events layout.now place unit.now) (unit_steps at x) }
+    ensures brings { Brings layout.now unit.now.unit.header.cluster place unit.now.unit (take (sectors_end unit.now.unit.header.size) unit.now.bytes) }
     ensures cause { HasCause (D.faults disk.old) (D.faults disk.new) result }
 {
-    disk.write(layout.sectors_of(place).first, unit.sectors())?;
+    put_unit(disk, layout, place, unit)?;
     disk.sync()
 }
 
@@ -71,6 +94,7 @@ fn shown_in<K: UnitKind>(
     requires slot { K.ZONE ≢ AnyZone.Grid }
     requires room { room.layout ≡ layout.now }
     ensures shown { result.1 ≡ header_or_class (unit_in layout.now cluster place room.bytes) (class_of layout.now cluster place room.bytes) }
+    ensures there { IsThere layout.now cluster place result.1 }
     ensures room { result.0.layout ≡ layout.now }
 {
     let identity = Identity {
@@ -103,6 +127,7 @@ pub fn scan_place<D: Disk, K: UnitKind>(
     requires slot { K.ZONE ≢ AnyZone.Grid }
     requires room { room.layout ≡ layout.now }
     ensures seen { IfOk result.1 (IsSeen layout.now cluster (D.told disk.old) place) }
+    ensures there { IfOk result.1 (IsThere layout.now cluster place) }
     ensures room { result.0.layout ≡ layout.now }
     ensures same { D.told disk.new ≡ D.told disk.old }
     ensures cause { HasCause (D.faults disk.old) (D.faults disk.new) result.1 }

@@ -9,4 +9,3 @@ pub mod Rests
 pub mod Finds
 pub mod Heads
 pub mod Apart
-pub mod Written

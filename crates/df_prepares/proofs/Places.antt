@@ -1,14 +1,11 @@
--- Slots are places of the ring: their sectors lie on the disk, and what is read of one is the unit that it shows.
-use Rattle.std.proofs.Common.{◌≡◌, ℕ, ◌+◌, ◌/◌, ◌%◌, ◌^◌, ◌<◌, ◌≤◌, List, length, Some, sym, ◌∙◌, ap, subst, arith}
+-- Slots are places of the ring: a prepare stands in its own, and what is read of one is the unit that it shows.
+use Rattle.std.proofs.Common.{◌≡◌, ℕ, ◌+◌, ◌/◌, List, length, Some, sym, ◌∙◌, ap, subst, arith}
 use Rattle.df_base.specs.Image.{Image, bytes_at}
-use Rattle.df_disk.specs.Told.{AreSectors}
 use Rattle.df_layout.specs.declared.layout.Layout.{Layout}
 use Rattle.df_layout.specs.declared.places.Place.{Place}
 use Rattle.df_layout.specs.declared.places.Zone.{Zone}
 use Rattle.df_layout.specs.declared.places.Zone.TheVariants.{WalPrepares}
-use Rattle.df_layout.specs.Spans.{HasPlace, place_sectors, span_of}
-use Rattle.df_layout.proofs.Spans.{lies_inside}
-use Rattle.df_layout.proofs.Zones.{zones_follow}
+use Rattle.df_layout.specs.Spans.{span_of}
 use Rattle.df_format.specs.declared.kind.Kind.TheVariants.{Prepare as AsPrepare}
 use Rattle.df_format.specs.declared.wal.Wal.{Wal}
 use Rattle.df_format.specs.Message.{Message}
@@ -27,35 +24,13 @@ use Rattle.df_prepares.specs.Found.{IsChild}
 use Rattle.df_prepares.specs.Slots.{slot_place, slot_first, IsInOwnSlot}
 
 -- a prepare's room holds it in its own slot
-pub record IsInPlace (layout : Layout) (u : Message) : Type 0 where
-  pub own : IsInOwnSlot layout u
-  pub below : u.header.slot < layout.slots
-
-pub in_place : (layout : Layout) (holding : Holding) → IsSound WalPrepares AsPrepare holding → holding.layout ≡ layout → IsInPlace layout holding.unit
+pub in_place : (layout : Layout) (holding : Holding) → IsSound WalPrepares AsPrepare holding → holding.layout ≡ layout → IsInOwnSlot layout holding.unit
 in_place layout holding sound same =
     let u = holding.unit in
     let there = valid_belongs holding.layout u.header.cluster sound.place u sound.is in
     let in_slot : IsInSlot holding.layout sound.place.index u.header = subst (λ (z : Zone). Belongs holding.layout z sound.place.index u.header) sound.in_zone there.belongs in
     let here : sound.place ≡ slot_place u.header.slot = λ i. record { zone = sound.in_zone i; index = sym in_slot.slot i } in
-    let has : HasPlace holding.layout (slot_place u.header.slot) = subst (λ (p : Place). HasPlace holding.layout p) here there.has in
-    record {
-      own = subst (λ (l : Layout). IsUnit l u.header.cluster (slot_place u.header.slot) u) same (subst (λ (p : Place). IsUnit holding.layout u.header.cluster p u) here sound.is);
-      below = subst (λ (l : Layout). u.header.slot < l.slots) same has;
-    }
-
-pub first_below : (layout : Layout) (slot first : ℕ) → slot < layout.slots → first ≡ slot_first layout slot → first < 2 ^ 22
-first_below layout slot first below is =
-    let inside = lies_inside layout (slot_place slot) below in
-    omega (arith, is, inside.some, inside.in_file, (zones_follow layout).bound)
-
--- the sectors of a room are sectors of the disk
-pub are_sectors : (layout : Layout) (first n : ℕ) → first < 2 ^ 22 → 0 < n → n % 4096 ≡ 0 → n ≤ room_size layout WalPrepares → AreSectors first n
-unfolding place_sectors
-are_sectors layout first n below some whole fits = record { some = some; whole = whole; last = omega (arith, below, fits, layout.message_size_within.1) }
-
-pub room_sectors : (layout : Layout) (first n : ℕ) → first < 2 ^ 22 → n ≡ room_size layout WalPrepares → AreSectors first n
-unfolding place_sectors
-room_sectors layout first n below is = are_sectors layout first n below (omega (arith, is, layout.message_size_within.0)) (omega (arith, is)) (omega (arith, is))
+    subst (λ (l : Layout). IsUnit l u.header.cluster (slot_place u.header.slot) u) same (subst (λ (p : Place). IsUnit holding.layout u.header.cluster p u) here sound.is)
 
 -- where the prepare of the next op isn't found, the slot shows no child
 pub no_child : (layout : Layout) (cluster slot : ℕ) (head : Head) (bytes : List ℕ) (p : Message)

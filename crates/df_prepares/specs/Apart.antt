@@ -1,12 +1,12 @@
 -- Writes that touch no sector of the ring, and syncs: what the ring's promises keep through them.
-use Rattle.std.specs.Prelude.{◌≡◌, ◌↔◌, ◌<◌, ◌+◌, ℕ, false, List, [], ◌∷◌, length}
+use Rattle.std.specs.Prelude.{◌≡◌, ◌↔◌, ◌<◌, ◌+◌, ℕ, false, List, [], length}
 use Rattle.df_base.specs.Image.{Image, IsPiece, blank, covers, written}
 use Rattle.df_base.specs.Log.{AreSyncs, Write, Sync, Log, add}
 use Rattle.df_format.specs.declared.wal.Wal.{Wal}
 use Rattle.df_format.specs.Unit.{Prepare, IsPrepare, slot_start, slot_sectors, sectors_of}
 use Rattle.df_format.specs.Laws.{AgreeIn}
 use Rattle.df_prepares.specs.Ring.{IsRing}
-use Rattle.df_prepares.specs.Steady.{IsSafe, IsAtRest}
+use Rattle.df_prepares.specs.Steady.{IsAtRest}
 
 -- a write of these bytes from sector at on touches no slot of the ring
 abbrev pub IsApart : Wal → ℕ → List ℕ → Type 0

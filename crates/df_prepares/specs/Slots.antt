@@ -1,18 +1,18 @@
 -- Where the slots of the ring of prepares lie, and what a write of a unit into its slot does.
-use Rattle.std.specs.Prelude.{ℕ, List, [], ◌∷◌, take}
-use Rattle.df_base.specs.Log.{Event, Write, Sync}
+use Rattle.std.specs.Prelude.{ℕ, List}
+use Rattle.df_base.specs.Log.{Event}
 use Rattle.df_layout.specs.declared.layout.Layout.{Layout}
 use Rattle.df_layout.specs.declared.places.Place.{Place}
 use Rattle.df_layout.specs.declared.places.Zone.TheVariants.{WalPrepares}
 use Rattle.df_layout.specs.Spans.{span_of}
-use Rattle.df_format.specs.Message.{Message, sectors_end}
+use Rattle.df_format.specs.Message.{Message}
 use Rattle.df_format.specs.Own.{place_in}
 use Rattle.df_format.specs.Valid.{IsUnit}
 use Rattle.df_buffers.specs.Sounds.{Holding}
 use Rattle.df_theory.specs.Units.{PreparePlace, PrepareUnit}
-use Rattle.df_theory.specs.UnitLog.{put_one}
-use Rattle.df_theory.specs.Runs.{Puts, Step, Syncs}
+use Rattle.df_theory.specs.Runs.{Step}
 use Rattle.df_units.specs.Meaning.{message_of}
+use Rattle.df_places.specs.Units.{unit_events, unit_steps}
 
 -- the place of a slot
 abbrev pub slot_place : ℕ → Place
@@ -28,8 +28,8 @@ IsInOwnSlot layout u = IsUnit layout u.header.cluster (slot_place u.header.slot)
 
 -- the events of a write: the whole sectors that a unit covers go into the slot that its header names, and are synced
 abbrev pub write_events : Layout → Holding → List Event
-write_events layout held = Write (slot_first layout held.unit.header.slot) (take (sectors_end held.unit.header.size) held.bytes) ∷ Sync ∷ []
+write_events layout held = unit_events layout (slot_place held.unit.header.slot) held
 
 -- what they are in the words of the model: the prepare is put into its slot, and synced
 abbrev pub write_steps : Message → List Step
-write_steps u = Puts (put_one (PreparePlace u.header.slot) (PrepareUnit (message_of u))) ∷ Syncs ∷ []
+write_steps u = unit_steps (PreparePlace u.header.slot) (PrepareUnit (message_of u))

@@ -1,5 +1,5 @@
 // Writes and reads of one slot of the ring. A prepare is durable before its writer answers.
-ghost use Rattle.std.specs.Prelude.{◌≡◌, ◌<◌, ◌^◌, take, OnOk};
+ghost use Rattle.std.specs.Prelude.{◌≡◌, ◌<◌, take, OnOk};
 ghost use Rattle.df_base.specs.Causes.{HasCause};
 ghost use Rattle.df_disk.specs.Told.{Shows};
 ghost use Rattle.df_disk.specs.Adds.{Adds};
@@ -14,6 +14,7 @@ use df_base::Failed;
 use df_buffers::{Prepare, Raw, Sound};
 use df_disk::Disk;
 use df_layout::{Layout, Place, Zone};
+use df_places::{read_place, write_unit};
 
 /// The place of a slot.
 pub(crate) fn slot_place(slot: u32) -> Place
@@ -23,15 +24,6 @@ pub(crate) fn slot_place(slot: u32) -> Place
         zone: Zone::WalPrepares,
         index: u64::from(slot),
     }
-}
-
-// The first sector of a slot.
-fn slot_first(layout: &Layout, slot: u32) -> u64
-    requires { slot < layout.now.slots }
-    ensures first { result ≡ slot_first layout.now slot }
-    ensures below { result < 2 ^ 22 }
-{
-    layout.sectors_of(slot_place(slot)).first
 }
 
 /// Writes the sectors of a prepare into its slot, and makes them durable. After an error they may hold anything once
@@ -49,8 +41,7 @@ pub fn write_prepare<D: Disk>(
     ensures cause { HasCause (D.faults disk.old) (D.faults disk.new) result }
 {
     let slot = unit.header().slot;
-    disk.write(slot_first(layout, slot), unit.sectors())?;
-    disk.sync()
+    write_unit(disk, layout, slot_place(slot), unit)
 }
 
 /// Reads a whole slot into a room of the layout. After an error the room holds any bytes.
@@ -68,5 +59,5 @@ pub fn read_slot<D: Disk>(
     ensures same { D.told disk.new ≡ D.told disk.old }
     ensures cause { HasCause (D.faults disk.old) (D.faults disk.new) result }
 {
-    disk.read(slot_first(layout, slot), room.bytes_mut())
+    read_place(disk, layout, slot_place(slot), room)
 }

@@ -2,3 +2,4 @@ pub mod Counted
 pub mod Own
 pub mod Scanned
 pub mod Stored
+pub mod Laws

@@ -135,23 +135,27 @@ fn an_empty_ring_is_empty_behind_the_greatest_op(rt: HostRuntime) -> Result<(), 
     Ok(())
 }
 
-// How a scan of a blank disk ends whose call of this number fails.
-fn scan_ends(alloc: Global, listed: u64) -> Result<Result<(), Failed>, Fail> {
-    let mut disk = MemoryDisk::new(alloc, Vec::from_slice(alloc, &[listed])?);
+// How a scan of a blank disk ends whose calls of these numbers fail, and how many device calls it made.
+fn scan_ends(alloc: Global, failing: Vec<u64>) -> Result<(Result<(), Failed>, u64), Fail> {
+    let mut disk = MemoryDisk::new(alloc, failing);
     let (_, done) = tried(alloc, &mut disk, &Layout::small(), 0)?;
-    Ok(done)
+    Ok((done, disk.calls()))
 }
 
-// Two header sectors and 32 prepare slots: the 34th call is the last one of a scan.
+// Two header sectors and 32 prepare slots, each by one call.
 #[test]
 fn a_scan_makes_two_and_thirty_two_calls(rt: HostRuntime) -> Result<(), Fail> {
-    for (listed, ends) in [
-        (1, Err(Failed)),
-        (2 + 32, Err(Failed)),
-        (2 + 32 + 1, Ok(())),
-    ] {
-        let done = scan_ends(rt.alloc(), listed)?;
-        assert_eq!(rt; done, ends, "call {listed}");
+    let ends = scan_ends(rt.alloc(), Vec::new(rt.alloc()))?;
+    assert_eq!(rt; ends, (Ok(()), 2 + 32));
+    Ok(())
+}
+
+#[test]
+fn a_scan_ends_with_the_call_that_fails(rt: HostRuntime) -> Result<(), Fail> {
+    for listed in [1, 2, 17, 18, 19, 2 + 32] {
+        let failing = Vec::from_slice(rt.alloc(), &[listed])?;
+        let ends = scan_ends(rt.alloc(), failing)?;
+        assert_eq!(rt; ends, (Err(Failed), listed), "call {listed}");
     }
     Ok(())
 }

@@ -10,5 +10,4 @@ pub mod Told
 pub mod Classed
 pub mod Appended
 pub mod Formats
-pub mod Decides
 pub mod Laws

@@ -9,6 +9,5 @@ pub mod Calls
 pub mod Tells
 pub mod Append
 pub mod Making
-pub mod Recovery
 pub mod Wanted
 pub mod Sample

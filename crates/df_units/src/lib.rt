@@ -1,5 +1,6 @@
 //! What the bytes of a data file are in the words of the model (`df_theory`): its units, place by place, which units each kind of
-//! write puts, and what a call has at its moments whose events are steps of the model. Nothing above speaks of sectors.
+//! write puts, and what a call has at its moments whose events are steps of the model. What is built above is to speak of places
+//! alone; what the program runs on today still speaks of sectors.
 #![tactic(auto)]
 
 mod append;
@@ -7,7 +8,6 @@ mod calls;
 mod format;
 mod making;
 mod puts;
-mod recovery;
 mod sample;
 mod shown;
 mod superblocks;
@@ -19,7 +19,6 @@ pub use calls::calls_are_steps;
 pub use format::{blank_image_is_empty, places_have_their_sectors};
 pub use making::{format_is_survived, new_disk_is_making};
 pub use puts::{block_is_put, copy_is_put, headers_are_put, prepare_is_put, reply_is_put};
-pub use recovery::decisions_agree;
 pub use sample::{one_of_sixteen_is_new, tables_are_written};
 pub use shown::{read_is_unit, units_are_of_places};
 pub use superblocks::{choice_is_chosen, usable_passes};

@@ -9,6 +9,7 @@ invariant-loop-slot g l = record {
   size : length l.found.slots ≡ l.layout.slots;
   start : l.found.start ≡ l.initial.found.start;
   room : l.room.layout ≡ l.layout;
+  sector : l.sector.layout ≡ l.initial.sector.layout;
   same : g.D.Disk.told l.disk ≡ g.D.Disk.told l.initial.disk;
   faults : g.D.Disk.faults l.disk ≡ g.D.Disk.faults l.initial.disk;
   seen : AreSeen l.layout l.initial.found.start.cluster (g.D.Disk.told l.initial.disk) l.slot l.found.slots;

@@ -7,7 +7,7 @@ use Rattle.df_sessions.specs.Table.{with_request}
 use Rattle.df_journal.specs.Scan.{Scan}
 use Rattle.df_journal.specs.declared.tail.Tail.{Tail}
 use Rattle.df_journal.specs.Tail.{GoesOn, IsNext, tail_to}
-use Rattle.df_journal.proofs.Walks.{IsWalk, walk_ends, walk_more}
+use Rattle.df_journal.proofs.Walks.{IsWalk, still_numbered, still_unstored, walk_ends, walk_more}
 use Rattle.df_journal.proofs.tail.find_tail.Goals as goal
 
 pub loop-last-preserved : goal.loop-last-preserved
@@ -22,7 +22,10 @@ loop-last-preserved c =
       from = omega (arith, op, c.loop-last.invariant.from);
       within = omega (arith, op, first, c.loop-last-test.true, c.from.ensures, c.loop-last.invariant.from);
       checksum = subst (λ (t : Tail). IsCheck t.checksum) is c.in-Some.ensures.sound.checksum;
+      start = λ same. absurd (omega (arith, op, same, c.loop-last.invariant.from));
       places = c.apply.ensures.places ∙ c.loop-last.invariant.places;
+      unstored = λ none. still_unstored h c.loop-last.sessions.sessions _ c.apply.result c.apply.ensures.there c.apply.ensures.others (c.loop-last.invariant.unstored none);
+      numbered = λ within. still_numbered h c.loop-last.sessions.sessions _ c.apply.result c.in-Some.ensures.sound.request c.apply.ensures.there c.apply.ensures.others (c.loop-last.invariant.numbered within);
       walk = λ sh image b tells starts.
           let more = walk_more c.args.layout.now c.args.found.now.start.cluster c.args.found.now.slots image c.requires.table tells.shows b last c.loop-last.sessions.sessions h starts.boot (c.loop-last.invariant.walk sh image b tells starts) next in
           subst (λ (ss : List Session). IsWalk c.args.layout.now image b c.tail_to-last.result ss) (sym c.apply.ensures.sessions) (subst (λ (t : Tail). IsWalk c.args.layout.now image b t (with_request h.client h.request h.op c.loop-last.sessions.sessions)) is more);

@@ -1,24 +1,6 @@
--- The sectors of a sound room lie in the place that is the unit's own.
-use Rattle.std.proofs.Common.{ap, subst}
-use Rattle.df_layout.specs.declared.layout.Layout.{Layout}
-use Rattle.df_layout.specs.declared.places.Span.{Span}
-use Rattle.df_format.proofs.Laws.{valid_belongs}
-use Rattle.df_buffers.specs.Sounds.{AreWhole}
-use Rattle.df_places.proofs.Rooms.{are_sectors}
-use Rattle.df_places.proofs.Steps.{write_is_steps}
+-- The put's steps with a sync behind them.
+use Rattle.df_places.proofs.Steps.{with_sync}
 use Rattle.df_places.proofs.units.write_unit.Goals as goal
 
-pub sectors_of-requires : goal.sectors_of-requires
-sectors_of-requires g c = (valid_belongs c.args.layout.now c.args.unit.now.unit.header.cluster c.args.place c.args.unit.now.unit c.requires.own).has
-
-pub write-requires : goal.write-requires
-write-requires g c =
-    let whole : AreWhole g.K.RoomKind.ZONE c.args.layout.now c.sectors.result.now = subst (λ (l : Layout). AreWhole g.K.RoomKind.ZONE l c.sectors.result.now) c.requires.layout c.sectors.ensures.whole in
-    are_sectors c.args.layout.now c.args.place g.K.RoomKind.ZONE c.sectors_of.result.first _ (valid_belongs c.args.layout.now c.args.unit.now.unit.header.cluster c.args.place c.args.unit.now.unit c.requires.own).has c.requires.zone
-    (ap (λ (s : Span). s.first) c.sectors_of.ensures) whole.some whole.whole whole.fits
-
-pub returns-in_err-write-clause-steps : goal.returns-in_err-write-clause-steps
-returns-in_err-write-clause-steps g c = write_is_steps g.K.UnitKind.KIND g.K.RoomKind.ZONE c.args.layout.now c.args.place c.args.unit.now _ g.met.K.UnitKind.stands c.requires.layout c.requires.zone c.requires.own c.sectors.ensures.value c.sectors.ensures.brings
-
 pub returns-clause-steps : goal.returns-clause-steps
-returns-clause-steps g c = write_is_steps g.K.UnitKind.KIND g.K.RoomKind.ZONE c.args.layout.now c.args.place c.args.unit.now _ g.met.K.UnitKind.stands c.requires.layout c.requires.zone c.requires.own c.sectors.ensures.value c.sectors.ensures.brings
+returns-clause-steps g c at x here is = with_sync c.args.layout.now c.args.place c.args.unit.now at x (c.in_ok-put_unit.ensures.steps at x here is)

@@ -1,27 +1,33 @@
 -- A sound prepare stands in its own slot.
-use Rattle.std.proofs.Common.{◌<◌, sym, subst}
+use Rattle.std.proofs.Common.{◌≡◌, ap, refl, subst, sym, ◌∙◌, take}
+use Rattle.df_layout.specs.declared.places.Place.{Place}
 use Rattle.df_format.specs.declared.header.Header.{Header}
+use Rattle.df_format.specs.Brings.{Brings}
+use Rattle.df_format.specs.Message.{sectors_end}
+use Rattle.df_format.specs.Valid.{IsUnit}
+use Rattle.df_theory.specs.Device.{AreSteps}
+use Rattle.df_theory.specs.Units.{PreparePlace, PrepareUnit}
+use Rattle.df_units.specs.Format.{format_of}
+use Rattle.df_units.specs.Meaning.{message_of}
+use Rattle.df_places.specs.Units.{unit_events, unit_steps}
+use Rattle.df_prepares.specs.Slots.{slot_place}
 use Rattle.df_prepares.proofs.Places.{in_place}
-use Rattle.df_prepares.proofs.Written.{write_brings, write_is_steps}
 use Rattle.df_prepares.proofs.slot.write_prepare.Goals as goal
 
-pub slot_first-requires : goal.slot_first-requires
-slot_first-requires g c = subst (λ (h : Header). h.slot < c.args.layout.now.slots) (sym c.header.ensures.header) (in_place c.args.layout.now c.args.unit.now c.header.ensures.sound c.requires.layout).below
-
-pub returns-in_err-write-clause-own : goal.returns-in_err-write-clause-own
-returns-in_err-write-clause-own g c = (in_place c.args.layout.now c.args.unit.now c.header.ensures.sound c.requires.layout).own
-
-pub returns-clause-own : goal.returns-clause-own
-returns-clause-own g c = (in_place c.args.layout.now c.args.unit.now c.header.ensures.sound c.requires.layout).own
+pub write_unit-requires-clause-own : goal.write_unit-requires-clause-own
+write_unit-requires-clause-own g c =
+    subst (λ (p : Place). IsUnit c.args.layout.now c.args.unit.now.unit.header.cluster p c.args.unit.now.unit) (sym (c.slot_place.ensures ∙ ap (λ (h : Header). slot_place h.slot) c.header.ensures.header))
+    (in_place c.args.layout.now c.args.unit.now c.header.ensures.sound c.requires.layout)
 
 pub returns-clause-steps : goal.returns-clause-steps
-returns-clause-steps g c = write_is_steps c.args.layout.now c.args.unit.now _ c.requires.layout c.sectors.ensures.value c.sectors.ensures.brings
+returns-clause-steps g c =
+    let here : c.slot_place.result ≡ slot_place c.args.unit.now.unit.header.slot = c.slot_place.ensures ∙ ap (λ (h : Header). slot_place h.slot) c.header.ensures.header in
+    let steps = c.write_unit.ensures.steps (PreparePlace c.args.unit.now.unit.header.slot) (PrepareUnit (message_of c.args.unit.now.unit)) (sym here) refl in
+    subst (λ (p : Place). AreSteps (format_of c.args.layout.now c.args.unit.now.unit.header.cluster) (unit_events c.args.layout.now p c.args.unit.now) (unit_steps (PreparePlace c.args.unit.now.unit.header.slot) (PrepareUnit (message_of c.args.unit.now.unit)))) here steps
 
-pub returns-in_err-write-clause-steps : goal.returns-in_err-write-clause-steps
-returns-in_err-write-clause-steps g c = write_is_steps c.args.layout.now c.args.unit.now _ c.requires.layout c.sectors.ensures.value c.sectors.ensures.brings
+pub returns-clause-own : goal.returns-clause-own
+returns-clause-own g c = in_place c.args.layout.now c.args.unit.now c.header.ensures.sound c.requires.layout
 
 pub returns-clause-brings : goal.returns-clause-brings
-returns-clause-brings g c = write_brings c.args.layout.now c.args.unit.now _ c.requires.layout c.sectors.ensures.value c.sectors.ensures.brings
-
-pub returns-in_err-write-clause-brings : goal.returns-in_err-write-clause-brings
-returns-in_err-write-clause-brings g c = write_brings c.args.layout.now c.args.unit.now _ c.requires.layout c.sectors.ensures.value c.sectors.ensures.brings
+returns-clause-brings g c =
+    subst (λ (p : Place). Brings c.args.layout.now c.args.unit.now.unit.header.cluster p c.args.unit.now.unit (take (sectors_end c.args.unit.now.unit.header.size) c.args.unit.now.bytes)) (c.slot_place.ensures ∙ ap (λ (h : Header). slot_place h.slot) c.header.ensures.header) c.write_unit.ensures.brings
