@@ -1,2 +1,4 @@
+pub mod Filled
+pub mod Fills
 pub mod Printed
 pub mod Worked

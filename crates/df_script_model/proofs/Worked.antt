@@ -2,7 +2,7 @@
 use Rattle.std.proofs.Common.{refl}
 use Rattle.std.specs.Fmt.{digits}
 use Rattle.hex.specs.Hex.{encode_with}
-use Rattle.df_script_model.specs.Sessions.{BlockSession, FirstSession, FullGrid, FullPipeline, FullTable, LongTrailer, RingSession, ScrubSession}
+use Rattle.df_script_model.specs.Sessions.{BlockSession, FirstSession, FullGrid, FullPipeline, FullTable, RingSession, ScrubSession}
 
 pub first_session : FirstSession
 unfolding digits encode_with
@@ -27,10 +27,6 @@ block_session named some = refl
 pub full_grid : FullGrid
 unfolding digits encode_with
 full_grid named some = refl
-
-pub long_trailer : LongTrailer
-unfolding digits encode_with
-long_trailer named some = (refl, refl)
 
 pub scrub_session : ScrubSession
 unfolding digits encode_with

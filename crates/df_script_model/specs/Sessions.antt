@@ -1,13 +1,14 @@
 -- Worked sessions on files that were just made, line by line as they are printed.
-use Rattle.std.specs.Prelude.{◌≡◌, ◌<◌, ◌+◌, ◌*◌, ◌/◌, ◌==◌, ◌||◌, nat_lt, ℕ, zero, suc, if◌then◌else◌, List, [], ◌∷◌, ◌++◌, codes, decimal, drop, length, Some, None, replicate}
+use Rattle.std.specs.Prelude.{◌≡◌, ◌<◌, ◌≤◌, ◌+◌, ◌*◌, ◌/◌, ◌==◌, ◌&&◌, ◌||◌, nat_le, nat_lt, Bool, ℕ, zero, suc, if◌then◌else◌, List, [], ◌∷◌, ◌++◌, codes, decimal, drop, length, Some, None, replicate}
 use Rattle.std.specs.List.{range_with_len}
 use Rattle.df_layout.specs.declared.damage.Class.TheVariants.{Blank, Garbled}
-use Rattle.df_theory.specs.Units.{BlockPlace, Parts, Units}
+use Rattle.df_theory.specs.Units.{BlockPlace, BlockUnit, Parts, Units}
 use Rattle.df_theory.specs.Trailer.{no_parts}
 use Rattle.df_theory.specs.Shape.{Shape}
 use Rattle.df_theory.specs.View.{View}
 use Rattle.df_model.specs.Work.{Work, kept, opened}
 use Rattle.df_model.specs.Blocks.{entries}
+use Rattle.df_model.specs.Making.{block_of}
 use Rattle.df_model.specs.Commands.{Advance, Append, Begin, Command, ReadBlock, ReadPrepare, ReadReply, Release, Reply, Scrub, WriteBlock}
 use Rattle.df_model.specs.Supply.{Codec, Shown, last_shown, last_work, nothing}
 use Rattle.df_script_model.specs.Script.{Line, Ring, calls, printed}
@@ -138,17 +139,38 @@ FullGrid =
     (named : 0 < 7) (some : 0 < 32)
     → session (small named some) (calls (blocks_of [] 64 ++ (WriteBlock 1 [] ∷ Begin [] ∷ []))) ≡ wrote_from 1 64 ++ (codes "refused GridFull blocks 64\n" ∷ codes "refused GridFull needed 1 free 0\n" ∷ [])
 
--- the state in which n blocks are live, from address 1 on
+-- ---- a grid that fills
+
+-- an address is one of the first n of the grid
+abbrev pub is_among : (n a : ℕ) → Bool
+is_among n a = nat_lt 0 a && nat_le a n
+
+-- the state in which the first n addresses are live, each with a block that has no body
 abbrev pub with_blocks : Shape → ℕ → Work
-with_blocks sh n = record (first_work sh) { live = λ a. if nat_lt n a then None else Some 3000 }
+with_blocks sh n = record (first_work sh) { live = λ a. if is_among n a then Some 3000 else None }
+
+-- and what is shown there
+abbrev pub with_units : ℕ → Units
+with_units n (BlockPlace a) = if is_among n a then Some (BlockUnit (block_of 3000 1 [])) else None
+with_units n place = None
+
+-- n lines that write a block, on a file that was just made: each is answered with the least address that isn't held, which is the next number, and they lead to the state with n live blocks
+pub record Fills (sh : Shape) (n : ℕ) : Type 0 where
+  pub prints : session sh (calls (blocks_of [] n)) ≡ wrote_from 1 n
+  pub leads : last_work sh (plain sh) blank (first_work sh) (blocks_of [] n) ≡ with_blocks sh n
+  pub shows : (last_shown sh (plain sh) blank (first_work sh) (blocks_of [] n)).units ≡ with_units n
+
+-- in every layout, up to its last block
+abbrev pub FillLaw : Type 0
+FillLaw = (sh : Shape) (n : ℕ) → n ≤ sh.layout.blocks → Fills sh n
 
 -- a trailer of one block for 231 references, and of two for 232
 abbrev pub LongTrailer : Type 0
 LongTrailer =
     (named : 0 < 7) (some : 0 < 16)
     → let sh = file 16 4096 1 4096 1024 named some in
-    (printed sh (plain sh) blank (with_blocks sh 231) (calls (Begin [] ∷ [])) ≡ codes "begun 1\n" ∷ [])
-    × (printed sh (plain sh) blank (with_blocks sh 232) (calls (Begin [] ∷ Advance ∷ Advance ∷ Advance ∷ [])) ≡ codes "begun 2\n" ∷ codes "working 2\n" ∷ codes "working 1\n" ∷ codes "done 2\n" ∷ [])
+    (session sh (calls (blocks_of [] 231 ++ (Begin [] ∷ []))) ≡ wrote_from 1 231 ++ (codes "begun 1\n" ∷ []))
+    × (session sh (calls (blocks_of [] 232 ++ (Begin [] ∷ Advance ∷ Advance ∷ Advance ∷ []))) ≡ wrote_from 1 232 ++ (codes "begun 2\n" ∷ codes "working 2\n" ∷ codes "working 1\n" ∷ codes "done 2\n" ∷ []))
 
 -- five blocks, of which the second and the fourth are overwritten at rest, and a block that nothing references
 abbrev pub hurt : Units → Units

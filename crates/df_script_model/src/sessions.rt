@@ -1,7 +1,7 @@
 // Scripts and what they print.
 
 ghost use Rattle.df_script_model.specs.Script.{PrintedLaw};
-ghost use Rattle.df_script_model.specs.Sessions.{BlockSession, FirstSession, FullGrid, FullPipeline, FullTable, LongTrailer, RingSession, ScrubSession};
+ghost use Rattle.df_script_model.specs.Sessions.{BlockSession, FillLaw, FirstSession, FullGrid, FullPipeline, FullTable, LongTrailer, RingSession, ScrubSession};
 
 /// A script of calls prints the texts of the machine's answers, in their order.
 pub fn scripts_print_answers()
@@ -34,7 +34,12 @@ pub fn a_full_grid()
     ensures { FullGrid }
 {}
 
-/// One reference more makes a trailer of two blocks.
+/// Lines that write blocks take the addresses of a new grid one after the other, up to its last one.
+pub fn lines_fill_the_grid()
+    ensures { FillLaw }
+{}
+
+/// After so many lines one reference more makes a trailer of two blocks.
 pub fn a_long_trailer()
     ensures { LongTrailer }
 {}
