@@ -1,0 +1,14 @@
+pub mod Zips
+pub mod Single
+pub mod Picks
+pub mod Chains
+pub mod Held
+pub mod Free
+pub mod Keeping
+pub mod Moves
+pub mod Captures
+pub mod Turns
+pub mod Views
+pub mod Answered
+pub mod Reading
+pub mod Writing

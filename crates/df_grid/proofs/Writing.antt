@@ -1,0 +1,163 @@
+-- A sound block stands at the address that its header names, and its write is the machine's put there.
+use Rattle.std.proofs.Common.{◌≡◌, ◌↔◌, ℕ, ◌+◌, ◌<◌, ◌≤◌, ◌^◌, List, [], ◌∷◌, length, take, Option, Some, None, refl, sym, ap, subst, ◌∙◌, arith}
+use Rattle.std.specs.Prelude.{IfSome, IsSome, slice_get}
+use Rattle.std.proofs.lemmas.List.{take_all}
+use Rattle.std.proofs.lemmas.Bool.Decides.{nat_tests}
+use Rattle.df_base.specs.Log.{Write}
+use Rattle.df_base.specs.Fields.{spelled}
+use Rattle.df_base.proofs.Laws.{AreBytes-check_of, length-check_of, spelled-field_at}
+use Rattle.df_layout.specs.declared.layout.Layout.{Layout}
+use Rattle.df_layout.specs.declared.places.Place.{Place}
+use Rattle.df_layout.specs.declared.places.Zone.{Zone}
+use Rattle.df_layout.specs.declared.places.Zone.TheVariants.{Grid}
+use Rattle.df_layout.specs.Spans.{span_of}
+use Rattle.df_format.specs.declared.header.Header.{Header}
+use Rattle.df_format.specs.declared.kind.Kind.{Kind}
+use Rattle.df_format.specs.declared.reference.Reference.{Reference}
+use Rattle.df_format.specs.Making.{for_body}
+use Rattle.df_format.specs.Message.{Message, sectors_end, sectors_of}
+use Rattle.df_format.specs.Own.{own_place, place_in}
+use Rattle.df_format.specs.Rules.{ObeysRules}
+use Rattle.df_format.specs.Spelling.{IsCheck, no_checksum}
+use Rattle.df_format.specs.Valid.{Belongs, IsAtAddress, IsUnit}
+use Rattle.df_format.proofs.Laws.{valid_belongs}
+use Rattle.df_buffers.specs.Sounds.{Holding, IsSound}
+use Rattle.df_theory.specs.Device.{AreSteps}
+use Rattle.df_theory.specs.Units
+use Rattle.df_theory.specs.Units.{AnyUnit, BlockPlace, BlockUnit}
+use Rattle.df_model.specs.Blocks.{Blocks}
+use Rattle.df_model.specs.Making.{first_of}
+use Rattle.df_units.specs.Format.{format_of}
+use Rattle.df_units.specs.Meaning.{block_of, number_of, place_of, unit_of}
+use Rattle.df_units.proofs.Laws.{no_number}
+use Rattle.df_places.specs.Units.{put_events, put_steps}
+use Rattle.df_grid.specs.Grid.{GridState}
+use Rattle.df_grid.specs.Table.{pair_in}
+use Rattle.df_grid.specs.Writes.{IsBefore, address_in, block_steps, checksum_in, first_address, first_sum, header_with, made, made_events, next_block, next_header, next_unit}
+
+pub own_block : (layout : Layout) (kind : Kind) (held : Holding) → IsSound Grid kind held → held.layout ≡ layout → IsUnit layout held.unit.header.cluster (place_in Grid held.unit.header.op) held.unit
+own_block layout kind held sound same =
+    let u = held.unit in
+    let there = valid_belongs held.layout u.header.cluster sound.place u sound.is in
+    let of : IsAtAddress sound.place.index u.header = subst (λ (z : Zone). Belongs held.layout z sound.place.index u.header) sound.in_zone there.belongs in
+    let here : sound.place ≡ place_in Grid u.header.op = λ i. record { zone = sound.in_zone i; index = sym of.op i } in
+    subst (λ (l : Layout). IsUnit l u.header.cluster (place_in Grid u.header.op) u) same (subst (λ (p : Place). IsUnit held.layout u.header.cluster p u) here sound.is)
+
+-- the address is one of the grid
+pub own_address : (layout : Layout) (kind : Kind) (held : Holding) → IsSound Grid kind held → held.layout ≡ layout → (1 ≤ held.unit.header.op) × (held.unit.header.op ≤ layout.blocks)
+own_address layout kind held sound same = (valid_belongs layout held.unit.header.cluster (place_in Grid held.unit.header.op) held.unit (own_block layout kind held sound same)).has
+
+abbrev pub StepsAt : Layout → Place → Holding → Type 0
+StepsAt layout place held = (at : Units.Place) (x : AnyUnit) → place_of at ≡ place → unit_of at held.unit ≡ Some x → AreSteps (format_of layout held.unit.header.cluster) (put_events layout place held) (put_steps at x)
+
+pub block_put : (layout : Layout) (place : Place) (held : Holding) → place ≡ place_in Grid held.unit.header.op → StepsAt layout place held
+    → AreSteps (format_of layout held.unit.header.cluster) (put_events layout (place_in Grid held.unit.header.op) held) (block_steps held.unit)
+block_put layout place held here steps =
+    subst (λ (p : Place). AreSteps (format_of layout held.unit.header.cluster) (put_events layout p held) (block_steps held.unit)) here (steps (BlockPlace held.unit.header.op) (BlockUnit (block_of held.unit)) (sym here) refl)
+
+pub made_put : (layout : Layout) (place : Place) (held : Holding) (header : Header) (piece : List ℕ) → held.unit ≡ made header piece → take (sectors_end (256 + length piece)) held.bytes ≡ sectors_of held.unit → place ≡ place_in Grid held.unit.header.op
+    → StepsAt layout place held → AreSteps (format_of layout header.cluster) (made_events layout (made header piece)) (block_steps (made header piece))
+made_put layout place held header piece is sectors here steps =
+    let at = block_put layout place held here steps in
+    let size : held.unit.header.size ≡ 256 + length piece = ap (λ (u : Message). u.header.size) is in
+    let bytes : take (sectors_end held.unit.header.size) held.bytes ≡ sectors_of held.unit = ap (λ (n : ℕ). take (sectors_end n) held.bytes) size ∙ sectors in
+    let wrote : AreSteps (format_of layout held.unit.header.cluster) (made_events layout held.unit) (block_steps held.unit) = (
+    subst (λ (b : List ℕ). AreSteps (format_of layout held.unit.header.cluster) (Write (span_of layout (place_in Grid held.unit.header.op)).first b ∷ []) (block_steps held.unit)) bytes at) in
+    subst (λ (u : Message). AreSteps (format_of layout u.header.cluster) (made_events layout u) (block_steps u)) is wrote
+
+-- ---- the header of a trailer block
+
+zeros_are : spelled 16 0 ≡ no_checksum
+unfolding spelled no_checksum
+zeros_are = refl
+
+whole_check : (c : List ℕ) → IsCheck c → spelled 16 (number_of c) ≡ c
+whole_check c fits = spelled-field_at 16 0 c fits.each (omega (arith, fits.size)) ∙ take_all 16 c (omega (arith, fits.size))
+
+parent_is : (before : Option Reference) (written : List (ℕ × ℕ)) → pair_in before ≡ slice_get written 0 → IsCheck (checksum_in before) → checksum_in before ≡ spelled 16 (first_sum written)
+parent_is None [] same fits = sym zeros_are
+parent_is None (x ∷ xs) same fits = absurd (cc)
+parent_is (Some r) [] same fits = absurd (cc)
+parent_is (Some r) (x ∷ xs) same fits = let pair : (r.address, number_of r.checksum) ≡ x = cc in sym (whole_check r.checksum fits) ∙ ap (λ (p : ℕ × ℕ). spelled 16 p.1) pair
+
+address_is : (before : Option Reference) (written : List (ℕ × ℕ)) → pair_in before ≡ slice_get written 0 → address_in before ≡ first_address written
+address_is None [] same = refl
+address_is None (x ∷ xs) same = absurd (cc)
+address_is (Some r) [] same = absurd (cc)
+address_is (Some r) (x ∷ xs) same = let pair : (r.address, number_of r.checksum) ≡ x = cc in ap (λ (p : ℕ × ℕ). p.0) pair
+
+pub before_is : (before : Option Reference) (written : List (ℕ × ℕ)) → pair_in before ≡ slice_get written 0 → IfSome before (λ r. 1 ≤ r.address) → IsBefore (length written) before
+before_is None [] same some = refl
+before_is None (x ∷ xs) same some = absurd (cc)
+before_is (Some r) [] same some = absurd (cc)
+before_is (Some r) (x ∷ xs) same some = (omega arith, some)
+
+first_left : (left : List ℕ) (a : ℕ) → Some a ≡ slice_get left 0 → a ≡ first_of left
+first_left [] a is = absurd (cc)
+first_left (x ∷ xs) a is = let same : a ≡ x = cc in same
+
+pub header_is : (cluster sequence a index : ℕ) (b : Blocks) (before : Option Reference) → Some a ≡ slice_get b.left 0 → index ≡ length b.written → pair_in before ≡ slice_get b.written 0 → IsCheck (checksum_in before)
+    → header_with cluster a index sequence (address_in before) (checksum_in before) ≡ next_header cluster sequence b
+header_is cluster sequence a index b before first count pair fits =
+    ap (λ (n : ℕ). header_with cluster n index sequence (address_in before) (checksum_in before)) (first_left b.left a first)
+    ∙ ap (λ (n : ℕ). header_with cluster (first_of b.left) n sequence (address_in before) (checksum_in before)) count
+    ∙ ap (λ (n : ℕ). header_with cluster (first_of b.left) (length b.written) sequence n (checksum_in before)) (address_is before b.written pair)
+    ∙ ap (λ (c : List ℕ). header_with cluster (first_of b.left) (length b.written) sequence (first_address b.written) c) (parent_is before b.written pair fits)
+
+sum_back : (before : Option Reference) (written : List (ℕ × ℕ)) → pair_in before ≡ slice_get written 0 → IsCheck (checksum_in before) → number_of (spelled 16 (first_sum written)) ≡ first_sum written
+sum_back None [] same fits = ap number_of zeros_are ∙ no_number
+sum_back None (x ∷ xs) same fits = absurd (cc)
+sum_back (Some r) [] same fits = absurd (cc)
+sum_back (Some r) (x ∷ xs) same fits =
+    let pair : (r.address, number_of r.checksum) ≡ x = cc in
+    ap (λ (p : ℕ × ℕ). number_of (spelled 16 p.1)) (sym pair) ∙ ap number_of (whole_check r.checksum fits) ∙ ap (λ (p : ℕ × ℕ). p.1) pair
+
+pub next_is : (g : GridState) (sequence : ℕ) (piece : List ℕ) (before : Option Reference) → pair_in before ≡ slice_get g.blocks.written 0 → IsCheck (checksum_in before)
+    → block_of (next_unit g sequence piece) ≡ next_block g sequence piece (number_of (next_unit g sequence piece).header.checksum)
+next_is g sequence piece before pair fits = ap (λ (n : ℕ). (record { checksum = number_of (next_unit g sequence piece).header.checksum; kind = 0; sequence = sequence; index = length g.blocks.written; before = first_address g.blocks.written; before_checksum = n; body = piece })) (sum_back before g.blocks.written pair fits)
+
+-- ---- its rules
+
+parent_first : (index : ℕ) (before : Option Reference) → IsBefore index before → index ≡ 0 → checksum_in before ≡ no_checksum
+parent_first index None is none = refl
+parent_first index (Some r) is none = absurd (omega (arith, is.0, none))
+
+before_first : (index : ℕ) (before : Option Reference) → IsBefore index before → (address_in before ≡ 0) ↔ (index ≡ 0)
+before_first index None is = (λ _. is, λ _. refl)
+before_first index (Some r) is = (λ none. absurd (omega (arith, is.1, none)), λ none. absurd (omega (arith, is.0, none)))
+
+pub header_obeys : (cluster a index sequence : ℕ) (before : Option Reference) (piece : List ℕ) → (0 < cluster) × (cluster < 2 ^ 128) → (0 < a) × (a < 2 ^ 64) → index < 2 ^ 64 → (2 ≤ sequence) × (sequence ≤ 2 ^ 62) → IsBefore index before → IsCheck (checksum_in before)
+    → address_in before < 2 ^ 64 → 256 + length piece < 2 ^ 32 → ObeysRules (for_body (header_with cluster a index sequence (address_in before) (checksum_in before)) piece)
+header_obeys cluster a index sequence before piece named at count running is fits low size = record {
+  fits = record {
+    body = record { size = length-check_of piece; each = AreBytes-check_of piece };
+    cluster = named.1;
+    parent = fits;
+    client = omega arith;
+    op = at.1;
+    request = low;
+    mark = count;
+    checkpoint = omega (arith, running.1);
+    size = size;
+    slot = omega arith;
+    block_kind = omega arith;
+  };
+  cluster = named.0;
+  size = omega arith;
+  kind = record {
+    first = parent_first index before is;
+    client = refl;
+    op = at.0;
+    request = before_first index before is;
+    checkpoint = running;
+    slot = refl;
+    block_kind = refl;
+  };
+}
+
+pub header_owns : (layout : Layout) (cluster a index sequence before : ℕ) (parent : List ℕ) → (1 ≤ a) × (a ≤ layout.blocks) → IsSome (own_place layout Grid (header_with cluster a index sequence before parent))
+unfolding own_place
+header_owns layout cluster a index sequence before parent has = grind (arith, nat_tests)
+
+abbrev pub state_of : Layout → ℕ → Blocks → GridState
+state_of layout cluster blocks = record { layout = layout; cluster = cluster; blocks = blocks }

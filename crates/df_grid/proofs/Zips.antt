@@ -1,0 +1,70 @@
+-- Checksums and marks side by side are entries, and an entry is found again in its marks.
+use Rattle.std.proofs.Common.{◌≡◌, ℕ, zero, suc, ◌+◌, ◌*◌, ◌/◌, ◌%◌, ◌≤◌, ◌==◌, Bool, true, false, Some, List, [], ◌∷◌, length, set, refl, ap, ◌∙◌, arith}
+use Rattle.std.specs.Prelude.{slice_get}
+use Rattle.df_grid.specs.declared.entry.Entry.{Entry}
+use Rattle.df_grid.specs.Entries.{bit, entries_of, entry_of, mark_of}
+
+-- ---- marks
+
+-- a number that is 1 where it is a bit
+is_one : (b : Bool) (n : ℕ) → n ≡ bit b → (n == 1) ≡ b
+is_one true n is = rw is refl
+is_one false n is = rw is refl
+
+small : (b : Bool) → bit b ≤ 1
+small true = omega arith
+small false = omega arith
+
+module _ (l c w d h : Bool) where
+  abbrev whole : ℕ
+  whole = bit l + 2 * bit c + 4 * bit w + 8 * bit d + 16 * bit h
+
+  first : whole % 2 ≡ bit l
+  first = omega (arith, small l, small c, small w, small d, small h)
+
+  second : whole / 2 % 2 ≡ bit c
+  second = omega (arith, small l, small c, small w, small d, small h)
+
+  third : whole / 4 % 2 ≡ bit w
+  third = omega (arith, small l, small c, small w, small d, small h)
+
+  fourth : whole / 8 % 2 ≡ bit d
+  fourth = omega (arith, small l, small c, small w, small d, small h)
+
+  fifth : whole / 16 % 2 ≡ bit h
+  fifth = omega (arith, small l, small c, small w, small d, small h)
+
+pub entry_back : (e : Entry) → entry_of e.checksum (mark_of e) ≡ e
+entry_back e =
+    let l = is_one e.live (mark_of e % 2) (first e.live e.captured e.written e.durable e.chained) in
+    let c = is_one e.captured (mark_of e / 2 % 2) (second e.live e.captured e.written e.durable e.chained) in
+    let w = is_one e.written (mark_of e / 4 % 2) (third e.live e.captured e.written e.durable e.chained) in
+    let d = is_one e.durable (mark_of e / 8 % 2) (fourth e.live e.captured e.written e.durable e.chained) in
+    let h = is_one e.chained (mark_of e / 16 % 2) (fifth e.live e.captured e.written e.durable e.chained) in
+    ap (λ (b : Bool). record { checksum = e.checksum; live = b; captured = mark_of e / 2 % 2 == 1; written = mark_of e / 4 % 2 == 1; durable = mark_of e / 8 % 2 == 1; chained = mark_of e / 16 % 2 == 1 }) l
+    ∙ ap (λ (b : Bool). record { checksum = e.checksum; live = e.live; captured = b; written = mark_of e / 4 % 2 == 1; durable = mark_of e / 8 % 2 == 1; chained = mark_of e / 16 % 2 == 1 }) c
+    ∙ ap (λ (b : Bool). record { checksum = e.checksum; live = e.live; captured = e.captured; written = b; durable = mark_of e / 8 % 2 == 1; chained = mark_of e / 16 % 2 == 1 }) w
+    ∙ ap (λ (b : Bool). record { checksum = e.checksum; live = e.live; captured = e.captured; written = e.written; durable = b; chained = mark_of e / 16 % 2 == 1 }) d
+    ∙ ap (λ (b : Bool). record { checksum = e.checksum; live = e.live; captured = e.captured; written = e.written; durable = e.durable; chained = b }) h
+
+-- ---- lists side by side
+
+pub length_entries : (cs : List (List ℕ)) (ms : List ℕ) → length cs ≡ length ms → length (entries_of cs ms) ≡ length cs
+length_entries [] ms same = refl
+length_entries (c ∷ cs) [] same = absurd (omega arith)
+length_entries (c ∷ cs) (m ∷ ms) same = omega (arith, length_entries cs ms (omega arith))
+
+pub get_entries : (cs : List (List ℕ)) (ms : List ℕ) (i : ℕ) (c : List ℕ) (m : ℕ) → slice_get cs i ≡ Some c → slice_get ms i ≡ Some m → slice_get (entries_of cs ms) i ≡ Some (entry_of c m)
+get_entries [] ms i c m has marked = cc
+get_entries (x ∷ cs) [] i c m has marked = cc
+get_entries (x ∷ cs) (y ∷ ms) zero c m has marked =
+    let one : x ≡ c = cc in
+    let two : y ≡ m = cc in
+    ap (λ (z : List ℕ). Some (entry_of z y)) one ∙ ap (λ (z : ℕ). Some (entry_of c z)) two
+get_entries (x ∷ cs) (y ∷ ms) (suc i) c m has marked = get_entries cs ms i c m has marked
+
+pub set_entries : (cs : List (List ℕ)) (ms : List ℕ) (i : ℕ) (e : Entry) → length cs ≡ length ms → entries_of (set cs i e.checksum) (set ms i (mark_of e)) ≡ set (entries_of cs ms) i e
+set_entries [] ms i e same = refl
+set_entries (c ∷ cs) [] i e same = absurd (omega arith)
+set_entries (c ∷ cs) (m ∷ ms) zero e same = ap (λ (x : Entry). x ∷ entries_of cs ms) (entry_back e)
+set_entries (c ∷ cs) (m ∷ ms) (suc i) e same = ap (λ (es : List Entry). entry_of c m ∷ es) (set_entries cs ms i e (omega arith))

@@ -1,0 +1,58 @@
+-- The grid as its callers see it: the file's layout and cluster, and what the machine knows of the blocks.
+use Rattle.std.specs.Prelude.{◌≡◌, ◌<◌, ◌≤◌, ◌^◌, ℕ, false, Option, Some, None, List}
+use Rattle.df_layout.specs.declared.layout.Layout.{Layout}
+use Rattle.df_layout.specs.declared.places.Zone.TheVariants.{Grid}
+use Rattle.df_format.specs.declared.kind.Kind.{Kind}
+use Rattle.df_format.specs.Message.{Message}
+use Rattle.df_format.specs.Own.{place_in}
+use Rattle.df_format.specs.Valid.{IsUnit}
+use Rattle.df_buffers.specs.Rooms.{Room}
+use Rattle.df_buffers.specs.Sounds.{Holding}
+use Rattle.df_model.specs.Blocks.{Blocks, free_in, is_held_in, referenced_in}
+use Rattle.df_units.specs.Meaning.{layout_of, number_of}
+
+pub record GridState : Type 0 where
+  pub layout : Layout
+  pub cluster : ℕ
+  pub blocks : Blocks
+
+-- the grid with other blocks
+abbrev pub with_blocks : GridState → Blocks → GridState
+with_blocks g b = record { layout = g.layout; cluster = g.cluster; blocks = b }
+
+-- the addresses that aren't held, from the least on
+abbrev pub free_of : GridState → List ℕ
+free_of g = free_in (layout_of g.layout) g.blocks
+
+-- each referenced address with its checksum, from the least on
+abbrev pub referenced_of : GridState → List (ℕ × ℕ)
+referenced_of g = referenced_in (layout_of g.layout) g.blocks
+
+-- an address of the grid
+abbrev pub HasAddress : GridState → ℕ → Type 0
+HasAddress g a = (1 ≤ a) × (a ≤ g.layout.blocks)
+
+-- an address of the grid that isn't held
+pub record IsUnheld (g : GridState) (a : ℕ) : Type 0 where
+  pub inside : HasAddress g a
+  pub unheld : is_held_in g.blocks a ≡ false
+
+-- a room lies in one of two shelves: in the one for any bytes, or in the one for a sound unit
+abbrev pub IsShelf : Layout → Option Room → Option Holding → Type 0
+IsShelf layout (Some room) None = room.layout ≡ layout
+IsShelf layout None (Some held) = held.layout ≡ layout
+IsShelf layout loose held = ⊥
+
+-- what holds of the parts of a grid: a table of the layout's addresses, and rooms of the layout
+pub record IsGrid (layout : Layout) (cluster size : ℕ) (loose_block : Option Room) (held_block : Option Holding) (loose_trailer : Option Room) (held_trailer : Option Holding) : Type 0 where
+  pub named : 0 < cluster
+  pub fits : cluster < 2 ^ 128
+  pub size_is : size ≡ layout.blocks
+  pub block : IsShelf layout loose_block held_block
+  pub trailer : IsShelf layout loose_trailer held_trailer
+
+-- the unit is one of the kind that is valid at the address, with the checksum that is known
+pub record IsKnownUnit (kind : Kind) (layout : Layout) (cluster address : ℕ) (known : Option ℕ) (u : Message) : Type 0 where
+  pub is : IsUnit layout cluster (place_in Grid address) u
+  pub of_kind : u.header.kind ≡ kind
+  pub sum : known ≡ Some (number_of u.header.checksum)

@@ -1,0 +1,20 @@
+// The grid as a checkpoint's text asks for what is captured, and how long a trailer is at most.
+ghost use Rattle.df_model.specs.Blocks.{sum_at};
+ghost use Rattle.df_grid.specs.Laws.{ChainsHaveRoom};
+
+use crate::Grid;
+use df_base::Check;
+use df_trailer::Captured;
+
+impl Captured for Grid {
+    ghost captured = { λ g address. sum_at address g.blocks.captured };
+
+    fn captured(&self, address: u64) -> Option<Check> {
+        Grid::captured(self, address)
+    }
+}
+
+/// A trailer of any layout has at most 70 blocks, so a chain has room for each.
+pub fn chains_have_room()
+    ensures { ChainsHaveRoom }
+{}

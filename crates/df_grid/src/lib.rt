@@ -1,0 +1,21 @@
+//! The grid: the table of blocks, which addresses are held and why, and the writes and reads of blocks and of a checkpoint's trailer.
+#![tactic(auto)]
+
+mod captured;
+mod changes;
+mod entries;
+mod entry;
+#[cfg(test)]
+mod examples;
+mod grid;
+mod lookups;
+mod reads;
+mod shelf;
+mod table;
+mod writes;
+
+pub use captured::chains_have_room;
+pub use grid::Grid;
+
+#[cfg(test)]
+mod tests;

@@ -1,0 +1,38 @@
+// What is looked up in the table's entries.
+ghost use Rattle.std.specs.Prelude.{◌≡◌, nat_lt, slice_get};
+ghost use Rattle.std.specs.List.{filter};
+ghost use Rattle.df_grid.specs.Entries.{is_marked};
+ghost use Rattle.df_grid.specs.Table.{entry_at, pair_in, picked};
+
+use crate::entries::Entries;
+use crate::entry::{Entry, is_marked};
+use df_format::Reference;
+
+/// The entry of an address, None where there is no such address.
+pub(crate) fn entry_in(entries: &Entries, address: u64) -> Option<Entry>
+    ensures { result ≡ entry_at entries.now address }
+{
+    if address >= 1 && address <= entries.len() {
+        Some(entries.get(address))
+    } else {
+        None
+    }
+}
+
+/// The least marked address above another one, with its checksum.
+pub(crate) fn first_marked(entries: &Entries, above: u64) -> Option<Reference>
+    ensures { pair_in result ≡ slice_get (filter (λ x. nat_lt above x.0) (picked is_marked 1 entries.now)) 0 }
+{
+    let mut place = above;
+    while place < entries.len() {
+        let entry = entries.get(place + 1);
+        if is_marked(&entry) {
+            return Some(Reference {
+                address: place + 1,
+                checksum: entry.checksum,
+            });
+        }
+        place += 1;
+    }
+    None
+}
