@@ -14,7 +14,7 @@ use Rattle.df_quorum.specs.Quorum.{Agree, IsChosen}
 use Rattle.df_quorum.proofs.Choices.{one_law}
 use Rattle.df_replica.specs.Opening.{IsUnformatted, HasFault, HasSuper}
 use Rattle.df_replica.specs.OpeningLaws.{SuperOrRefusal, OneSuper, OneRefusal}
-use Rattle.df_replica.specs.declared.errors.OpenError.TheVariants.{NotFormatted, NoQuorum, Version, BadField, LayoutDiffers, Damaged, DiskFault}
+use Rattle.df_model.specs.declared.errors.OpenError.TheVariants.{NotFormatted, NoQuorum, Version, BadField, LayoutDiffers, Damaged, DiskFault}
 
 one_content : (image : Image) (c d : Content) → IsChosen (content_at image) c → IsChosen (content_at image) d → c ≡ d
 one_content image c d one two = one_law (content_at image) c d one two

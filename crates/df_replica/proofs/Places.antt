@@ -20,8 +20,8 @@ use Rattle.df_disk.specs.Told.{Told}
 use Rattle.df_replica.specs.Opening.{IsUnformatted, shown_classes, Refuses}
 use Rattle.df_replica.specs.Found.{AreBlank, IsFirstWrittenOf, IsChoiceOf, TellsChoice}
 use Rattle.df_replica.specs.Formatting.{IsFirstWritten, TellsBlank}
-use Rattle.df_replica.specs.declared.errors.FormatError.TheVariants.{NotBlank}
-use Rattle.df_replica.specs.declared.errors.OpenError.TheVariants.{NotFormatted, NoQuorum}
+use Rattle.df_model.specs.declared.errors.FormatError.TheVariants.{NotBlank}
+use Rattle.df_model.specs.declared.errors.OpenError.TheVariants.{NotFormatted, NoQuorum}
 use Rattle.df_superblock.specs.Calls.{slot_of, slot_at, ShowsSlots, ShowsCopies}
 
 -- a slot that isn't used has the class of its sector

@@ -5,8 +5,8 @@ use Rattle.df_base.specs.Image.{Image}
 use Rattle.df_disk.specs.Told.{Told}
 use Rattle.df_replica.specs.Opening.{Refuses}
 use Rattle.df_replica.specs.Found.{IsFound, Answers, TellsChoice, TellsFound}
-use Rattle.df_replica.specs.declared.errors.OpenError.{OpenError}
-use Rattle.df_replica.specs.declared.errors.OpenError.TheVariants.{NotFormatted, NoQuorum, Version, BadField, LayoutDiffers, Damaged, DiskFault}
+use Rattle.df_model.specs.declared.errors.OpenError.{OpenError}
+use Rattle.df_model.specs.declared.errors.OpenError.TheVariants.{NotFormatted, NoQuorum, Version, BadField, LayoutDiffers, Damaged, DiskFault}
 
 -- a refusal is an answer
 refusal_answers : {T : Type 0} (P : T → Type 0) (image : Image) (e : OpenError) → Refuses image e → Answers P image (Err e)

@@ -1,7 +1,7 @@
 -- A superblock that can be used was written: its content is the one that its fields give.
 use Rattle.std.proofs.Common.{◌≡◌, ℕ, ◌==◌, Bool, true, false, cond, List, Option, Some, None, refl, sym, ◌∙◌, ap, subst}
 use Rattle.df_base.specs.Fields.{check_of}
-use Rattle.df_base.specs.Image.{Image, IsSector}
+use Rattle.df_base.specs.Image.{Image, IsImage, IsSector}
 use Rattle.df_format.specs.Super.{covered_bytes}
 use Rattle.df_format.specs.SuperRules.{IsSuper}
 use Rattle.df_format.specs.Copies.{Content, copy_in, if_here, copy_at, content_of, content_at, content_with}
@@ -11,6 +11,7 @@ use Rattle.df_format.specs.declared.superblock.SuperFields.{SuperFields}
 use Rattle.df_format.proofs.CopySpelled.{was_written}
 use Rattle.df_format.proofs.SuperFaults.{faults}
 use Rattle.df_quorum.specs.Quorum.{IsChosen}
+use Rattle.df_replica.specs.Opening.{HasSuper}
 use Rattle.df_replica.specs.OpeningLaws.{SuperIsWritten}
 
 -- a content that a sector shows is that of the copy that the sector is
@@ -42,9 +43,13 @@ content_is image n c sector none is =
     let sum : c.checksum ≡ check_of (covered_bytes c.fields) = one.checksum ∙ written.checksum ∙ sym (ap (λ (f : SuperFields). check_of (covered_bytes f)) one.fields) in
     λ i. record { checksum = sum i; fields = c.fields }
 
-pub super_is_written : SuperIsWritten
-super_is_written image f whole found =
+-- the content that is chosen is the one that its fields are written with
+pub written_is : (image : Image) (f : SuperFields) → IsImage image → (found : HasSuper image f) → found.content ≡ content_with f
+written_is image f whole found =
     let rules : IsSuper f = (faults f).0 found.usable in
     let none : found.content.fields.first_nonzero ≡ None = ap (λ (g : SuperFields). g.first_nonzero) found.fields ∙ rules.zero in
     let same : found.content ≡ content_with found.content.fields = content_is image found.chosen.agreed.second found.content (whole.sectors found.chosen.agreed.second) none found.chosen.agreed.at_second in
-    subst (λ (c : Content). IsChosen (content_at image) c) (same ∙ ap content_with found.fields) found.chosen
+    same ∙ ap content_with found.fields
+
+pub super_is_written : SuperIsWritten
+super_is_written image f whole found = subst (λ (c : Content). IsChosen (content_at image) c) (written_is image f whole found) found.chosen

@@ -4,3 +4,17 @@ pub mod Found
 pub mod OneContent
 pub mod Laws
 pub mod OpeningLaws
+pub mod State
+pub mod Surveys
+pub mod Serving
+pub mod Making
+pub mod Replica
+pub mod Scanning
+pub mod Finding
+pub mod Plan
+pub mod Mending
+pub mod Surveying
+pub mod Held
+pub mod Refusing
+pub mod Appending
+pub mod Answering

@@ -9,8 +9,8 @@ use Rattle.df_format.specs.declared.superblock.SuperFault.{SuperFault}
 use Rattle.df_format.specs.declared.superblock.SuperFault.TheVariants.{Version as OtherVersion, BadField as BrokenField}
 use Rattle.df_format.specs.declared.superblock.SuperFields.{SuperFields}
 use Rattle.df_quorum.specs.Quorum.{IsChosen, IsSplit}
-use Rattle.df_replica.specs.declared.errors.OpenError.{OpenError}
-use Rattle.df_replica.specs.declared.errors.OpenError.TheVariants.{NotFormatted, NoQuorum, Version, BadField}
+use Rattle.df_model.specs.declared.errors.OpenError.{OpenError}
+use Rattle.df_model.specs.declared.errors.OpenError.TheVariants.{NotFormatted, NoQuorum, Version, BadField}
 
 -- all four sectors of the superblock are zeros
 abbrev pub IsUnformatted : Image → Type 0

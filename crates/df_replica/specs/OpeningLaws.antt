@@ -5,7 +5,7 @@ use Rattle.df_format.specs.Copies.{content_at, content_with}
 use Rattle.df_format.specs.declared.superblock.SuperFields.{SuperFields}
 use Rattle.df_quorum.specs.Quorum.{IsChosen}
 use Rattle.df_replica.specs.Opening.{HasSuper, Refuses}
-use Rattle.df_replica.specs.declared.errors.OpenError.{OpenError}
+use Rattle.df_model.specs.declared.errors.OpenError.{OpenError}
 
 -- no image has a superblock that can be used and a reason why not
 abbrev pub SuperOrRefusal : Type 0

@@ -7,7 +7,7 @@ use df_layout::{Class, Field, Layout, Place, Zone};
 use df_memdisk::{MemoryDisk, Strike};
 use df_replica::{
     FormatError, OpenError, choices_have_two_members, copies_are_apart, copies_format,
-    events_are_of_file, format, one_answer, probe, read_superblock, safe_stays_safe,
+    events_are_of_file, format_superblock, one_answer, probe, read_superblock, safe_stays_safe,
     stop_stays_safe, super_is_written, survey_superblock, two_copies_stay_chosen,
     untouched_is_safe,
 };
@@ -19,7 +19,7 @@ fn format_small(alloc: Global, disk: &mut MemoryDisk, cluster: u128) -> Result<A
     let Ok(mut rooms) = Rooms::reserve(alloc, &Layout::small()) else {
         return Err("no memory for the rooms".into());
     };
-    Ok(format(disk, &mut rooms, cluster))
+    Ok(format_superblock(disk, &mut rooms, cluster))
 }
 
 type Answer = Result<(), FormatError>;

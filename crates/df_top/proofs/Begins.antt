@@ -4,8 +4,8 @@ use Rattle.std.proofs.lemmas.Bool.{eq-eqb}
 use Rattle.df_base.specs.Log.{Sync}
 use Rattle.df_disk.specs.Told.{Told}
 use Rattle.df_layout.specs.declared.layout.Layout.{Layout}
-use Rattle.df_replica.specs.declared.errors.OpenError.{OpenError}
-use Rattle.df_replica.specs.declared.errors.OpenError.TheVariants.{DiskFault}
+use Rattle.df_model.specs.declared.errors.OpenError.{OpenError}
+use Rattle.df_model.specs.declared.errors.OpenError.TheVariants.{DiskFault}
 use Rattle.df_script.specs.Text.{Reading}
 use Rattle.df_disk.proofs.Laws.{adds_part}
 use Rattle.df_top.specs.Files.{OnFile}

@@ -13,9 +13,9 @@ use Rattle.df_format.specs.First.{first_super}
 use Rattle.df_replica.specs.Formatting.{AddsFormat}
 use Rattle.df_replica.specs.Laws.{IsFormatted}
 use Rattle.df_replica.specs.OneContent.{IsUntouched, AreOfFile as AreOfContent}
-use Rattle.df_replica.specs.declared.errors.FormatError.{FormatError}
-use Rattle.df_replica.specs.declared.errors.FormatError.TheVariants.{ClusterZero, NotBlank}
-use Rattle.df_replica.specs.declared.errors.FormatError.TheVariants as formats
+use Rattle.df_model.specs.declared.errors.FormatError.{FormatError}
+use Rattle.df_model.specs.declared.errors.FormatError.TheVariants.{ClusterZero, NotBlank}
+use Rattle.df_model.specs.declared.errors.FormatError.TheVariants as formats
 use Rattle.df_replica.proofs.Safe.{untouched_stays_safe, formatted}
 use Rattle.df_superblock.specs.Events.{update_events}
 use Rattle.df_disk.proofs.Laws.{told_log}

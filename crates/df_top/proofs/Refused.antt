@@ -2,8 +2,8 @@
 use Rattle.std.proofs.Common.{◌≡◌, ◌⊎◌, ◌↔◌, inl, inr, ℕ, List, Option, Some, refl, sym, ◌∙◌, ap, subst}
 use Rattle.df_base.specs.Log.{Sync}
 use Rattle.df_disk.specs.Told.{Told, after}
-use Rattle.df_replica.specs.declared.errors.OpenError.{OpenError}
-use Rattle.df_replica.specs.declared.errors.OpenError.TheVariants.{DiskFault as NoDisk}
+use Rattle.df_model.specs.declared.errors.OpenError.{OpenError}
+use Rattle.df_model.specs.declared.errors.OpenError.TheVariants.{DiskFault as NoDisk}
 use Rattle.df_top.specs.Files.{RefusesRun}
 use Rattle.df_top.specs.Opening.{BlamesDisk}
 use Rattle.df_top.specs.Refused.{IsRefused, PrintsRefusal, RefusesFile}

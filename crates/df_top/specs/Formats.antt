@@ -12,9 +12,9 @@ use Rattle.df_format.specs.Copies.{is_blank_copy}
 use Rattle.df_prepares.specs.Steady.{IsAtRest}
 use Rattle.df_format.specs.First.{first_super}
 use Rattle.df_replica.specs.Formatting.{IsFirstWritten}
-use Rattle.df_replica.specs.declared.errors.FormatError.{FormatError}
-use Rattle.df_replica.specs.declared.errors.FormatError.TheVariants.{ClusterZero, NotBlank}
-use Rattle.df_replica.specs.declared.errors.FormatError.TheVariants as formats
+use Rattle.df_model.specs.declared.errors.FormatError.{FormatError}
+use Rattle.df_model.specs.declared.errors.FormatError.TheVariants.{ClusterZero, NotBlank}
+use Rattle.df_model.specs.declared.errors.FormatError.TheVariants as formats
 use Rattle.df_superblock.specs.Copies.{AreEqual, AreQuiet}
 use Rattle.df_superblock.specs.Events.{update_events}
 use Rattle.df_top.specs.Files.{IsSafeFile, content_of_file}

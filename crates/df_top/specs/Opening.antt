@@ -12,8 +12,8 @@ use Rattle.df_format.specs.declared.wal.Wal.{Wal}
 use Rattle.df_prepares.specs.Found.{IsHeadOf}
 use Rattle.df_replica.specs.Found.{fault_error}
 use Rattle.df_replica.specs.Opening.{IsLayoutOf}
-use Rattle.df_replica.specs.declared.errors.OpenError.{OpenError}
-use Rattle.df_replica.specs.declared.errors.OpenError.TheVariants.{LayoutDiffers, DiskFault}
+use Rattle.df_model.specs.declared.errors.OpenError.{OpenError}
+use Rattle.df_model.specs.declared.errors.OpenError.TheVariants.{LayoutDiffers, DiskFault}
 use Rattle.df_top.specs.Files.{OnFile, RefusesRun, first_tests}
 use Rattle.df_top.specs.Heads.{IsEnd}
 use Rattle.df_top.specs.Logs.{IsLogOf}

@@ -8,10 +8,10 @@ use Rattle.df_layout.specs.declared.damage.Class.TheVariants.{Blank, Garbled, El
 use Rattle.df_layout.specs.declared.fields.Field.{Field}
 use Rattle.df_layout.specs.declared.fields.Field.TheVariants.{Slots, MessageSize, Clients, BlockSize, Blocks, Cluster, Sequence, Op, OpChecksum, Head, Replies, TrailerAddress, TrailerChecksum, TrailerSize, Boot, Zero, TrailerChain, TrailerRoot, TrailerSessions, TrailerBits, TrailerEnd, Pending}
 use Rattle.df_layout.specs.declared.layout.Layout.{Layout}
-use Rattle.df_replica.specs.declared.errors.FormatError.{FormatError}
-use Rattle.df_replica.specs.declared.errors.FormatError.TheVariants as formats
-use Rattle.df_replica.specs.declared.errors.OpenError.{OpenError}
-use Rattle.df_replica.specs.declared.errors.OpenError.TheVariants as opens
+use Rattle.df_model.specs.declared.errors.FormatError.{FormatError}
+use Rattle.df_model.specs.declared.errors.FormatError.TheVariants as formats
+use Rattle.df_model.specs.declared.errors.OpenError.{OpenError}
+use Rattle.df_model.specs.declared.errors.OpenError.TheVariants as opens
 
 -- a zone, by its name in the format
 unfoldable pub zone_name : Zone → List ℕ

@@ -3,7 +3,7 @@ use Rattle.std.specs.Prelude.{◌≡◌, ◌⊎◌, List, ℕ, Option, Some}
 use Rattle.df_base.specs.Log.{Sync}
 use Rattle.df_base.specs.Streams.{Appends, AppendsPart}
 use Rattle.df_disk.specs.Told.{Told, after}
-use Rattle.df_replica.specs.declared.errors.OpenError.{OpenError}
+use Rattle.df_model.specs.declared.errors.OpenError.{OpenError}
 use Rattle.df_top.specs.Files.{RefusesRun}
 use Rattle.df_top.specs.Refusals.{open_refusal_of}
 use Rattle.df_top.specs.declared.status.Status.{Status}

@@ -11,7 +11,7 @@ use df_base::Sink;
 use df_buffers::Rooms;
 use df_disk::Disk;
 use df_layout::Layout;
-use df_replica::{FormatError, format};
+use df_replica::{FormatError, format_superblock};
 use std::alloc::Global;
 
 // Prints a line; the status is the given one, unless the sink fails.
@@ -61,7 +61,7 @@ fn make<D: Disk, W: Sink>(disk: &mut D, sink: &mut W, rooms: &mut Rooms, cluster
     ensures words { result ≡ Status.Words → ⊥ }
     ensures source { result ≡ Status.ReadFault → ⊥ }
 {
-    match format(disk, rooms, cluster) {
+    match format_superblock(disk, rooms, cluster) {
         Ok(()) => print_formatted(sink, &rooms.layout),
         Err(error) => refuse_format(sink, &error),
     }

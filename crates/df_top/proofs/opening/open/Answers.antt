@@ -1,6 +1,6 @@
 -- The file is opened as its superblock and its ring are.
 use Rattle.std.proofs.Common.{Result, Ok, Err, sym, subst}
-use Rattle.df_replica.specs.declared.errors.OpenError.{OpenError}
+use Rattle.df_model.specs.declared.errors.OpenError.{OpenError}
 use Rattle.df_top.specs.Files.{OnFile}
 use Rattle.df_top.specs.Opening.{OpensFile, RefusesToOpen}
 use Rattle.df_top.specs.declared.session.Session.{Session}

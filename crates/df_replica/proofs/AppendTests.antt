@@ -1,0 +1,130 @@
+-- What an append that isn't refused may rely on, and where a client's session is found.
+use Rattle.std.proofs.Common.{◌≡◌, inl, inr, ℕ, zero, suc, ◌+◌, ◌^◌, ◌<◌, ◌≤◌, ◌==◌, Bool, true, false, ◌&&◌, ◌||◌, not, nat_lt, List, [], ◌∷◌, length, get_or, map, Option, Some, None, IsTrue, IsSome, refl, sym, ◌∙◌, ap, subst, arith, rules}
+use Rattle.std.specs.Prelude.{nat_le, option_map, if◌then◌else◌}
+use Rattle.std.specs.List.{list_all, position, position_or_len, slice_get}
+use Rattle.std.proofs.lemmas.Bool.{cases_Bool}
+use Rattle.std.proofs.lemmas.Bool.Decides.{nat_tests}
+use Rattle.std.proofs.lemmas.List.{length-map}
+use borrow.Author.Tests.{ltb-false}
+use Rattle.std.proofs.lemmas.List.Quantifiers.{position-Some}
+use Rattle.std.proofs.lemmas.List.Sums.{fails_before_first}
+use Rattle.std.proofs.lemmas.Option.{slice_get-get_or}
+use Rattle.df_sessions.specs.declared.session.Session as told
+use Rattle.df_sessions.specs.Requests.{session_of}
+use Rattle.df_sessions.specs.Table.{IsKnown, IsTable, has_client, requested, with_request}
+use Rattle.df_theory.specs.Units.{Session}
+use Rattle.df_model.specs.Refusals.{append_refusals, first_refusal, is_new, next_request, session_of_client}
+use Rattle.df_journal.specs.Tail.{AreNumbered}
+use Rattle.df_model.proofs.Laws.{all_pass}
+use Rattle.df_replica.specs.State.{IsState, State, memory}
+use Rattle.df_replica.specs.Refusing.{session_at}
+use Rattle.df_replica.specs.Appending.{MayNext, appended, next_unit}
+
+-- ---- a client's session
+
+none_passes : {X : Type 0} (p : X → Bool) (xs : List X) (d : X) → position p xs ≡ None → (k : ℕ) → k < length xs → p (get_or xs k d) ≡ false
+none_passes p xs d none k within = elim (cases_Bool (nat_lt (position_or_len p xs) (length xs))) [
+  | inl inside ↦ let some : position p xs ≡ Some (position_or_len p xs) = (rw inside refl) in cc
+  | inr outside ↦ fails_before_first p xs k d (omega (arith, ltb-false (position_or_len p xs) (length xs) outside))
+]
+
+at_first : (client : ℕ) (ss : List told.Session) (i : ℕ) (d : told.Session) → i < length ss → has_client client (get_or ss i d) ≡ true → ((k : ℕ) → k < i → has_client client (get_or ss k d) ≡ false)
+    → session_of_client client (map session_of ss) ≡ Some (session_of (get_or ss i d))
+at_first client [] i d within passes before = absurd (omega arith)
+at_first client (s ∷ ss) zero d within passes before = let same : has_client client s ≡ true = passes in rw same refl
+at_first client (s ∷ ss) (suc i) d within passes before =
+    let other : has_client client s ≡ false = before 0 (omega arith) in
+    rw other (at_first client ss i d (omega arith) passes (λ k h. before (suc k) (omega arith)))
+
+at_none : (client : ℕ) (ss : List told.Session) (d : told.Session) → ((k : ℕ) → k < length ss → has_client client (get_or ss k d) ≡ false) → session_of_client client (map session_of ss) ≡ None
+at_none client [] d none = refl
+at_none client (s ∷ ss) d none =
+    let other : has_client client s ≡ false = none 0 (omega arith) in
+    rw other (at_none client ss d (λ k h. none (suc k) (omega arith)))
+
+no_session : told.Session
+no_session = record { client = 0; request = 0; op = 0; reply = None }
+
+found_by : (client : ℕ) (ss : List told.Session) (o : Option ℕ) → position (has_client client) ss ≡ o → session_of_client client (map session_of ss) ≡ option_map session_of (session_at ss o)
+found_by client ss None is = at_none client ss no_session (none_passes (has_client client) ss no_session is)
+found_by client ss (Some i) is =
+    let facts = position-Some (has_client client) ss i no_session is in
+    at_first client ss i no_session facts.0 facts.1 facts.2 ∙ ap (option_map session_of) (sym (slice_get-get_or ss i no_session facts.0))
+
+-- a client's session
+pub session_found : (client : ℕ) (ss : List told.Session) → session_of_client client (map session_of ss) ≡ option_map session_of (session_at ss (position (has_client client) ss))
+session_found client ss = found_by client ss (position (has_client client) ss) refl
+
+known_by : (client : ℕ) (ss : List told.Session) (o : Option ℕ) → position (has_client client) ss ≡ o → is_new (session_of_client client (map session_of ss)) ≡ false → IsSome o
+known_by client ss (Some i) is old = search rules
+known_by client ss None is old = absurd (let new = ap is_new (found_by client ss None is) in cc)
+
+-- a client that isn't new is known
+known_client : (client : ℕ) (ss : List told.Session) → is_new (session_of_client client (map session_of ss)) ≡ false → IsKnown client ss
+known_client client ss old = known_by client ss (position (has_client client) ss) refl old
+
+pub small_session : (ss : List told.Session) (o : Option ℕ) (s : told.Session) → AreNumbered ss → session_at ss o ≡ Some s → s.request ≤ 2 ^ 62
+small_session ss None s all at = absurd (cc)
+small_session ss (Some i) s all at = all i s at
+
+-- ---- what isn't refused
+
+and_false : (a b : Bool) → (a && b) ≡ false → a ≡ true → b ≡ false
+and_false true b is one = is
+and_false false b is one = absurd (cc)
+
+or_false : (a b : Bool) → (a || b) ≡ false → (a ≡ false) × (b ≡ false)
+or_false true b is = absurd (cc)
+or_false false b is = (refl, is)
+
+not_false : (a : Bool) → not a ≡ false → a ≡ true
+not_false true is = refl
+not_false false is = absurd (cc)
+
+lt_false : (a b : ℕ) → nat_lt a b ≡ false → b ≤ a
+lt_false a b is = grind (arith, nat_tests)
+
+eq_false : (a b : ℕ) → (a == b) ≡ false → a ≡ b → ⊥
+eq_false a b is same = grind (arith, nat_tests)
+
+eq_true : (a b : ℕ) → (a == b) ≡ true → a ≡ b
+eq_true a b is = grind (arith, nat_tests)
+
+some_request : (o : Option Session) → 0 < next_request o
+some_request None = omega arith
+some_request (Some s) = omega arith
+
+pub may_next : (s : State) (client request : ℕ) (body : List ℕ) → IsState s → IsTable s.table → first_refusal (append_refusals (memory s) client request body) ≡ None → MayNext s client request (length body)
+may_next s client request body is table none =
+    let tests = all_pass (append_refusals (memory s) client request body) none in
+    let last = or_false _ _ tests.1.1.1.1.1.1.1.1.0 in
+    let asked = eq_true _ _ (not_false _ tests.1.1.1.1.1.0) in
+    record {
+      note = record {
+        named = (let named = eq_false _ _ tests.0 in omega arith);
+        request = (omega (arith, asked, some_request (session_of_client client (map session_of s.table.sessions))), lt_false _ _ last.1);
+        few = (let pipeline = eq_false _ _ tests.1.1.1.1.1.1.0 in omega (arith, is.waiting, is.few));
+        op = (let op = eq_false _ _ last.0 in omega (arith, is.head_to));
+        room = lt_false _ _ tests.1.1.1.1.1.1.1.0;
+        place = elim (cases_Bool (is_new (session_of_client client (map session_of s.table.sessions)))) [
+          | inl new ↦ inr (let full = eq_false _ _ (and_false _ _ tests.1.1.0 new) in omega (arith, length-map s.table.sessions session_of, table.within, is.places))
+          | inr old ↦ inl (known_client client s.table.sessions old)
+        ];
+      };
+      fits = (let fits = lt_false _ _ tests.1.0 in omega (arith, s.file.layout.message_size_within.0));
+      first = is.first;
+    }
+
+-- ---- the requests behind an append
+
+numbered_case : (b : Bool) (client request op : ℕ) (x : told.Session) (ss : List told.Session) → AreNumbered (x ∷ ss) → request ≤ 2 ^ 62 → AreNumbered (with_request client request op ss)
+    → AreNumbered (if b then requested client request op ∷ ss else x ∷ with_request client request op ss)
+numbered_case true client request op x ss all small rest zero s at = let same : requested client request op ≡ s = cc in subst (λ (y : told.Session). y.request ≤ 2 ^ 62) same small
+numbered_case true client request op x ss all small rest (suc k) s at = all (suc k) s at
+numbered_case false client request op x ss all small rest zero s at = all 0 s at
+numbered_case false client request op x ss all small rest (suc k) s at = rest k s at
+
+pub numbered_on : (client request op : ℕ) (ss : List told.Session) → AreNumbered ss → request ≤ 2 ^ 62 → AreNumbered (with_request client request op ss)
+numbered_on client request op [] all small zero s at = let same : requested client request op ≡ s = cc in subst (λ (y : told.Session). y.request ≤ 2 ^ 62) same small
+numbered_on client request op [] all small (suc k) s at = absurd (cc)
+numbered_on client request op (x ∷ ss) all small k s at = numbered_case (has_client client x) client request op x ss all small (λ j t there. numbered_on client request op ss (λ i r here. all (suc i) r here) small j t there) k s at

@@ -1,0 +1,130 @@
+-- What an open leaves is kept by what the machine begins with: a mending writes no prepare.
+use Rattle.std.proofs.Common.{◌≡◌, ◌-◌, ◌+◌, ◌%◌, ℕ, List, [], ◌∷◌, ◌++◌, map, Bool, true, false, if◌then◌else◌, Option, Some, None, refl, sym, ◌∙◌, ap, subst}
+use Rattle.std.specs.Prelude.{nat_lt, Ok}
+use Rattle.std.specs.List.{range_with_len, slice_get}
+use Rattle.df_base.specs.Image.{Image, IsImage}
+use Rattle.df_base.specs.Log
+use Rattle.df_base.specs.Log.{Event, IsLog, Sync}
+use Rattle.df_base.specs.Moments.{EachMoment, Extends}
+use Rattle.df_base.proofs.Laws.{adds_extends, extends_self, now_is_image}
+use Rattle.df_disk.specs.Told.{Told, did}
+use Rattle.df_disk.specs.Adds.{after_all}
+use Rattle.df_layout.specs.declared.damage.Mend.{Mend}
+use Rattle.df_format.specs.declared.header.Header.{Header}
+use Rattle.df_format.specs.declared.superblock.SuperFields.{SuperFields}
+use Rattle.df_theory.specs.Units
+use Rattle.df_theory.specs.Units.{AnyUnit, PreparePlace, or_else}
+use Rattle.df_theory.specs.Device.{AreSteps, IsGoodDisk, units_log}
+use Rattle.df_theory.specs.Found.{AreOfPlaces, IsFound}
+use Rattle.df_theory.specs.MakingLaws.{all_puts}
+use Rattle.df_theory.specs.MendLaws.{copy_steps, header_steps}
+use Rattle.df_theory.specs.Runs.{Puts, Step, Syncs, after_steps}
+use Rattle.df_theory.specs.Shape.{Shape, slots}
+use Rattle.df_theory.specs.UnitLog.{Synced, UnitLog, add, now, wrote}
+use Rattle.df_theory.specs.View.{View, head}
+use Rattle.df_theory.proofs.Laws.{now_units, one_found_law}
+use Rattle.df_units.specs.Bytes.{unit_at}
+use Rattle.df_units.proofs.Laws.{all_added, call_ends, chosen_choice, of_places}
+use Rattle.df_model.specs.Codec.{IsCodec}
+use Rattle.df_model.specs.Laws.{IsKeptBy}
+use Rattle.df_model.specs.Work.{Work, checksum_of, checksum_of_op, first_tour, opened, waiting_checksum}
+use Rattle.df_model.proofs.Laws.{opened_kept_law}
+use Rattle.df_superblock.specs.Steps.{repaired}
+use Rattle.df_replica.specs.declared.file.DataFile.{DataFile}
+use Rattle.df_layout.specs.declared.layout.Layout.{Layout}
+use Rattle.df_replica.specs.Surveying.{TellsSurvey}
+use Rattle.df_replica.specs.Mending.{IsMended, MayOpen, live_state, mending_events, mending_steps, sector_puts, sectors_of}
+use Rattle.df_replica.specs.Serving.{Firm, IsKept, Known, format}
+use Rattle.df_replica.specs.State.{Represents, State, shape}
+use Rattle.df_replica.specs.Surveys.{IsOpened}
+
+-- ---- no step of a mending puts a prepare
+
+abbrev AllMiss : ℕ → List Step → Type 0
+AllMiss s [] = Unit {0}
+AllMiss s ((Puts put) ∷ ss) = (put (PreparePlace s) ≡ None) × AllMiss s ss
+AllMiss s (Syncs ∷ ss) = AllMiss s ss
+
+missed : (s : ℕ) (ss : List Step) (log : UnitLog) → AllMiss s ss → now (after_steps ss log) (PreparePlace s) ≡ now log (PreparePlace s)
+missed s [] log all = refl
+missed s ((Puts put) ∷ ss) log all = missed s ss (wrote put log) all.1 ∙ ap (λ (o : Option AnyUnit). or_else o (now log (PreparePlace s))) all.0
+missed s (Syncs ∷ ss) log all = missed s ss (add Synced log) all
+
+miss_append : (s : ℕ) (ss ts : List Step) → AllMiss s ss → AllMiss s ts → AllMiss s (ss ++ ts)
+miss_append s [] ts one two = two
+miss_append s ((Puts put) ∷ ss) ts one two = (one.0, miss_append s ss ts one.1 two)
+miss_append s (Syncs ∷ ss) ts one two = miss_append s ss ts one two
+
+puts_miss : (s : ℕ) (table : List Header) (ks : List ℕ) → AllMiss s (all_puts (sector_puts table ks))
+puts_miss s table [] = tt
+puts_miss s table (k ∷ ks) = (refl, puts_miss s table ks)
+
+headers_miss : (s : ℕ) (table : List Header) (ks : List ℕ) → AllMiss s (header_steps (sector_puts table ks))
+headers_miss s table [] = tt
+headers_miss s table (k ∷ ks) = miss_append s (all_puts (sector_puts table (k ∷ ks))) (Syncs ∷ []) (puts_miss s table (k ∷ ks)) tt
+
+copies_miss : (s number : ℕ) (f : SuperFields) (members : List Bool) → AllMiss s (copy_steps (repaired f number members))
+copies_miss s number f [] = tt
+copies_miss s number f (true ∷ members) = copies_miss s (number + 1) f members
+copies_miss s number f (false ∷ members) = (refl, copies_miss s (number + 1) f members)
+
+mending_misses : (file : DataFile) (table : List Header) (mends : List Mend) (f : SuperFields) (members : List Bool) (s : ℕ) → AllMiss s (mending_steps file.layout table mends f members)
+mending_misses file table mends f members s = miss_append s (header_steps (sector_puts table (sectors_of file.layout mends))) (copy_steps (repaired f 0 members)) (headers_miss s table (sectors_of file.layout mends)) (copies_miss s 0 f members)
+
+-- ---- what the machine begins with depends on the ring of prepares alone
+
+waits_same : (sh : Shape) (image other : Units.Units) (v : View) → ((s : ℕ) → image (PreparePlace s) ≡ other (PreparePlace s)) → (op : ℕ) → waiting_checksum sh image v op ≡ waiting_checksum sh other v op
+waits_same sh image other v same op =
+    ap (λ (o : Option AnyUnit). if nat_lt v.checkpoint.content.op op then checksum_of (slice_get v.tail (op - v.checkpoint.content.op - 1)) else checksum_of_op op o) (same (op % slots sh))
+
+opened_same : (sh : Shape) (image other : Units.Units) (v : View) → ((s : ℕ) → image (PreparePlace s) ≡ other (PreparePlace s)) → opened sh image v ≡ opened sh other v
+opened_same sh image other v same =
+    ap (λ (waits : ℕ → ℕ). record { view = v; live = v.checkpoint.parts.references; running = None; waiting = map waits (range_with_len (v.replies + 1) (head v - v.replies)); tour = first_tour; findings = [] })
+    (λ i op. waits_same sh image other v same op i)
+
+-- ---- what an open leaves
+
+-- the disk at its end is a disk's, and shows the prepares that it showed before
+pub open_keeps : (s : State) (mends : List Mend) (members : List Bool) (parse : ℕ → List ℕ → Option Units.Parts) (spell : Units.Parts → List ℕ) (view : View) (before after : Told) → IsCodec (shape s.file parse) spell → MayOpen s.file parse view before
+    → IsOpened s.file.layout before.shown s → AreSteps (format s.file) (mending_events s.file.layout s.headers mends s.fields members) (mending_steps s.file.layout s.headers mends s.fields members)
+    → Some after ≡ after_all (mending_events s.file.layout s.headers mends s.fields members) (Some (did Sync before)) → EachMoment (did Sync before).log after.log (IsGoodDisk (format s.file) (shape s.file parse) view view) → IsMended s.file parse view s.headers after
+    → IsKept (record { parse = parse; spell = spell; grade = Firm }) s (opened (shape s.file parse) (unit_at s.file.layout s.file.cluster (Log.now after.log)) view) after.log
+open_keeps s mends members parse spell view before after codec may is steps all moments mended =
+    let sh = shape s.file parse in
+    let fmt = format s.file in
+    let es = mending_events s.file.layout s.headers mends s.fields members in
+    let ss = mending_steps s.file.layout s.headers mends s.fields members in
+    let log : UnitLog = units_log fmt after.log in
+    let units = unit_at s.file.layout s.file.cluster in
+    let grew = adds_extends es (did Sync before).log in
+    let added = all_added es (did Sync before) after all in
+    let is_log : IsLog after.log = (moments after.log (record { since = subst (λ (l : Log.Log). Extends l (did Sync before).log) (sym added) grew; until = extends_self after.log })).safe.is_log in
+    let image : units (Log.now after.log) ≡ now log = sym (now_units fmt after.log.start after.log.events) in
+    let was_image : units (Log.now before.log) ≡ now (units_log fmt (did Sync before).log) = sym (now_units fmt (did Sync before).log.start (did Sync before).log.events) in
+    let ends : log ≡ after_steps ss (units_log fmt (did Sync before).log) = call_ends fmt es ss (did Sync before) after (record { start = may.safe.is_log.start; events = may.safe.is_log.events }) steps all in
+    let shown : before.shown ≡ Log.now before.log = λ i sector. may.honest.shows sector i in
+    let prepares : (k : ℕ) → units before.shown (PreparePlace k) ≡ units (Log.now after.log) (PreparePlace k) = λ k.
+    ap (λ (m : Image). units m (PreparePlace k)) shown ∙ ap (λ (u : Units.Units). u (PreparePlace k)) was_image ∙ sym (missed k ss (units_log fmt (did Sync before).log) (mending_misses s.file s.headers mends s.fields members k))
+    ∙ ap (λ (l : UnitLog). now l (PreparePlace k)) (sym ends) ∙ ap (λ (u : Units.Units). u (PreparePlace k)) (sym image) in
+    let one : is.view ≡ view = one_found_law sh (units before.shown) is.view view (is.found parse) (subst (λ (m : Image). IsFound sh (units m) view) (sym shown) may.found) in
+    let whole : IsImage (Log.now after.log) = now_is_image after.log.start after.log.events is_log.start is_log.events in
+    let choice = chosen_choice s.file.layout s.file.cluster (Log.now before.log) view.checkpoint.content (now_is_image before.log.start before.log.events may.safe.is_log.start may.safe.is_log.events) may.found.chosen in
+    let kept = (opened_kept_law sh spell log view codec (record { version = refl; names = ap (λ (c : Units.Content). c.reply_checksums) (sym choice.1) }) mended.tidy
+    (subst (AreOfPlaces sh) image (of_places s.file.layout s.file.cluster s.file.named parse (Log.now after.log) whole))).0 in
+    record {
+      log_is = is_log;
+      stands = subst (Represents sh spell s) (opened_same sh (units before.shown) (units (Log.now after.log)) view prepares) (subst (λ (v : View). Represents sh spell s (opened sh (units before.shown) v)) one (is.stands parse spell));
+      kept_by = subst (λ (u : Units.Units). IsKeptBy sh spell log (opened sh u view)) (sym image) kept;
+      ring = mended.ring;
+    }
+
+-- the answer of the survey, of what an honest disk shows
+pub survey_opened : (layout : Layout) (told : Option Told) (before : Told) (s : State) → told ≡ Some before → (parse : ℕ → List ℕ → Option Units.Parts) (view : View) → MayOpen s.file parse view before → s.file.layout ≡ layout → TellsSurvey layout told (Ok s) → IsOpened s.file.layout before.shown s
+survey_opened layout told before s is parse view may same answer =
+    let shown : before.shown ≡ Log.now before.log = λ i sector. may.honest.shows sector i in
+    let whole : IsImage before.shown = subst IsImage (sym shown) (now_is_image before.log.start before.log.events may.safe.is_log.start may.safe.is_log.events) in
+    subst (λ (l : Layout). IsOpened l before.shown s) (sym same) ((subst (λ (o : Option Told). TellsSurvey layout o (Ok s)) is answer) whole)
+
+-- a state is kept as a live one
+pub live_kept : (c : Known) (s : State) (w : Work) (log : Log.Log) → IsKept c s w log → IsKept c (live_state s) w log
+live_kept c s w log is = record { log_is = is.log_is; stands = is.stands; kept_by = is.kept_by; ring = is.ring }

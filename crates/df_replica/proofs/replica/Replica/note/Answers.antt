@@ -1,0 +1,32 @@
+-- The state behind a prepare that is noted makes sense.
+use Rattle.std.proofs.Common.{◌≡◌, ◌<◌, ◌≤◌, ◌+◌, ◌^◌, ℕ, List, [], ◌∷◌, ◌++◌, length, refl, sym, ap, subst, ◌∙◌, arith}
+use Rattle.std.proofs.lemmas.List.{length_push}
+use Rattle.df_journal.specs.Tail.{AreNumbered}
+use Rattle.df_sessions.specs.declared.session.Session as told
+use Rattle.df_replica.specs.Appending.{MayNote}
+use Rattle.df_replica.specs.State.{IsState, State}
+use Rattle.df_replica.proofs.AppendTests.{numbered_on}
+use Rattle.df_replica.proofs.replica.Replica.note.Goals as goal
+
+pub invariant_of-self : goal.invariant_of-self
+invariant_of-self c =
+    let may = subst (λ (s : State). MayNote s c.args.made.now.client c.args.made.now.request) (sym c.self.view_is) c.requires.may in
+    let op = subst (λ (s : State). c.args.made.now.op ≡ s.head + 1) (sym c.self.view_is) c.requires.op in
+    let old = c.self.invariant.0 in
+    let more : length c.push.new.self.items ≡ length c.self.inside.waiting.items + 1 = ap length c.push.ensures.items ∙ length_push c.self.inside.waiting.items c.args.made.now.checksum in (
+      record {
+        cluster = old.cluster;
+        parent = c.requires.sum;
+        sequence = old.sequence;
+        order = omega (arith, op, old.order);
+        room = omega (arith, op, may.room);
+        head_to = omega (arith, op, may.op);
+        waiting = omega (arith, op, old.waiting, more);
+        few = omega (arith, may.few, more);
+        places = c.apply.ensures.places ∙ old.places;
+        first = λ zero_head. absurd (omega (arith, op, zero_head));
+        requests = subst AreNumbered (sym c.apply.ensures.sessions) (numbered_on c.args.made.now.client c.args.made.now.request c.args.made.now.op c.self.inside.sessions.sessions old.requests may.request.1);
+        ring = old.ring;
+      },
+      c.self.invariant.1,
+    )

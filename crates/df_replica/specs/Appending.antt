@@ -1,0 +1,103 @@
+-- An append of a replica: what it makes, what it asks of the disk, and the state that it leads to. No state of the machine is in sight.
+use Rattle.std.specs.Prelude.{◌≡◌, ◌⊎◌, ◌<◌, ◌≤◌, ◌+◌, ◌/◌, ◌%◌, ◌^◌, ℕ, false, List, [], ◌∷◌, ◌++◌, length, Option, Some, None, Result, Ok, Err}
+use Rattle.df_base.specs.Causes.{Rose}
+use Rattle.df_base.specs.Log.{Event}
+use Rattle.df_layout.specs.declared.layout.Layout.{Layout}
+use Rattle.df_disk.specs.Told.{Told}
+use Rattle.df_disk.specs.Adds.{AddsPart, after_all}
+use Rattle.df_format.specs.declared.header.Header.{Header}
+use Rattle.df_format.specs.declared.kind.Kind.TheVariants.{Prepare as AsPrepare}
+use Rattle.df_format.specs.Making.{for_body}
+use Rattle.df_format.specs.Message.{Message, sectors_of}
+use Rattle.df_format.specs.Spelling.{no_checksum, sealed}
+use Rattle.df_sessions.specs.Table.{IsKnown, with_request}
+use Rattle.df_units.specs.Append.{append_events as calls_of}
+use Rattle.df_journal.specs.Append as journal
+use Rattle.df_model.specs.Refusals.{append_refusals, first_refusal}
+use Rattle.df_model.specs.declared.answers.Receipt.{Receipt}
+use Rattle.df_model.specs.declared.errors.AppendError.{AppendError}
+use Rattle.df_model.specs.declared.errors.AppendError.TheVariants as append
+use Rattle.df_replica.specs.State.{State, memory}
+
+-- what the maker of the next prepare says of it
+abbrev pub header_given : State → (client request : ℕ) → Header
+header_given s client request = record {
+  checksum = no_checksum;
+  checksum_body = no_checksum;
+  cluster = s.file.cluster;
+  parent = s.head_checksum;
+  client = client;
+  op = s.head + 1;
+  request = request;
+  mark = s.replies;
+  checkpoint = s.fields.sequence;
+  size = 0;
+  slot = (s.head + 1) % s.file.layout.slots;
+  kind = AsPrepare;
+  block_kind = 0;
+}
+
+-- the unit of a header and a body
+abbrev pub unit_of : Header → List ℕ → Message
+unit_of h body = record { header = sealed (for_body h body); body = body }
+
+-- the next prepare
+abbrev pub next_unit : State → (client request : ℕ) → List ℕ → Message
+next_unit s client request body = unit_of (header_given s client request) body
+
+-- the prepare, a sync, its header sector, a sync
+abbrev pub unit_events : Layout → Message → List Header → List Event
+unit_events layout u table = calls_of layout u.header.slot (sectors_of u) (u.header.slot / 16) (journal.new_sector u table)
+
+abbrev pub append_events : State → Message → List Event
+append_events s u = unit_events s.file.layout u s.headers
+
+-- the state with the header of a prepare in its slot
+abbrev pub with_header : State → Message → State
+with_header s u = record s { headers = journal.with_header u s.headers }
+
+-- the state with a prepare more, the ring of headers aside
+abbrev pub noted : State → Header → State
+noted s h = record s {
+  head = s.head + 1;
+  head_checksum = h.checksum;
+  waiting = s.waiting ++ h.checksum ∷ [];
+  table = record s.table { sessions = with_request h.client h.request h.op s.table.sessions };
+}
+
+-- the state with a prepare more
+abbrev pub appended : State → Message → State
+appended s u = noted (with_header s u) u.header
+
+abbrev pub receipt_of : Header → Receipt
+receipt_of h = record { op = h.op; checksum = h.checksum }
+
+-- a request that may be noted
+pub record MayNote (s : State) (client asked : ℕ) : Type 0 where
+  pub named : 0 < client
+  pub request : (0 < asked) × (asked ≤ 2 ^ 62)
+  pub few : length s.waiting < 8
+  pub op : s.head < 2 ^ 62
+  pub room : s.head + 1 ≤ s.fields.op + s.file.layout.slots
+  pub place : IsKnown client s.table.sessions ⊎ (length s.table.sessions < s.table.max)
+
+-- an append that isn't refused, as far as the code needs it
+pub record MayNext (s : State) (client asked size : ℕ) : Type 0 where
+  pub note : MayNote s client asked
+  pub fits : 256 + size ≤ s.file.layout.message_size
+  pub first : s.head ≡ 0 → s.head_checksum ≡ no_checksum
+
+-- what an append answers, with the state after it and what the disk then tells: exact for a receipt and for each refusal, and after a fault the replica isn't live
+abbrev pub IsAppend : (client request : ℕ) → List ℕ → (s t : State) → (old new : Option Told) → Result Receipt AppendError → Type 0
+IsAppend client request body s t old new (Ok receipt) =
+    let u = next_unit s client request body in
+    (first_refusal (append_refusals (memory s) client request body) ≡ None) × (receipt ≡ receipt_of u.header) × (t ≡ appended s u) × (new ≡ after_all (append_events s u) old)
+IsAppend client request body s t old new (Err append.DiskFault) =
+    (first_refusal (append_refusals (memory s) client request body) ≡ None) × (t.live ≡ false) × AddsPart (append_events s (next_unit s client request body)) old new
+IsAppend client request body s t old new (Err e) = (first_refusal (append_refusals (memory s) client request body) ≡ Some e) × (t ≡ s) × (new ≡ old)
+
+-- the count of faults rose where the disk is blamed, and is the same at every other answer
+abbrev pub IsBlamed : (before now : ℕ) → Result Receipt AppendError → Type 0
+IsBlamed before now (Ok receipt) = now ≡ before
+IsBlamed before now (Err append.DiskFault) = (before ≤ now) × Rose before now
+IsBlamed before now (Err e) = now ≡ before

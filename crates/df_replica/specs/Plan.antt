@@ -1,0 +1,140 @@
+-- What an open plans of a file that it finds: the header that each slot of the header ring is to have, and the list of what is to be written again.
+use Rattle.std.specs.Prelude.{◌≡◌, ◌<◌, ◌+◌, ◌-◌, ◌%◌, ℕ, Bool, true, false, not, List, [], ◌∷◌, ◌++◌, map, get_or, slice_get, slice_set, Option, Some, None}
+use Rattle.std.specs.List.{filter, range_with_len}
+use Rattle.df_layout.specs.declared.damage.Class.{Class}
+use Rattle.df_layout.specs.declared.damage.Class.TheVariants.{Stale}
+use Rattle.df_layout.specs.declared.damage.Mend.{Mend}
+use Rattle.df_layout.specs.declared.layout.Layout.{Layout}
+use Rattle.df_layout.specs.declared.places.Zone.TheVariants.{Superblock, WalHeaders}
+use Rattle.df_format.specs.declared.header.Header.{Header}
+use Rattle.df_format.specs.Own.{place_in}
+use Rattle.df_quorum.specs.declared.slot.Slot.{Slot}
+use Rattle.df_quorum.specs.declared.slot.Slot.TheVariants.{Sound, Bad}
+use Rattle.df_quorum.specs.Quorum.{nothing}
+use Rattle.df_cases.specs.declared.cases.Decision.{Decision}
+use Rattle.df_cases.specs.declared.cases.Decision.TheVariants.{Empty, Take}
+use Rattle.df_theory.specs.Units
+use Rattle.df_theory.specs.Units.{AnyUnit, HeaderPlace, HeaderUnit, Place}
+use Rattle.df_theory.specs.Cases
+use Rattle.df_theory.specs.Cases.{decision}
+use Rattle.df_theory.specs.Chance.{Distinct}
+use Rattle.df_theory.specs.Found.{IsFound}
+use Rattle.df_theory.specs.Shape.{Shape, slots}
+use Rattle.df_theory.specs.View.{View}
+use Rattle.df_units.specs.Meaning.{header_of}
+use Rattle.df_cases.specs.Cases.{decision_of}
+use Rattle.df_units.specs.Sample.{reserved_header}
+use Rattle.df_buffers.specs.declared.slots.SlotSeen.{SlotSeen}
+use Rattle.df_journal.specs.Scan.{Scan, entry}
+use Rattle.df_journal.specs.Seen.{IsOpOf, class_of, header_of_seen}
+use Rattle.df_journal.specs.Shows.{Tells}
+
+-- ---- the decision on a slot
+
+-- the op above this one, and at most n above it, that belongs in the slot of a ring of n
+abbrev pub op_in : ℕ → ℕ → ℕ → ℕ
+op_in n op slot = op + 1 + (slot + n - (op + 1) % n) % n
+
+-- what is decided of a slot behind a checkpoint with this op
+abbrev pub decision_at : Layout → ℕ → Units.Units → ℕ → Cases.Decision
+decision_at layout op image slot = decision layout.slots 0 image (op_in layout.slots op slot)
+
+-- whether its header is to be written again
+abbrev pub is_mended : Cases.Decision → Bool
+is_mended (Cases.Take mend) = mend
+is_mended (Cases.Empty mend) = mend
+is_mended Cases.Behind = false
+is_mended Cases.Lost = false
+
+abbrev pub needs_header : Layout → ℕ → Units.Units → ℕ → Bool
+needs_header layout op image slot = is_mended (decision_at layout op image slot)
+
+-- ---- the list of what is to be written again
+
+-- the class of a copy that isn't of the choice: a sound copy of its own place is a stale one
+abbrev pub class_of_slot : Slot → Class
+class_of_slot (Sound copy) = Stale
+class_of_slot (Bad class) = class
+
+abbrev pub copy_mend : List Slot → ℕ → Mend
+copy_mend copies number = record { place = place_in Superblock number; class = class_of_slot (get_or copies number nothing) }
+
+-- the copies that aren't members of the choice, by number
+abbrev pub copy_mends : List Slot → List Bool → List Mend
+copy_mends copies members = map (copy_mend copies) (filter (λ n. not (get_or members n false)) (range_with_len 0 4))
+
+abbrev pub slot_mend : (ℕ → Class) → ℕ → Mend
+slot_mend classes slot = record { place = place_in WalHeaders slot; class = classes slot }
+
+-- those of the first n slots that need it, with these classes
+abbrev pub slot_mends : (ℕ → Bool) → (ℕ → Class) → ℕ → List Mend
+slot_mends needs classes n = map (slot_mend classes) (filter needs (range_with_len 0 n))
+
+-- the class of what the header ring shows in a slot: of a valid header Stale
+abbrev pub shown_class : Scan → ℕ → Class
+shown_class scan slot = class_of (entry scan slot).header
+
+-- the copies first, then the slots whose decision says so
+abbrev pub mend_list : Layout → Scan → Units.Units → List Slot → List Bool → List Mend
+mend_list layout scan image copies members = copy_mends copies members ++ slot_mends (needs_header layout scan.start.op image) (shown_class scan) layout.slots
+
+-- ---- the table of headers
+
+-- stands for a slot that the ring doesn't have
+abbrev pub no_header : Units.Header
+no_header = record { checksum = 0; parent = 0; client = 0; op = 0; request = 0; mark = 0; checkpoint = 0; boot = 0; group = 0; group_last = 0 }
+
+abbrev pub header_or_none : Option Header → Units.Header
+header_or_none None = no_header
+header_or_none (Some h) = header_of h
+
+-- a table of headers in the words of the model
+abbrev pub headers_in : List Header → ℕ → Units.Header
+headers_in table slot = header_or_none (slice_get table slot)
+
+-- ---- what is found
+
+-- the scan says what the rings of an image show, and this view is found in the image, behind the checkpoint that the scan started from
+pub record IsScanOf (layout : Layout) (sh : Shape) (image : Units.Units) (v : View) (scan : Scan) : Type 0 where
+  pub version : sh.version ≡ 1
+  pub slots_are : slots sh ≡ layout.slots
+  pub op : v.checkpoint.content.op ≡ scan.start.op
+  pub tells : Tells layout image scan
+  pub found : IsFound sh image v
+
+-- no two units of the image have one checksum
+abbrev pub AreDistinct : Units.Units → Type 0
+AreDistinct image = (place other : Place) (x y : AnyUnit) → image place ≡ Some x → image other ≡ Some y → Distinct x y
+
+-- each slot that isn't to be written again shows what it is to show
+abbrev pub OthersAreShown : Layout → ℕ → Units.Units → (ℕ → Units.Header) → Type 0
+OthersAreShown layout op image table = (slot : ℕ) → slot < layout.slots → needs_header layout op image slot ≡ false → image (HeaderPlace slot) ≡ Some (HeaderUnit (table slot))
+
+-- ---- one slot
+
+abbrev pub header_or_reserved : ℕ → ℕ → Option Header → Header
+header_or_reserved cluster slot None = reserved_header cluster slot
+header_or_reserved cluster slot (Some h) = h
+
+-- the header that a slot is to have: that of the prepare that is taken, the one that an empty slot shows, or a reserved one
+abbrev pub header_by : ℕ → ℕ → SlotSeen → Decision → Header
+header_by cluster slot seen (Take mend) = header_or_reserved cluster slot (header_of_seen seen.prepare)
+header_by cluster slot seen (Empty false) = header_or_reserved cluster slot (header_of_seen seen.header)
+header_by cluster slot seen d = reserved_header cluster slot
+
+-- this is decided of a slot, whatever image shows what was scanned
+abbrev pub IsDecided : Scan → ℕ → Decision → Type 0
+IsDecided scan slot d = (layout : Layout) (image : Units.Units) (o : ℕ) → Tells layout image scan → IsOpOf layout.slots scan.start.op slot o → decision_of d ≡ decision layout.slots 0 image o
+
+-- the table with the header that the decision says, in the slot
+abbrev pub PutsHeader : ℕ → Scan → ℕ → List Header → List Header → Type 0
+PutsHeader cluster scan slot old new = (d : Decision) × IsDecided scan slot d × (new ≡ slice_set old slot (header_by cluster slot (entry scan slot) d))
+
+-- an element, if it is one that is wanted
+abbrev pub if_wanted : {X : Type 0} → Bool → X → List X
+if_wanted true x = x ∷ []
+if_wanted false x = []
+
+-- the first k slots have their headers
+abbrev pub ArePlanned : ℕ → Scan → ℕ → List Header → Type 0
+ArePlanned cluster scan k table = (slot : ℕ) → slot < k → (d : Decision) × IsDecided scan slot d × (slice_get table slot ≡ Some (header_by cluster slot (entry scan slot) d))

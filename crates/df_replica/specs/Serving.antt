@@ -1,0 +1,80 @@
+-- What is kept of a file from call to call, and what each call of a replica promises, whatever the state of the machine that it stands for.
+use Rattle.std.specs.Prelude.{◌≡◌, ℕ, Bool, true, false, List, Option, Some, None}
+use Rattle.df_base.specs.Log.{IsLog, Log, now}
+use Rattle.df_base.specs.Moments.{EachMoment, Extends}
+use Rattle.df_disk.specs.Told.{Told}
+use Rattle.df_theory.specs.Units.{Parts}
+use Rattle.df_theory.specs.Shape.{Shape}
+use Rattle.df_theory.specs.UnitLog.{UnitLog}
+use Rattle.df_theory.specs.View.{View}
+use Rattle.df_theory.specs.Device.{Format, IsGoodDisk, IsGoodWholeDisk, units_log}
+use Rattle.df_units.specs.Format.{format_of}
+use Rattle.df_journal.specs.Append.{ShowsRing}
+use Rattle.df_model.specs.Commands.{Answer, Command, Given, IsInput, after}
+use Rattle.df_model.specs.Laws.{IsKeptBy}
+use Rattle.df_model.specs.Sense.{IsBacked}
+use Rattle.df_model.specs.Work.{Work, kept}
+use Rattle.df_replica.specs.declared.file.DataFile.{DataFile}
+use Rattle.df_replica.specs.State.{Represents, State, shape}
+
+-- how much holds of a file: that nothing is to be mended, or that each block that it references is shown, too
+pub data Grade : Type 0 where
+  Firm : Grade
+  Whole : Grade
+
+-- what is said of a file from outside: how the text of its trailers is read and spelled, and how much holds of it
+pub record Known : Type 0 where
+  pub parse : ℕ → List ℕ → Option Parts
+  pub spell : Parts → List ℕ
+  pub grade : Grade
+
+abbrev pub KeptFor : Grade → Shape → (Parts → List ℕ) → UnitLog → Work → Type 0
+KeptFor Firm sh spell log w = IsKeptBy sh spell log w
+KeptFor Whole sh spell log w = IsKeptBy sh spell log w × IsBacked log w
+
+abbrev pub IsGoodFor : Grade → Format → Shape → (v u : View) → Log → Type 0
+IsGoodFor Firm f sh v u log = IsGoodDisk f sh v u log
+IsGoodFor Whole f sh v u log = IsGoodWholeDisk f sh v u log
+
+abbrev pub format : DataFile → Format
+format file = format_of file.layout file.cluster
+
+-- the one fact that a session keeps from call to call: the replica stands for this state of the machine, and the file that the log leaves is that state's
+pub record IsKept (c : Known) (s : State) (w : Work) (log : Log) : Type 0 where
+  pub log_is : IsLog log
+  pub stands : Represents (shape s.file c.parse) c.spell s w
+  pub kept_by : KeptFor c.grade (shape s.file c.parse) c.spell (units_log (format s.file) log) w
+  pub ring : ShowsRing s.file.layout s.file.cluster (now log) s.headers
+
+-- where the disk tells no log, that the replica stands for the state
+abbrev pub Keeps : (c : Known) (s : State) → Work → Option Told → Type 0
+Keeps c s w None = Represents (shape s.file c.parse) c.spell s w
+Keeps c s w (Some t) = IsKept c s w t.log
+
+-- at each moment of a call, each image that a stop may leave holds one of two views
+abbrev pub EachIsGood : (c : Known) (s : State) → (v u : View) → (old new : Option Told) → Type 0
+EachIsGood c s v u (Some t) (Some n) = Extends n.log t.log × EachMoment t.log n.log (IsGoodFor c.grade (format s.file) (shape s.file c.parse) v u)
+EachIsGood c s v u None None = Unit {0}
+EachIsGood c s v u old new = ⊥
+
+-- where there is an answer
+abbrev pub OnSome : Option Answer → Type 0 → Type 0
+OnSome None P = Unit {0}
+OnSome (Some answer) P = P
+
+-- what a call leaves: the answer is the machine's, and the session goes on from the state after it; at a fault of the disk there is no answer, and the replica isn't live
+abbrev pub GoesOnTo : Known → (t : State) → Option Told → (Work × Answer) → Option Answer → Type 0
+GoesOnTo c t new expected None = t.live ≡ false
+GoesOnTo c t new expected (Some answer) = (answer ≡ expected.1) × (t.live ≡ true) × Keeps c t expected.0 new
+
+-- the machine's next state and answer
+abbrev pub next : DataFile → Known → Work → Given → Command → Work × Answer
+next file c w given command = after (shape file c.parse) c.spell w given command
+
+-- every call, with what it was supplied with: from each state of the machine that the replica stands for
+pub record IsCall (given : Given) (command : Command) (s t : State) (old new : Option Told) (answer : Option Answer) : Type 0 where
+  pub file : OnSome answer (t.file ≡ s.file)
+  pub input : IsInput given command
+  pub answers : (c : Known) (w : Work) → Represents (shape s.file c.parse) c.spell s w → GoesOnTo c t None (next s.file c w given command) answer
+  pub keeps : (c : Known) (w : Work) → Keeps c s w old
+      → EachIsGood c s (kept w) (kept (next s.file c w given command).0) old new × GoesOnTo c t new (next s.file c w given command) answer

@@ -1,0 +1,102 @@
+-- What a survey answers, and what it keeps in memory of what it read.
+use Rattle.std.specs.Prelude.{◌≡◌, ◌+◌, ◌-◌, ◌%◌, ℕ, Bool, false, not, List, [], ◌++◌, length, map, get_or, slice_get, Option, Some, None, Result, Ok, Err}
+use Rattle.std.specs.List.{filter, range_with_len}
+use Rattle.df_base.specs.Image.{Image, IsImage}
+use Rattle.df_disk.specs.Told.{Told}
+use Rattle.df_layout.specs.declared.damage.Class.{Class}
+use Rattle.df_layout.specs.declared.damage.Mend.{Mend}
+use Rattle.df_layout.specs.declared.layout.Layout.{Layout}
+use Rattle.df_layout.specs.declared.places.Zone.TheVariants.{Superblock, WalHeaders}
+use Rattle.df_format.specs.Own.{place_in}
+use Rattle.df_format.specs.Shown.{class_at}
+use Rattle.df_format.specs.declared.superblock.SuperFields.{SuperFields}
+use Rattle.df_format.specs.declared.header.Header.{Header}
+use Rattle.df_journal.specs.Scan.{Scan}
+use Rattle.df_journal.specs.Shows.{Tells}
+use Rattle.df_model.specs.declared.errors.OpenError.{OpenError}
+use Rattle.df_quorum.specs.declared.slot.Slot.{Slot}
+use Rattle.df_sessions.specs.Table.{Table}
+use Rattle.df_superblock.specs.Calls.{slot_at}
+use Rattle.df_theory.specs.MendLaws.{IsTable as IsSlotTable}
+use Rattle.df_theory.specs.Shape.{Shape}
+use Rattle.df_theory.specs.Units.{Units}
+use Rattle.df_theory.specs.View.{View}
+use Rattle.df_units.specs.Bytes.{unit_at}
+use Rattle.df_replica.specs.Found.{IsChoiceOf, IsFound}
+use Rattle.df_replica.specs.Plan.{IsScanOf, class_of_slot, headers_in, mend_list, needs_header, slot_mends}
+use Rattle.df_replica.specs.Replica.{Survey}
+use Rattle.df_replica.specs.Scanning.{AreScanned, IsServed}
+use Rattle.df_replica.specs.State.{State}
+use Rattle.df_replica.specs.Surveys.{Surveys}
+use Rattle.df_replica.specs.declared.finding.Traces.{Traces}
+use Rattle.df_replica.specs.declared.superblock.Found.{Found}
+
+-- the checksum of a header of the table
+abbrev pub checksum_of : Option Header → List ℕ
+checksum_of None = []
+checksum_of (Some h) = h.checksum
+
+-- that of the prepare with this op, by the header in its slot of a ring of n
+abbrev pub checksum_at : ℕ → List Header → ℕ → List ℕ
+checksum_at n headers op = checksum_of (slice_get headers (op % n))
+
+-- those of the prepares above the stored replies, up to the head
+abbrev pub waiting_in : ℕ → List Header → (replies head : ℕ) → List (List ℕ)
+waiting_in n headers replies head = map (checksum_at n headers) (range_with_len (replies + 1) (head - replies))
+
+-- what was read is of the image that a disk shows: whole sectors, a superblock that can be used and whose file the rooms serve, and the tables
+pub record IsReadOf (t : Told) (layout : Layout) (found : Found) (scan : Scan) (replies : List (Result Header Class)) : Type 0 where
+  pub image : IsImage t.shown
+  pub found_is : IsFound t.shown found
+  pub served : IsServed layout found.content
+  pub scanned : AreScanned layout scan.start.cluster (Some t) scan replies
+
+-- the state keeps what was found, with these sessions; the checksums that wait are those of its header table
+pub record IsSettled (layout : Layout) (found : Found) (traces : Traces) (table : Table) (s : State) : Type 0 where
+  pub layout_is : s.file.layout ≡ layout
+  pub cluster : s.file.cluster ≡ found.content.cluster
+  pub fields : s.fields ≡ found.content
+  pub head_is : s.head ≡ traces.tail.op
+  pub head_checksum : s.head_checksum ≡ traces.tail.checksum
+  pub replies : s.replies ≡ traces.replies
+  pub table_is : s.table ≡ table
+  pub count : length s.headers ≡ layout.slots
+  pub waiting : s.waiting ≡ waiting_in layout.slots s.headers s.replies s.head
+
+-- the header table says what each header is to be, whatever view is found in an image that the scan is of
+abbrev pub PlansHeaders : Layout → Scan → List Header → Type 0
+PlansHeaders layout scan headers = (sh : Shape) (image : Units) (v : View) → IsScanOf layout sh image v scan → IsSlotTable sh image v (headers_in headers)
+
+-- a copy with the class of what its place shows: a sound copy of its own place is a stale one
+abbrev pub copy_mend_at : Image → ℕ → Mend
+copy_mend_at image number = record { place = place_in Superblock number; class = class_of_slot (slot_at image number) }
+
+-- what is to be mended of an image: the copies that aren't members, by number, then the header slots whose decision says so, in order, each with the class of what is shown there
+abbrev pub mends_of : Layout → Image → SuperFields → List Bool → List Mend
+mends_of layout image f members =
+    map (copy_mend_at image) (filter (λ n. not (get_or members n false)) (range_with_len 0 4))
+    ++ slot_mends (needs_header layout f.op (unit_at layout f.cluster image)) (λ s. class_at layout f.cluster image (place_in WalHeaders s)) layout.slots
+
+-- the list is what a survey planned from what it read, whatever units the tables show
+abbrev pub ListsMends : Layout → Scan → List Slot → Survey → Type 0
+ListsMends layout scan copies s = (image : Units) → Tells layout image scan → s.mends ≡ mend_list layout scan image copies s.chosen.members
+
+-- the choice is the image's, and the list is what is to be mended of it
+pub record IsMendable (layout : Layout) (image : Image) (s : Survey) : Type 0 where
+  pub choice : IsChoiceOf image s.chosen
+  pub mends : s.mends ≡ mends_of layout image s.state.fields s.chosen.members
+
+-- of what a disk shows, where it tells that and its sectors are whole
+abbrev pub TellsMends : Layout → Option Told → Survey → Type 0
+TellsMends layout None s = Unit {0}
+TellsMends layout (Some t) s = IsImage t.shown → IsMendable layout t.shown s
+
+-- the state that was found, or the refusal
+abbrev pub state_of : {R : Type 0} → Result Survey (R × OpenError) → Result State OpenError
+state_of (Ok survey) = Ok survey.state
+state_of (Err refused) = Err refused.1
+
+-- the answer is that of what the disk shows, where it tells that and its sectors are whole
+abbrev pub TellsSurvey : Layout → Option Told → Result State OpenError → Type 0
+TellsSurvey layout None result = Unit {0}
+TellsSurvey layout (Some t) result = IsImage t.shown → Surveys layout t.shown result

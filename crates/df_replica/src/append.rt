@@ -1,0 +1,227 @@
+// The append of a replica: the next prepare is made in its room, and is durable, with its header, before anything in memory
+// moves on.
+ghost use Rattle.std.specs.Prelude.{◌≡◌, ◌≤◌, ◌+◌, ℕ, List, length, true, IsSome, IfOk, OnOk};
+ghost use Rattle.df_base.specs.Causes.{HasCause};
+ghost use Rattle.df_disk.specs.Adds.{Adds};
+ghost use Rattle.df_layout.specs.declared.places.Zone.TheVariants.{WalPrepares};
+ghost use Rattle.df_format.specs.declared.kind.Kind.TheVariants.{Prepare as AsPrepare};
+ghost use Rattle.df_format.specs.Making.{for_body};
+ghost use Rattle.df_format.specs.Own.{own_place};
+ghost use Rattle.df_format.specs.Rules.{ObeysRules};
+ghost use Rattle.df_format.specs.Spelling.{IsCheck};
+ghost use Rattle.df_prepares.specs.Slots.{IsInOwnSlot};
+ghost use Rattle.df_headers.specs.Ring.{IsTable};
+ghost use Rattle.df_journal.specs.Append.{with_header as table_with};
+ghost use Rattle.df_sessions.specs.Table.{IsTable as IsSessions};
+ghost use Rattle.df_model.specs.Refusals.{append_refusals, first_refusal};
+ghost use Rattle.df_replica.specs.Answering.{AnswersAppend};
+ghost use Rattle.df_replica.specs.Refusing.{AreCounters};
+ghost use Rattle.df_replica.specs.State.{IsState, memory};
+ghost use Rattle.df_replica.specs.Appending.{IsAppend, IsBlamed, MayNext, MayNote, append_events, appended, header_given, next_unit, noted, receipt_of, unit_events, unit_of, with_header};
+
+use crate::refusing::{Counters, append_refusal, session_of};
+use crate::{DataFile, Replica, Rooms};
+use df_base::Failed;
+use df_disk::Disk;
+use df_format::{Header, Kind};
+use df_journal::append;
+use df_model::{AppendError, Receipt};
+
+// What stands in place of a checksum that is set later.
+const NO_CHECKSUM: [u8; 16] = [0; 16];
+
+// Makes a prepare in its room, and makes it durable, with its header.
+fn append_in<D: Disk>(
+    disk: &mut D,
+    file: &DataFile,
+    header: Header,
+    body: &[u8],
+    rooms: Rooms,
+) -> (Rooms, Result<Header, Failed>)
+    requires layout { rooms.layout ≡ file.now.layout }
+    requires table { IsTable file.now.layout file.now.cluster rooms.headers }
+    requires cluster { header.cluster ≡ file.now.cluster }
+    requires rules { ObeysRules (for_body header body.now) }
+    requires kind { header.kind ≡ AsPrepare }
+    requires own { IsSome (own_place file.now.layout WalPrepares header) }
+    requires fits { 256 + length body.now ≤ file.now.layout.message_size }
+    ensures events { Adds (unit_events file.now.layout (unit_of header body.now) rooms.headers) (D.told disk.old) (D.told disk.new) result.1 }
+    ensures own { IsInOwnSlot file.now.layout (unit_of header body.now) }
+    ensures header { IfOk result.1 (λ h. h ≡ (unit_of header body.now).header) }
+    ensures table { OnOk result.1 (result.0.headers ≡ table_with (unit_of header body.now) rooms.headers) }
+    ensures valid { IsTable file.now.layout file.now.cluster result.0.headers }
+    ensures layout { result.0.layout ≡ rooms.layout }
+    ensures cause { HasCause (D.faults disk.old) (D.faults disk.new) result.1 }
+{
+    let Rooms {
+        layout,
+        superblock,
+        mut sector,
+        prepare,
+        reply,
+        mut headers,
+        slots,
+        replies,
+        mends,
+    } = rooms;
+    let unit = prepare.make(header, body);
+    let made = *unit.header();
+    let done = append(disk, &layout, &unit, &mut headers, &mut sector);
+    let rooms = Rooms {
+        layout,
+        superblock,
+        sector,
+        prepare: unit.loosen(),
+        reply,
+        headers,
+        slots,
+        replies,
+        mends,
+    };
+    match done {
+        Ok(()) => (rooms, Ok(made)),
+        Err(failed) => (rooms, Err(failed)),
+    }
+}
+
+impl Replica {
+    // What the maker of the next prepare says of it.
+    #[tactic(auto, unfolding(df_format::specs::Own::own_place, df_format::specs::Spelling::no_checksum))]
+    fn header_given(&self, client: u128, request: u64, body: &[u8]) -> Header
+        requires { MayNext self.now client request (length body.now) }
+        ensures value { result ≡ header_given self.now client request }
+        ensures rules { ObeysRules (for_body result body.now) }
+        ensures own { IsSome (own_place self.now.file.layout WalPrepares result) }
+    {
+        let parent = self.head_checksum;
+        Header {
+            checksum: NO_CHECKSUM,
+            checksum_body: NO_CHECKSUM,
+            cluster: self.file.cluster,
+            parent,
+            client,
+            op: self.head + 1,
+            request,
+            mark: self.replies,
+            checkpoint: self.content.fields().sequence,
+            size: 0,
+            slot: ((self.head + 1) % u64::from(self.file.layout.slots)) as u32,
+            kind: Kind::Prepare,
+            block_kind: 0,
+        }
+    }
+
+    fn counters(&self) -> Counters
+        ensures { AreCounters (memory self.now) result }
+    {
+        Counters {
+            op: self.content.fields().op,
+            head: self.head,
+            replies: self.replies,
+            sessions: self.sessions.len(),
+            places: u64::from(self.file.layout.clients),
+            slots: u64::from(self.file.layout.slots),
+            message_room: u64::from(self.file.layout.message_size) - 256,
+        }
+    }
+
+    // Why an append is refused.
+    fn append_refusal(&self, client: u128, request: u64, size: u64) -> Option<AppendError>
+        ensures why { (body : List ℕ) → size ≡ length body → result ≡ first_refusal (append_refusals (memory self.now) client request body) }
+        ensures state { IsState self.now }
+        ensures table { IsSessions self.now.table }
+    {
+        // The table is one.
+        let _count = self.sessions.len();
+        let last = session_of(&self.sessions, client);
+        append_refusal(&self.counters(), last, client, request, size)
+    }
+
+    // Makes the next prepare and makes it durable, with its header.
+    fn write_next<D: Disk>(
+        &mut self,
+        disk: &mut D,
+        client: u128,
+        request: u64,
+        body: &[u8],
+    ) -> Result<Header, Failed>
+        requires { MayNext self.old client request (length body.now) }
+        ensures events { Adds (append_events self.old (next_unit self.old client request body.now)) (D.told disk.old) (D.told disk.new) result }
+        ensures own { IsInOwnSlot self.old.file.layout (next_unit self.old client request body.now) }
+        ensures header { IfOk result (λ h. h ≡ (next_unit self.old client request body.now).header) }
+        ensures state { OnOk result (self.new ≡ with_header self.old (next_unit self.old client request body.now)) }
+        ensures cause { HasCause (D.faults disk.old) (D.faults disk.new) result }
+    {
+        let header = self.header_given(client, request, body);
+        let Some(rooms) = self.rooms.take() else {
+            unreachable!()
+        };
+        let (rooms, result) = append_in(disk, &self.file, header, body, rooms);
+        self.rooms = Some(rooms);
+        result
+    }
+
+    // Notes a prepare that is durable.
+    fn note(&mut self, made: &Header)
+        requires may { MayNote self.old made.now.client made.now.request }
+        requires op { made.now.op ≡ self.old.head + 1 }
+        requires sum { IsCheck made.now.checksum }
+        ensures { self.new ≡ noted self.old made.now }
+    {
+        self.head = made.op;
+        self.head_checksum = made.checksum;
+        self.waiting.push(made.checksum);
+        self.sessions.apply(made.client, made.request, made.op);
+    }
+
+    // Appends the next prepare.
+    fn append_next<D: Disk>(
+        &mut self,
+        disk: &mut D,
+        client: u128,
+        request: u64,
+        body: &[u8],
+    ) -> Result<Receipt, Failed>
+        requires { MayNext self.old client request (length body.now) }
+        ensures events { Adds (append_events self.old (next_unit self.old client request body.now)) (D.told disk.old) (D.told disk.new) result }
+        ensures own { IsInOwnSlot self.old.file.layout (next_unit self.old client request body.now) }
+        ensures receipt { IfOk result (λ r. r ≡ receipt_of (next_unit self.old client request body.now).header) }
+        ensures state { OnOk result (self.new ≡ appended self.old (next_unit self.old client request body.now)) }
+        ensures cause { HasCause (D.faults disk.old) (D.faults disk.new) result }
+    {
+        let made = self.write_next(disk, client, request, body)?;
+        self.note(&made);
+        let checksum = made.checksum;
+        Ok(Receipt {
+            op: made.op,
+            checksum,
+        })
+    }
+
+    /// Appends a client's request as the next prepare and makes it durable, with its header: the prepare, a sync, its header
+    /// sector, a sync. The first reason of the order refuses it; a refusal touches no disk and changes nothing. After a fault
+    /// the prepare may be kept or not, and no call may follow.
+    pub fn append<D: Disk>(
+        &mut self,
+        disk: &mut D,
+        client: u128,
+        request: u64,
+        body: &[u8],
+    ) -> Result<Receipt, AppendError>
+        requires live { self.old.live ≡ true }
+        ensures exact { IsAppend client request body.now self.old self.new (D.told disk.old) (D.told disk.new) result }
+        ensures answers { AnswersAppend client request body.now self.old self.new result }
+        ensures cause { IsBlamed (D.faults disk.old) (D.faults disk.new) result }
+    {
+        if let Some(error) = self.append_refusal(client, request, body.len() as u64) {
+            return Err(error);
+        }
+        match self.append_next(disk, client, request, body) {
+            Ok(receipt) => Ok(receipt),
+            Err(_) => {
+                self.live = false;
+                Err(AppendError::DiskFault)
+            }
+        }
+    }
+}

@@ -1,0 +1,47 @@
+// An open: a survey, and then the mending of what it lists.
+ghost use Rattle.std.specs.Prelude.{◌≡◌, Option, ℕ, List, IfOk, IfErr, OnOk, Some, true};
+ghost use Rattle.df_base.specs.Log.{Sync, now};
+ghost use Rattle.df_base.specs.Moments.{EachMoment};
+ghost use Rattle.df_disk.specs.Told.{Told, did};
+ghost use Rattle.df_theory.specs.Device.{IsGoodDisk};
+ghost use Rattle.df_theory.specs.Units.{Parts};
+ghost use Rattle.df_theory.specs.View.{View};
+ghost use Rattle.df_units.specs.Bytes.{unit_at};
+ghost use Rattle.df_model.specs.Codec.{IsCodec};
+ghost use Rattle.df_model.specs.Work.{opened};
+ghost use Rattle.df_replica.specs.Mending.{IsMended, MayOpen};
+ghost use Rattle.df_replica.specs.Scanning.{SurveysBy, answer_of};
+ghost use Rattle.df_replica.specs.Serving.{Firm, IsKept, format};
+ghost use Rattle.df_replica.specs.State.{shape};
+ghost use Rattle.df_replica.specs.Surveying.{TellsSurvey};
+
+use crate::{OpenError, Replica, Rooms, survey};
+use df_disk::Disk;
+
+impl Replica {
+    /// Opens a file: finds its state, with the refusals of `survey`, and mends it. A fault of the disk may come before the
+    /// mending or within it; every other refusal has written nothing. The rooms come back with a refusal.
+    pub fn open<D: Disk>(disk: &mut D, rooms: Rooms) -> Result<Replica, (Rooms, OpenError)>
+        ensures kept { IfOk result (λ replica. replica.file.layout ≡ rooms.layout) }
+        ensures live { IfOk result (λ replica. replica.live ≡ true) }
+        ensures given_back { IfErr result (λ refused. refused.0.layout ≡ rooms.layout) }
+        ensures answer { TellsSurvey rooms.layout (D.told disk.old) (answer_of result) }
+        ensures moments { (before after : Told) → D.told disk.old ≡ Some before → D.told disk.new ≡ Some after → IfOk result (λ replica. (parse : ℕ → List ℕ → Option Parts) (view : View)
+            → MayOpen replica.file parse view before → EachMoment (did Sync before).log after.log (IsGoodDisk (format replica.file) (shape replica.file parse) view view)) }
+        ensures mended { (before after : Told) → D.told disk.old ≡ Some before → D.told disk.new ≡ Some after → IfOk result (λ replica. (parse : ℕ → List ℕ → Option Parts) (view : View)
+            → MayOpen replica.file parse view before → IsMended replica.file parse view replica.headers after) }
+        ensures kept_for { (before after : Told) → D.told disk.old ≡ Some before → D.told disk.new ≡ Some after → IfOk result (λ replica. (parse : ℕ → List ℕ → Option Parts) (spell : Parts → List ℕ) (view : View)
+            → IsCodec (shape replica.file parse) spell → MayOpen replica.file parse view before
+            → IsKept (record { parse = parse; spell = spell; grade = Firm }) replica (opened (shape replica.file parse) (unit_at replica.file.layout replica.file.cluster (now after.log)) view) after.log) }
+        ensures cause { SurveysBy (D.faults disk.old) (D.faults disk.new) (answer_of result) }
+    {
+        let surveyed = match survey(disk, rooms) {
+            Ok(surveyed) => surveyed,
+            Err(refused) => return Err(refused),
+        };
+        match surveyed.mend(disk) {
+            Ok(replica) => Ok(replica),
+            Err((rooms, _)) => Err((rooms, OpenError::DiskFault)),
+        }
+    }
+}
