@@ -22,7 +22,7 @@ use Rattle.df_model.specs.declared.errors.AppendError.TheVariants as append
 use Rattle.df_replica.specs.Answering.{AnswersAppend}
 use Rattle.df_replica.specs.Appending.{appended, next_unit, receipt_of}
 use Rattle.df_replica.specs.Serving.{GoesOnTo, Known, next}
-use Rattle.df_replica.specs.State.{IsState, Represents, State, memory, shape}
+use Rattle.df_recovery.specs.State.{IsState, Represents, State, memory, shape}
 use Rattle.df_replica.proofs.AppendMemory.{appended_memory}
 use Rattle.df_replica.proofs.AppendTests.{may_next}
 

@@ -1,7 +1,7 @@
 -- What an append that isn't refused may rely on, and where a client's session is found.
-use Rattle.std.proofs.Common.{◌≡◌, inl, inr, ℕ, zero, suc, ◌+◌, ◌^◌, ◌<◌, ◌≤◌, ◌==◌, Bool, true, false, ◌&&◌, ◌||◌, not, nat_lt, List, [], ◌∷◌, length, get_or, map, Option, Some, None, IsTrue, IsSome, refl, sym, ◌∙◌, ap, subst, arith, rules}
-use Rattle.std.specs.Prelude.{nat_le, option_map, if◌then◌else◌}
-use Rattle.std.specs.List.{list_all, position, position_or_len, slice_get}
+use Rattle.std.proofs.Common.{◌≡◌, inl, inr, ℕ, zero, suc, ◌^◌, ◌<◌, ◌≤◌, ◌==◌, Bool, true, false, ◌&&◌, ◌||◌, not, nat_lt, List, [], ◌∷◌, length, get_or, map, Option, Some, None, IsSome, refl, sym, ◌∙◌, ap, subst, arith, rules}
+use Rattle.std.specs.Prelude.{option_map, if◌then◌else◌}
+use Rattle.std.specs.List.{position, position_or_len}
 use Rattle.std.proofs.lemmas.Bool.{cases_Bool}
 use Rattle.std.proofs.lemmas.Bool.Decides.{nat_tests}
 use Rattle.std.proofs.lemmas.List.{length-map}
@@ -16,9 +16,9 @@ use Rattle.df_theory.specs.Units.{Session}
 use Rattle.df_model.specs.Refusals.{append_refusals, first_refusal, is_new, next_request, session_of_client}
 use Rattle.df_journal.specs.Tail.{AreNumbered}
 use Rattle.df_model.proofs.Laws.{all_pass}
-use Rattle.df_replica.specs.State.{IsState, State, memory}
+use Rattle.df_recovery.specs.State.{IsState, State, memory}
 use Rattle.df_replica.specs.Refusing.{session_at}
-use Rattle.df_replica.specs.Appending.{MayNext, appended, next_unit}
+use Rattle.df_replica.specs.Appending.{MayNext}
 
 -- ---- a client's session
 

@@ -8,7 +8,7 @@ use Rattle.df_theory.specs.UnitLog.{Synced, UnitEvent, UnitLog, now_of}
 use Rattle.df_theory.proofs.Laws.{disk_barrier_law, now_units, quiet_synced}
 use Rattle.df_replica.specs.Mending.{BarrierRests}
 use Rattle.df_replica.specs.Serving.{format}
-use Rattle.df_replica.specs.State.{shape}
+use Rattle.df_recovery.specs.State.{shape}
 use Rattle.df_replica.proofs.Mendable.{in_pools}
 
 -- a sync adds no unit to the pools

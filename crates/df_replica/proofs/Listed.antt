@@ -17,12 +17,12 @@ use Rattle.df_journal.proofs.Laws.{class_shown, scanned_shown}
 use Rattle.df_quorum.specs.declared.slot.Slot.{Slot}
 use Rattle.df_superblock.specs.Calls.{ShowsSlots}
 use Rattle.df_units.specs.Bytes.{unit_at}
-use Rattle.df_replica.specs.Found.{IsChoiceOf}
-use Rattle.df_replica.specs.Plan.{class_of_slot, copy_mend, copy_mends, needs_header, shown_class, slot_mend, slot_mends}
+use Rattle.df_recovery.specs.Found.{IsChoiceOf}
+use Rattle.df_recovery.specs.Plan.{class_of_slot, copy_mend, copy_mends, needs_header, shown_class, slot_mend, slot_mends}
 use Rattle.df_replica.specs.Replica.{Survey}
-use Rattle.df_replica.specs.Scanning.{AreScanned, IsServed, TellsRead}
+use Rattle.df_recovery.specs.Scanning.{AreScanned, IsServed, TellsRead}
 use Rattle.df_replica.specs.Surveying.{IsMendable, IsReadOf, ListsMends, TellsMends, copy_mend_at, mends_of}
-use Rattle.df_replica.specs.declared.superblock.Found.{Found}
+use Rattle.df_recovery.specs.declared.superblock.Found.{Found}
 
 -- what two functions make of the numbers that are wanted is the same where they agree
 listed_case : (b : Bool) (f g : ℕ → Mend) (a : ℕ) (xs ys : List ℕ) → f a ≡ g a → map f xs ≡ map g ys → map f (cond b (a ∷ xs) xs) ≡ map g (cond b (a ∷ ys) ys)

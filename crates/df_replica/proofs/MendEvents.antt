@@ -11,8 +11,8 @@ use Rattle.df_layout.specs.declared.layout.Layout.{Layout}
 use Rattle.df_format.specs.declared.header.Header.{Header}
 use Rattle.df_headers.specs.Ring.{sector_events}
 use Rattle.df_replica.specs.Mending.{header_events, needs_sector, sector_writes, sectors_to, some_of, wanted_writes}
-use Rattle.df_replica.specs.Plan.{if_wanted}
-use Rattle.df_replica.proofs.Plans.{filter_more}
+use Rattle.df_recovery.specs.Plan.{if_wanted}
+use Rattle.df_recovery.proofs.Laws.{filter_more}
 
 -- ---- calls one after the other
 

@@ -27,11 +27,11 @@ use Rattle.df_headers.specs.Ring.{IsTable, in_sector}
 use Rattle.df_headers.proofs.Laws.{table_written}
 use Rattle.df_superblock.specs.Events.{repair_events}
 use Rattle.df_superblock.specs.Steps.{repaired}
-use Rattle.df_replica.specs.declared.file.DataFile.{DataFile}
-use Rattle.df_replica.specs.Plan.{header_or_none, headers_in, if_wanted}
+use Rattle.df_recovery.specs.declared.file.DataFile.{DataFile}
+use Rattle.df_recovery.specs.Plan.{header_or_none, headers_in, if_wanted}
 use Rattle.df_replica.specs.Mending.{IsMended, MayMendOn, header_events, mending_events, mending_steps, needs_sector, sector_puts, sector_writes, sectors_of, sectors_to}
 use Rattle.df_replica.specs.Serving.{format}
-use Rattle.df_replica.specs.State.{shape}
+use Rattle.df_recovery.specs.State.{shape}
 use Rattle.df_replica.proofs.MendEvents.{sectors_more}
 
 -- ---- the calls are steps

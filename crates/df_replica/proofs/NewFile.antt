@@ -1,12 +1,11 @@
 -- A new file is made by writes of reserved headers and of four copies: these are the model's making, at every moment and at its end.
-use Rattle.std.proofs.Common.{◌≡◌, inl, ℕ, zero, suc, ◌+◌, ◌*◌, ◌/◌, ◌^◌, ◌<◌, ◌≤◌, List, [], ◌∷◌, ◌++◌, length, get_or, Option, Some, refl, sym, ◌∙◌, ap, subst, arith, Result, Ok, Err}
-use Rattle.std.specs.Prelude.{map, slice_get}
-use Rattle.std.specs.List.{range_with_len}
+use Rattle.std.proofs.Common.{◌≡◌, inl, ℕ, zero, suc, ◌+◌, ◌*◌, ◌/◌, ◌^◌, ◌<◌, ◌≤◌, List, [], ◌∷◌, length, Option, Some, refl, sym, ◌∙◌, ap, subst, arith, Result, Ok, Err}
+use Rattle.std.specs.Prelude.{slice_get}
 use Rattle.std.proofs.lemmas.List.{ext_get_or}
 use Rattle.std.proofs.lemmas.List.FromFn.{get_or-map-range_with_len, length-map-range_with_len}
 use Rattle.std.proofs.lemmas.Option.{get_or_from_slice_get, slice_get-get_or, slice_get_within}
 use Rattle.df_base.specs.Log.{Event, Log}
-use Rattle.df_base.specs.Moments.{EachMoment, adds}
+use Rattle.df_base.specs.Moments.{adds}
 use Rattle.df_disk.specs.Told.{Told, after}
 use Rattle.df_disk.specs.Adds.{Adds, AddsPart, after_all}
 use Rattle.df_disk.proofs.Laws.{adds_part}

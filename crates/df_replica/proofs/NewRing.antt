@@ -1,7 +1,5 @@
 -- The header ring of a new file: its sectors are written one after the other, and each is one of reserved headers.
-use Rattle.std.proofs.Common.{◌≡◌, ℕ, zero, suc, ◌+◌, ◌-◌, ◌*◌, ◌/◌, ◌<◌, ◌≤◌, List, [], ◌∷◌, ◌++◌, length, Option, Some, refl, sym, ◌∙◌, ap, subst, arith, Result, Ok, Err}
-use Rattle.std.specs.Prelude.{map, slice_get}
-use Rattle.std.specs.List.{range_with_len}
+use Rattle.std.proofs.Common.{◌≡◌, ℕ, zero, suc, ◌+◌, ◌-◌, ◌*◌, ◌<◌, List, [], ◌∷◌, ◌++◌, Option, refl, sym, ◌∙◌, ap, subst, arith, Result, Ok, Err}
 use Rattle.df_base.specs.Log.{Event, Write}
 use Rattle.df_disk.specs.Told.{Told, after}
 use Rattle.df_disk.specs.Adds.{Adds, AddsPart, after_all}

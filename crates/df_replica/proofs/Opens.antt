@@ -30,13 +30,13 @@ use Rattle.df_model.specs.Laws.{IsKeptBy}
 use Rattle.df_model.specs.Work.{Work, checksum_of, checksum_of_op, first_tour, opened, waiting_checksum}
 use Rattle.df_model.proofs.Laws.{opened_kept_law}
 use Rattle.df_superblock.specs.Steps.{repaired}
-use Rattle.df_replica.specs.declared.file.DataFile.{DataFile}
+use Rattle.df_recovery.specs.declared.file.DataFile.{DataFile}
 use Rattle.df_layout.specs.declared.layout.Layout.{Layout}
 use Rattle.df_replica.specs.Surveying.{TellsSurvey}
 use Rattle.df_replica.specs.Mending.{IsMended, MayOpen, live_state, mending_events, mending_steps, sector_puts, sectors_of}
 use Rattle.df_replica.specs.Serving.{Firm, IsKept, Known, format}
-use Rattle.df_replica.specs.State.{Represents, State, shape}
-use Rattle.df_replica.specs.Surveys.{IsOpened}
+use Rattle.df_recovery.specs.State.{Represents, State, shape}
+use Rattle.df_recovery.specs.Surveys.{IsOpened}
 
 -- ---- no step of a mending puts a prepare
 

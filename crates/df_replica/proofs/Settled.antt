@@ -23,17 +23,16 @@ use Rattle.df_theory.specs.MendLaws.{IsSlotHeader}
 use Rattle.df_theory.proofs.Laws.{one_chosen_law}
 use Rattle.df_units.specs.Bytes.{unit_at}
 use Rattle.df_units.specs.Meaning.{number_of}
-use Rattle.df_replica.specs.Finding.{Answers, HasHeaders, IsKept, IsOfFile, IsRefused, Read, StoresTo, base_of}
-use Rattle.df_replica.specs.Opening.{IsLayoutOf}
-use Rattle.df_replica.specs.Plan.{header_or_none}
-use Rattle.df_replica.specs.State.{State, shape, sum_of}
+use Rattle.df_recovery.specs.Finding.{Answers, HasHeaders, IsKept, IsOfFile, IsRefused, Read, StoresTo, base_of}
+use Rattle.df_recovery.specs.Opening.{IsLayoutOf}
+use Rattle.df_recovery.specs.Plan.{header_or_none}
+use Rattle.df_recovery.specs.State.{State, shape, sum_of}
 use Rattle.df_replica.specs.Surveying.{IsReadOf, IsSettled, PlansHeaders, checksum_at, checksum_of}
-use Rattle.df_replica.specs.Surveys.{Surveys}
-use Rattle.df_replica.specs.declared.file.DataFile.{DataFile}
-use Rattle.df_replica.specs.declared.finding.Traces.{Traces}
-use Rattle.df_replica.specs.declared.superblock.Found.{Found}
-use Rattle.df_replica.proofs.FilesRead.{file_is_read}
-use Rattle.df_replica.proofs.OpenAnswers.{kept_is_answer, refused_is_answer}
+use Rattle.df_recovery.specs.Surveys.{Surveys}
+use Rattle.df_recovery.specs.declared.file.DataFile.{DataFile}
+use Rattle.df_recovery.specs.declared.finding.Traces.{Traces}
+use Rattle.df_recovery.specs.declared.superblock.Found.{Found}
+use Rattle.df_recovery.proofs.Laws.{file_is_read, kept_is_answer, refused_is_answer}
 
 -- ---- the checksums that wait, as numbers
 

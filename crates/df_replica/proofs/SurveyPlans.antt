@@ -18,14 +18,14 @@ use Rattle.df_journal.specs.Scan.{Scan}
 use Rattle.df_journal.specs.Shows.{Tells}
 use Rattle.df_journal.specs.declared.table.Start.{Start}
 use Rattle.df_journal.proofs.Laws.{scanned_shown}
-use Rattle.df_replica.specs.declared.superblock.Found.{Found}
-use Rattle.df_replica.specs.Found.{IsFound}
+use Rattle.df_recovery.specs.declared.superblock.Found.{Found}
+use Rattle.df_recovery.specs.Found.{IsFound}
 use Rattle.df_replica.specs.Mending.{IsPlanned, IsSettledFrom, live_state}
 use Rattle.df_replica.specs.Replica.{Survey}
-use Rattle.df_replica.specs.Scanning.{AreScanned, TellsRead}
-use Rattle.df_replica.specs.State.{State}
+use Rattle.df_recovery.specs.Scanning.{AreScanned, TellsRead}
+use Rattle.df_recovery.specs.State.{State}
 use Rattle.df_replica.specs.Surveying.{TellsSurvey}
-use Rattle.df_replica.specs.Surveys.{IsOpened}
+use Rattle.df_recovery.specs.Surveys.{IsOpened}
 
 pub if_ok_more : {T E : Type 0} → (P Q : T → Type 0) (r : Result T E) → ((x : T) → P x → Q x) → IfOk r P → IfOk r Q
 if_ok_more P Q (Ok x) more is = more x is

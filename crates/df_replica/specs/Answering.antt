@@ -9,7 +9,7 @@ use Rattle.df_model.specs.declared.errors.AppendError.{AppendError}
 use Rattle.df_model.specs.declared.errors.AppendError.TheVariants as append
 use Rattle.df_replica.specs.Appending.{next_unit}
 use Rattle.df_replica.specs.Serving.{GoesOnTo, Known, next}
-use Rattle.df_replica.specs.State.{Represents, State, shape}
+use Rattle.df_recovery.specs.State.{Represents, State, shape}
 
 -- the machine's answer of an append; at a fault of the disk there is none
 abbrev pub append_answer : Result Receipt AppendError → Option Answer

@@ -6,7 +6,7 @@ use Rattle.df_base.specs.Log.{Event}
 use Rattle.df_disk.specs.Told.{Told}
 use Rattle.df_disk.specs.Adds.{AddsPart, after_all}
 use Rattle.df_format.specs.Copies.{is_blank_copy}
-use Rattle.df_replica.specs.Opening.{IsUnformatted}
+use Rattle.df_recovery.specs.Opening.{IsUnformatted}
 use Rattle.df_model.specs.declared.errors.FormatError.{FormatError}
 use Rattle.df_model.specs.declared.errors.FormatError.TheVariants.{ClusterZero, NotBlank, DiskFault}
 

@@ -1,8 +1,8 @@
 -- The rooms that a replica holds: a call takes them out while it works, and puts them back.
 use Rattle.std.specs.Prelude.{◌≡◌, List, [], Option, Some, None}
 use Rattle.df_format.specs.declared.header.Header.{Header}
-use Rattle.df_replica.specs.declared.file.DataFile.{DataFile}
-use Rattle.df_replica.specs.declared.rooms.Rooms.{Rooms}
+use Rattle.df_recovery.specs.declared.file.DataFile.{DataFile}
+use Rattle.df_recovery.specs.declared.rooms.Rooms.{Rooms}
 
 -- the table of headers in them
 abbrev pub headers_of : Option Rooms → List Header

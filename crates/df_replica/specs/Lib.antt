@@ -1,17 +1,9 @@
 pub mod Formatting
-pub mod Opening
-pub mod Found
 pub mod OneContent
 pub mod Laws
-pub mod OpeningLaws
-pub mod State
-pub mod Surveys
 pub mod Serving
 pub mod Making
 pub mod Replica
-pub mod Scanning
-pub mod Finding
-pub mod Plan
 pub mod Mending
 pub mod Surveying
 pub mod Held

@@ -1,5 +1,5 @@
 -- The making of a whole file: its device calls, what they are in the words of the model, and on what disk a file may be made.
-use Rattle.std.specs.Prelude.{◌≡◌, ◌<◌, ◌+◌, ◌/◌, ℕ, zero, suc, List, [], ◌∷◌, ◌++◌, map, Option, Result, OnOk}
+use Rattle.std.specs.Prelude.{◌<◌, ◌+◌, ◌/◌, ℕ, zero, suc, List, [], ◌∷◌, ◌++◌, map, Option, Result, OnOk}
 use Rattle.std.specs.List.{range_with_len}
 use Rattle.df_base.specs.Log.{Event, IsLog, Sync}
 use Rattle.df_base.specs.Moments.{EachMoment}

@@ -29,13 +29,13 @@ use Rattle.df_journal.specs.Shows.{Tells}
 use Rattle.df_journal.specs.Append.{ShowsRing}
 use Rattle.df_superblock.specs.Events.{repair_events}
 use Rattle.df_superblock.specs.Steps.{repaired}
-use Rattle.df_replica.specs.declared.file.DataFile.{DataFile}
-use Rattle.df_replica.specs.Opening.{HasSuper}
-use Rattle.df_replica.specs.Plan.{AreDistinct, IsScanOf, OthersAreShown, headers_in, if_wanted, mend_list}
+use Rattle.df_recovery.specs.declared.file.DataFile.{DataFile}
+use Rattle.df_recovery.specs.Opening.{HasSuper}
+use Rattle.df_recovery.specs.Plan.{AreDistinct, IsScanOf, OthersAreShown, headers_in, if_wanted, mend_list}
 use Rattle.df_replica.specs.Serving.{format}
-use Rattle.df_replica.specs.declared.superblock.Found.{Found}
+use Rattle.df_recovery.specs.declared.superblock.Found.{Found}
 use Rattle.df_replica.specs.Replica.{Survey, state_with}
-use Rattle.df_replica.specs.State.{State, shape}
+use Rattle.df_recovery.specs.State.{State, shape}
 
 -- ---- sectors
 

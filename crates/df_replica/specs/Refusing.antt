@@ -1,11 +1,8 @@
 -- What the refusals of calls are made of: the numbers of what is in memory.
-use Rattle.std.specs.Prelude.{◌≡◌, ◌^◌, ℕ, Bool, IsTrue, List, length, nat_le, slice_get, Option, Some, None}
-use Rattle.std.specs.List.{list_all}
-use Rattle.df_format.specs.Spelling.{no_checksum}
+use Rattle.std.specs.Prelude.{◌≡◌, ℕ, List, length, slice_get, Option, Some, None}
 use Rattle.df_sessions.specs.declared.session.Session.{Session}
 use Rattle.df_model.specs.Memory.{Memory, message_room}
 use Rattle.df_replica.specs.declared.refusing.Counters.{Counters}
-use Rattle.df_replica.specs.State.{State}
 
 -- the session at a place, if there is a place
 abbrev pub session_at : List Session → Option ℕ → Option Session

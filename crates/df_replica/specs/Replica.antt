@@ -6,8 +6,8 @@ use Rattle.df_format.specs.declared.superblock.SuperFields.{SuperFields}
 use Rattle.df_model.specs.declared.answers.Summary.{Summary}
 use Rattle.df_quorum.specs.declared.choice.Chosen.{Chosen}
 use Rattle.df_sessions.specs.Table.{Table}
-use Rattle.df_replica.specs.declared.file.DataFile.{DataFile}
-use Rattle.df_replica.specs.State.{State}
+use Rattle.df_recovery.specs.declared.file.DataFile.{DataFile}
+use Rattle.df_recovery.specs.State.{State}
 
 -- the state of these parts
 abbrev pub state_with : DataFile → SuperFields → ℕ → List ℕ → ℕ → Table → List (List ℕ) → List Header → Bool → State

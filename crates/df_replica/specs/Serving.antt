@@ -1,5 +1,5 @@
 -- What is kept of a file from call to call, and what each call of a replica promises, whatever the state of the machine that it stands for.
-use Rattle.std.specs.Prelude.{◌≡◌, ℕ, Bool, true, false, List, Option, Some, None}
+use Rattle.std.specs.Prelude.{◌≡◌, ℕ, true, false, List, Option, Some, None}
 use Rattle.df_base.specs.Log.{IsLog, Log, now}
 use Rattle.df_base.specs.Moments.{EachMoment, Extends}
 use Rattle.df_disk.specs.Told.{Told}
@@ -14,8 +14,8 @@ use Rattle.df_model.specs.Commands.{Answer, Command, Given, IsInput, after}
 use Rattle.df_model.specs.Laws.{IsKeptBy}
 use Rattle.df_model.specs.Sense.{IsBacked}
 use Rattle.df_model.specs.Work.{Work, kept}
-use Rattle.df_replica.specs.declared.file.DataFile.{DataFile}
-use Rattle.df_replica.specs.State.{Represents, State, shape}
+use Rattle.df_recovery.specs.declared.file.DataFile.{DataFile}
+use Rattle.df_recovery.specs.State.{Represents, State, shape}
 
 -- how much holds of a file: that nothing is to be mended, or that each block that it references is shown, too
 pub data Grade : Type 0 where

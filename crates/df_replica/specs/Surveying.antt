@@ -22,14 +22,14 @@ use Rattle.df_theory.specs.Shape.{Shape}
 use Rattle.df_theory.specs.Units.{Units}
 use Rattle.df_theory.specs.View.{View}
 use Rattle.df_units.specs.Bytes.{unit_at}
-use Rattle.df_replica.specs.Found.{IsChoiceOf, IsFound}
-use Rattle.df_replica.specs.Plan.{IsScanOf, class_of_slot, headers_in, mend_list, needs_header, slot_mends}
+use Rattle.df_recovery.specs.Found.{IsChoiceOf, IsFound}
+use Rattle.df_recovery.specs.Plan.{IsScanOf, class_of_slot, headers_in, mend_list, needs_header, slot_mends}
 use Rattle.df_replica.specs.Replica.{Survey}
-use Rattle.df_replica.specs.Scanning.{AreScanned, IsServed}
-use Rattle.df_replica.specs.State.{State}
-use Rattle.df_replica.specs.Surveys.{Surveys}
-use Rattle.df_replica.specs.declared.finding.Traces.{Traces}
-use Rattle.df_replica.specs.declared.superblock.Found.{Found}
+use Rattle.df_recovery.specs.Scanning.{AreScanned, IsServed}
+use Rattle.df_recovery.specs.State.{State}
+use Rattle.df_recovery.specs.Surveys.{Surveys}
+use Rattle.df_recovery.specs.declared.finding.Traces.{Traces}
+use Rattle.df_recovery.specs.declared.superblock.Found.{Found}
 
 -- the checksum of a header of the table
 abbrev pub checksum_of : Option Header → List ℕ

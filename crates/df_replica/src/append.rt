@@ -16,7 +16,7 @@ ghost use Rattle.df_sessions.specs.Table.{IsTable as IsSessions};
 ghost use Rattle.df_model.specs.Refusals.{append_refusals, first_refusal};
 ghost use Rattle.df_replica.specs.Answering.{AnswersAppend};
 ghost use Rattle.df_replica.specs.Refusing.{AreCounters};
-ghost use Rattle.df_replica.specs.State.{IsState, memory};
+ghost use Rattle.df_recovery.specs.State.{IsState, memory};
 ghost use Rattle.df_replica.specs.Appending.{IsAppend, IsBlamed, MayNext, MayNote, append_events, appended, header_given, next_unit, noted, receipt_of, unit_events, unit_of, with_header};
 
 use crate::refusing::{Counters, append_refusal, session_of};

@@ -8,11 +8,11 @@ ghost use Rattle.df_replica.specs.Formatting.{AddsFormat, FormatsBy, RefusesClus
 
 use crate::FormatError;
 use crate::first::first_superblock;
-use crate::superblock::first_written;
 use df_base::Failed;
 use df_buffers::{ProbeRoom, Rooms};
 use df_disk::Disk;
 use df_format::Super;
+use df_recovery::first_written;
 use df_superblock::{read_all, write_copy};
 
 // Whether the sectors of the copies hold zeros alone.

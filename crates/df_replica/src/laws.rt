@@ -1,5 +1,4 @@
 // The laws of logs whose copies of the superblock are of one content, each the clause of a function that does nothing.
-ghost use Rattle.df_replica.specs.OpeningLaws.{SuperOrRefusal, OneSuper, OneRefusal, SuperIsWritten};
 ghost use Rattle.df_replica.specs.Laws.{UntouchedIsSafe, UntouchedStaysSafe, SafeStaysSafe, StopStaysSafe, TwoCopiesStayChosen, CopiesAreApart, CopiesFormat, UpdatesAreOfFile, RepairsAreOfFile, RepairsSpareMembers, ChoicesHaveTwo};
 
 /// A disk that was never written is safe for each content, and stays safe for that of a file at each moment of any events
@@ -46,16 +45,4 @@ pub fn choices_have_two_members()
 /// before.
 pub fn copies_format()
     ensures { CopiesFormat }
-{}
-
-/// An image has one answer: a superblock that can be used, or one reason why not.
-pub fn one_answer()
-    ensures excluded { SuperOrRefusal }
-    ensures one { OneSuper }
-    ensures reason { OneRefusal }
-{}
-
-/// Where the superblock can be used, the content that is chosen is the one that its fields are written with.
-pub fn super_is_written()
-    ensures { SuperIsWritten }
 {}

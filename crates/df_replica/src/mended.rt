@@ -10,7 +10,7 @@ ghost use Rattle.df_theory.specs.Units.{Parts};
 ghost use Rattle.df_theory.specs.View.{View};
 ghost use Rattle.df_replica.specs.Mending.{IsMended, IsPlanned, MayMendOn, RestsOnDisk, live_state, mending_events, mending_steps};
 ghost use Rattle.df_replica.specs.Serving.{format};
-ghost use Rattle.df_replica.specs.State.{shape};
+ghost use Rattle.df_recovery.specs.State.{shape};
 
 use crate::mending::{are_four, write_mends};
 use crate::{DataFile, Replica, Rooms, Surveyed};

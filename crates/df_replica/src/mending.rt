@@ -9,7 +9,7 @@ ghost use Rattle.df_theory.specs.Device.{AreSteps, IsGoodDisk};
 ghost use Rattle.df_headers.specs.Ring.{IsTable};
 ghost use Rattle.df_replica.specs.Mending.{IsMended, MayMendOn, header_events, lies_in, mending_events, mending_steps, needs_sector, sector_writes, sectors_of, some_of, wanted_writes};
 ghost use Rattle.df_replica.specs.Serving.{format};
-ghost use Rattle.df_replica.specs.State.{shape};
+ghost use Rattle.df_recovery.specs.State.{shape};
 
 use crate::DataFile;
 use df_base::Failed;

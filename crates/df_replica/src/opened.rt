@@ -10,9 +10,9 @@ ghost use Rattle.df_units.specs.Bytes.{unit_at};
 ghost use Rattle.df_model.specs.Codec.{IsCodec};
 ghost use Rattle.df_model.specs.Work.{opened};
 ghost use Rattle.df_replica.specs.Mending.{IsMended, MayOpen};
-ghost use Rattle.df_replica.specs.Scanning.{SurveysBy, answer_of};
+ghost use Rattle.df_recovery.specs.Scanning.{SurveysBy, answer_of};
 ghost use Rattle.df_replica.specs.Serving.{Firm, IsKept, format};
-ghost use Rattle.df_replica.specs.State.{shape};
+ghost use Rattle.df_recovery.specs.State.{shape};
 ghost use Rattle.df_replica.specs.Surveying.{TellsSurvey};
 
 use crate::{OpenError, Replica, Rooms, survey};

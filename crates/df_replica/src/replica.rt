@@ -28,7 +28,7 @@ pub struct Replica {
 
 impl Model for Replica {
     ghost use Rattle.std.specs.Prelude.{◌≡◌};
-    ghost use Rattle.df_replica.specs.State.{State, IsState};
+    ghost use Rattle.df_recovery.specs.State.{State, IsState};
     ghost use Rattle.df_replica.specs.Replica.{state_with};
     ghost use Rattle.df_replica.specs.Held.{AreFor, headers_of};
 

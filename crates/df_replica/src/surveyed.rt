@@ -31,7 +31,7 @@ pub struct Surveyed {
 
 impl Model for Surveyed {
     ghost use Rattle.std.specs.Prelude.{◌≡◌, false};
-    ghost use Rattle.df_replica.specs.State.{IsState};
+    ghost use Rattle.df_recovery.specs.State.{IsState};
     ghost use Rattle.df_replica.specs.Replica.{Survey, state_with};
 
     ghost Value = { Survey };

@@ -7,24 +7,21 @@ ghost use Rattle.df_journal.specs.Tail.{AreNumbered};
 ghost use Rattle.df_journal.specs.Shows.{IsTable as AreSlots, Tells};
 ghost use Rattle.df_superblock.specs.Calls.{ShowsSlots};
 ghost use Rattle.df_theory.specs.Units.{Units};
-ghost use Rattle.df_replica.specs.Plan.{mend_list};
-ghost use Rattle.df_replica.specs.Finding.{IsDamage};
-ghost use Rattle.df_replica.specs.Found.{Syncs};
+ghost use Rattle.df_recovery.specs.Plan.{mend_list};
+ghost use Rattle.df_recovery.specs.Finding.{IsDamage};
+ghost use Rattle.df_recovery.specs.Found.{Syncs};
 ghost use Rattle.df_replica.specs.Mending.{ArePlannedFrom, IsPlanned, IsSettledFrom};
-ghost use Rattle.df_replica.specs.Scanning.{IsServed, SurveysBy, answer_of};
-ghost use Rattle.df_replica.specs.Surveys.{Surveys};
+ghost use Rattle.df_recovery.specs.Scanning.{IsServed, SurveysBy, answer_of};
+ghost use Rattle.df_recovery.specs.Surveys.{Surveys};
 ghost use Rattle.df_replica.specs.Surveying.{IsMendable, IsReadOf, IsSettled, ListsMends, PlansHeaders, TellsMends, TellsSurvey, checksum_at, state_of, waiting_in};
 
-use crate::finding::{Traces, find_state};
-use crate::plan::plan;
-use crate::scanning::{Copies, Scanned, scan_file};
-use crate::stored::store_replies;
 use crate::{DataFile, OpenError, Rooms, Surveyed};
 use arrayvec::ArrayVec;
 use df_base::Check;
 use df_disk::Disk;
 use df_headers::HeaderTable;
 use df_layout::Layout;
+use df_recovery::{Copies, Scanned, Traces, find_state, plan, scan_file, store_replies};
 use df_sessions::SessionTable;
 
 // The checksum of the prepare with this op, by the header in its slot.

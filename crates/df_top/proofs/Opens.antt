@@ -13,13 +13,13 @@ use Rattle.df_format.specs.declared.superblock.SuperFields.{SuperFields}
 use Rattle.df_format.specs.declared.wal.Wal.{Wal}
 use Rattle.df_quorum.proofs.Choices.{one_law}
 use Rattle.df_format.specs.First.{first_super}
-use Rattle.df_replica.specs.Found.{Answers, IsFound, IsLayoutShown, TellsFound, TellsLayout, Syncs, fault_error}
-use Rattle.df_replica.specs.Opening.{HasSuper, Refuses, IsLayoutOf}
+use Rattle.df_recovery.specs.Found.{Answers, IsFound, IsLayoutShown, TellsFound, TellsLayout, Syncs, fault_error}
+use Rattle.df_recovery.specs.Opening.{HasSuper, Refuses, IsLayoutOf}
 use Rattle.df_model.specs.declared.errors.OpenError.{OpenError}
 use Rattle.df_model.specs.declared.errors.OpenError.TheVariants.{NotFormatted, NoQuorum, Version, BadField, LayoutDiffers, Damaged, DiskFault}
-use Rattle.df_replica.specs.declared.superblock.Found.{Found}
+use Rattle.df_recovery.specs.declared.superblock.Found.{Found}
 use Rattle.df_replica.proofs.FirstSuper.{no_fault}
-use Rattle.df_replica.proofs.OneAnswer.{one_super, one_refusal, super_or_refusal}
+use Rattle.df_recovery.proofs.Laws.{one_super, one_refusal, super_or_refusal}
 use Rattle.df_superblock.specs.Events.{repair_events}
 use Rattle.df_top.specs.Files.{IsFile, OnFile, RefusesRun, first_tests, content_of_file}
 use Rattle.df_top.specs.Opening.{FailsFirst, IsFileOf, HasNoFile, OpensFile, RefusesToOpen}

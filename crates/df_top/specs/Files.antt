@@ -13,10 +13,10 @@ use Rattle.df_format.specs.SuperRules.{Test, test, first_failing}
 use Rattle.df_prepares.specs.Steady.{IsSafe}
 use Rattle.df_quorum.specs.Quorum.{IsChosen}
 use Rattle.df_format.specs.First.{first_content}
-use Rattle.df_replica.specs.Opening.{HasSuper, Refuses}
+use Rattle.df_recovery.specs.Opening.{HasSuper, Refuses}
 use Rattle.df_replica.specs.OneContent.{IsSafeOf}
 use Rattle.df_model.specs.declared.errors.OpenError.{OpenError}
-use Rattle.df_replica.specs.Found.{fault_error}
+use Rattle.df_recovery.specs.Found.{fault_error}
 use Rattle.df_top.specs.Logs.{IsLogOf}
 use Rattle.df_top.specs.declared.session.DataFile.{DataFile}
 

@@ -10,8 +10,8 @@ use Rattle.df_format.specs.declared.superblock.SuperFault.{SuperFault}
 use Rattle.df_format.specs.declared.superblock.SuperFields.{SuperFields}
 use Rattle.df_format.specs.declared.wal.Wal.{Wal}
 use Rattle.df_prepares.specs.Found.{IsHeadOf}
-use Rattle.df_replica.specs.Found.{fault_error}
-use Rattle.df_replica.specs.Opening.{IsLayoutOf}
+use Rattle.df_recovery.specs.Found.{fault_error}
+use Rattle.df_recovery.specs.Opening.{IsLayoutOf}
 use Rattle.df_model.specs.declared.errors.OpenError.{OpenError}
 use Rattle.df_model.specs.declared.errors.OpenError.TheVariants.{LayoutDiffers, DiskFault}
 use Rattle.df_top.specs.Files.{OnFile, RefusesRun, first_tests}

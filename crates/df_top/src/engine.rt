@@ -1,7 +1,7 @@
 // The program: its words, the memory that it takes, and the session that it opens.
 ghost use Rattle.std.specs.Prelude.{◌≡◌, ◌↔◌, ℕ, map, string_bytes, Ok, IfOk};
 ghost use Rattle.df_layout.specs.declared.layout.Layout.{Layout};
-ghost use Rattle.df_replica.specs.Found.{TellsLayout};
+ghost use Rattle.df_recovery.specs.Found.{TellsLayout};
 ghost use Rattle.df_script.specs.Room.{IsFresh};
 ghost use Rattle.df_top.specs.declared.command.Command.{Command};
 ghost use Rattle.df_top.specs.Command.{Means, MeansNothing};

@@ -3,7 +3,7 @@ ghost use Rattle.std.specs.Prelude.{◌≡◌, [], ◌∷◌, length, Ok, IfOk, 
 ghost use Rattle.std.specs.Result.{result_err};
 ghost use Rattle.df_disk.specs.Adds.{Adds};
 ghost use Rattle.df_format.specs.SuperRules.{first_failing, test};
-ghost use Rattle.df_replica.specs.Found.{TellsLayout, fault_error};
+ghost use Rattle.df_recovery.specs.Found.{TellsLayout, fault_error};
 ghost use Rattle.df_script.specs.Room.{IsFresh};
 ghost use Rattle.df_superblock.specs.Events.{repair_events};
 ghost use Rattle.df_top.specs.Files.{OnFile, first_tests};

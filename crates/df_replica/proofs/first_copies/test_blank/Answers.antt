@@ -1,5 +1,5 @@
 -- Which of the four sectors is the first that holds a byte other than zero.
-use Rattle.df_replica.proofs.Places.{tells_written, tells_blank}
+use Rattle.df_replica.proofs.Blanks.{tells_written, tells_blank}
 use Rattle.df_replica.proofs.first_copies.test_blank.Goals as goal
 
 pub returns-in-Some-clause-blank : goal.returns-in-Some-clause-blank

@@ -1,5 +1,5 @@
 -- The table that was cleared is that of reserved headers, and its writes with those of the copies are the model's making.
-use Rattle.std.proofs.Common.{◌≡◌, List, Option, Some, sym, ◌∙◌, subst}
+use Rattle.std.proofs.Common.{List, Option, Some, ◌∙◌, subst}
 use Rattle.df_disk.specs.Told.{Told}
 use Rattle.df_disk.specs.Adds.{Adds}
 use Rattle.df_format.specs.declared.header.Header.{Header}

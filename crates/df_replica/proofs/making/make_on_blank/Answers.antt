@@ -1,5 +1,5 @@
 -- Where the disk isn't blank nothing is written, and that is a part of a making.
-use Rattle.std.proofs.Common.{◌≡◌, Option, Some, ◌∙◌, subst}
+use Rattle.std.proofs.Common.{Option, Some, ◌∙◌, subst}
 use Rattle.df_disk.specs.Told.{Told}
 use Rattle.df_disk.specs.Adds.{AddsPart}
 use Rattle.df_format.specs.SuperRules.{IsUsable}

@@ -1,6 +1,5 @@
 -- Each turn writes one more sector, or a part of the writes was made.
-use Rattle.std.proofs.Common.{◌≡◌, ◌/◌, ℕ, Option, List, ap, ◌∙◌, subst, arith}
-use Rattle.df_disk.specs.Told.{Told}
+use Rattle.std.proofs.Common.{◌≡◌, ◌/◌, ◌∙◌, subst, arith}
 use Rattle.df_disk.specs.Adds.{AddsPart, after_all}
 use Rattle.df_layout.specs.declared.layout.Layout.{Layout}
 use Rattle.df_headers.specs.Ring.{sector_events}

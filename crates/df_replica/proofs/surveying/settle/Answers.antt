@@ -2,7 +2,7 @@
 use Rattle.std.proofs.Common.{List, Ok, Err, sym, subst}
 use Rattle.df_journal.specs.Tail.{AreNumbered, AreUnstored}
 use Rattle.df_sessions.specs.declared.session.Session.{Session}
-use Rattle.df_replica.specs.Finding.{Answers}
+use Rattle.df_recovery.specs.Finding.{Answers}
 use Rattle.df_replica.proofs.Listed.{mendable}
 use Rattle.df_replica.proofs.Settled.{none_numbered, none_unstored, numbered_by, opened, refused}
 use Rattle.df_replica.proofs.surveying.settle.Goals as goal

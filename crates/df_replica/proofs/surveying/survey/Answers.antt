@@ -6,7 +6,7 @@ use Rattle.df_superblock.specs.Calls.{ShowsSlots}
 use Rattle.df_replica.specs.Mending.{IsPlanned, IsSettledFrom}
 use Rattle.df_replica.specs.Replica.{Survey}
 use Rattle.df_replica.specs.Surveying.{IsMendable, IsReadOf}
-use Rattle.df_replica.specs.declared.scanning.Scanned.{Scanned}
+use Rattle.df_recovery.specs.declared.scanning.Scanned.{Scanned}
 use Rattle.df_replica.proofs.Listed.{told_mends}
 use Rattle.df_replica.proofs.SurveyPlans.{if_ok_more, survey_planned}
 use Rattle.df_replica.proofs.surveying.survey.Goals as goal

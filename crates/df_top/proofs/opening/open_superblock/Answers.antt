@@ -4,7 +4,7 @@ use Rattle.df_disk.specs.Adds.{after_all, AddsPart}
 use Rattle.df_disk.specs.Told.{after}
 use Rattle.df_base.specs.Log.{Sync}
 use Rattle.df_model.specs.declared.errors.OpenError.{OpenError}
-use Rattle.df_replica.specs.declared.superblock.Found.{Found}
+use Rattle.df_recovery.specs.declared.superblock.Found.{Found}
 use Rattle.df_superblock.specs.Events.{repair_events}
 use Rattle.df_top.specs.Files.{OnFile}
 use Rattle.df_top.specs.Opening.{OpensFile, RefusesToOpen}

@@ -1,12 +1,12 @@
 -- The refusal is the model's, by the client's session.
-use Rattle.std.proofs.Common.{◌≡◌, ◌≤◌, ◌^◌, map, Option, Some, None, refl, ◌∙◌, sym, ap, subst}
+use Rattle.std.proofs.Common.{◌≡◌, ◌≤◌, ◌^◌, map, Option, Some, None, refl, ◌∙◌, sym, ap}
 use Rattle.std.specs.Prelude.{IfSome, option_map}
 use Rattle.std.specs.List.{position}
 use Rattle.df_sessions.specs.declared.session.Session as told
 use Rattle.df_sessions.specs.Requests.{session_of}
 use Rattle.df_sessions.specs.Table.{has_client}
 use Rattle.df_model.specs.Refusals.{session_of_client}
-use Rattle.df_replica.specs.State.{State, memory}
+use Rattle.df_recovery.specs.State.{State, memory}
 use Rattle.df_replica.proofs.AppendTests.{session_found, small_session}
 use Rattle.df_replica.proofs.replica.Replica.append_refusal.Goals as goal
 

@@ -1,10 +1,9 @@
 -- The state behind a prepare that is noted makes sense.
-use Rattle.std.proofs.Common.{◌≡◌, ◌<◌, ◌≤◌, ◌+◌, ◌^◌, ℕ, List, [], ◌∷◌, ◌++◌, length, refl, sym, ap, subst, ◌∙◌, arith}
+use Rattle.std.proofs.Common.{◌≡◌, ◌+◌, length, sym, ap, subst, ◌∙◌, arith}
 use Rattle.std.proofs.lemmas.List.{length_push}
 use Rattle.df_journal.specs.Tail.{AreNumbered}
-use Rattle.df_sessions.specs.declared.session.Session as told
 use Rattle.df_replica.specs.Appending.{MayNote}
-use Rattle.df_replica.specs.State.{IsState, State}
+use Rattle.df_recovery.specs.State.{State}
 use Rattle.df_replica.proofs.AppendTests.{numbered_on}
 use Rattle.df_replica.proofs.replica.Replica.note.Goals as goal
 

@@ -13,7 +13,7 @@ use Rattle.df_theory.specs.Units.{Parts}
 use Rattle.df_theory.specs.View.{View}
 use Rattle.df_replica.specs.Mending.{IsMended, MayOpen, mending_events}
 use Rattle.df_replica.specs.Serving.{Firm, IsKept, format}
-use Rattle.df_replica.specs.State.{State, shape}
+use Rattle.df_recovery.specs.State.{State, shape}
 use Rattle.df_replica.proofs.Barriers.{barrier_rests}
 use Rattle.df_replica.proofs.SurveyPlans.{live_answers}
 use Rattle.df_replica.proofs.replica.Replica.open.Goals as goal

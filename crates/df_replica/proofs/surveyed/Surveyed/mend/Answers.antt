@@ -9,7 +9,7 @@ use Rattle.df_theory.specs.View.{View}
 use Rattle.df_replica.specs.Mending.{IsMended, IsPlanned, RestsOnDisk}
 use Rattle.df_replica.specs.Replica.{Survey}
 use Rattle.df_replica.specs.Serving.{format}
-use Rattle.df_replica.specs.State.{shape}
+use Rattle.df_recovery.specs.State.{shape}
 use Rattle.df_replica.proofs.Mendable.{planned_may_mend}
 use Rattle.df_replica.proofs.surveyed.Surveyed.mend.Goals as goal
 

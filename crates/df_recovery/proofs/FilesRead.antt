@@ -1,0 +1,188 @@
+-- What was read of a file is so in the model's words.
+use Rattle.std.proofs.Common.{◌≡◌, inl, inr, ℕ, zero, suc, ◌<◌, ◌≤◌, Bool, true, false, List, [], ◌∷◌, length, get_or, Option, Some, None, refl, sym, ◌∙◌, ap, subst, arith}
+use Rattle.std.specs.Prelude.{nat_lt}
+use Rattle.std.specs.List.{position, position_or_len}
+use borrow.Author.Tests.{ltb-false}
+use Rattle.std.proofs.lemmas.Bool.{cases_Bool, cases_lt}
+use Rattle.std.proofs.lemmas.List.Quantifiers.{position-Some}
+use Rattle.std.proofs.lemmas.List.Sums.{fails_before_first}
+use Rattle.df_disk.specs.Told.{Told}
+use Rattle.df_layout.specs.declared.layout.Layout.{Layout}
+use Rattle.df_format.specs.Copies.{Content, content_at, content_with}
+use Rattle.df_format.specs.SuperRules.{IsSuper}
+use Rattle.df_format.proofs.SuperFaults.{faults}
+use Rattle.df_quorum.specs.Quorum.{AreMembers, IsChosen}
+use Rattle.df_quorum.proofs.Choices.{one_law}
+use Rattle.df_sessions.specs.Requests.{sessions_of}
+use Rattle.df_theory.specs.Units
+use Rattle.df_theory.specs.Units.{AnyUnit, CopyPlace, CopyUnit}
+use Rattle.df_theory.specs.Opens.{IsLowest, IsReadable}
+use Rattle.df_theory.specs.Trailer.{IsReference, IsTrailer, no_parts}
+use Rattle.df_theory.specs.View.{PassesTests}
+use Rattle.df_units.specs.Bytes.{copy_unit, unit_at}
+use Rattle.df_units.specs.Meaning.{content_of, layout_of}
+use Rattle.df_units.specs.Superblocks.{AreFieldsOf, HasChecks}
+use Rattle.df_units.proofs.Laws.{choice_chosen, one_number, passing_is_usable, shown_checks, usable_passes}
+use Rattle.df_journal.specs.Shows.{Tells}
+use Rattle.df_journal.proofs.Laws.{scanned_shown as slots_shown}
+use Rattle.df_replies.specs.Shown.{ShowsReplies}
+use Rattle.df_replies.proofs.Laws.{scanned_shown as replies_shown}
+use Rattle.df_recovery.specs.Finding.{FileIsRead, IsOfFile, Read, base_of, lowest_of, or_first}
+use Rattle.df_recovery.specs.State.{shape}
+use Rattle.df_recovery.specs.declared.file.DataFile.{DataFile}
+use Rattle.df_recovery.proofs.Written.{super_is_written}
+
+-- ---- the lowest member
+
+no_position : (members : List Bool) (k : ℕ) → position (λ member. member) members ≡ None → k < length members → get_or members k false ≡ false
+no_position members k none within = elim (cases_Bool (nat_lt (position_or_len (λ member. member) members) (length members))) [
+  | inl inside ↦ (let some : position (λ (member : Bool). member) members ≡ Some (position_or_len (λ member. member) members) = (rw inside refl) in cc)
+  | inr outside ↦ fails_before_first (λ (member : Bool). member) members k false (omega (arith, within, ltb-false (position_or_len (λ member. member) members) (length members) outside))
+]
+
+position_of : (members : List Bool) (k : ℕ) (o : Option ℕ) → get_or members k false ≡ true → k < length members → position (λ member. member) members ≡ o → (n : ℕ) × (n ≤ k) × (position (λ member. member) members ≡ Some n)
+position_of members k None is inside at = absurd (let no : get_or members k false ≡ false = no_position members k at inside in let both : true ≡ false = sym is ∙ no in cc)
+position_of members k (Some n) is inside at = elim (cases_lt k n) [
+  | inl less ↦ absurd (let no : get_or members k false ≡ false = (position-Some (λ (member : Bool). member) members n false at).2 k less in let both : true ≡ false = sym is ∙ no in cc)
+  | inr from ↦ (n, omega arith, at)
+]
+
+member_inside : (members : List Bool) (k : ℕ) → get_or members k false ≡ true → k < length members
+member_inside [] k is = absurd (cc)
+member_inside (member ∷ members) zero is = omega arith
+member_inside (member ∷ members) (suc k) is = omega (arith, member_inside members k is)
+
+position_upto : (members : List Bool) (k : ℕ) → get_or members k false ≡ true → (n : ℕ) × (n ≤ k) × (position (λ member. member) members ≡ Some n)
+position_upto members k is = position_of members k (position (λ member. member) members) is (member_inside members k is) refl
+
+-- ---- contents are told apart by what the model sees of them
+
+one_content : (layout : Layout) (cluster : ℕ) (named : 0 < cluster) (c d : Content) → HasChecks c → HasChecks d → AreFieldsOf layout cluster d.fields → IsSuper d.fields → content_of c ≡ content_of d → c ≡ d
+one_content layout cluster named c d one two of super same =
+    let parse : ℕ → List ℕ → Option Units.Parts = λ op text. None in
+    let passes = usable_passes layout cluster named parse d of super in
+    let tests : PassesTests (shape (record { layout = layout; cluster = cluster; named = named }) parse) (content_of c) = subst (PassesTests (shape (record { layout = layout; cluster = cluster; named = named }) parse)) (sym same) passes.0 in
+    let other : IsSuper c.fields = (passing_is_usable layout cluster named parse c one tests (subst (IsReference (layout_of layout)) (sym same) passes.1)).1 in
+    let checksum = one_number c.checksum d.checksum one.checksum two.checksum (ap (λ (e : Units.Content). e.checksum) same) in
+    let op_checksum = one_number c.fields.op_checksum d.fields.op_checksum one.op_checksum two.op_checksum (ap (λ (e : Units.Content). e.op_checksum) same) in
+    let trailer_checksum = one_number c.fields.trailer_checksum d.fields.trailer_checksum one.trailer_checksum two.trailer_checksum (ap (λ (e : Units.Content). e.trailer_checksum) same) in
+    let boot = other.boot ∙ sym super.boot in
+    let first_nonzero = other.zero ∙ sym super.zero in
+    λ i. record {
+      checksum = checksum i;
+      fields = record {
+        version = (same i).version;
+        slots = (same i).layout.slots;
+        message_size = (same i).layout.message_size;
+        clients = (same i).layout.clients;
+        block_size = (same i).layout.block_size;
+        blocks = (same i).layout.blocks;
+        cluster = (same i).cluster;
+        sequence = (same i).sequence;
+        op = (same i).op;
+        op_checksum = op_checksum i;
+        head = (same i).head;
+        replies = (same i).replies;
+        trailer_address = (same i).trailer;
+        trailer_checksum = trailer_checksum i;
+        trailer_size = (same i).trailer_size;
+        boot = boot i;
+        first_nonzero = first_nonzero i;
+      };
+    }
+
+copy_there : (o : Option Content) (d : Units.Content) → copy_unit o ≡ Some (CopyUnit d) → (c : Content) × (o ≡ Some c) × (content_of c ≡ d)
+copy_there None d at = absurd (cc)
+copy_there (Some c) d at = let one : content_of c ≡ d = cc in (c, refl, one)
+
+-- ---- the checkpoint
+
+module _ (t : Told) (file : DataFile) (read : Read) (is : IsOfFile t file read) where
+  fields_are : AreFieldsOf file.layout file.cluster read.found.content
+  fields_are = record {
+    slots = sym is.has.layout.slots;
+    message_size = sym is.has.layout.message_size;
+    clients = sym is.has.layout.clients;
+    block_size = sym is.has.layout.block_size;
+    blocks = sym is.has.layout.blocks;
+    cluster_is = is.has.cluster;
+  }
+
+  usable : IsSuper read.found.content
+  usable = (faults read.found.content).0 is.has.super.usable
+
+  chosen : IsChosen (content_at t.shown) (content_with read.found.content)
+  chosen = super_is_written t.shown read.found.content is.image is.has.super
+
+  lowest : IsLowest (unit_at file.layout file.cluster t.shown) (content_of (content_with read.found.content)) (lowest_of read.found.chosen.members)
+  lowest =
+      let c = content_with read.found.content in
+      let same : is.choice.content ≡ c = one_law (content_at t.shown) is.choice.content c is.choice.is chosen in
+      let members : AreMembers (content_at t.shown) c read.found.chosen.members = subst (λ (x : Content). AreMembers (content_at t.shown) x read.found.chosen.members) same is.choice.members in
+      let first = chosen.agreed.first in
+      let small : first < 4 = omega (arith, chosen.agreed.apart, chosen.agreed.inside) in
+      let low = position_upto read.found.chosen.members first ((members first small).1 chosen.agreed.at_first) in
+      let tests = position-Some (λ (member : Bool). member) read.found.chosen.members low.0 false low.2 in
+      let number : lowest_of read.found.chosen.members ≡ low.0 = ap or_first low.2 in
+      let checks = shown_checks t.shown first c is.image chosen.agreed.at_first in
+      subst (IsLowest (unit_at file.layout file.cluster t.shown) (content_of c)) (sym number) (record {
+        shows = ap copy_unit ((members low.0 (omega (arith, low.1, small))).0 tests.1);
+        lowest = λ k less at.
+            let there = copy_there (content_at t.shown k) (content_of c) at in
+            let one : there.0 ≡ c = one_content file.layout file.cluster file.named there.0 c (shown_checks t.shown k there.0 is.image there.1) checks fields_are usable there.2 in
+            let member : get_or read.found.chosen.members k false ≡ true = (members k (omega (arith, less, low.1, small))).1 (there.1 ∙ ap Some one) in
+            let not : get_or read.found.chosen.members k false ≡ false = tests.2 k less in
+            absurd (let both : true ≡ false = sym member ∙ not in cc);
+      })
+
+  no_op : read.found.content.op ≡ 0
+  no_op = none read.found.content.op (λ some. usable.trailer.1 some is.has.trailer)
+    where
+      none : (n : ℕ) → ((n ≡ 0 → ⊥) → ⊥) → n ≡ 0
+      none zero never = refl
+      none (suc n) never = absurd (never (λ zero. omega (arith, zero)))
+
+  module _ (parse : ℕ → List ℕ → Option Units.Parts) where
+    passes : PassesTests (shape file parse) (content_of (content_with read.found.content)) × IsReference (layout_of file.layout) (content_of (content_with read.found.content))
+    passes = usable_passes file.layout file.cluster file.named parse (content_with read.found.content) fields_are usable
+
+    trailer : IsTrailer (shape file parse) (content_of (content_with read.found.content)) [] no_parts
+    trailer = record {
+      reference = passes.1;
+      links = is.has.trailer;
+      count = record { holds = omega (arith, usable.no_trailer is.has.trailer); needed = λ some. absurd (omega arith) };
+      inside = λ a b none. absurd none;
+      size = sym (usable.no_trailer is.has.trailer);
+      says = refl;
+      spare = λ a b none. refl;
+    }
+
+    readable : IsReadable (shape file parse) (unit_at file.layout file.cluster t.shown) (base_of read.found.content)
+    readable = record {
+      chosen = choice_chosen file.layout file.cluster t.shown (content_with read.found.content) is.image chosen;
+      sound = record {
+        tests = passes.0;
+        trailer = trailer;
+        tracks = record {
+          below = λ k s at. absurd (cc);
+          apart = λ j k s u one two same. absurd (cc);
+          pending = λ o above to. absurd (omega (arith, above, to, no_op));
+        };
+      };
+      shown = λ a b none. absurd none;
+    }
+
+pub file_is_read : FileIsRead
+file_is_read t file read parse is = record {
+  tells = subst (λ (image : Units.Units). Tells read.layout image read.slots) same (slots_shown read.layout t read.slots is.scanned.slots);
+  shows = subst (λ (image : Units.Units). ShowsReplies image read.replies) same (replies_shown read.layout read.slots.start.cluster t read.replies is.scanned.replies);
+  slots_are = ap (λ (l : Layout). l.slots) (sym is.layout);
+  clients_are = ap (λ (l : Layout). l.clients) (sym is.layout);
+  content_is = refl;
+  readable = readable t file read is parse;
+  lowest_is = lowest t file read is;
+  sessions_are = ap sessions_of (sym is.sessions);
+}
+  where
+    same : unit_at read.layout read.slots.start.cluster t.shown ≡ unit_at file.layout file.cluster t.shown
+    same = λ i. unit_at (is.layout i) (is.cluster i) t.shown

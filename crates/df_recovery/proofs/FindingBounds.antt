@@ -1,0 +1,132 @@
+-- How many prepares wait behind a tail that is found: by an image that shows what the tables say.
+use Rattle.std.proofs.Common.{◌≡◌, inl, inr, ℕ, ◌+◌, ◌<◌, ◌≤◌, List, [], ◌∷◌, length, Option, Some, None, refl, sym, ◌∙◌, ap, subst, arith}
+use Rattle.std.specs.Prelude.{Result, Ok, Err}
+use Rattle.std.specs.List.{slice_get}
+use Rattle.std.proofs.lemmas.Option.{slice_get_past}
+use Rattle.df_layout.specs.declared.damage.Class.{Class}
+use Rattle.df_layout.specs.declared.layout.Layout.{Layout}
+use Rattle.df_format.specs.Copies.{content_with}
+use Rattle.df_format.specs.SuperRules.{IsSuper}
+use Rattle.df_format.specs.declared.header.Header.{Header}
+use Rattle.df_format.specs.declared.superblock.SuperFields.{SuperFields}
+use Rattle.df_buffers.specs.declared.slots.SlotSeen.{SlotSeen}
+use Rattle.df_sessions.specs.declared.session.Session.{Session}
+use Rattle.df_sessions.specs.Requests.{sessions_of}
+use Rattle.df_theory.specs.Units
+use Rattle.df_theory.specs.Units.{AnyUnit, BlockPlace, CopyPlace, HeaderPlace, HeaderUnit, Message, PreparePlace, PrepareUnit, ReplyPlace, ReplyUnit}
+use Rattle.df_theory.specs.Found.{IsReplies, NotLost}
+use Rattle.df_theory.specs.Sessions.{noted}
+use Rattle.df_theory.specs.Tails.{Chain, last_mark}
+use Rattle.df_theory.specs.Shape.{Shape}
+use Rattle.df_theory.specs.View.{Checkpoint}
+use Rattle.df_units.specs.Format.{shape_of}
+use Rattle.df_units.specs.Meaning.{content_of, header_of}
+use Rattle.df_journal.specs.Shows.{ShowsHeader, ShowsPrepare, ShowsTable}
+use Rattle.df_journal.specs.Tail.{FindsTail, StartsAt}
+use Rattle.df_journal.specs.declared.tail.Tail.{Tail}
+use Rattle.df_replies.specs.Shown.{ShowsReplies, ShowsReply}
+
+-- ---- an image that shows what the tables say
+
+abbrev header_in : Result Header Class → Option AnyUnit
+header_in (Ok h) = Some (HeaderUnit (header_of h))
+header_in (Err class) = None
+
+abbrev prepare_in : Result Header Class → Option AnyUnit
+prepare_in (Ok h) = Some (PrepareUnit (record { header = header_of h; body = [] }))
+prepare_in (Err class) = None
+
+abbrev reply_in : Option (Result Header Class) → Option AnyUnit
+reply_in (Some (Ok h)) = Some (ReplyUnit (record { header = header_of h; body = [] }))
+reply_in (Some (Err class)) = None
+reply_in None = None
+
+abbrev header_seen : Option SlotSeen → Option AnyUnit
+header_seen (Some seen) = header_in seen.header
+header_seen None = None
+
+abbrev prepare_seen : Option SlotSeen → Option AnyUnit
+prepare_seen (Some seen) = prepare_in seen.prepare
+prepare_seen None = None
+
+abbrev pub image_of : List SlotSeen → List (Result Header Class) → Units.Units
+image_of slots replies (CopyPlace n) = None
+image_of slots replies (HeaderPlace s) = header_seen (slice_get slots s)
+image_of slots replies (PreparePlace s) = prepare_seen (slice_get slots s)
+image_of slots replies (ReplyPlace k) = reply_in (slice_get replies k)
+image_of slots replies (BlockPlace a) = None
+
+shows_header : (r : Result Header Class) → ShowsHeader (header_in r) r
+shows_header (Ok h) = refl
+shows_header (Err class) = refl
+
+shows_prepare : (r : Result Header Class) → ShowsPrepare (prepare_in r) r
+shows_prepare (Ok h) = (record { header = header_of h; body = [] }, refl, refl)
+shows_prepare (Err class) = refl
+
+shows_reply : (r : Result Header Class) → ShowsReply (reply_in (Some r)) r
+shows_reply (Ok h) = (record { header = header_of h; body = [] }, refl, refl)
+shows_reply (Err class) = refl
+
+pub shows_table : (slots : List SlotSeen) (replies : List (Result Header Class)) → ShowsTable (image_of slots replies) slots
+shows_table slots replies = record {
+  each = λ s seen at. record {
+    header = subst (λ (o : Option SlotSeen). ShowsHeader (header_seen o) seen.header) (sym at) (shows_header seen.header);
+    prepare = subst (λ (o : Option SlotSeen). ShowsPrepare (prepare_seen o) seen.prepare) (sym at) (shows_prepare seen.prepare);
+  };
+  no_header = λ s past. ap header_seen (slice_get_past slots s past);
+  no_prepare = λ s past. ap prepare_seen (slice_get_past slots s past);
+}
+
+pub shows_replies : (slots : List SlotSeen) (replies : List (Result Header Class)) → ShowsReplies (image_of slots replies) replies
+shows_replies slots replies = record {
+  each = λ k reply at. subst (λ (o : Option (Result Header Class)). ShowsReply (reply_in o) reply) (sym at) (shows_reply reply);
+  no_more = λ k past. ap reply_in (slice_get_past replies k past);
+}
+
+-- ---- and a file and a checkpoint for it
+
+pub any_shape : Layout → Shape
+any_shape layout = shape_of layout 1 (omega arith) (λ op text. None)
+
+abbrev pub any_base : SuperFields → List Session → Checkpoint
+any_base f ss = record { content = content_of (content_with f); chain = []; parts = record { root = []; sessions = sessions_of ss; references = λ a. None } }
+
+pub any_starts : (layout : Layout) (op : ℕ) (f g : SuperFields) (ss : List Session) → op ≡ g.op → f ≡ g → StartsAt (any_shape layout) (any_base f ss) layout op f.op_checksum ss
+unfolding any_shape
+any_starts layout op f g ss op_is same = record {
+  slots_are = refl;
+  clients_are = refl;
+  op_is = ap (λ (x : SuperFields). x.op) same ∙ sym op_is;
+  checksum_is = refl;
+  boot = refl;
+  pin = refl;
+  pin_checksum = refl;
+  sessions_are = refl;
+}
+
+-- ---- the bounds
+
+mark_near : (clients op parent mark m : ℕ) (ss : List Units.Session) (ps : List Message) → Chain clients op parent mark ss ps → 0 < length ps → op + length ps ≤ last_mark m ps + 9
+mark_near clients op parent mark m ss [] chain some = absurd (omega arith)
+mark_near clients op parent mark m ss (p ∷ []) chain some = omega (arith, chain.0.mark_near)
+mark_near clients op parent mark m ss (p ∷ q ∷ ps) chain some = omega (arith, mark_near clients (op + 1) p.header.checksum p.header.mark p.header.mark (noted p.header ss) (q ∷ ps) chain.1 (omega arith))
+
+mark_below : (clients op parent mark m : ℕ) (ss : List Units.Session) (ps : List Message) → Chain clients op parent mark ss ps → m < op → last_mark m ps < op + length ps
+mark_below clients op parent mark m ss [] chain small = omega (arith, small)
+mark_below clients op parent mark m ss (p ∷ ps) chain small = omega (arith, mark_below clients (op + 1) p.header.checksum p.header.mark p.header.mark (noted p.header ss) ps chain.1 (omega (arith, chain.0.mark_below)))
+
+tail_near : (clients op parent top n : ℕ) (ss : List Units.Session) (ps : List Message) → Chain clients (op + 1) parent 0 ss ps → top ≡ op + length ps → last_mark 0 ps ≤ n → op ≤ n + 8 → top ≤ n + 8
+tail_near clients op parent top n ss [] chain is mark base = omega (arith, is, base)
+tail_near clients op parent top n ss (p ∷ ps) chain is mark base = omega (arith, is, mark, mark_near clients (op + 1) parent 0 0 ss (p ∷ ps) chain (omega arith))
+
+module _ (sh : Shape) (image : Units.Units) (f : SuperFields) (ss after : List Session) (end : Tail) (n : ℕ) (rules : IsSuper f) (found : FindsTail sh image (any_base f ss) end after) (replies : IsReplies image (any_base f ss).content found.tail n) where
+  pub few_wait : end.op ≤ n + 8
+  few_wait = tail_near sh.layout.clients f.op (any_base f ss).content.op_checksum end.op n (sessions_of ss) found.tail found.is.chain found.ends.op replies.mark (omega (arith, rules.head.0, rules.replies.1, replies.superblock))
+
+  pub not_above : NotLost image (any_base f ss).content end.op → n ≤ end.op
+  not_above kept = elim replies.reached [
+    | inl base ↦ omega (arith, base, rules.replies.0, kept.superblock)
+    | inr (inl mark) ↦ omega (arith, mark, found.ends.op, mark_below sh.layout.clients (f.op + 1) (any_base f ss).content.op_checksum 0 0 (sessions_of ss) found.tail found.is.chain (omega arith))
+    | inr (inr reply) ↦ omega (arith, reply.3, (kept.reply reply.0 reply.1 reply.2 reply.4).0)
+  ]

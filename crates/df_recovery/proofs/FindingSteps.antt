@@ -1,0 +1,147 @@
+-- Each step of what an open finds is the model's.
+use Rattle.std.proofs.Common.{◌≡◌, ◌↔◌, ℕ, ◌+◌, ◌≤◌, List, [], length, Some, refl, sym, ◌∙◌, ap, subst, arith}
+use Rattle.std.specs.Prelude.{Result}
+use Rattle.std.specs.List.{slice_get}
+use Rattle.df_layout.specs.declared.damage.Class.{Class}
+use Rattle.df_format.specs.Copies.{content_with}
+use Rattle.df_format.specs.declared.header.Header.{Header}
+use Rattle.df_format.specs.declared.superblock.SuperFields.{SuperFields}
+use Rattle.df_sessions.specs.declared.session.Session.{Session}
+use Rattle.df_sessions.specs.Requests.{sessions_of}
+use Rattle.df_stamps.specs.declared.counters.Counters.{Counters}
+use Rattle.df_theory.specs.Units
+use Rattle.df_theory.specs.Units.{Content, CopyPlace, Message, PreparePlace, ReplyPlace}
+use Rattle.df_theory.specs.Found
+use Rattle.df_theory.specs.Found.{IsReplies, NotBehind, NotLost}
+use Rattle.df_theory.specs.Opens.{Behind, Damaged as Damages, LacksReply, Lost, Opens, ReachesReplies, ReachesTail, Refused, Unanswered}
+use Rattle.df_theory.specs.Sessions.{sessions_after}
+use Rattle.df_theory.specs.Shape.{Shape}
+use Rattle.df_theory.specs.View.{Checkpoint, View}
+use Rattle.df_units.specs.Meaning.{content_of}
+use Rattle.df_journal.specs.Counts.{CountsAll, CountsRings, RepliesWithin, RingsWithin}
+use Rattle.df_journal.specs.Tail.{FindsTail, StartsAt}
+use Rattle.df_journal.specs.declared.tail.Tail.{Tail}
+use Rattle.df_replies.specs.Answers.{AllAnswered, NamesNone, StoredAreFound, stored_by}
+use Rattle.df_replies.specs.Counts.{NoReplyIsAbove, NoReplyIsLater}
+use Rattle.df_replies.specs.Shown.{ShowsReplies}
+use Rattle.df_recovery.specs.Finding.{FindsView, IsReadFrom, Read, lowest_of}
+
+-- ---- the counters
+
+abbrev pub CountsLater : List (Result Header Class) → Counters → Counters → Type 0
+CountsLater replies rings seen = (image : Units.Units) (c : Content) → ShowsReplies image replies → c.boot ≡ 0 → (seen.checkpoint ≤ c.sequence) ↔ ((rings.checkpoint ≤ c.sequence) × NoReplyIsLater image c)
+
+abbrev pub CountsAbove : List (Result Header Class) → Counters → Counters → Type 0
+CountsAbove replies rings seen = (image : Units.Units) (c : Content) (head : ℕ) → ShowsReplies image replies → c.boot ≡ 0 → (seen.reply_top ≤ head) ↔ ((rings.reply_top ≤ head) × NoReplyIsAbove image c head)
+
+-- any content of this sequence, and of no boot
+abbrev content : ℕ → Content
+content n = record {
+  checksum = 0;
+  version = 1;
+  cluster = 0;
+  layout = record { slots = 0; message_size = 0; clients = 0; block_size = 0; blocks = 0 };
+  sequence = n;
+  boot = 0;
+  op = 0;
+  op_checksum = 0;
+  head = 0;
+  replies = 0;
+  pin = 0;
+  pin_checksum = 0;
+  answered = 0;
+  reply_checksums = [];
+  trailer = 0;
+  trailer_checksum = 0;
+  trailer_size = 0;
+  rest = [];
+}
+
+-- the counters of the rings with those of the replies count both
+pub counts_all : (image : Units.Units) (replies : List (Result Header Class)) (rings seen : Counters) → CountsRings image rings → rings.reply_top ≡ 0 → seen.ring_op ≡ rings.ring_op
+    → CountsLater replies rings seen → CountsAbove replies rings seen → ShowsReplies image replies → CountsAll image seen
+counts_all image replies rings seen counts none ring_op later above shows = record {
+  ring_op = λ n. subst (λ (x : ℕ). (x ≤ n) ↔ RingsWithin image (λ h. h.op) n) (sym ring_op) (counts.ring_op n);
+  reply_top = λ n. (
+    λ le. let all = ((above image (content n) n shows refl).0 le).1 in (λ k r at. (all k r at (of_boot k r at)).0, λ k r at. (all k r at (of_boot k r at)).1),
+    λ both. (above image (content n) n shows refl).1 (omega (arith, none), λ k r at of. (both.0 k r at, both.1 k r at)),
+  );
+  checkpoint = λ n. (
+    λ le. let all = (later image (content n) shows refl).0 le in ((counts.checkpoint n).0 all.0, λ k r at. (all.1 k r at).0),
+    λ both. (later image (content n) shows refl).1 ((counts.checkpoint n).1 both.0, λ k r at. (both.1 k r at, boots k r at)),
+  );
+  boot = (counts.boot, boots);
+}
+  where
+    boots : RepliesWithin image (λ h. h.boot) 0
+    boots k r at = (((later image (content seen.checkpoint) shows refl).0 (omega arith)).1 k r at).1
+
+    of_boot : (k : ℕ) (r : Message) → image (ReplyPlace k) ≡ Some (Units.ReplyUnit r) → r.header.boot ≡ 0
+    of_boot k r at = omega (arith, boots k r at)
+
+-- ---- the steps
+
+module _ (sh : Shape) (image : Units.Units) (b : Checkpoint) (read : Read) (is : IsReadFrom sh image b read) where
+  -- the content has these fields
+  pub content_same : (fields : SuperFields) → fields ≡ read.found.content → b.content ≡ content_of (content_with fields)
+  content_same fields same = is.content_is ∙ ap (λ (f : SuperFields). content_of (content_with f)) (sym same)
+
+  pub boot_is : b.content.boot ≡ 0
+  boot_is = ap (λ (c : Content). c.boot) is.content_is
+
+  pub names_none : NamesNone b.content
+  names_none = record { boot = boot_is; answered = ap (λ (c : Content). c.answered) is.content_is }
+
+  pub starts : (op : ℕ) (fields : SuperFields) → op ≡ read.found.content.op → fields ≡ read.found.content → StartsAt sh b read.layout op fields.op_checksum read.sessions
+  starts op fields op_is same = record {
+    slots_are = is.slots_are;
+    clients_are = is.clients_are;
+    op_is = ap (λ (c : Content). c.op) is.content_is ∙ sym op_is;
+    checksum_is = ap (λ (c : Content). c.op_checksum) (content_same fields same);
+    boot = boot_is;
+    pin = ap (λ (c : Content). c.pin) is.content_is ∙ sym (ap (λ (c : Content). c.op) is.content_is);
+    pin_checksum = ap (λ (c : Content). c.pin_checksum) is.content_is ∙ sym (ap (λ (c : Content). c.op_checksum) is.content_is);
+    sessions_are = is.sessions_are;
+  }
+
+  pub opens_behind : (NotBehind sh image b.content → ⊥) → Opens sh image (Refused (Damages (CopyPlace (lowest_of read.found.chosen.members))))
+  opens_behind behind = Behind b (lowest_of read.found.chosen.members) is.readable behind is.lowest_is
+
+  module _ (end : Tail) (sessions : List Session) (early : NotBehind sh image b.content) (found : FindsTail sh image b end sessions) where
+    reaches : ReachesTail sh image b found.tail
+    reaches = record { readable = is.readable; not_behind = early; tail_is = found.is }
+
+    kept : NotLost image b.content end.op → NotLost image b.content (b.content.op + length found.tail)
+    kept = subst (NotLost image b.content) found.ends.op
+
+    pub opens_lost : (slot : ℕ) → slot ≡ Found.slot_behind sh b found.tail → (NotLost image b.content end.op → ⊥) → Opens sh image (Refused (Damages (PreparePlace slot)))
+    opens_lost slot at lost =
+        let lost_there : NotLost image b.content (b.content.op + length found.tail) → ⊥ = λ not. lost (subst (NotLost image b.content) (sym found.ends.op) not) in
+        subst (λ (s : ℕ). Opens sh image (Refused (Damages (PreparePlace s)))) (sym at) (Lost b found.tail reaches lost_there)
+
+    replied : (n : ℕ) → NotLost image b.content end.op → IsReplies image b.content found.tail n → ReachesReplies sh image b found.tail n
+    replied n not_lost replies = record { reaches = reaches; not_lost = kept not_lost; replies = replies }
+
+    pub opens_lacking : (n k : ℕ) → NotLost image b.content end.op → IsReplies image b.content found.tail n → LacksReply image b.content (sessions_of sessions) n k → Opens sh image (Refused (Damages (ReplyPlace k)))
+    opens_lacking n k not_lost replies lacks = Unanswered b found.tail n k (replied n not_lost replies) (subst (λ (ss : List Units.Session). LacksReply image b.content ss n k) found.ends.sessions_are lacks)
+
+    abbrev pub view_of : ℕ → View
+    view_of n = record { checkpoint = b; tail = found.tail; replies = n; stored = λ k. stored_by n (slice_get (sessions_after b.parts.sessions found.tail) k) (image (ReplyPlace k)) }
+
+    pub finds : (n : ℕ) → StoredAreFound → NotLost image b.content end.op → IsReplies image b.content found.tail n → AllAnswered image b.content (sessions_of sessions) n → FindsView sh image b (record { tail = end; replies = n }) sessions
+    finds n law not_lost replies all = record {
+      view = view_of n;
+      checkpoint = refl;
+      ends = found.ends;
+      replies = refl;
+      found = record {
+        chosen = is.readable.chosen;
+        checkpoint = is.readable.sound;
+        chain_shown = is.readable.shown;
+        not_behind = early;
+        tail = found.is;
+        not_lost = kept not_lost;
+        replies = replies;
+        stored = law image (view_of n) (subst (λ (ss : List Units.Session). AllAnswered image b.content ss n) found.ends.sessions_are all) (λ k. refl);
+      };
+    }

@@ -1,0 +1,9 @@
+-- What the crates above cite: that an image has one answer, and what was found is the image's in the words of the model.
+pub use Rattle.df_recovery.proofs.OneAnswer.{one_refusal, one_super, super_or_refusal}
+pub use Rattle.df_recovery.proofs.Written.{super_is_written, written_is}
+pub use Rattle.df_recovery.proofs.FilesRead.{file_is_read}
+pub use Rattle.df_recovery.proofs.OpenAnswers.{kept_is_answer, refused_is_answer}
+-- ---- the slots of the four places, and the sectors that they were read from
+pub use Rattle.df_recovery.proofs.Places.{blank_shown, shown_blank, unformatted}
+-- ---- the mends of the slots, one slot more
+pub use Rattle.df_recovery.proofs.Plans.{filter_more, slot_mends_more}

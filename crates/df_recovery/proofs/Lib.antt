@@ -1,0 +1,14 @@
+pub mod OneAnswer
+pub mod Written
+pub mod Places
+pub mod Usable
+pub mod Synced
+pub mod FindingSteps
+pub mod Plans
+pub mod Planned
+pub mod OpenedStates
+pub mod FilesRead
+pub mod OpenAnswers
+pub mod KeptReplies
+pub mod FindingBounds
+pub mod Laws

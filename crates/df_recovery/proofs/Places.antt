@@ -1,0 +1,141 @@
+-- What the slots of the four places say of the image that they were read from.
+use Rattle.std.specs.Prelude.{Ok, Err}
+use Rattle.std.proofs.Common.{◌≡◌, ℕ, ◌<◌, ◌==◌, Bool, true, false, cond, List, [], ◌∷◌, length, get_or, Option, Some, None, refl, sym, ◌∙◌, ap, arith}
+use Rattle.std.proofs.lemmas.Bool.{cond-true, eq-eqb}
+use Rattle.df_base.specs.Image.{Image}
+use Rattle.df_layout.specs.declared.damage.Class.{Class}
+use Rattle.df_layout.specs.declared.damage.Class.TheVariants.{Blank, Elsewhere, Stale}
+use Rattle.df_layout.specs.declared.places.Place.{Place}
+use Rattle.df_layout.specs.declared.places.Zone.TheVariants.{Superblock}
+use Rattle.df_format.specs.Own.{place_in}
+use Rattle.df_format.specs.declared.superblock.SuperCopy.{SuperCopy}
+use Rattle.df_format.specs.Copies.{Content, copy_in, if_here, copy_at, content_at, is_blank_copy, class_of_sound, class_of_copy, copy_or_class, own_copy}
+use Rattle.df_format.proofs.CopyClasses.{copy_is_not_blank, is_here, valid_is_stale}
+use Rattle.df_quorum.specs.declared.slot.Slot.{Slot}
+use Rattle.df_quorum.specs.declared.slot.Slot.TheVariants.{Bad}
+use Rattle.df_quorum.specs.Quorum.{Copies, IsChosen, IsSplit, HasChosen, AreMembers, AreClasses, class_in, copies_of, nothing}
+use Rattle.df_quorum.proofs.Choices.{same_law}
+use Rattle.df_quorum.specs.declared.choice.Chosen.{Chosen}
+use Rattle.df_disk.specs.Told.{Told}
+use Rattle.df_recovery.specs.Opening.{IsUnformatted, shown_classes, Refuses}
+use Rattle.df_recovery.specs.Found.{AreBlank, IsFirstWrittenOf, IsChoiceOf, TellsChoice}
+use Rattle.df_model.specs.declared.errors.OpenError.TheVariants.{NotFormatted, NoQuorum}
+use Rattle.df_superblock.specs.Calls.{slot_of, slot_at, ShowsSlots, ShowsCopies}
+
+-- a slot that isn't used has the class of its sector
+class_of_slot : (n : ℕ) (bytes : List ℕ) (o : Option SuperCopy) → if_here n (copy_in bytes) ≡ o → class_in n (slot_of (copy_or_class o (class_of_copy n bytes))) ≡ class_of_copy n bytes
+unfolding copy_at
+class_of_slot n bytes None is = refl
+class_of_slot n bytes (Some copy) is =
+    let test : copy.number == n ≡ true = eq-eqb copy.number n (is_here n (copy_in bytes) copy is).1 in
+    cond-true (copy.number == n) Stale (Elsewhere (place_in Superblock copy.number)) test ∙ sym (valid_is_stale (λ _. bytes) n copy is)
+
+class_shown : (image : Image) (n : ℕ) → class_in n (slot_at image n) ≡ class_of_copy n (image n)
+class_shown image n = class_of_slot n (image n) (if_here n (copy_in (image n))) refl
+
+test_blank : (b : Bool) (place : Place) → cond b Stale (Elsewhere place) ≡ Blank → ⊥
+test_blank true place is = cc
+test_blank false place is = cc
+
+never_blank : (n : ℕ) (o : Option SuperCopy) → class_of_sound n o ≡ Blank → ⊥
+never_blank n None is = cc
+never_blank n (Some copy) is = test_blank (copy.number == n) (place_in Superblock copy.number) is
+
+blank_class : (n : ℕ) (bytes : List ℕ) (b : Bool) → is_blank_copy bytes ≡ b → cond b Blank (class_of_sound n (copy_in bytes)) ≡ Blank → is_blank_copy bytes ≡ true
+blank_class n bytes true test is = test
+blank_class n bytes false test is = absurd (never_blank n (copy_in bytes) is)
+
+blank_of : (n : ℕ) (bytes : List ℕ) (o : Option SuperCopy) → slot_of (copy_or_class o (class_of_copy n bytes)) ≡ Bad Blank → is_blank_copy bytes ≡ true
+unfolding class_of_copy
+blank_of n bytes (Some copy) is = absurd (cc)
+blank_of n bytes None is = blank_class n bytes (is_blank_copy bytes) refl (cc)
+
+-- a blank slot is a sector of zeros
+pub blank_shown : (image : Image) (n : ℕ) → slot_at image n ≡ Bad Blank → is_blank_copy (image n) ≡ true
+blank_shown image n is = blank_of n (image n) (if_here n (copy_in (image n))) is
+
+slot_blank : (n : ℕ) (bytes : List ℕ) → if_here n (copy_in bytes) ≡ None → is_blank_copy bytes ≡ true → slot_of (own_copy n bytes) ≡ Bad Blank
+unfolding class_of_copy
+slot_blank n bytes none blank = rw none (rw blank refl)
+
+none_here : (n : ℕ) (bytes : List ℕ) (o : Option SuperCopy) → is_blank_copy bytes ≡ true → copy_in bytes ≡ o → if_here n o ≡ None
+none_here n bytes None blank is = refl
+none_here n bytes (Some copy) blank is = absurd (let sound : is_blank_copy bytes ≡ false = copy_is_not_blank bytes copy is in cc)
+
+-- and a sector of zeros is a blank slot
+pub shown_blank : (image : Image) (n : ℕ) → is_blank_copy (image n) ≡ true → slot_at image n ≡ Bad Blank
+shown_blank image n blank = slot_blank n (image n) (none_here n (image n) (copy_in (image n)) blank refl) blank
+
+-- a list of four
+four_of : (classes : List Class) → length classes ≡ 4 → classes ≡ get_or classes 0 Blank ∷ get_or classes 1 Blank ∷ get_or classes 2 Blank ∷ get_or classes 3 Blank ∷ []
+four_of [] size = absurd (omega (arith, size))
+four_of (a ∷ []) size = absurd (omega (arith, size))
+four_of (a ∷ b ∷ []) size = absurd (omega (arith, size))
+four_of (a ∷ b ∷ c ∷ []) size = absurd (omega (arith, size))
+four_of (a ∷ b ∷ c ∷ d ∷ []) size = refl
+four_of (a ∷ b ∷ c ∷ d ∷ e ∷ rest) size = absurd (omega (arith, size))
+
+module _ (image : Image) (slots : List Slot) (shown : (n : ℕ) → n < 4 → get_or slots n nothing ≡ slot_at image n) where
+  pub classes_shown : (classes : List Class) → length classes ≡ 4 → AreClasses slots classes → classes ≡ shown_classes image
+  classes_shown classes size are = four_of classes size ∙ (λ i. one 0 (omega arith) i ∷ one 1 (omega arith) i ∷ one 2 (omega arith) i ∷ one 3 (omega arith) i ∷ [])
+    where
+      one : (n : ℕ) → n < 4 → get_or classes n Blank ≡ class_of_copy n (image n)
+      one n inside = are n inside ∙ ap (class_in n) (shown n inside) ∙ class_shown image n
+
+-- two views of the four places have the same choice
+module _ (one two : Copies) (same : (n : ℕ) → n < 4 → one n ≡ two n) where
+  pub chosen_same : (c : Content) → IsChosen one c → IsChosen two c
+  chosen_same c chosen = same_law one two c same chosen
+
+  pub split_same : IsSplit one → IsSplit two
+  split_same split c agree = split c (record {
+    first = agree.first;
+    second = agree.second;
+    apart = agree.apart;
+    inside = agree.inside;
+    at_first = same agree.first (let low : agree.first < agree.second = agree.apart in let high : agree.second < 4 = agree.inside in omega arith) ∙ agree.at_first;
+    at_second = same agree.second agree.inside ∙ agree.at_second;
+  })
+
+  pub members_same : (c : Content) (members : List Bool) → AreMembers one c members → AreMembers two c members
+  members_same c members are n inside = (λ yes. sym (same n inside) ∙ (are n inside).0 yes, λ shows. (are n inside).1 (same n inside ∙ shows))
+
+-- each slot of an unformatted disk is blank
+pub unformatted : (image : Image) (slots : List Slot) → ((n : ℕ) → n < 4 → get_or slots n nothing ≡ slot_at image n) → AreBlank slots 4 → IsUnformatted image
+unformatted image slots shown blank n inside = blank_shown image n (sym (shown n inside) ∙ blank n inside)
+
+-- where a slot isn't blank the disk is formatted
+pub formatted : (image : Image) (slots : List Slot) (first : ℕ) → ((n : ℕ) → n < 4 → get_or slots n nothing ≡ slot_at image n) → IsFirstWrittenOf slots first → IsUnformatted image → ⊥
+formatted image slots first shown is zeros = is.written (shown first is.inside ∙ shown_blank image first (zeros first is.inside))
+
+module _ (image : Image) (slots : List Slot) (shown : (n : ℕ) → n < 4 → get_or slots n nothing ≡ slot_at image n) (copies : (n : ℕ) → n < 4 → copies_of slots n ≡ content_at image n) where
+  -- the choice over the slots is that of the image
+  pub choice_shown : (choice : Chosen) → HasChosen (copies_of slots) choice.content → ((c : Content) → IsChosen (copies_of slots) c → AreMembers (copies_of slots) c choice.members) → IsChoiceOf image choice
+  choice_shown choice (c, chosen, fields) members = record {
+    content = c;
+    is = chosen_same (copies_of slots) (content_at image) copies c chosen;
+    fields = sym fields;
+    members = members_same (copies_of slots) (content_at image) copies c choice.members (members c chosen);
+  }
+
+  -- and so is its lack
+  pub no_quorum : (classes : List Class) (first : ℕ) → length classes ≡ 4 → AreClasses slots classes → IsSplit (copies_of slots) → IsFirstWrittenOf slots first → Refuses image (NoQuorum classes)
+  no_quorum classes first size are split written = record {
+    formatted = formatted image slots first shown written;
+    split = split_same (copies_of slots) (content_at image) copies split;
+    shown = classes_shown image slots shown classes size are;
+  }
+
+pub tells_unformatted : (told : Option Told) (slots : List Slot) → ShowsSlots told slots → AreBlank slots 4 → TellsChoice told (Err NotFormatted)
+tells_unformatted None slots shown blank = tt
+tells_unformatted (Some t) slots shown blank = unformatted t.shown slots shown blank
+
+pub tells_choice : (told : Option Told) (slots : List Slot) (choice : Chosen) → ShowsSlots told slots → ShowsCopies told slots → HasChosen (copies_of slots) choice.content
+    → ((c : Content) → IsChosen (copies_of slots) c → AreMembers (copies_of slots) c choice.members) → TellsChoice told (Ok choice)
+tells_choice None slots choice shown copies chosen members = tt
+tells_choice (Some t) slots choice shown copies chosen members = choice_shown t.shown slots shown copies choice chosen members
+
+pub tells_split : (told : Option Told) (slots : List Slot) (classes : List Class) (first : ℕ) → ShowsSlots told slots → ShowsCopies told slots → length classes ≡ 4 → AreClasses slots classes → IsSplit (copies_of slots) → IsFirstWrittenOf slots first
+    → TellsChoice told (Err (NoQuorum classes))
+tells_split None slots classes first shown copies size are split written = tt
+tells_split (Some t) slots classes first shown copies size are split written = no_quorum t.shown slots shown copies classes first size are split written

@@ -1,0 +1,107 @@
+-- A plan slot by slot: the list grows by one entry or none, and each header is valid in its slot.
+use Rattle.std.proofs.Common.{◌≡◌, inl, inr, ℕ, ◌+◌, ◌<◌, ◌^◌, List, [], ◌∷◌, ◌++◌, map, length, Bool, true, false, Some, refl, sym, ◌∙◌, ap, subst, arith}
+use Rattle.std.specs.Prelude.{Result, Ok, Err, cond}
+use Rattle.std.specs.List.{filter, range_with_len, slice_get}
+use Rattle.std.proofs.lemmas.Bool.{cases_eq}
+use Rattle.std.proofs.lemmas.List.{length-set, map-append, map-id}
+use Rattle.std.proofs.lemmas.List.FromFn.{filter_of_map_range_with_len_more}
+use Rattle.std.proofs.lemmas.Option.{slice_get-get_or, slice_get_within}
+use Rattle.df_layout.specs.declared.damage.Class.{Class}
+use Rattle.df_layout.specs.declared.damage.Class.TheVariants.{Blank}
+use Rattle.df_layout.specs.declared.layout.Layout.{Layout}
+use Rattle.df_layout.specs.declared.places.Zone.TheVariants.{WalPrepares}
+use Rattle.df_layout.proofs.Laws.{some_slots}
+use Rattle.df_format.specs.declared.header.Header.{Header}
+use Rattle.df_format.specs.Message.{Message}
+use Rattle.df_format.specs.Own.{place_in}
+use Rattle.df_format.specs.Valid.{IsInSlot, IsUnit}
+use Rattle.df_format.proofs.Laws.{some-eq, valid_belongs}
+use Rattle.df_cases.specs.declared.cases.Decision.{Decision}
+use Rattle.df_cases.specs.declared.cases.Decision.TheVariants.{Behind, Empty, Lost, Take}
+use Rattle.df_units.specs.Sample.{reserved_header}
+use Rattle.df_units.proofs.Laws.{reserved_unit}
+use Rattle.df_places.specs.Units.{IsThere}
+use Rattle.df_buffers.specs.declared.slots.SlotSeen.{SlotSeen}
+use Rattle.df_headers.specs.Ring.{IsHeader, IsTable}
+use Rattle.df_headers.proofs.Laws.{get_other, get_set}
+use Rattle.df_journal.specs.Scan.{Scan, entry, or_blank}
+use Rattle.df_journal.specs.Seen.{IsOpOf, header_of_seen}
+use Rattle.df_journal.specs.Shows.{IsHeaderThere, IsSlot, IsTable as AreSlots}
+use Rattle.df_journal.proofs.Laws.{in_header_ring, op_of_slot}
+use Rattle.df_recovery.specs.Plan.{ArePlanned, IsDecided, PutsHeader, header_by, header_or_reserved, if_wanted, op_in, slot_mend, slot_mends}
+
+-- ---- lists
+
+map_wanted : {X Y : Type 0} (f : X → Y) (b : Bool) (x : X) → map f (if_wanted b x) ≡ if_wanted b (f x)
+map_wanted f true x = refl
+map_wanted f false x = refl
+
+wanted_is : (p : ℕ → Bool) (k : ℕ) (b : Bool) → p k ≡ b → cond (p k) (k ∷ []) [] ≡ if_wanted (p k) k
+wanted_is p k true is = ap (λ (b : Bool). cond b (k ∷ []) []) is ∙ ap (λ (b : Bool). if_wanted b k) (sym is)
+wanted_is p k false is = ap (λ (b : Bool). cond b (k ∷ []) []) is ∙ ap (λ (b : Bool). if_wanted b k) (sym is)
+
+pub filter_more : (p : ℕ → Bool) (k : ℕ) → filter p (range_with_len 0 (k + 1)) ≡ filter p (range_with_len 0 k) ++ if_wanted (p k) k
+filter_more p k =
+    ap (filter p) (sym (map-id (range_with_len 0 (k + 1)))) ∙ filter_of_map_range_with_len_more p (λ (n : ℕ). n) 0 k k (omega arith)
+    ∙ ap (λ (xs : List ℕ). filter p xs ++ cond (p k) (k ∷ []) []) (map-id (range_with_len 0 k)) ∙ ap (λ (xs : List ℕ). filter p (range_with_len 0 k) ++ xs) (wanted_is p k (p k) refl)
+
+pub slot_mends_more : (needs : ℕ → Bool) (classes : ℕ → Class) (k : ℕ) → slot_mends needs classes (k + 1) ≡ slot_mends needs classes k ++ if_wanted (needs k) (slot_mend classes k)
+slot_mends_more needs classes k =
+    ap (map (slot_mend classes)) (filter_more needs k) ∙ map-append (slot_mend classes) (filter needs (range_with_len 0 k)) (if_wanted (needs k) k)
+    ∙ ap (λ xs. slot_mends needs classes k ++ xs) (map_wanted (slot_mend classes) (needs k) k)
+
+-- ---- what was seen of a slot
+
+pub op_in_is : (layout : Layout) (op slot : ℕ) → slot < layout.slots → IsOpOf layout.slots op slot (op_in layout.slots op slot)
+op_in_is layout op slot below = op_of_slot layout.slots op slot (some_slots layout) below
+
+pub entry_there : (scan : Scan) (slot : ℕ) → slot < length scan.slots → slice_get scan.slots slot ≡ Some (entry scan slot)
+entry_there scan slot below =
+    let blank : SlotSeen = record { header = Err Blank; prepare = Err Blank } in
+    let at = slice_get-get_or scan.slots slot blank below in
+    at ∙ ap Some (sym (ap or_blank at))
+
+-- ---- headers
+
+pub planned_more : (cluster : ℕ) (scan : Scan) (k : ℕ) (old new : List Header) → k < length old → ArePlanned cluster scan k old → PutsHeader cluster scan k old new → ArePlanned cluster scan (k + 1) new
+planned_more cluster scan k old new inside before put slot less = elim (cases_eq slot k) [
+  | inl here ↦ subst (λ (n : ℕ). (d : Decision) × IsDecided scan n d × (slice_get new n ≡ Some (header_by cluster n (entry scan n) d))) (sym here)
+      (put.0, put.1, ap (λ (xs : List Header). slice_get xs k) put.2 ∙ get_set old k (header_by cluster k (entry scan k) put.0) inside)
+  | inr away ↦
+      let was = before slot (omega (arith, less, away)) in
+      (was.0, was.1, ap (λ (xs : List Header). slice_get xs slot) put.2 ∙ get_other old k slot (header_by cluster k (entry scan k) put.0) away ∙ was.2)
+]
+
+pub size_kept : (cluster : ℕ) (scan : Scan) (k : ℕ) (old new : List Header) → PutsHeader cluster scan k old new → length new ≡ length old
+size_kept cluster scan k old new put = ap length put.2 ∙ length-set old k (header_by cluster k (entry scan k) put.0)
+
+shown_valid : (layout : Layout) (cluster slot : ℕ) (r : Result Header Class) → IsHeader layout cluster slot (reserved_header cluster slot) → IsHeaderThere layout cluster slot r → IsHeader layout cluster slot (header_or_reserved cluster slot (header_of_seen r))
+shown_valid layout cluster slot (Ok h) reserved there = there
+shown_valid layout cluster slot (Err class) reserved there = reserved
+
+taken_valid : (layout : Layout) (cluster slot : ℕ) (r : Result Header Class) → IsHeader layout cluster slot (reserved_header cluster slot) → IsThere layout cluster (place_in WalPrepares slot) r → IsHeader layout cluster slot (header_or_reserved cluster slot (header_of_seen r))
+taken_valid layout cluster slot (Ok h) reserved (body, is) =
+    let u : Message = record { header = h; body = body } in
+    let here : IsInSlot layout slot h = (valid_belongs layout cluster (place_in WalPrepares slot) u is).belongs in
+    let own : IsUnit layout h.cluster (place_in WalPrepares h.slot) u = subst (λ (c : ℕ). IsUnit layout c (place_in WalPrepares h.slot) u) (sym is.owner) (subst (λ (n : ℕ). IsUnit layout cluster (place_in WalPrepares n) u) (sym here.slot) is) in
+    subst (λ (n : ℕ). IsHeader layout cluster n h) here.slot (subst (λ (c : ℕ). IsHeader layout c h.slot h) is.owner (in_header_ring layout u own))
+taken_valid layout cluster slot (Err class) reserved there = reserved
+
+by_valid : (layout : Layout) (cluster slot : ℕ) (seen : SlotSeen) (d : Decision) → IsHeader layout cluster slot (reserved_header cluster slot) → IsSlot layout cluster slot seen → IsHeader layout cluster slot (header_by cluster slot seen d)
+by_valid layout cluster slot seen (Take mend) reserved is = taken_valid layout cluster slot seen.prepare reserved is.prepare
+by_valid layout cluster slot seen (Empty false) reserved is = shown_valid layout cluster slot seen.header reserved is.header
+by_valid layout cluster slot seen (Empty true) reserved is = reserved
+by_valid layout cluster slot seen Behind reserved is = reserved
+by_valid layout cluster slot seen Lost reserved is = reserved
+
+-- the whole table is one of the layout
+pub planned_table : (layout : Layout) (cluster : ℕ) (scan : Scan) (table : List Header) → 0 < cluster → cluster < 2 ^ 128 → AreSlots layout cluster scan.slots → length table ≡ layout.slots → ArePlanned cluster scan layout.slots table → IsTable layout cluster table
+planned_table layout cluster scan table named small slots count planned = record {
+  count = count;
+  each = λ slot h at.
+      let below : slot < layout.slots = omega (arith, slice_get_within table slot h at, count) in
+      let plan = planned slot below in
+      let same : header_by cluster slot (entry scan slot) plan.0 ≡ h = some-eq (sym plan.2 ∙ at) in
+      subst (λ (x : Header). IsHeader layout cluster slot x) same
+      (by_valid layout cluster slot (entry scan slot) plan.0 (reserved_unit layout cluster slot named small below) (slots.each slot (entry scan slot) (entry_there scan slot (omega (arith, below, slots.size)))));
+}

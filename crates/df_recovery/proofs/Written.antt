@@ -1,0 +1,55 @@
+-- A superblock that can be used was written: its content is the one that its fields give.
+use Rattle.std.proofs.Common.{◌≡◌, ℕ, ◌==◌, Bool, true, false, cond, List, Option, Some, None, refl, sym, ◌∙◌, ap, subst}
+use Rattle.df_base.specs.Fields.{check_of}
+use Rattle.df_base.specs.Image.{Image, IsImage, IsSector}
+use Rattle.df_format.specs.Super.{covered_bytes}
+use Rattle.df_format.specs.SuperRules.{IsSuper}
+use Rattle.df_format.specs.Copies.{Content, copy_in, if_here, copy_at, content_of, content_at, content_with}
+use Rattle.df_format.specs.CopyLaws.{IsWritten}
+use Rattle.df_format.specs.declared.superblock.SuperCopy.{SuperCopy}
+use Rattle.df_format.specs.declared.superblock.SuperFields.{SuperFields}
+use Rattle.df_format.proofs.CopySpelled.{was_written}
+use Rattle.df_format.proofs.SuperFaults.{faults}
+use Rattle.df_quorum.specs.Quorum.{IsChosen}
+use Rattle.df_recovery.specs.Opening.{HasSuper}
+use Rattle.df_recovery.specs.OpeningLaws.{SuperIsWritten}
+
+-- a content that a sector shows is that of the copy that the sector is
+record IsFrom (bytes : List ℕ) (c : Content) : Type 0 where
+  copy : SuperCopy
+  read : copy_in bytes ≡ Some copy
+  checksum : c.checksum ≡ copy.checksum
+  fields : c.fields ≡ copy.fields
+
+from_here : (bytes : List ℕ) (n : ℕ) (c : Content) (copy : SuperCopy) (here : Bool) → copy_in bytes ≡ Some copy → content_of (cond here (Some copy) None) ≡ Some c → IsFrom bytes c
+from_here bytes n c copy false read is = absurd (cc)
+from_here bytes n c copy true read is =
+    let same : record { checksum = copy.checksum; fields = copy.fields } ≡ c = cc in
+    record { copy = copy; read = read; checksum = sym (ap (λ (d : Content). d.checksum) same); fields = sym (ap (λ (d : Content). d.fields) same) }
+
+from_sector : (bytes : List ℕ) (n : ℕ) (c : Content) (o : Option SuperCopy) → copy_in bytes ≡ o → content_of (if_here n o) ≡ Some c → IsFrom bytes c
+from_sector bytes n c None read is = absurd (cc)
+from_sector bytes n c (Some copy) read is = from_here bytes n c copy (copy.number == n) read is
+
+from_image : (image : Image) (n : ℕ) (c : Content) → content_at image n ≡ Some c → IsFrom (image n) c
+unfolding copy_at
+from_image image n c is = from_sector (image n) n c (copy_in (image n)) refl is
+
+-- which has the checksum of its fields where nothing stands behind them
+content_is : (image : Image) (n : ℕ) (c : Content) → IsSector (image n) → c.fields.first_nonzero ≡ None → content_at image n ≡ Some c → c ≡ content_with c.fields
+content_is image n c sector none is =
+    let one = from_image image n c is in
+    let written : IsWritten one.copy = (was_written (image n) one.copy sector (sym (ap (λ (f : SuperFields). f.first_nonzero) one.fields) ∙ none) one.read).0 in
+    let sum : c.checksum ≡ check_of (covered_bytes c.fields) = one.checksum ∙ written.checksum ∙ sym (ap (λ (f : SuperFields). check_of (covered_bytes f)) one.fields) in
+    λ i. record { checksum = sum i; fields = c.fields }
+
+-- the content that is chosen is the one that its fields are written with
+pub written_is : (image : Image) (f : SuperFields) → IsImage image → (found : HasSuper image f) → found.content ≡ content_with f
+written_is image f whole found =
+    let rules : IsSuper f = (faults f).0 found.usable in
+    let none : found.content.fields.first_nonzero ≡ None = ap (λ (g : SuperFields). g.first_nonzero) found.fields ∙ rules.zero in
+    let same : found.content ≡ content_with found.content.fields = content_is image found.chosen.agreed.second found.content (whole.sectors found.chosen.agreed.second) none found.chosen.agreed.at_second in
+    same ∙ ap content_with found.fields
+
+pub super_is_written : SuperIsWritten
+super_is_written image f whole found = subst (λ (c : Content). IsChosen (content_at image) c) (written_is image f whole found) found.chosen

@@ -1,0 +1,197 @@
+-- What an open finds behind a superblock, by what a scan saw of the slots and of the replies: the state, or the first damage in the order of open.
+use Rattle.std.specs.Prelude.{◌≡◌, ◌+◌, ◌-◌, ◌<◌, ◌≤◌, ℕ, Bool, nat_le, if◌then◌else◌, List, [], length, map, slice_get, position, Option, Some, None, Result, Ok, Err}
+use Rattle.std.specs.List.{range_with_len}
+use Rattle.df_base.specs.Image.{IsImage}
+use Rattle.df_disk.specs.Told.{Told}
+use Rattle.df_layout.specs.declared.damage.Class.{Class}
+use Rattle.df_layout.specs.declared.layout.Layout.{Layout}
+use Rattle.df_format.specs.declared.header.Header.{Header}
+use Rattle.df_format.specs.declared.superblock.SuperFields.{SuperFields}
+use Rattle.df_format.specs.Copies.{content_with}
+use Rattle.df_sessions.specs.declared.session.Session.{Session}
+use Rattle.df_sessions.specs.Requests.{sessions_of}
+use Rattle.df_theory.specs.Units
+use Rattle.df_theory.specs.Units.{CopyPlace}
+use Rattle.df_theory.specs.Found
+use Rattle.df_theory.specs.Opens.{Damaged as Damages, IsLowest, IsReadable, Opens, Refused}
+use Rattle.df_theory.specs.MendLaws.{IsSlotHeader}
+use Rattle.df_theory.specs.Shape.{Shape, clients, slots}
+use Rattle.df_theory.specs.Tails.{last_checksum}
+use Rattle.df_theory.specs.Trailer.{no_parts}
+use Rattle.df_theory.specs.View.{Checkpoint, View, head, sessions}
+use Rattle.df_model.specs.Memory
+use Rattle.df_model.specs.Work.{opened}
+use Rattle.df_model.specs.declared.errors.OpenError.{OpenError}
+use Rattle.df_model.specs.declared.errors.OpenError.TheVariants.{Damaged}
+use Rattle.df_units.specs.Bytes.{unit_at}
+use Rattle.df_units.specs.Meaning.{content_of, header_of, number_of, place_of}
+use Rattle.df_journal.specs.Scan.{Scan}
+use Rattle.df_journal.specs.Scanned
+use Rattle.df_journal.specs.Shows.{Tells}
+use Rattle.df_journal.specs.Tail.{AreUnstored, EndsAt}
+use Rattle.df_replies.specs.Shown
+use Rattle.df_replies.specs.Shown.{ShowsReplies}
+use Rattle.df_recovery.specs.State.{Represents, State, prepare_sum, shape, stored_sum}
+use Rattle.df_recovery.specs.Found.{IsChoiceOf}
+use Rattle.df_recovery.specs.Surveys.{HasFile, Surveys, class_there}
+use Rattle.df_recovery.specs.declared.file.DataFile.{DataFile}
+use Rattle.df_recovery.specs.declared.superblock.Found.{Found}
+use Rattle.df_recovery.specs.declared.finding.Traces.{Traces}
+
+abbrev pub or_first : Option ℕ → ℕ
+or_first None = 0
+or_first (Some number) = number
+
+-- the number of the lowest copy that is a member
+abbrev pub lowest_of : List Bool → ℕ
+lowest_of members = or_first (position (λ member. member) members)
+
+-- the refusal that names a place of the model
+abbrev pub damage : Units.Place → Class → OpenError
+damage at class = Damaged (place_of at) class
+
+-- the refusal names a place
+abbrev pub IsDamage : OpenError → Type 0
+IsDamage (Damaged place class) = Unit {0}
+IsDamage e = ⊥
+
+-- what an open has read: the superblock, what a scan saw of the slots and of the replies, and the sessions of the checkpoint
+pub record Read : Type 0 where
+  pub layout : Layout
+  pub found : Found
+  pub slots : Scan
+  pub replies : List (Result Header Class)
+  pub sessions : List Session
+
+-- it was read from an image with this checkpoint: the superblock names it and can be used
+pub record IsReadFrom (sh : Shape) (image : Units.Units) (b : Checkpoint) (read : Read) : Type 0 where
+  pub tells : Tells read.layout image read.slots
+  pub shows : ShowsReplies image read.replies
+  pub slots_are : slots sh ≡ read.layout.slots
+  pub clients_are : clients sh ≡ read.layout.clients
+  pub content_is : b.content ≡ content_of (content_with read.found.content)
+  pub readable : IsReadable sh image b
+  pub lowest_is : IsLowest image b.content (lowest_of read.found.chosen.members)
+  pub sessions_are : b.parts.sessions ≡ sessions_of read.sessions
+
+-- of a disk, what a scan saw
+pub record IsScannedFrom (t : Told) (read : Read) : Type 0 where
+  pub slots : Scanned.IsScanned read.layout (Some t) read.slots
+  pub replies : Shown.IsScanned read.layout read.slots.start.cluster (Some t) read.replies
+
+-- the image's state is a view that ends so, with these sessions
+pub record FindsView (sh : Shape) (image : Units.Units) (b : Checkpoint) (traces : Traces) (sessions : List Session) : Type 0 where
+  pub view : View
+  pub checkpoint : view.checkpoint ≡ b
+  pub ends : EndsAt b view.tail traces.tail sessions
+  pub replies : view.replies ≡ traces.replies
+  pub found : Found.IsFound sh image view
+
+-- the open ends with this refusal: of each image that was read the model blames the place, and of a disk that was scanned the class is what stands there
+pub record IsRefused (read : Read) (e : OpenError) : Type 0 where
+  pub at : Units.Place
+  pub class : Class
+  pub error_is : e ≡ damage at class
+  pub opens : (sh : Shape) (image : Units.Units) (b : Checkpoint) → IsReadFrom sh image b read → Opens sh image (Refused (Damages at))
+  pub class_is : (t : Told) → IsScannedFrom t read → class ≡ class_there read.layout read.slots.start.cluster t.shown at
+
+-- the answer, with the sessions after the tail
+abbrev pub Answers : Read → Result Traces OpenError → List Session → Type 0
+Answers read (Ok traces) sessions = (sh : Shape) (image : Units.Units) (b : Checkpoint) → IsReadFrom sh image b read → FindsView sh image b traces sessions
+Answers read (Err e) sessions = IsRefused read e
+
+-- ---- the state in memory
+
+-- what a state keeps of a view, of a file without a trailer: the header table says what each header is to be, and the checksums that wait are taken from it
+pub record Keeps (sh : Shape) (image : Units.Units) (v : View) (s : State) : Type 0 where
+  pub content : v.checkpoint.content ≡ content_of (content_with s.fields)
+  pub chain : v.checkpoint.chain ≡ []
+  pub parts : v.checkpoint.parts ≡ no_parts
+  pub head_is : s.head ≡ head v
+  pub head_checksum : number_of s.head_checksum ≡ last_checksum v.checkpoint.content.op_checksum v.tail
+  pub replies : s.replies ≡ v.replies
+  pub sessions_are : sessions_of s.table.sessions ≡ sessions v
+  pub stored : (k : ℕ) (t : Session) → slice_get s.table.sessions k ≡ Some t → stored_sum t ≡ Memory.stored_sum (v.stored k)
+  pub count : length s.headers ≡ s.file.layout.slots
+  pub headers : (slot : ℕ) (h : Header) → slice_get s.headers slot ≡ Some h → IsSlotHeader sh image v slot (header_of h)
+  pub waiting : map number_of s.waiting ≡ map (prepare_sum s) (range_with_len (s.replies + 1) (s.head - s.replies))
+
+-- such a state stands for what the machine begins with from the view that an open finds
+abbrev pub StateIsOpened : Type 0
+StateIsOpened =
+    (parse : ℕ → List ℕ → Option Units.Parts) (spell : Units.Parts → List ℕ) (image : Units.Units) (v : View) (s : State) → Found.IsFound (shape s.file parse) image v → Keeps (shape s.file parse) image v s
+    → Represents (shape s.file parse) spell s (opened (shape s.file parse) image v)
+
+-- ---- of a file
+
+-- what was read is of a file without a trailer: its superblock with the members of the choice, the slots and the replies as they were scanned, and no session
+pub record IsOfFile (t : Told) (file : DataFile) (read : Read) : Type 0 where
+  pub image : IsImage t.shown
+  pub has : HasFile t.shown file read.found.content
+  pub choice : IsChoiceOf t.shown read.found.chosen
+  pub chosen_is : read.found.content ≡ read.found.chosen.content
+  pub layout : read.layout ≡ file.layout
+  pub cluster : read.slots.start.cluster ≡ file.cluster
+  pub scanned : IsScannedFrom t read
+  pub sessions : read.sessions ≡ []
+
+-- the checkpoint of a superblock that names no trailer
+abbrev pub base_of : SuperFields → Checkpoint
+base_of f = record { content = content_of (content_with f); chain = []; parts = no_parts }
+
+-- it was read from the image in the model's words, however the text of a trailer would be read
+abbrev pub FileIsRead : Type 0
+FileIsRead =
+    (t : Told) (file : DataFile) (read : Read) (parse : ℕ → List ℕ → Option Units.Parts) → IsOfFile t file read
+    → IsReadFrom (shape file parse) (unit_at file.layout file.cluster t.shown) (base_of read.found.content) read
+
+-- so a refusal is the answer to an open
+abbrev pub RefusedIsAnswer : Type 0
+RefusedIsAnswer = (t : Told) (file : DataFile) (read : Read) (e : OpenError) → IsOfFile t file read → IsRefused read e → Surveys file.layout t.shown (Err e)
+
+-- ---- the stored replies
+
+-- the checksum of the reply to a session whose op is at most n, by what its slot shows
+abbrev pub reply_in : ℕ → Session → Option (Result Header Class) → Option (List ℕ)
+reply_in n s (Some (Ok h)) = if nat_le s.op n then Some h.checksum else s.reply
+reply_in n s (Some (Err class)) = s.reply
+reply_in n s None = s.reply
+
+abbrev pub with_stored : ℕ → Option (Result Header Class) → Session → Session
+with_stored n shown s = record s { reply = reply_in n s shown }
+
+-- each of the first count sessions has the checksum of its reply, and the others are as they were
+pub record StoresTo (n : ℕ) (replies : List (Result Header Class)) (count : ℕ) (before after : List Session) : Type 0 where
+  pub stored : (k : ℕ) (s : Session) → k < count → slice_get before k ≡ Some s → slice_get after k ≡ Some (with_stored n (slice_get replies k) s)
+  pub others : (k : ℕ) → count ≤ k → slice_get after k ≡ slice_get before k
+  pub requests : sessions_of after ≡ sessions_of before
+
+-- then each session has the checksum of the reply that counts as stored
+abbrev pub StoredIsKept : Type 0
+StoredIsKept =
+    (image : Units.Units) (v : View) (replies : List (Result Header Class)) (before after : List Session) → ShowsReplies image replies → Found.IsStored image v → sessions_of before ≡ sessions v → AreUnstored before
+    → StoresTo v.replies replies (length before) before after → (k : ℕ) (t : Session) → slice_get after k ≡ Some t → stored_sum t ≡ Memory.stored_sum (v.stored k)
+
+-- ---- the answer
+
+-- what a state keeps of the traces that are found, and of the sessions after the tail; the checksums that wait are those of its header table
+pub record IsKept (read : Read) (traces : Traces) (after : List Session) (s : State) : Type 0 where
+  pub fields : s.fields ≡ read.found.content
+  pub head_is : s.head ≡ traces.tail.op
+  pub head_checksum : s.head_checksum ≡ traces.tail.checksum
+  pub replies : s.replies ≡ traces.replies
+  pub unstored : AreUnstored after
+  pub stored : StoresTo traces.replies read.replies (length after) after s.table.sessions
+  pub count : length s.headers ≡ s.file.layout.slots
+  pub waiting : map number_of s.waiting ≡ map (prepare_sum s) (range_with_len (s.replies + 1) (s.head - s.replies))
+
+-- the header table says what each header is to be, of whatever view is found
+abbrev pub HasHeaders : Units.Units → State → Type 0
+HasHeaders image s =
+    (parse : ℕ → List ℕ → Option Units.Parts) (v : View) → Found.IsFound (shape s.file parse) image v → (slot : ℕ) (h : Header) → slice_get s.headers slot ≡ Some h → IsSlotHeader (shape s.file parse) image v slot (header_of h)
+
+-- such a state is the answer to an open
+abbrev pub KeptIsAnswer : Type 0
+KeptIsAnswer =
+    (t : Told) (read : Read) (traces : Traces) (after : List Session) (s : State) → IsOfFile t s.file read → Answers read (Ok traces) after → IsKept read traces after s
+    → HasHeaders (unit_at s.file.layout s.file.cluster t.shown) s → Surveys s.file.layout t.shown (Ok s)

@@ -1,0 +1,146 @@
+// What an open finds behind a superblock, from what a scan saw of the slots and of the replies: the state, or the first
+// damage in the order of open.
+ghost use Rattle.std.specs.Prelude.{◌≡◌, ◌≤◌, ◌<◌, ◌+◌, length, position, IfOk, IfErr};
+ghost use Rattle.df_format.specs.Spelling.{IsCheck};
+ghost use Rattle.df_theory.specs.Units.{CopyPlace, PreparePlace, ReplyPlace, Units};
+ghost use Rattle.df_journal.specs.Counts.{CountsAll};
+ghost use Rattle.df_journal.specs.Scan.{entry};
+ghost use Rattle.df_journal.specs.Seen.{class_of};
+ghost use Rattle.df_journal.specs.Tail.{AreNumbered, AreUnstored};
+ghost use Rattle.df_journal.specs.Shows.{IsTable, ShowsTable};
+ghost use Rattle.df_replies.specs.Shown.{ShowsReplies};
+ghost use Rattle.df_recovery.specs.Finding.{Answers, FileIsRead, IsDamage, KeptIsAnswer, RefusedIsAnswer, StateIsOpened, damage, lowest_of};
+
+use crate::{Found, OpenError};
+use df_journal::{SlotTable, Tail, count_rings, find_tail, is_behind, is_lost, slot_behind};
+use df_layout::{Class, Layout, Place, Zone};
+use df_replies::{Lacking, ReplyTable};
+use df_sessions::SessionTable;
+use df_stamps::Counters;
+
+/// The end of the tail, and how many replies are stored.
+#[derive(Clone, Copy, Debug, PartialEq, Eq)]
+pub struct Traces {
+    pub tail: Tail,
+    pub replies: u64,
+}
+
+// The number of the lowest copy that is a member.
+fn lowest_member(members: &[bool; 4]) -> Option<usize>
+    ensures { result ≡ position (λ member. member) members.now }
+{
+    members.iter().position(|member| *member)
+}
+
+// The same, and 0 where there is none.
+fn lowest_of(members: &[bool; 4]) -> u64
+    ensures { result ≡ lowest_of members.now }
+{
+    match lowest_member(members) {
+        Some(number) => number as u64,
+        None => 0,
+    }
+}
+
+fn damage(zone: Zone, index: u64, class: Class) -> OpenError
+    ensures { result ≡ OpenError.Damaged (record { zone = zone; index = index }) class }
+{
+    OpenError::Damaged {
+        place: Place { zone, index },
+        class,
+    }
+}
+
+// The copy that names a checkpoint which something is later than.
+fn behind_damage(found: &Found) -> OpenError
+    ensures { result ≡ damage (CopyPlace (lowest_of found.now.chosen.members)) Class.Stale }
+{
+    damage(
+        Zone::Superblock,
+        lowest_of(&found.chosen.members),
+        Class::Stale,
+    )
+}
+
+// The slot of the next op, where something above the tail left a trace.
+fn lost_damage(slots: &SlotTable, slot: u32) -> OpenError
+    requires { slot < length slots.now.slots }
+    ensures { result ≡ damage (PreparePlace slot) (class_of (entry slots.now slot).prepare) }
+{
+    damage(Zone::WalPrepares, u64::from(slot), slots.class(slot))
+}
+
+// The slot of a reply that isn't shown.
+fn reply_damage(lacking: &Lacking) -> OpenError
+    ensures { result ≡ damage (ReplyPlace lacking.now.place) lacking.now.class }
+{
+    damage(Zone::ClientReplies, lacking.place, lacking.class)
+}
+
+// The counters of all units, in the rings and in the reply slots.
+fn count_all(slots: &SlotTable, replies: &ReplyTable) -> Counters
+    ensures { (image : Units) → ShowsTable image slots.now.slots → ShowsReplies image replies.now → CountsAll image result }
+{
+    replies.count(&count_rings(slots))
+}
+
+/// The state behind the checkpoint of a superblock, which the table of slots and the replies show; the sessions, at first
+/// the checkpoint's, become those after the tail. Or the first place that an open refuses: `Superblock` where a unit is of a
+/// later checkpoint, `WalPrepares` where an op above the tail left a trace, `ClientReplies` where a reply is missing.
+pub fn find_state(
+    layout: &Layout,
+    found: &Found,
+    slots: &SlotTable,
+    replies: &ReplyTable,
+    sessions: &mut SessionTable,
+) -> Result<Traces, OpenError>
+    requires table { IsTable layout.now slots.now.start.cluster slots.now.slots }
+    requires start { slots.now.start.op ≡ found.now.content.op }
+    requires replies { length replies.now ≡ layout.now.clients }
+    requires places { sessions.old.max ≡ layout.now.clients }
+    ensures answer { Answers (record { layout = layout.now; found = found.now; slots = slots.now; replies = replies.now; sessions = sessions.old.sessions })
+        result sessions.new.sessions }
+    ensures checksum { IfOk result (λ traces. IsCheck traces.tail.checksum) }
+    ensures start { IfOk result (λ traces. traces.tail.op ≡ found.now.content.op → traces.tail.checksum ≡ found.now.content.op_checksum) }
+    ensures ring { IfOk result (λ traces. (found.now.content.op ≤ traces.tail.op) × (traces.tail.op ≤ found.now.content.op + layout.now.slots)) }
+    ensures few { IfOk result (λ traces. traces.tail.op ≤ traces.replies + 8) }
+    ensures order { IfOk result (λ traces. traces.replies ≤ traces.tail.op) }
+    ensures damage { IfErr result IsDamage }
+    ensures unstored { AreUnstored sessions.old.sessions → AreUnstored sessions.new.sessions }
+    ensures numbered { AreNumbered sessions.old.sessions → AreNumbered sessions.new.sessions }
+    ensures places { sessions.new.max ≡ sessions.old.max }
+{
+    let seen = count_all(slots, replies);
+    let content = found.content.fields();
+    if is_behind(&seen, content.sequence, content.op, layout.slots) {
+        return Err(behind_damage(found));
+    }
+    let tail = find_tail(layout, slots, &content.op_checksum, sessions);
+    if is_lost(&seen, content.head, tail.op) {
+        return Err(lost_damage(slots, slot_behind(layout, &tail)));
+    }
+    let stored = replies.replies(content.replies, tail.mark);
+    match replies.first_lacking(sessions, stored) {
+        Some(lacking) => Err(reply_damage(&lacking)),
+        None => Ok(Traces {
+            tail,
+            replies: stored,
+        }),
+    }
+}
+
+/// What a state keeps of the view that an open finds stands for what the machine begins with.
+pub fn state_is_opened()
+    ensures { StateIsOpened }
+{}
+
+/// What was read of a file without a trailer was read from the image in the words of the model.
+pub fn file_is_read()
+    ensures { FileIsRead }
+{}
+
+/// What is found of a file is the answer to an open: a refusal, or a state that keeps the view that is found.
+pub fn found_is_answer()
+    ensures refused { RefusedIsAnswer }
+    ensures kept { KeptIsAnswer }
+{}

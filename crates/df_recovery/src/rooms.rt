@@ -1,0 +1,119 @@
+// All the rooms of a replica, whose memory is taken in one call.
+ghost use Rattle.std.specs.Prelude.{◌≡◌, ◌≤◌, ◌+◌, length, vec_capacity, IfOk};
+
+use df_base::OutOfMemory;
+use df_buffers::{HeaderSector, Prepare, ProbeRoom, Raw, Reply, SlotSeen};
+use df_format::{Header, Kind};
+use df_headers::HeaderTable;
+use df_journal::SlotTable;
+use df_layout::{Class, Layout, Mend};
+use df_replies::ReplyTable;
+use std::alloc::Global;
+
+/// The memory that serves a file of one layout.
+#[derive(Drop)]
+pub struct Rooms {
+    pub layout: Layout,
+    // The rooms that copies of the superblock are read into and made in.
+    pub superblock: ProbeRoom,
+    pub sector: Raw<HeaderSector>,
+    pub prepare: Raw<Prepare>,
+    pub reply: Raw<Reply>,
+    // What the header ring shows or is to show, what a scan saw of both rings, and of the reply slots.
+    pub headers: HeaderTable,
+    pub slots: SlotTable,
+    pub replies: ReplyTable,
+    // What is to be mended: at most a copy each and a slot each.
+    pub mends: Vec<Mend>,
+    pub ghost sector_fits: { sector.layout ≡ layout },
+    pub ghost prepare_fits: { prepare.layout ≡ layout },
+    pub ghost reply_fits: { reply.layout ≡ layout },
+    pub ghost headers_fit: { length headers ≡ layout.slots },
+    pub ghost slots_fit: { length slots.slots ≡ layout.slots },
+    pub ghost replies_fit: { length replies ≡ layout.clients },
+    pub ghost mends_fit: { layout.slots + 4 ≤ vec_capacity mends },
+}
+
+// Stands in a table until the first header is put there.
+fn no_header() -> Header {
+    Header {
+        checksum: [0; 16],
+        checksum_body: [0; 16],
+        cluster: 0,
+        parent: [0; 16],
+        client: 0,
+        op: 0,
+        request: 0,
+        mark: 0,
+        checkpoint: 0,
+        size: 256,
+        slot: 0,
+        kind: Kind::Reserved,
+        block_kind: 0,
+    }
+}
+
+fn header_table(alloc: Global, layout: &Layout) -> Result<HeaderTable, OutOfMemory>
+    ensures { IfOk result (λ table. length table ≡ layout.now.slots) }
+{
+    match vec![in alloc; no_header(); layout.slots as usize] {
+        Ok(room) => Ok(HeaderTable::over(room)),
+        Err(_) => Err(OutOfMemory),
+    }
+}
+
+fn slot_table(alloc: Global, layout: &Layout) -> Result<SlotTable, OutOfMemory>
+    ensures { IfOk result (λ table. length table.slots ≡ layout.now.slots) }
+{
+    let blank = SlotSeen {
+        header: Err(Class::Blank),
+        prepare: Err(Class::Blank),
+    };
+    match vec![in alloc; blank; layout.slots as usize] {
+        Ok(room) => Ok(SlotTable::over(room)),
+        Err(_) => Err(OutOfMemory),
+    }
+}
+
+fn mend_list(alloc: Global, layout: &Layout) -> Result<Vec<Mend>, OutOfMemory>
+    ensures { IfOk result (λ mends. layout.now.slots + 4 ≤ vec_capacity mends) }
+{
+    match Vec::with_capacity(alloc, layout.slots as usize + 4) {
+        Ok(mends) => Ok(mends),
+        Err(_) => Err(OutOfMemory),
+    }
+}
+
+impl Rooms {
+    /// The rooms for a layout, or the refusal of memory for one of them. No other call of a replica takes memory.
+    pub fn reserve(alloc: Global, layout: &Layout) -> Result<Rooms, OutOfMemory>
+        ensures { IfOk result (λ rooms. rooms.layout ≡ layout.now) }
+    {
+        let superblock = ProbeRoom::reserve(alloc)?;
+        let sector = Raw::reserve(alloc, layout)?;
+        let prepare = Raw::reserve(alloc, layout)?;
+        let reply = Raw::reserve(alloc, layout)?;
+        let headers = header_table(alloc, layout)?;
+        let slots = slot_table(alloc, layout)?;
+        let replies = ReplyTable::reserve(alloc, layout)?;
+        let mends = mend_list(alloc, layout)?;
+        Ok(Rooms {
+            layout: *layout,
+            superblock,
+            sector,
+            prepare,
+            reply,
+            headers,
+            slots,
+            replies,
+            mends,
+        })
+    }
+
+    /// The layout that the rooms were reserved for.
+    pub fn layout(&self) -> Layout
+        ensures { result ≡ self.now.layout }
+    {
+        self.layout
+    }
+}

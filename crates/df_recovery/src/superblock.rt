@@ -1,0 +1,94 @@
+// What four copies of the superblock say, once they are read.
+ghost use Rattle.std.specs.Prelude.{◌≡◌, ◌<◌, ◌↔◌, Option, IsTrue, get_or, IfSome, IfNone, IfOk, IfErr, Ok, None};
+ghost use Rattle.df_disk.specs.Told.{Told};
+ghost use Rattle.df_format.specs.SuperRules.{fault_of};
+ghost use Rattle.df_quorum.specs.Quorum.{nothing};
+ghost use Rattle.df_recovery.specs.Found.{AreBlank, IsFirstWrittenOf, TellsChoice, TellsFound, HasFaultOf, IsRefusal, fault_error};
+ghost use Rattle.df_superblock.specs.Calls.{ShowsSlots, ShowsCopies};
+
+use crate::OpenError;
+use df_format::{Super, SuperFault, test_fields};
+use df_layout::Class;
+use df_quorum::{Chosen, Slot, choose};
+
+/// The superblock of a file that can be opened: which copies say it, and what it says.
+#[derive(Clone, Copy, Debug, PartialEq, Eq)]
+pub struct Found {
+    pub chosen: Chosen,
+    /// The fields of the choice, which have passed their tests.
+    pub content: Super,
+}
+
+// Whether the place of this number holds zeros alone.
+fn is_blank(copies: &[Slot; 4], number: u8) -> bool
+    requires { number < 4 }
+    ensures { IsTrue result ↔ (get_or copies.now number nothing ≡ Slot.Bad Class.Blank) }
+{
+    copies[usize::from(number)] == Slot::Bad(Class::Blank)
+}
+
+/// The first place that holds a byte other than zero.
+pub fn first_written(copies: &[Slot; 4]) -> Option<u8>
+    ensures some { IfSome result (IsFirstWrittenOf copies.now) }
+    ensures none { IfNone result (AreBlank copies.now 4) }
+{
+    for number in 0..4u8 {
+        if !is_blank(copies, number) {
+            return Some(number);
+        }
+    }
+    None
+}
+
+// The choice, or why there is none.
+fn chosen(copies: &[Slot; 4]) -> Result<Chosen, OpenError>
+    ensures told { (told : Option Told) → ShowsSlots told copies.now → ShowsCopies told copies.now → TellsChoice told result }
+    ensures refusal { IfErr result IsRefusal }
+{
+    match first_written(copies) {
+        None => Err(OpenError::NotFormatted),
+        Some(_) => match choose(copies) {
+            Ok(chosen) => Ok(chosen),
+            Err(classes) => Err(OpenError::NoQuorum { classes }),
+        },
+    }
+}
+
+// Why the file isn't opened, where its superblock can't be used.
+fn refusal(fault: SuperFault) -> OpenError
+    ensures value { result ≡ fault_error fault }
+    ensures refusal { IsRefusal result }
+{
+    match fault {
+        SuperFault::Version { found } => OpenError::Version { found },
+        SuperFault::BadField { field, value } => OpenError::BadField { field, value },
+    }
+}
+
+// The choice, if it can be used.
+fn usable(chosen: Chosen) -> Result<Found, OpenError>
+    ensures same_fields { IfOk result (λ found. found.content ≡ found.chosen.content) }
+    ensures chosen { IfOk result (λ found. found.chosen ≡ chosen) }
+    ensures content { IfOk result (λ found. found.content ≡ chosen.content) }
+    ensures usable { IfOk result (λ _. fault_of chosen.content ≡ None) }
+    ensures fault { IfErr result (HasFaultOf chosen.content) }
+    ensures told { (told : Option Told) → TellsChoice told (Ok chosen) → TellsFound told result }
+    ensures refusal { IfErr result IsRefusal }
+{
+    match test_fields(&chosen.content) {
+        Ok(content) => Ok(Found { chosen, content }),
+        Err(fault) => Err(refusal(fault)),
+    }
+}
+
+/// The superblock that the four places say, or the first reason why the file can't be opened.
+pub fn superblock_of(copies: &[Slot; 4]) -> Result<Found, OpenError>
+    ensures same_fields { IfOk result (λ found. found.content ≡ found.chosen.content) }
+    ensures told { (told : Option Told) → ShowsSlots told copies.now → ShowsCopies told copies.now → TellsFound told result }
+    ensures refusal { IfErr result IsRefusal }
+{
+    match chosen(copies) {
+        Ok(choice) => usable(choice),
+        Err(refusal) => Err(refusal),
+    }
+}

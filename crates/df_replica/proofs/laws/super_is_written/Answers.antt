@@ -1,6 +1,0 @@
--- The content of a superblock that can be used.
-use Rattle.df_replica.proofs.Written.{super_is_written}
-use Rattle.df_replica.proofs.laws.super_is_written.Goals as goal
-
-pub returns : goal.returns
-returns c = super_is_written
