@@ -9,7 +9,7 @@ pub use Rattle.df_model.proofs.Finishes.{finish_exact_law, finish_may_law}
 pub use Rattle.df_model.proofs.Begins.{begin_exact_law}
 -- ---- the device
 pub use Rattle.df_model.proofs.Does.{command_law}
-pub use Rattle.df_model.proofs.Runs.{first_kept_law, opened_kept_law, run_law}
+pub use Rattle.df_model.proofs.Runs.{first_kept_law, found_law, opened_kept_law, run_law}
 pub use Rattle.df_model.proofs.Disks.{disk_command_law}
 -- ---- what is in memory, and answers
 pub use Rattle.df_model.proofs.Answering.{answer_from, answer_is, memory_law, order_law, reply_parent_law}

@@ -9,12 +9,12 @@ use Rattle.df_theory.specs.Found.{AreOfPlaces, IsInRange}
 use Rattle.df_theory.specs.UnitLog.{UnitLog, now}
 use Rattle.df_theory.specs.Runs.{after_steps, steps_of}
 use Rattle.df_theory.specs.TidyLaws.{KeepStanding, LeadTidily}
-use Rattle.df_theory.proofs.Laws.{after_append, standing_run_law, text_bytes, tidy_run_law}
+use Rattle.df_theory.proofs.Laws.{after_append, found_sound, standing_run_law, text_bytes, tidy_run_law}
 use Rattle.df_model.specs.Work.{Work, kept}
 use Rattle.df_model.specs.Codec.{AreBytes, IsLawfulSession}
 use Rattle.df_model.specs.Commands.{after}
 use Rattle.df_model.specs.Sense.{IsBacked}
-use Rattle.df_model.specs.Laws.{IsKeptBy}
+use Rattle.df_model.specs.Laws.{FoundLaw, IsKeptBy}
 use Rattle.df_model.specs.Runs.{Act, DoAll, FirstKeptLaw, OpenedKeptLaw, RunLaw, led_by, work_after}
 use Rattle.df_model.proofs.Keeps.{opened_law}
 use Rattle.df_model.proofs.Does.{command_law}
@@ -60,6 +60,13 @@ shown_lawful sh image p places shows =
     let same : of.0 ≡ p = cc (of.1) in
     let range : IsInRange p.header = subst (λ (q : Message). IsInRange q.header) same of.3 in
     record { client = range.client; request = range.request; op = range.op }
+
+-- whatever was done to the image: what is found in it makes sense
+pub found_law : FoundLaw
+found_law sh spell image v codec version places found =
+    opened_law sh spell image v codec version (found_sound sh image v places found)
+    (record { prepares = λ p at. shown_lawful sh image p places (found.tail.takes p at).shown; bytes = text_bytes sh image v.checkpoint.chain places (λ a b at. found.chain_shown a b at) })
+    (λ a b at. found.chain_shown a b at)
 
 pub opened_kept_law : OpenedKeptLaw
 opened_kept_law sh spell log v codec version tidy places = (

@@ -6,6 +6,7 @@ use Rattle.df_theory.specs.Tails.{In}
 use Rattle.df_theory.specs.Trailer.{InChain, text_of}
 use Rattle.df_theory.specs.Shape.{Shape, slots}
 use Rattle.df_theory.specs.View.{Checkpoint, View}
+use Rattle.df_theory.specs.Found.{AreOfPlaces, IsFound}
 use Rattle.df_theory.specs.Holds.{Holds, Sound, Stands}
 use Rattle.df_theory.specs.Next.{MayAppend, MayFinish, MayReply, Next}
 use Rattle.df_theory.specs.UnitLog.{PutsOne, UnitLog, now}
@@ -37,6 +38,10 @@ ShowsTrailer image v = (a : ℕ) (b : Block) → InChain a b v.checkpoint.chain 
 -- a state after an open
 abbrev pub OpenedLaw : Type 0
 OpenedLaw = (sh : Shape) (spell : Parts → List ℕ) (image : Units) (v : View) → IsCodec sh spell → IsVersionOne sh v → Sound sh v → HasFields v → ShowsTrailer image v → IsWork sh spell (opened sh image v)
+
+-- the state that an open finds in an image, whatever was done to it
+abbrev pub FoundLaw : Type 0
+FoundLaw = (sh : Shape) (spell : Parts → List ℕ) (image : Units) (v : View) → IsCodec sh spell → IsVersionOne sh v → AreOfPlaces sh image → IsFound sh image v → IsWork sh spell (opened sh image v)
 
 -- a state after a command
 abbrev pub SenseLaw : Type 0

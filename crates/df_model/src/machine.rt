@@ -1,6 +1,6 @@
 // What the machine keeps, and what a call that is not refused may do.
 
-ghost use Rattle.df_model.specs.Laws.{AppendExactLaw, AppendMayLaw, BlockAsideLaw, BlockMayLaw, CommandLaw, FinishExactLaw, FinishMayLaw, NextLaw, OpenedLaw, ReplyExactLaw, ReplyMayLaw, SenseLaw};
+ghost use Rattle.df_model.specs.Laws.{AppendExactLaw, AppendMayLaw, BlockAsideLaw, BlockMayLaw, CommandLaw, FinishExactLaw, FinishMayLaw, FoundLaw, NextLaw, OpenedLaw, ReplyExactLaw, ReplyMayLaw, SenseLaw};
 ghost use Rattle.df_model.specs.Answering.{BeginExactLaw, MemoryLaw, OrderLaw, ReplyParentLaw};
 ghost use Rattle.df_model.specs.Changing.{BlocksLaw, ChangeLaw, ListsLaw};
 ghost use Rattle.df_model.specs.Runs.{FirstKeptLaw, OpenedKeptLaw, RunLaw};
@@ -8,9 +8,10 @@ ghost use Rattle.df_model.specs.Reading.{BlockReadLaw, FailingLaw, PrepareReadLa
 ghost use Rattle.df_model.specs.OnDisk.{DiskCommandLaw};
 ghost use Rattle.df_model.specs.Result.{ResultLaw, WritesLaw};
 
-/// The state after an open makes sense.
+/// The state after an open makes sense, of an image that holds its view and of any one in which it is found.
 pub fn opened_makes_sense()
-    ensures { OpenedLaw }
+    ensures opened { OpenedLaw }
+    ensures found { FoundLaw }
 {}
 
 /// The state after a command makes sense.

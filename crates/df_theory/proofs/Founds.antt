@@ -68,7 +68,7 @@ module _ (sh : Shape) (image : Units) (v : View) (places : AreOfPlaces sh image)
     | inr none ↦ omega (arith, f.checkpoint.tests.head, f.checkpoint.tests.replies, f.not_lost.superblock, f.replies.superblock)
   ]
 
-  found_sound : Sound sh v
+  pub found_sound : Sound sh v
   found_sound = record {
     chain = f.tail.chain;
     room = f.tail.room;

@@ -13,7 +13,7 @@ pub use Rattle.df_theory.proofs.TidyRuns.{standing_run_law, tidy_run_law}
 -- ---- images, and what an open finds
 pub use Rattle.df_theory.proofs.OneFound.{found_law, one_chosen_law, one_found_law, one_view_law}
 pub use Rattle.df_theory.proofs.OneAnswer.{found_answer_law, one_answer_law}
-pub use Rattle.df_theory.proofs.Founds.{chain_at, slot_law}
+pub use Rattle.df_theory.proofs.Founds.{chain_at, found_sound, slot_law}
 pub use Rattle.df_theory.proofs.Decisions.{decision_law}
 -- ---- histories and damage
 pub use Rattle.df_theory.proofs.Past.{one_prepare_law, stamp_law}
