@@ -1,0 +1,45 @@
+-- What a sink has taken goes on, piece by piece.
+use Rattle.std.proofs.Common.{◌≡◌, ℕ, ◌+◌, List, [], ◌++◌, length, take, Option, Some, None, Result, Ok, Err, IsErr, OnOk, OnErr, sym, ◌∙◌, ap, subst, arith, append_assoc, length-append}
+use Rattle.std.proofs.lemmas.List.{append-nil, take-append-le}
+use Rattle.std.proofs.lemmas.Bool.{false≢true}
+use Rattle.std.proofs.Math.Seq.{take-append-add}
+use Rattle.df_base.specs.Streams.{Appends, AppendsPart}
+use Rattle.df_inspect.specs.Prints.{Prints}
+
+pub appends_none : (old : Option (List ℕ)) → Appends old old []
+appends_none None = tt
+appends_none (Some xs) = sym (append-nil xs)
+
+pub appends_more : (old mid new : Option (List ℕ)) (x y : List ℕ) → Appends old mid x → Appends mid new y → Appends old new (x ++ y)
+appends_more None None None x y one two = tt
+appends_more None None (Some n) x y one two = absurd two
+appends_more None (Some m) new x y one two = absurd one
+appends_more (Some o) None new x y one two = absurd one
+appends_more (Some o) (Some m) None x y one two = absurd two
+appends_more (Some o) (Some m) (Some n) x y one two = two ∙ ap (λ (l : List ℕ). l ++ y) one ∙ append_assoc o x y
+
+pub appends_part : (old mid new : Option (List ℕ)) (x y : List ℕ) → Appends old mid x → AppendsPart mid new y → AppendsPart old new (x ++ y)
+appends_part old mid new x y one two =
+    (length x + two.0, omega (arith, two.1, length-append x y), subst (λ (l : List ℕ). Appends old new l) (sym (take-append-add x y two.0)) (appends_more old mid new x (take two.0 y) one two.2))
+
+-- a front of a text is a front of every longer one
+pub part_of_more : (old new : Option (List ℕ)) (x y : List ℕ) → AppendsPart old new x → AppendsPart old new (x ++ y)
+part_of_more old new x y part =
+    (part.0, omega (arith, part.1, length-append x y), subst (λ (l : List ℕ). Appends old new l) (sym (take-append-le part.0 x y part.1)) part.2)
+
+-- behind a text that was taken whole, a call prints another one
+pub prints_more : {T E : Type 0} (x y : List ℕ) (old mid new : Option (List ℕ)) (result : Result T E) → Appends old mid x → Prints y mid new result → Prints (x ++ y) old new result
+prints_more x y old mid new (Ok v) one two = record { whole = appends_more old mid new x y one two.whole; part = tt }
+prints_more x y old mid new (Err e) one two = record { whole = tt; part = appends_part old mid new x y one two.part }
+
+-- a call that failed within the first of two texts has printed a front of both
+pub prints_front : {T E : Type 0} (x y text : List ℕ) (old new : Option (List ℕ)) (result : Result T E) → IsErr result → text ≡ x ++ y → AppendsPart old new x → Prints text old new result
+prints_front x y text old new (Ok v) failed is part = absurd (false≢true failed)
+prints_front x y text old new (Err e) failed is part = record { whole = tt; part = subst (λ (l : List ℕ). AppendsPart old new l) (sym is) (part_of_more old new x y part) }
+
+pub prints_same : {T E : Type 0} (x text : List ℕ) (old new : Option (List ℕ)) (result : Result T E) → text ≡ x → Prints x old new result → Prints text old new result
+prints_same x text old new result is prints = subst (λ (l : List ℕ). Prints l old new result) (sym is) prints
+
+-- what an answer of a sink says, as one fact
+pub prints_of : {T E : Type 0} (text : List ℕ) (old new : Option (List ℕ)) (result : Result T E) → OnOk result (Appends old new text) → OnErr result (AppendsPart old new text) → Prints text old new result
+prints_of text old new result whole part = record { whole = whole; part = part }

@@ -1,0 +1,102 @@
+// A line in the making, in a buffer of its own and without taking memory, and its one call of the sink.
+ghost use Rattle.std.specs.Prelude.{◌≡◌, ◌≤◌, ◌+◌, [], ◌∷◌, ◌++◌, length, decimal, IsOk};
+ghost use Rattle.df_base.specs.Causes.{HasCause};
+ghost use Rattle.df_script_model.specs.Texts.{line_of, numbered, spaced};
+ghost use Rattle.df_inspect.specs.Prints.{Prints};
+
+use arrayvec::ArrayVec;
+use df_base::{Failed, Sink};
+use itoa::Buffer;
+
+/// Bytes that each line fits whose body isn't shown: ten numbers of at most 40 digits, or four classes with a place each.
+pub(crate) const LINE: usize = 512;
+
+/// A line, or the front of one.
+pub(crate) type Line = ArrayVec<u8, LINE>;
+
+/// Puts a text at the end of the line.
+pub(crate) fn put(line: &mut Line, text: &str)
+    requires { length line.old.items + length text.now ≤ 512 }
+    ensures put { line.new.items ≡ line.old.items ++ text.now }
+    ensures room { length line.new.items ≡ length line.old.items + length text.now }
+{
+    let _ = line.try_extend_from_slice(text.as_bytes());
+}
+
+/// Puts a number at the end of the line.
+pub(crate) fn put_number(line: &mut Line, number: u128)
+    requires { length line.old.items + 40 ≤ 512 }
+    ensures put { line.new.items ≡ line.old.items ++ decimal number }
+    ensures room { length line.new.items ≤ length line.old.items + 40 }
+{
+    let mut buffer = Buffer::new();
+    let digits = buffer.format(number).as_bytes();
+    let _ = line.try_extend_from_slice(digits);
+}
+
+/// Puts a word, a space and a number at the end of the line.
+pub(crate) fn put_numbered(line: &mut Line, word: &str, number: u128)
+    requires { length line.old.items + length word.now + 41 ≤ 512 }
+    ensures put { line.new.items ≡ line.old.items ++ numbered word.now number }
+    ensures room { length line.new.items ≤ length line.old.items + length word.now + 41 }
+{
+    put(line, word);
+    put(line, " ");
+    put_number(line, number);
+}
+
+/// Puts a space, a word, a space and a number at the end of the line.
+pub(crate) fn put_field(line: &mut Line, word: &str, number: u128)
+    requires { length line.old.items + length word.now + 42 ≤ 512 }
+    ensures put { line.new.items ≡ spaced line.old.items (numbered word.now number) }
+    ensures room { length line.new.items ≤ length line.old.items + length word.now + 42 }
+{
+    put(line, " ");
+    put_numbered(line, word, number);
+}
+
+/// A line that is said already.
+pub(crate) fn text_line(text: &str) -> Line
+    requires { length text.now ≤ 60 }
+    ensures { result.items ≡ text.now }
+{
+    let mut line = ArrayVec::new();
+    put(&mut line, text);
+    line
+}
+
+/// Words and a number.
+pub(crate) fn number_line(words: &str, number: u128) -> Line
+    requires { length words.now ≤ 60 }
+    ensures { result.items ≡ line_of (numbered words.now number) }
+{
+    let mut line = ArrayVec::new();
+    put_numbered(&mut line, words, number);
+    put(&mut line, "\n");
+    line
+}
+
+/// Words and a number, a word and a number.
+pub(crate) fn two_numbers_line(words: &str, number: u128, word: &str, other: u128) -> Line
+    requires words { length words.now ≤ 60 }
+    requires word { length word.now ≤ 60 }
+    ensures { result.items ≡ line_of (spaced (numbered words.now number) (numbered word.now other)) }
+{
+    let mut line = ArrayVec::new();
+    put_numbered(&mut line, words, number);
+    put_field(&mut line, word, other);
+    put(&mut line, "\n");
+    line
+}
+
+/// Writes a line by one call of the sink; where it is empty by none.
+pub(crate) fn write_line<W: Sink>(sink: &mut W, line: &Line) -> Result<(), Failed>
+    ensures prints { Prints line.now.items (W.written sink.old) (W.written sink.new) result }
+    ensures silent { line.now.items ≡ [] → IsOk result × (sink.new ≡ sink.old) }
+    ensures cause { HasCause (W.faults sink.old) (W.faults sink.new) result }
+{
+    if line.is_empty() {
+        return Ok(());
+    }
+    sink.write(line.as_slice())
+}

@@ -1,0 +1,104 @@
+// The names of zones, fields and classes as the program prints them, and the line on a place that is damaged.
+ghost use Rattle.std.specs.Prelude.{◌≡◌, ◌≤◌, ◌+◌, ◌*◌, ◌++◌, length};
+ghost use Rattle.df_script_model.specs.Texts.{class_text, damaged_text, place_text, zone_name};
+ghost use Rattle.df_inspect.specs.Opening.{classes_text, field_name};
+
+use crate::line::{Line, put, put_numbered};
+use arrayvec::ArrayVec;
+use df_layout::{Class, Field, Place, Zone};
+
+/// The line that refuses a call since a place doesn't show its unit.
+pub(crate) fn damaged_line(place: Place, class: Class) -> Line
+    ensures { result.items ≡ damaged_text place class }
+{
+    let mut line = ArrayVec::new();
+    put(&mut line, "refused Damaged ");
+    put_place(&mut line, place);
+    put(&mut line, " ");
+    put_class(&mut line, class);
+    put(&mut line, "\n");
+    line
+}
+
+/// Puts a place at the end of the line: its zone and its number in it.
+pub(crate) fn put_place(line: &mut Line, place: Place)
+    requires { length line.old.items + 54 ≤ 512 }
+    ensures put { line.new.items ≡ line.old.items ++ place_text place }
+    ensures room { length line.new.items ≤ length line.old.items + 54 }
+{
+    put_numbered(line, name_of_zone(place.zone), u128::from(place.index));
+}
+
+/// Puts a class at the end of the line.
+pub(crate) fn put_class(line: &mut Line, class: Class)
+    requires { length line.old.items + 64 ≤ 512 }
+    ensures put { line.new.items ≡ line.old.items ++ class_text class }
+    ensures room { length line.new.items ≤ length line.old.items + 64 }
+{
+    match class {
+        Class::Blank => put(line, "Blank"),
+        Class::Garbled => put(line, "Garbled"),
+        Class::Stale => put(line, "Stale"),
+        Class::Elsewhere(place) => {
+            put(line, "Elsewhere ");
+            put_place(line, place);
+        }
+    }
+}
+
+/// Puts classes at the end of the line, each behind a space.
+pub(crate) fn put_classes(line: &mut Line, classes: &[Class])
+    requires { length line.old.items + 65 * length classes.now ≤ 512 }
+    ensures put { line.new.items ≡ line.old.items ++ classes_text classes.now }
+    ensures room { length line.new.items ≤ length line.old.items + 65 * length classes.now }
+{
+    for class in classes {
+        put(line, " ");
+        put_class(line, *class);
+    }
+}
+
+// The name of a zone in the format.
+fn name_of_zone(zone: Zone) -> &'static str
+    ensures name { result.now ≡ zone_name zone }
+    ensures short { length result.now ≤ 13 }
+{
+    match zone {
+        Zone::Superblock => "Superblock",
+        Zone::WalHeaders => "WalHeaders",
+        Zone::WalPrepares => "WalPrepares",
+        Zone::ClientReplies => "ClientReplies",
+        Zone::Grid => "Grid",
+    }
+}
+
+/// The name of a field in the format.
+pub(crate) fn name_of_field(field: Field) -> &'static str
+    ensures name { result.now ≡ field_name field }
+    ensures short { length result.now ≤ 15 }
+{
+    match field {
+        Field::Slots => "Slots",
+        Field::MessageSize => "MessageSize",
+        Field::Clients => "Clients",
+        Field::BlockSize => "BlockSize",
+        Field::Blocks => "Blocks",
+        Field::Cluster => "Cluster",
+        Field::Sequence => "Sequence",
+        Field::Op => "Op",
+        Field::OpChecksum => "OpChecksum",
+        Field::Head => "Head",
+        Field::Replies => "Replies",
+        Field::TrailerAddress => "TrailerAddress",
+        Field::TrailerChecksum => "TrailerChecksum",
+        Field::TrailerSize => "TrailerSize",
+        Field::Boot => "Boot",
+        Field::Zero => "Zero",
+        Field::TrailerChain => "TrailerChain",
+        Field::TrailerRoot => "TrailerRoot",
+        Field::TrailerSessions => "TrailerSessions",
+        Field::TrailerBits => "TrailerBits",
+        Field::TrailerEnd => "TrailerEnd",
+        Field::Pending => "Pending",
+    }
+}

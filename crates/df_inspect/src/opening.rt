@@ -1,0 +1,115 @@
+// The lines that say why a file isn't made or opened. A failing disk has no line.
+ghost use Rattle.std.specs.Prelude.{◌≡◌, ◌≤◌, ◌+◌, ◌++◌, length, decimal, IsOk};
+ghost use Rattle.df_base.specs.Causes.{HasCause};
+ghost use Rattle.df_model.specs.declared.errors.FormatError.TheVariants as formats;
+ghost use Rattle.df_model.specs.declared.errors.OpenError.TheVariants as opens;
+ghost use Rattle.df_script_model.specs.Texts.{spaced};
+ghost use Rattle.df_inspect.specs.Opening.{format_refusal, layout_text, open_refusal};
+ghost use Rattle.df_inspect.specs.Prints.{Prints};
+
+use crate::line::{Line, number_line, put, put_number, put_numbered, text_line, write_line};
+use crate::names::{damaged_line, name_of_field, put_classes};
+use arrayvec::ArrayVec;
+use df_base::{Failed, Sink};
+use df_layout::{Class, Field, Layout};
+use df_model::{FormatError, OpenError};
+
+/// Why a file isn't made.
+pub fn print_format_refusal<W: Sink>(sink: &mut W, error: FormatError) -> Result<(), Failed>
+    ensures prints { Prints (format_refusal error) (W.written sink.old) (W.written sink.new) result }
+    ensures silent { error ≡ formats.DiskFault → IsOk result × (sink.new ≡ sink.old) }
+    ensures cause { HasCause (W.faults sink.old) (W.faults sink.new) result }
+{
+    write_line(sink, &format_line(error))
+}
+
+fn format_line(error: FormatError) -> Line
+    ensures { result.items ≡ format_refusal error }
+{
+    match error {
+        FormatError::ClusterZero => text_line("refused ClusterZero\n"),
+        FormatError::NotBlank { copy } => number_line("refused NotBlank copy", u128::from(copy)),
+        FormatError::DiskFault => text_line(""),
+    }
+}
+
+/// Why a file isn't opened.
+pub fn print_open_refusal<W: Sink>(sink: &mut W, error: &OpenError) -> Result<(), Failed>
+    ensures prints { Prints (open_refusal error.now) (W.written sink.old) (W.written sink.new) result }
+    ensures silent { error.now ≡ opens.DiskFault → IsOk result × (sink.new ≡ sink.old) }
+    ensures cause { HasCause (W.faults sink.old) (W.faults sink.new) result }
+{
+    write_line(sink, &open_line(error))
+}
+
+fn open_line(error: &OpenError) -> Line
+    ensures { result.items ≡ open_refusal error.now }
+{
+    match *error {
+        OpenError::NotFormatted => text_line("refused NotFormatted\n"),
+        OpenError::NoQuorum { classes } => no_quorum_line(&classes),
+        OpenError::Version { found } => number_line("refused Version found", u128::from(found)),
+        OpenError::BadField { field, value } => bad_field_line(field, value),
+        OpenError::LayoutDiffers { reserved, found } => layout_differs_line(&reserved, &found),
+        OpenError::Damaged { place, class } => damaged_line(place, class),
+        OpenError::DiskFault => text_line(""),
+    }
+}
+
+// The line on four copies of the superblock of which no two agree.
+fn no_quorum_line(classes: &[Class; 4]) -> Line
+    ensures { result.items ≡ open_refusal (opens.NoQuorum classes.now) }
+{
+    let mut line = ArrayVec::new();
+    put(&mut line, "refused NoQuorum");
+    put_classes(&mut line, classes);
+    put(&mut line, "\n");
+    line
+}
+
+// The line on a number of the superblock that is out of its range.
+fn bad_field_line(field: Field, value: u128) -> Line
+    ensures { result.items ≡ open_refusal (opens.BadField field value) }
+{
+    let mut line = ArrayVec::new();
+    put(&mut line, "refused BadField ");
+    put_numbered(&mut line, name_of_field(field), value);
+    put(&mut line, "\n");
+    line
+}
+
+// The line on a file of another layout.
+fn layout_differs_line(reserved: &Layout, found: &Layout) -> Line
+    ensures { result.items ≡ open_refusal (opens.LayoutDiffers reserved.now found.now) }
+{
+    let mut line = ArrayVec::new();
+    put(&mut line, "refused LayoutDiffers ");
+    put_layout(&mut line, reserved);
+    put(&mut line, " ");
+    put_layout(&mut line, found);
+    put(&mut line, "\n");
+    line
+}
+
+// Puts the five numbers of a layout at the end of the line.
+fn put_layout(line: &mut Line, layout: &Layout)
+    requires { length line.old.items + 204 ≤ 512 }
+    ensures put { line.new.items ≡ line.old.items ++ layout_text layout.now }
+    ensures room { length line.new.items ≤ length line.old.items + 204 }
+{
+    put_number(line, u128::from(layout.slots));
+    put_spaced(line, layout.message_size);
+    put_spaced(line, layout.clients);
+    put_spaced(line, layout.block_size);
+    put_spaced(line, layout.blocks);
+}
+
+// Puts a space and a number at the end of the line.
+fn put_spaced(line: &mut Line, number: u32)
+    requires { length line.old.items + 41 ≤ 512 }
+    ensures put { line.new.items ≡ spaced line.old.items (decimal number) }
+    ensures room { length line.new.items ≤ length line.old.items + 41 }
+{
+    put(line, " ");
+    put_number(line, u128::from(number));
+}
