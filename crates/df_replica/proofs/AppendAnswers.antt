@@ -1,14 +1,24 @@
--- Each answer of an append is the machine's, and so is the state behind it.
-use Rattle.std.proofs.Common.{◌≡◌, ℕ, ◌+◌, ◌%◌, ◌<◌, ◌≤◌, true, false, Bool, List, [], ◌∷◌, length, Option, Some, None, refl, sym, ◌∙◌, ap, subst, arith}
+-- Each append is the machine's: its answer, the state behind it, and what it does to the disk.
+use Rattle.std.proofs.Common.{◌≡◌, ℕ, ◌+◌, ◌%◌, ◌^◌, ◌<◌, ◌≤◌, true, false, Bool, List, [], ◌∷◌, length, Option, Some, None, refl, sym, ◌∙◌, ap, subst, arith}
 use Rattle.std.specs.Prelude.{if◌then◌else◌, Ok, Err}
 use Rattle.std.proofs.Math.Nat.{mod-lt}
+use Rattle.df_base.proofs.Laws.{AreBytes-check_of, field_at-lt}
+use Rattle.df_base.specs.Log.{now}
+use Rattle.df_disk.specs.Told.{Told}
+use Rattle.df_disk.specs.Adds.{AddsPart, after_all}
+use Rattle.df_format.proofs.Laws.{some-eq}
+use Rattle.df_format.specs.Making.{for_body}
 use Rattle.df_format.specs.Message.{Message}
+use Rattle.df_format.specs.Spelling.{spelling_rest}
+use Rattle.df_journal.specs.Append.{ShowsRing}
+use Rattle.df_prepares.specs.Slots.{IsInOwnSlot}
 use Rattle.df_sessions.specs.Table.{IsTable}
 use Rattle.df_theory.specs.Shape.{Shape}
 use Rattle.df_units.specs.Meaning.{number_of}
 use Rattle.df_model.specs.After.{outcome, with_prepare}
 use Rattle.df_model.specs.Changing.{appended_in, blocks_after, unless_refused}
-use Rattle.df_model.specs.Commands.{Answer, Append, Command, Given, ToAppend, as_answer}
+use Rattle.df_model.specs.Codec.{IsChecksum}
+use Rattle.df_model.specs.Commands.{Answer, Append, Command, Given, IsInput, ToAppend, as_answer}
 use Rattle.df_model.specs.Making.{prepare_of}
 use Rattle.df_model.specs.Memory.{Memory, memory_of}
 use Rattle.df_model.specs.Refusals.{append_refusals, first_refusal}
@@ -19,49 +29,80 @@ use Rattle.df_model.proofs.Laws.{change_law}
 use Rattle.df_model.specs.declared.answers.Receipt.{Receipt}
 use Rattle.df_model.specs.declared.errors.AppendError.{AppendError}
 use Rattle.df_model.specs.declared.errors.AppendError.TheVariants as append
-use Rattle.df_replica.specs.Answering.{AnswersAppend}
-use Rattle.df_replica.specs.Appending.{appended, next_unit, receipt_of}
-use Rattle.df_replica.specs.Serving.{GoesOnTo, Known, next}
+use Rattle.df_replica.specs.Answering.{Serves, append_answer}
+use Rattle.df_replica.specs.Appending.{append_events, appended, header_given, next_unit, receipt_of}
+use Rattle.df_replica.specs.Serving.{IsCall, Known, next}
+use Rattle.df_replica.specs.Supply.{IsSupplied}
 use Rattle.df_recovery.specs.State.{IsState, Represents, State, memory, shape}
+use Rattle.df_replica.proofs.AppendCalls.{allowed_does, refused_does, ring_then, test_is}
 use Rattle.df_replica.proofs.AppendMemory.{appended_memory}
 use Rattle.df_replica.proofs.AppendTests.{may_next}
+use Rattle.df_replica.proofs.Calls.{AreCalls, Answered, answered_call, stopped_call}
 
-module _ (s : State) (client request : ℕ) (body : List ℕ) (is : IsState s) (live : s.live ≡ true) where
+module _ (s : State) (client request : ℕ) (body : List ℕ) (given : Given) (is : IsState s) (live : s.live ≡ true) (fits : client < 2 ^ 128) (sum : given.checksum ≡ number_of (next_unit s client request body).header.checksum) where
   abbrev u : Message
   u = next_unit s client request body
 
   abbrev command : Command
   command = Append client request body
 
-  module _ (c : Known) (w : Work) (given : Given) (work : IsWork (shape s.file c.parse) c.spell w) (rep : Represents (shape s.file c.parse) c.spell s w) (sum : given.checksum ≡ number_of u.header.checksum) where
-    abbrev sh : Shape
-    sh = shape s.file c.parse
+  input : IsInput given command
+  input = record { checksum = subst IsChecksum (sym sum) (field_at-lt 16 0 u.header.checksum (AreBytes-check_of (spelling_rest (for_body (header_given s client request) body)))); fields = fits }
 
-    abbrev m : Memory
-    m = memory_of sh c.spell w
+  -- ---- a refusal
 
-    abbrev p : theory.Message
-    p = prepare_of m given.checksum client request body
+  module _ (e : AppendError) (some : first_refusal (append_refusals (memory s) client request body) ≡ Some e) where
+    refused_next : (c : Known) (w : Work) → Represents (shape s.file c.parse) c.spell s w → next s.file c w given command ≡ (w, ToAppend (Err e))
+    refused_next c w rep =
+        let p = prepare_of (memory_of (shape s.file c.parse) c.spell w) given.checksum client request body in
+        ap (λ (o : Option AppendError). as_answer ToAppend (outcome o w (with_prepare w p) (p.header.op, given.checksum))) (test_is s client request body given is sum c w rep (Some e) some)
 
-    abbrev pair : ℕ × ℕ
-    pair = (p.header.op, given.checksum)
+    refused_as : Answered given command s s [] (ToAppend (Err e))
+    refused_as = record {
+      file = refl;
+      live = live;
+      stands = λ c w work rep. (ap (λ (x : Work × Answer). x.1) (sym (refused_next c w rep)), subst (λ (x : Work × Answer). Represents (shape s.file c.parse) c.spell s x.0) (sym (refused_next c w rep)) rep);
+      ring = λ c w a b k all. subst (λ (x : Told). ShowsRing s.file.layout s.file.cluster (now x.log) s.headers) (sym (some-eq all)) k.ring;
+    }
 
-    test_is : (o : Option AppendError) → first_refusal (append_refusals (memory s) client request body) ≡ o → first_refusal (append_refusals m client request body) ≡ o
-    test_is o there = ap (λ (x : Memory). first_refusal (append_refusals x client request body)) (sym rep) ∙ there
+    refused_call : (old : Option Told) → IsSupplied s old command given → IsCall given command s s old old (Some (ToAppend (Err e)))
+    refused_call old supplied = answered_call given command s [] input (refused_does s client request body given is sum e some) s (ToAppend (Err e)) refused_as old old supplied refl
 
-    refused_at : (e : AppendError) → first_refusal (append_refusals (memory s) client request body) ≡ Some e → GoesOnTo c s None (next s.file c w given command) (Some (ToAppend (Err e)))
-    refused_at e some =
-        let same : next s.file c w given command ≡ (w, ToAppend (Err e)) = ap (λ (o : Option AppendError). as_answer ToAppend (outcome o w (with_prepare w p) pair)) (test_is (Some e) some) in
-        subst (λ (x : Work × Answer). GoesOnTo c s None x (Some (ToAppend (Err e)))) (sym same) (refl, live, rep)
+  -- ---- a receipt, and a fault
 
-    module _ (none : first_refusal (append_refusals (memory s) client request body) ≡ None) (room : s.head + 1 ≤ s.fields.op + s.file.layout.slots) where
+  module _ (table : IsTable s.table) (none : first_refusal (append_refusals (memory s) client request body) ≡ None) (own : IsInOwnSlot s.file.layout u) where
+    room : s.head + 1 ≤ s.fields.op + s.file.layout.slots
+    room = (may_next s client request body is table none).note.room
+
+    slot_inside : (s.head + 1) % s.file.layout.slots < length s.headers
+    slot_inside = omega (arith, mod-lt (s.head + 1) (let some : 0 < s.file.layout.slots = omega (arith, s.file.layout.slots_within.0) in some), is.ring.count)
+
+    abbrev answer : Answer
+    answer = ToAppend (Ok (u.header.op, number_of u.header.checksum))
+
+    module _ (c : Known) (w : Work) (work : IsWork (shape s.file c.parse) c.spell w) (rep : Represents (shape s.file c.parse) c.spell s w) where
+      abbrev sh : Shape
+      sh = shape s.file c.parse
+
+      abbrev m : Memory
+      m = memory_of sh c.spell w
+
+      abbrev p : theory.Message
+      p = prepare_of m given.checksum client request body
+
+      abbrev pair : ℕ × ℕ
+      pair = (p.header.op, given.checksum)
+
+      none_there : first_refusal (append_refusals m client request body) ≡ None
+      none_there = test_is s client request body given is sum c w rep None none
+
+      next_is : next s.file c w given command ≡ (with_prepare w p, ToAppend (Ok pair))
+      next_is = ap (λ (o : Option AppendError). as_answer ToAppend (outcome o w (with_prepare w p) pair)) none_there
+
       memory_is : memory_of sh c.spell (with_prepare w p) ≡ appended_in m p
       memory_is =
           subst (λ (o : Option AppendError). memory_of sh c.spell (outcome o w (with_prepare w p) pair).0 ≡ record (unless_refused o m (appended_in m p)) { blocks = blocks_after c.spell m given command })
-          (test_is None none) (change_law sh c.spell w given command work)
-
-      slot_inside : (s.head + 1) % s.file.layout.slots < length s.headers
-      slot_inside = omega (arith, mod-lt (s.head + 1) (let some : 0 < s.file.layout.slots = omega (arith, s.file.layout.slots_within.0) in some), is.ring.count)
+          none_there (change_law sh c.spell w given command work)
 
       stands : Represents sh c.spell (appended s u) (with_prepare w p)
       stands =
@@ -69,11 +110,27 @@ module _ (s : State) (client request : ℕ) (body : List ℕ) (is : IsState s) (
           ∙ (λ i. appended_in (rep i) (prepare_of (rep i) (sym sum i) client request body))
           ∙ sym memory_is
 
-      allowed_at : GoesOnTo c (appended s u) None (next s.file c w given command) (Some (ToAppend (Ok (u.header.op, number_of u.header.checksum))))
+      allowed_at : (answer ≡ (next s.file c w given command).1) × Represents sh c.spell (appended s u) (next s.file c w given command).0
       allowed_at =
-          let same : next s.file c w given command ≡ (with_prepare w p, ToAppend (Ok (p.header.op, given.checksum))) = ap (λ (o : Option AppendError). as_answer ToAppend (outcome o w (with_prepare w p) pair)) (test_is None none) in
-          subst (λ (x : Work × Answer). GoesOnTo c (appended s u) None x (Some (ToAppend (Ok (u.header.op, number_of u.header.checksum))))) (sym same)
-          ((λ i. ToAppend (Ok ((rep i).head + 1, sym sum i))), live, stands)
+          subst (λ (x : Work × Answer). (answer ≡ x.1) × Represents sh c.spell (appended s u) x.0) (sym next_is)
+          ((λ i. ToAppend (Ok ((rep i).head + 1, sym sum i))), stands)
+
+    allowed_as : Answered given command s (appended s u) (append_events s u) answer
+    allowed_as = record {
+      file = refl;
+      live = live;
+      stands = λ c w work rep. allowed_at c w work rep;
+      ring = λ c w a b k all. ring_then s client request body given is sum none own c w a k b all;
+    }
+
+    allowed_calls : AreCalls given command s (append_events s u)
+    allowed_calls c w t k = allowed_does s client request body given is sum none own c w t k
+
+    receipt_call : (old new : Option Told) → IsSupplied s old command given → new ≡ after_all (append_events s u) old → IsCall given command s (appended s u) old new (Some answer)
+    receipt_call old new supplied all = answered_call given command s (append_events s u) input allowed_calls (appended s u) answer allowed_as old new supplied all
+
+    fault_call : (old new : Option Told) (t : State) → IsSupplied s old command given → t.live ≡ false → AddsPart (append_events s u) old new → IsCall given command s t old new None
+    fault_call old new t supplied dead part = stopped_call given command s (append_events s u) input allowed_calls t old new supplied dead part
 
 -- no refusal is a fault
 abbrev IsRefusal : AppendError → Type 0
@@ -95,22 +152,27 @@ none_faults (t ∷ ts) safe is = refusal_is t.0 t.1 (first_refusal ts) safe.0 is
 no_fault : (m : Memory) (client request : ℕ) (body : List ℕ) → first_refusal (append_refusals m client request body) ≡ Some append.DiskFault → ⊥
 no_fault m client request body is = none_faults (append_refusals m client request body) (tt, (tt, (tt, (tt, (tt, (tt, (tt, (tt, (tt, tt))))))))) is
 
-module _ (s : State) (client request : ℕ) (body : List ℕ) (is : IsState s) (live : s.live ≡ true) where
-  pub refusal_answers : (e : AppendError) → first_refusal (append_refusals (memory s) client request body) ≡ Some e → AnswersAppend client request body s s (Err e)
-  refusal_answers append.ClientZero some = λ c w given work rep sum. refused_at s client request body is live c w given work rep sum append.ClientZero some
-  refusal_answers (append.BodyTooLong a) some = λ c w given work rep sum. refused_at s client request body is live c w given work rep sum (append.BodyTooLong a) some
-  refusal_answers (append.ClientsFull a) some = λ c w given work rep sum. refused_at s client request body is live c w given work rep sum (append.ClientsFull a) some
-  refusal_answers (append.Repeated a) some = λ c w given work rep sum. refused_at s client request body is live c w given work rep sum (append.Repeated a) some
-  refusal_answers (append.ReplyPending a) some = λ c w given work rep sum. refused_at s client request body is live c w given work rep sum (append.ReplyPending a) some
-  refusal_answers (append.RequestOrder a) some = λ c w given work rep sum. refused_at s client request body is live c w given work rep sum (append.RequestOrder a) some
-  refusal_answers (append.PipelineFull a) some = λ c w given work rep sum. refused_at s client request body is live c w given work rep sum (append.PipelineFull a) some
-  refusal_answers (append.WalFull a b) some = λ c w given work rep sum. refused_at s client request body is live c w given work rep sum (append.WalFull a b) some
-  refusal_answers append.OpsSpent some = λ c w given work rep sum. refused_at s client request body is live c w given work rep sum append.OpsSpent some
-  refusal_answers append.DiskFault some = absurd (no_fault (memory s) client request body some)
+module _ (s : State) (client request : ℕ) (body : List ℕ) (is : IsState s) (live : s.live ≡ true) (fits : client < 2 ^ 128) where
+  pub refusal_serves : (e : AppendError) → first_refusal (append_refusals (memory s) client request body) ≡ Some e → (old : Option Told) → Serves (Append client request body) s s old old (append_answer (Err e))
+  refusal_serves append.ClientZero some old = λ given supplied. refused_call s client request body given is live fits supplied append.ClientZero some old supplied
+  refusal_serves (append.BodyTooLong a) some old = λ given supplied. refused_call s client request body given is live fits supplied (append.BodyTooLong a) some old supplied
+  refusal_serves (append.ClientsFull a) some old = λ given supplied. refused_call s client request body given is live fits supplied (append.ClientsFull a) some old supplied
+  refusal_serves (append.Repeated a) some old = λ given supplied. refused_call s client request body given is live fits supplied (append.Repeated a) some old supplied
+  refusal_serves (append.ReplyPending a) some old = λ given supplied. refused_call s client request body given is live fits supplied (append.ReplyPending a) some old supplied
+  refusal_serves (append.RequestOrder a) some old = λ given supplied. refused_call s client request body given is live fits supplied (append.RequestOrder a) some old supplied
+  refusal_serves (append.PipelineFull a) some old = λ given supplied. refused_call s client request body given is live fits supplied (append.PipelineFull a) some old supplied
+  refusal_serves (append.WalFull a b) some old = λ given supplied. refused_call s client request body given is live fits supplied (append.WalFull a b) some old supplied
+  refusal_serves append.OpsSpent some old = λ given supplied. refused_call s client request body given is live fits supplied append.OpsSpent some old supplied
+  refusal_serves append.DiskFault some old = absurd (no_fault (memory s) client request body some)
 
-  pub receipt_answers : IsTable s.table → first_refusal (append_refusals (memory s) client request body) ≡ None
-      → (t : State) (receipt : Receipt) → receipt ≡ receipt_of (next_unit s client request body).header → t ≡ appended s (next_unit s client request body) → AnswersAppend client request body s t (Ok receipt)
-  receipt_answers table none t receipt same next_is =
-      subst (λ (x : State). AnswersAppend client request body s x (Ok receipt)) (sym next_is)
-      (subst (λ (r : Receipt). AnswersAppend client request body s (appended s (next_unit s client request body)) (Ok r)) (sym same)
-      (λ c w given work rep sum. allowed_at s client request body is live c w given work rep sum none (may_next s client request body is table none).note.room))
+  pub receipt_serves : IsTable s.table → first_refusal (append_refusals (memory s) client request body) ≡ None → IsInOwnSlot s.file.layout (next_unit s client request body)
+      → (t : State) (receipt : Receipt) (old new : Option Told) → receipt ≡ receipt_of (next_unit s client request body).header → t ≡ appended s (next_unit s client request body)
+      → new ≡ after_all (append_events s (next_unit s client request body)) old → Serves (Append client request body) s t old new (append_answer (Ok receipt))
+  receipt_serves table none own t receipt old new same next_is all =
+      subst (λ (x : State). Serves (Append client request body) s x old new (append_answer (Ok receipt))) (sym next_is)
+      (subst (λ (r : Receipt). Serves (Append client request body) s (appended s (next_unit s client request body)) old new (append_answer (Ok r))) (sym same)
+      (λ given supplied. receipt_call s client request body given is live fits supplied table none own old new supplied all))
+
+  pub fault_serves : IsTable s.table → first_refusal (append_refusals (memory s) client request body) ≡ None → IsInOwnSlot s.file.layout (next_unit s client request body)
+      → (t : State) (old new : Option Told) → t.live ≡ false → AddsPart (append_events s (next_unit s client request body)) old new → Serves (Append client request body) s t old new None
+  fault_serves table none own t old new dead part = λ given supplied. fault_call s client request body given is live fits supplied table none own old new t supplied dead part

@@ -15,6 +15,9 @@ pub mod Settled
 pub mod Barriers
 pub mod Listed
 pub mod Opens
+pub mod Calls
+pub mod Sessions
+pub mod AppendCalls
 pub mod AppendTests
 pub mod AppendMemory
 pub mod AppendAnswers

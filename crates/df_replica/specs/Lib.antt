@@ -10,3 +10,6 @@ pub mod Held
 pub mod Refusing
 pub mod Appending
 pub mod Answering
+pub mod Replying
+pub mod Supply
+pub mod Session

@@ -12,10 +12,11 @@ use Rattle.df_units.specs.Format.{format_of}
 use Rattle.df_journal.specs.Append.{ShowsRing}
 use Rattle.df_model.specs.Commands.{Answer, Command, Given, IsInput, after}
 use Rattle.df_model.specs.Laws.{IsKeptBy}
-use Rattle.df_model.specs.Sense.{IsBacked}
+use Rattle.df_model.specs.Sense.{IsBacked, IsWork}
 use Rattle.df_model.specs.Work.{Work, kept}
 use Rattle.df_recovery.specs.declared.file.DataFile.{DataFile}
 use Rattle.df_recovery.specs.State.{Represents, State, shape}
+use Rattle.df_replica.specs.Supply.{IsSupplied}
 
 -- how much holds of a file: that nothing is to be mended, or that each block that it references is shown, too
 pub data Grade : Type 0 where
@@ -46,9 +47,9 @@ pub record IsKept (c : Known) (s : State) (w : Work) (log : Log) : Type 0 where
   pub kept_by : KeptFor c.grade (shape s.file c.parse) c.spell (units_log (format s.file) log) w
   pub ring : ShowsRing s.file.layout s.file.cluster (now log) s.headers
 
--- where the disk tells no log, that the replica stands for the state
+-- where the disk tells no log, that the state makes sense and the replica stands for it
 abbrev pub Keeps : (c : Known) (s : State) → Work → Option Told → Type 0
-Keeps c s w None = Represents (shape s.file c.parse) c.spell s w
+Keeps c s w None = IsWork (shape s.file c.parse) c.spell w × Represents (shape s.file c.parse) c.spell s w
 Keeps c s w (Some t) = IsKept c s w t.log
 
 -- at each moment of a call, each image that a stop may leave holds one of two views
@@ -62,19 +63,27 @@ abbrev pub OnSome : Option Answer → Type 0 → Type 0
 OnSome None P = Unit {0}
 OnSome (Some answer) P = P
 
--- what a call leaves: the answer is the machine's, and the session goes on from the state after it; at a fault of the disk there is no answer, and the replica isn't live
+-- calls may go on after an answer, and not after a fault of the disk, where there is none
+abbrev pub StaysLive : Option Answer → State → Type 0
+StaysLive None t = t.live ≡ false
+StaysLive (Some answer) t = t.live ≡ true
+
+-- what a call leaves: the answer is the machine's, and what is kept goes on from the state after it
 abbrev pub GoesOnTo : Known → (t : State) → Option Told → (Work × Answer) → Option Answer → Type 0
-GoesOnTo c t new expected None = t.live ≡ false
-GoesOnTo c t new expected (Some answer) = (answer ≡ expected.1) × (t.live ≡ true) × Keeps c t expected.0 new
+GoesOnTo c t new expected None = Unit {0}
+GoesOnTo c t new expected (Some answer) = (answer ≡ expected.1) × Keeps c t expected.0 new
 
 -- the machine's next state and answer
 abbrev pub next : DataFile → Known → Work → Given → Command → Work × Answer
 next file c w given command = after (shape file c.parse) c.spell w given command
 
--- every call, with what it was supplied with: from each state of the machine that the replica stands for
+-- every call, with what it was rightly supplied with, from each state of the machine that the replica stands for: it answers as the machine; and where the file was kept for
+-- that state, each moment is good and what comes after is kept
 pub record IsCall (given : Given) (command : Command) (s t : State) (old new : Option Told) (answer : Option Answer) : Type 0 where
   pub file : OnSome answer (t.file ≡ s.file)
+  pub live : StaysLive answer t
   pub input : IsInput given command
-  pub answers : (c : Known) (w : Work) → Represents (shape s.file c.parse) c.spell s w → GoesOnTo c t None (next s.file c w given command) answer
+  pub supplied : IsSupplied s old command given
+  pub answers : (c : Known) (w : Work) → Keeps c s w None → GoesOnTo c t None (next s.file c w given command) answer
   pub keeps : (c : Known) (w : Work) → Keeps c s w old
       → EachIsGood c s (kept w) (kept (next s.file c w given command).0) old new × GoesOnTo c t new (next s.file c w given command) answer

@@ -13,8 +13,9 @@ ghost use Rattle.df_prepares.specs.Slots.{IsInOwnSlot};
 ghost use Rattle.df_headers.specs.Ring.{IsTable};
 ghost use Rattle.df_journal.specs.Append.{with_header as table_with};
 ghost use Rattle.df_sessions.specs.Table.{IsTable as IsSessions};
+ghost use Rattle.df_model.specs.Commands.{Append};
 ghost use Rattle.df_model.specs.Refusals.{append_refusals, first_refusal};
-ghost use Rattle.df_replica.specs.Answering.{AnswersAppend};
+ghost use Rattle.df_replica.specs.Answering.{Serves, append_answer};
 ghost use Rattle.df_replica.specs.Refusing.{AreCounters};
 ghost use Rattle.df_recovery.specs.State.{IsState, memory};
 ghost use Rattle.df_replica.specs.Appending.{IsAppend, IsBlamed, MayNext, MayNote, append_events, appended, header_given, next_unit, noted, receipt_of, unit_events, unit_of, with_header};
@@ -210,7 +211,7 @@ impl Replica {
     ) -> Result<Receipt, AppendError>
         requires live { self.old.live ≡ true }
         ensures exact { IsAppend client request body.now self.old self.new (D.told disk.old) (D.told disk.new) result }
-        ensures answers { AnswersAppend client request body.now self.old self.new result }
+        ensures call { Serves (Append client request body.now) self.old self.new (D.told disk.old) (D.told disk.new) (append_answer result) }
         ensures cause { IsBlamed (D.faults disk.old) (D.faults disk.new) result }
     {
         if let Some(error) = self.append_refusal(client, request, body.len() as u64) {

@@ -11,6 +11,7 @@ mod mending;
 mod opened;
 mod refusing;
 mod replica;
+mod session_laws;
 mod surveyed;
 mod surveying;
 
@@ -26,5 +27,8 @@ pub use laws::{
 };
 pub use making::format;
 pub use replica::Replica;
+pub use session_laws::{
+    a_fault_stops_them, nothing_is_served, one_more_is_served, what_was_answered_is_there,
+};
 pub use surveyed::Surveyed;
 pub use surveying::survey;

@@ -1,0 +1,149 @@
+-- What an append does to the disk is the machine's append, and behind it the header ring shows the table.
+use Rattle.std.specs.Prelude.{Ok, slice_get}
+use Rattle.std.proofs.Common.{◌≡◌, inl, inr, ℕ, ◌+◌, ◌/◌, ◌%◌, ◌==◌, List, [], ◌∷◌, Option, Some, None, refl, sym, ◌∙◌, ap, subst}
+use Rattle.std.proofs.lemmas.Bool.{cond-true, eq-eqb}
+use Rattle.df_base.specs.Image.{Image}
+use Rattle.df_base.specs.Log.{Event, now}
+use Rattle.df_disk.specs.Told.{Told}
+use Rattle.df_disk.specs.Adds.{after_all}
+use Rattle.df_layout.specs.declared.layout.Layout.{Layout}
+use Rattle.df_layout.specs.declared.places.Zone.TheVariants.{WalPrepares}
+use Rattle.df_format.specs.Brings.{Brings}
+use Rattle.df_format.specs.declared.header.Header.{Header}
+use Rattle.df_format.specs.Message.{Message, sectors_of}
+use Rattle.df_format.specs.Own.{place_in}
+use Rattle.df_format.proofs.Front.{made_brings}
+use Rattle.df_format.proofs.Laws.{some-eq}
+use Rattle.df_prepares.specs.Slots.{IsInOwnSlot}
+use Rattle.df_headers.specs.Ring.{IsTable}
+use Rattle.df_journal.specs.Append.{EndsAppended, MayAppendOn, ShowsRing, journal_steps, new_sector, with_header}
+use Rattle.df_journal.proofs.Laws.{append_steps, ends_appended, next_sector}
+use Rattle.df_theory.specs.Units as theory
+use Rattle.df_theory.specs.Units.{HeaderPlace, HeaderUnit, PreparePlace, PrepareUnit}
+use Rattle.df_theory.specs.Next.{MayAppend}
+use Rattle.df_theory.specs.Shape.{Shape}
+use Rattle.df_theory.specs.UnitLog.{put_one}
+use Rattle.df_theory.specs.View.{View}
+use Rattle.df_theory.specs.WriterLaws.{IsHeaderSector}
+use Rattle.df_theory.proofs.Laws.{put_one_law}
+use Rattle.df_units.specs.Bytes.{unit_at}
+use Rattle.df_units.specs.Meaning.{header_of, message_of, number_of}
+use Rattle.df_units.specs.Puts.{IsNextSector, header_unit, put_headers}
+use Rattle.df_units.proofs.Laws.{sector_puts}
+use Rattle.df_model.specs.Commands.{Append, Command, Given}
+use Rattle.df_model.specs.Laws.{DoesAppend, UnlessRefused}
+use Rattle.df_model.specs.Making.{prepare_of}
+use Rattle.df_model.specs.Memory.{Memory, memory_of}
+use Rattle.df_model.specs.OnDisk.{DoesOnDisk}
+use Rattle.df_model.specs.Refusals.{append_refusals, first_refusal}
+use Rattle.df_model.specs.Work.{Work}
+use Rattle.df_model.specs.declared.errors.AppendError.{AppendError}
+use Rattle.df_model.proofs.Laws.{append_may_law}
+use Rattle.df_recovery.specs.State.{IsState, Represents, State, memory, shape}
+use Rattle.df_replica.specs.Appending.{append_events, next_unit}
+use Rattle.df_replica.specs.Serving.{IsKept, Known, format}
+use Rattle.df_replica.proofs.Calls.{AreCalls, firmly}
+
+-- ---- a header sector with one new header, in the words of the model
+
+module _ (layout : Layout) (cluster : ℕ) (sh : Shape) (u : Message) (sector : ℕ) (headers : List Header) (image : Image) (slot : u.header.slot ≡ u.header.op % sh.layout.slots) (is : IsNextSector layout cluster image u.header sector headers) where
+  is_header_sector : IsHeaderSector sh (unit_at layout cluster image) (message_of u) (put_headers sector headers)
+  is_header_sector = record {
+    each = λ place y put.
+        let one = sector_puts sector headers place y put in (
+          one.0,
+          header_of one.1,
+          one.2,
+          one.3,
+          elim (is.others one.0 one.1 one.4 one.5) [
+            | inr shown ↦ inl shown
+            | inl own ↦
+                let same : one.1 ≡ u.header = some-eq (sym one.5 ∙ ap (λ (s : ℕ). slice_get headers (s % 16)) own ∙ is.has) in
+                inr (own ∙ slot, ap header_of same)
+          ],
+        );
+  }
+
+  puts_new : put_headers sector headers (HeaderPlace (u.header.op % sh.layout.slots)) ≡ Some (HeaderUnit (header_of u.header))
+  puts_new =
+      subst (λ (s : ℕ). put_headers sector headers (HeaderPlace s) ≡ Some (HeaderUnit (header_of u.header))) slot
+      (cond-true (u.header.slot / 16 == sector) (header_unit (slice_get headers (u.header.slot % 16))) None (eq-eqb (u.header.slot / 16) sector is.here) ∙ ap header_unit is.has)
+
+-- ---- an append
+
+module _ (s : State) (client request : ℕ) (body : List ℕ) (given : Given) (is : IsState s) (sum : given.checksum ≡ number_of (next_unit s client request body).header.checksum) where
+  abbrev u : Message
+  u = next_unit s client request body
+
+  abbrev command : Command
+  command = Append client request body
+
+  module _ (c : Known) (w : Work) (rep : Represents (shape s.file c.parse) c.spell s w) where
+    pub test_is : (o : Option AppendError) → first_refusal (append_refusals (memory s) client request body) ≡ o → first_refusal (append_refusals (memory_of (shape s.file c.parse) c.spell w) client request body) ≡ o
+    test_is o there = ap (λ (x : Memory). first_refusal (append_refusals x client request body)) (sym rep) ∙ there
+
+    pub prepare_is : prepare_of (memory_of (shape s.file c.parse) c.spell w) given.checksum client request body ≡ message_of u
+    prepare_is i = prepare_of (sym rep i) (sum i) client request body
+
+  -- what is refused does nothing
+  pub refused_does : (e : AppendError) → first_refusal (append_refusals (memory s) client request body) ≡ Some e → AreCalls given command s []
+  refused_does e some c w t k =
+      let m = memory_of (shape s.file c.parse) c.spell w in
+      record {
+        steps = [];
+        are = tt;
+        does =
+            subst (λ (o : Option AppendError). UnlessRefused o [] (DoesAppend (shape s.file c.parse) (unit_at s.file.layout s.file.cluster (now t.log)) w.view (prepare_of m given.checksum client request body) []))
+            (sym (test_is c w k.stands (Some e) some)) refl;
+      }
+
+  module _ (none : first_refusal (append_refusals (memory s) client request body) ≡ None) (own : IsInOwnSlot s.file.layout u) where
+    brings : Brings s.file.layout s.file.cluster (place_in WalPrepares u.header.slot) u (sectors_of u)
+    brings = made_brings s.file.layout s.file.cluster (place_in WalPrepares u.header.slot) u (λ same. cc) own
+
+    module _ (c : Known) (w : Work) (t : Told) (k : IsKept c s w t.log) where
+      next_is : IsNextSector s.file.layout s.file.cluster (now t.log) u.header (u.header.slot / 16) (new_sector u s.headers)
+      next_is = next_sector s.file.layout u s.headers (now t.log) own is.ring k.ring
+
+      does_append : DoesAppend (shape s.file c.parse) (unit_at s.file.layout s.file.cluster (now t.log)) w.view (message_of u) (journal_steps u s.headers)
+      does_append = record {
+        prepare = put_one (PreparePlace u.header.slot) (PrepareUnit (message_of u));
+        headers = put_headers (u.header.slot / 16) (new_sector u s.headers);
+        one = put_one_law (PreparePlace u.header.slot) (PrepareUnit (message_of u));
+        sector = is_header_sector s.file.layout s.file.cluster (shape s.file c.parse) u (u.header.slot / 16) (new_sector u s.headers) (now t.log) refl next_is;
+        there = puts_new s.file.layout s.file.cluster (shape s.file c.parse) u (u.header.slot / 16) (new_sector u s.headers) (now t.log) refl next_is;
+        are = refl;
+      }
+
+      pub allowed_does : DoesOnDisk (format s.file) (shape s.file c.parse) c.spell t.log w given command (append_events s u)
+      allowed_does =
+          let m = memory_of (shape s.file c.parse) c.spell w in
+          let steps = journal_steps u s.headers in
+          record {
+            steps = steps;
+            are = append_steps s.file.layout u s.headers own is.ring (sectors_of u) brings;
+            does =
+                subst (λ (o : Option AppendError). UnlessRefused o steps (DoesAppend (shape s.file c.parse) (unit_at s.file.layout s.file.cluster (now t.log)) w.view (prepare_of m given.checksum client request body) steps))
+                (sym (test_is c w k.stands None none))
+                (subst (λ (p : theory.Message). DoesAppend (shape s.file c.parse) (unit_at s.file.layout s.file.cluster (now t.log)) w.view p steps) (sym (prepare_is c w k.stands)) does_append);
+          }
+
+      may : MayAppendOn s.file.layout u s.headers t
+      may =
+          let by = firmly c s w t.log k in
+          record {
+            named = s.file.named;
+            parse = c.parse;
+            view = w.view;
+            is_log = k.log_is;
+            tidy = by.tidy;
+            may =
+                subst (λ (p : theory.Message). MayAppend (shape s.file c.parse) w.view (p ∷ [])) (prepare_is c w k.stands)
+                (append_may_law (shape s.file c.parse) c.spell w given.checksum client request body by.sense (test_is c w k.stands None none));
+            ring = k.ring;
+          }
+
+      pub ring_then : (n : Told) → Some n ≡ after_all (append_events s u) (Some t) → ShowsRing s.file.layout s.file.cluster (now n.log) (with_header u s.headers)
+      ring_then n all =
+          let ends : EndsAppended s.file.layout u s.headers t may n (with_header u s.headers) = ends_appended s.file.layout u s.headers t may own is.ring (sectors_of u) brings n (with_header u s.headers) (Ok tt) all refl in
+          ends.ring

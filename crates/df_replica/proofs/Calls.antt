@@ -1,0 +1,170 @@
+-- Every call: whose device calls are the machine's has good moments, and where it answered what is kept goes on.
+use Rattle.std.proofs.Common.{◌≡◌, ℕ, inl, inr, true, false, List, [], ◌∷◌, ◌++◌, append_assoc, Option, Some, None, refl, sym, ◌∙◌, ap, subst}
+use Rattle.df_base.specs.Log.{Event, IsLog, Log, now}
+use Rattle.df_base.specs.Moments.{EachMoment, Extends, IsMoment, adds}
+use Rattle.df_base.proofs.Laws.{extends_self}
+use Rattle.df_disk.specs.Told as told
+use Rattle.df_disk.specs.Told.{Told, did}
+use Rattle.df_disk.specs.Adds.{AddsPart, after_all}
+use Rattle.df_format.proofs.Laws.{some-eq}
+use Rattle.df_journal.specs.Append.{ShowsRing}
+use Rattle.df_theory.specs.Device.{Format, IsGoodDisk, IsGoodWholeDisk, IsSafeDisk, units_log}
+use Rattle.df_theory.specs.Shape.{Shape}
+use Rattle.df_theory.specs.UnitLog.{UnitLog}
+use Rattle.df_theory.specs.Units.{Parts}
+use Rattle.df_theory.specs.View.{View}
+use Rattle.df_units.proofs.Laws.{all_added, is_format, part_moments}
+use Rattle.df_model.specs.Commands.{Answer, Command, Given, IsInput}
+use Rattle.df_model.specs.Laws.{IsKeptBy}
+use Rattle.df_model.specs.OnDisk.{BacksOnDisk, DoesOnDisk, LeadsOnDisk}
+use Rattle.df_model.specs.Sense.{IsBacked, IsWork}
+use Rattle.df_model.specs.Work.{Work, kept}
+use Rattle.df_model.proofs.Laws.{disk_command_law, sense_law}
+use Rattle.df_recovery.specs.declared.file.DataFile.{DataFile}
+use Rattle.df_recovery.specs.State.{Represents, State, shape}
+use Rattle.df_replica.specs.Serving.{EachIsGood, Firm, GoesOnTo, Grade, IsCall, IsGoodFor, IsKept, Keeps, KeptFor, Known, Whole, format, next}
+use Rattle.df_replica.specs.Supply.{IsSupplied}
+
+-- ---- logs that go on
+
+-- all of the events are a part of them
+pub all_are_part : (events : List Event) (old new : Option Told) → new ≡ after_all events old → AddsPart events old new
+all_are_part [] old new is = is
+all_are_part (e ∷ es) old new is = inr (all_are_part es (told.after e old) new is)
+
+-- a disk that tells goes on telling
+tells_on : (events : List Event) (t : Told) → AddsPart events (Some t) None → ⊥
+tells_on [] t part = cc
+tells_on (e ∷ es) t (inl same) = cc
+tells_on (e ∷ es) t (inr more) = tells_on es (did e t) more
+
+tells_none : (events : List Event) (n : Told) → AddsPart events None (Some n) → ⊥
+tells_none [] n part = cc
+tells_none (e ∷ es) n (inl same) = cc
+tells_none (e ∷ es) n (inr more) = tells_none es n more
+
+pub extends_on : (last later earlier : Log) → Extends last later → Extends later earlier → Extends last earlier
+extends_on last later earlier one two =
+    (one.0 ++ two.0, one.1 ∙ ap (λ (l : List Event). one.0 ++ l) two.1 ∙ sym (append_assoc one.0 two.0 earlier.events), one.2 ∙ two.2)
+
+-- the log that a call leaves goes on from the one before it
+grows : (events : List Event) (t n : Told) → AddsPart events (Some t) (Some n) → Extends n.log t.log
+grows [] t n is = subst (λ (x : Told). Extends x.log t.log) (sym (some-eq is)) (extends_self t.log)
+grows (e ∷ es) t n (inl is) = subst (λ (x : Told). Extends x.log t.log) (sym (some-eq is)) (extends_self t.log)
+grows (e ∷ es) t n (inr more) = extends_on n.log (did e t).log t.log (grows es (did e t) n more) (e ∷ [], refl, refl)
+
+-- a good log is safe
+pub good_safe : (file : DataFile) (c : Known) (g : Grade) (v u : View) (log : Log) → IsGoodFor g (format file) (shape file c.parse) v u log → IsSafeDisk (format file) (shape file c.parse) log
+good_safe file c Firm v u log good = good.safe
+good_safe file c Whole v u log good = good.safe
+
+-- what is kept, whether the referenced blocks are shown or not
+firm_of : (g : Grade) (sh : Shape) (spell : Parts → List ℕ) (log : UnitLog) (w : Work) → KeptFor g sh spell log w → IsKeptBy sh spell log w
+firm_of Firm sh spell log w by = by
+firm_of Whole sh spell log w by = by.0
+
+pub firmly : (c : Known) (s : State) (w : Work) (log : Log) → IsKept c s w log → IsKeptBy (shape s.file c.parse) c.spell (units_log (format s.file) log) w
+firmly c s w log k = firm_of c.grade (shape s.file c.parse) c.spell (units_log (format s.file) log) w k.kept_by
+
+-- ---- a call whose device calls are the machine's
+
+-- its device calls are the machine's, from each state that is kept
+abbrev pub AreCalls : Given → Command → State → List Event → Type 0
+AreCalls given command s events =
+    (c : Known) (w : Work) (t : Told) → IsKept c s w t.log → DoesOnDisk (format s.file) (shape s.file c.parse) c.spell t.log w given command events
+
+-- and it answered: its answer is the machine's, the state behind it stands for the machine's, and the header ring shows its table
+pub record Answered (given : Given) (command : Command) (s t : State) (events : List Event) (answer : Answer) : Type 0 where
+  pub file : t.file ≡ s.file
+  pub live : t.live ≡ true
+  pub stands : (c : Known) (w : Work) → IsWork (shape s.file c.parse) c.spell w → Represents (shape s.file c.parse) c.spell s w
+      → (answer ≡ (next s.file c w given command).1) × Represents (shape s.file c.parse) c.spell t (next s.file c w given command).0
+  pub ring : (c : Known) (w : Work) (a b : Told) → IsKept c s w a.log → Some b ≡ after_all events (Some a) → ShowsRing s.file.layout s.file.cluster (now b.log) t.headers
+
+module _ (given : Given) (command : Command) (s : State) (events : List Event) (input : IsInput given command) (does : AreCalls given command s events) where
+  module _ (c : Known) (w : Work) (t : Told) (k : IsKept c s w t.log) where
+    abbrev u : Work
+    u = (next s.file c w given command).0
+
+    abbrev f : Format
+    f = format s.file
+
+    abbrev sh : Shape
+    sh = shape s.file c.parse
+
+    firm : KeptFor Firm sh c.spell (units_log f t.log) w → LeadsOnDisk f sh c.spell t.log w u events × (IsBacked (units_log f t.log) w → BacksOnDisk f sh t.log w u events)
+    firm by = disk_command_law f sh c.spell t.log w given command events (is_format s.file.layout s.file.cluster) k.log_is input by (does c w t k)
+
+    moments_for : (g : Grade) → KeptFor g sh c.spell (units_log f t.log) w → EachMoment t.log (adds events t.log) (IsGoodFor g f sh (kept w) (kept u))
+    moments_for Firm by = (firm by).0.moments
+    moments_for Whole by = ((firm by.0).1 by.1).moments
+
+    ends_for : (g : Grade) → KeptFor g sh c.spell (units_log f t.log) w → KeptFor g sh c.spell (units_log f (adds events t.log)) u
+    ends_for Firm by = (firm by).0.keeps
+    ends_for Whole by = ((firm by.0).0.keeps, ((firm by.0).1 by.1).backed)
+
+    pub moments : (n : Told) → AddsPart events (Some t) (Some n) → EachMoment t.log n.log (IsGoodFor c.grade f sh (kept w) (kept u))
+    moments n part = part_moments events t n (IsGoodFor c.grade f sh (kept w) (kept u)) part (moments_for c.grade k.kept_by)
+
+    -- the last moment is the log at the end
+    log_then : (n : Told) → AddsPart events (Some t) (Some n) → IsLog n.log
+    log_then n part = (good_safe s.file c c.grade (kept w) (kept u) n.log (moments n part n.log (record { since = grows events t n part; until = extends_self n.log }))).is_log
+
+    kept_then : (n : Told) → Some n ≡ after_all events (Some t) → KeptFor c.grade sh c.spell (units_log f n.log) u
+    kept_then n all = subst (λ (l : Log). KeptFor c.grade sh c.spell (units_log f l) u) (sym (all_added events t n all)) (ends_for c.grade k.kept_by)
+
+  good_part : (old new : Option Told) → AddsPart events old new → (c : Known) (w : Work) → Keeps c s w old → EachIsGood c s (kept w) (kept (next s.file c w given command).0) old new
+  good_part None None part c w k = tt
+  good_part None (Some n) part c w k = absurd (tells_none events n part)
+  good_part (Some t) None part c w k = absurd (tells_on events t part)
+  good_part (Some t) (Some n) part c w k = (grows events t n part, moments c w t k n part)
+
+  -- one that ended in a fault
+  pub stopped_call : (t : State) (old new : Option Told) → IsSupplied s old command given → t.live ≡ false → AddsPart events old new → IsCall given command s t old new None
+  stopped_call t old new supplied dead part = record {
+    file = tt;
+    input = input;
+    supplied = supplied;
+    live = dead;
+    answers = λ c w k. tt;
+    keeps = λ c w k. (good_part old new part c w k, tt);
+  }
+
+  module _ (t : State) (answer : Answer) (call : Answered given command s t events answer) where
+    sense_then : (c : Known) (w : Work) → IsWork (shape s.file c.parse) c.spell w → IsWork (shape t.file c.parse) c.spell (next s.file c w given command).0
+    sense_then c w work =
+        subst (λ (file : DataFile). IsWork (shape file c.parse) c.spell (next s.file c w given command).0) (sym call.file) (sense_law (shape s.file c.parse) c.spell w given command input work)
+
+    stands_then : (c : Known) (w : Work) → IsWork (shape s.file c.parse) c.spell w → Represents (shape s.file c.parse) c.spell s w → Represents (shape t.file c.parse) c.spell t (next s.file c w given command).0
+    stands_then c w work rep =
+        subst (λ (file : DataFile). Represents (shape file c.parse) c.spell t (next s.file c w given command).0) (sym call.file) (call.stands c w work rep).1
+
+    alone : (c : Known) (w : Work) → Keeps c s w None → GoesOnTo c t None (next s.file c w given command) (Some answer)
+    alone c w k = ((call.stands c w k.0 k.1).0, (sense_then c w k.0, stands_then c w k.0 k.1))
+
+    goes_on : (old new : Option Told) → new ≡ after_all events old → (c : Known) (w : Work) → Keeps c s w old → GoesOnTo c t new (next s.file c w given command) (Some answer)
+    goes_on None None all c w k = alone c w k
+    goes_on None (Some n) all c w k = absurd (tells_none events n (all_are_part events None (Some n) all))
+    goes_on (Some a) None all c w k = absurd (tells_on events a (all_are_part events (Some a) None all))
+    goes_on (Some a) (Some n) all c w k =
+        let k_is : IsKept c s w a.log = k in
+        let work = (firmly c s w a.log k_is).sense in
+        let kept_on : IsKept c t (next s.file c w given command).0 n.log = record {
+          log_is = log_then c w a k_is n (all_are_part events (Some a) (Some n) all);
+          stands = stands_then c w work k_is.stands;
+          kept_by =
+              subst (λ (file : DataFile). KeptFor c.grade (shape file c.parse) c.spell (units_log (format file) n.log) (next s.file c w given command).0) (sym call.file) (kept_then c w a k_is n all);
+          ring = subst (λ (file : DataFile). ShowsRing file.layout file.cluster (now n.log) t.headers) (sym call.file) (call.ring c w a n k_is all);
+        } in
+        ((call.stands c w work k_is.stands).0, kept_on)
+
+    -- one that answered
+    pub answered_call : (old new : Option Told) → IsSupplied s old command given → new ≡ after_all events old → IsCall given command s t old new (Some answer)
+    answered_call old new supplied all = record {
+      file = call.file;
+      input = input;
+      supplied = supplied;
+      live = call.live;
+      answers = λ c w k. alone c w k;
+      keeps = λ c w k. (good_part old new (all_are_part events old new all) c w k, goes_on old new all c w k);
+    }

@@ -1,0 +1,89 @@
+-- A reply of a replica: what it makes, what it asks of the disk, and the state that it leads to. No state of the machine is in sight.
+use Rattle.std.specs.Prelude.{◌≡◌, ◌<◌, ◌≤◌, ◌+◌, ℕ, false, List, [], ◌∷◌, drop, length, Option, Some, None, Result, Ok, Err}
+use Rattle.std.specs.List.{slice_get}
+use Rattle.df_base.specs.Causes.{Rose}
+use Rattle.df_base.specs.Log.{Event, Sync, Write}
+use Rattle.df_layout.specs.Spans.{span_of}
+use Rattle.df_layout.specs.declared.places.Zone.TheVariants.{ClientReplies}
+use Rattle.df_disk.specs.Told.{Told}
+use Rattle.df_disk.specs.Adds.{AddsPart, after_all}
+use Rattle.df_format.specs.declared.header.Header.{Header}
+use Rattle.df_format.specs.declared.kind.Kind.TheVariants.{Reply as AsReply}
+use Rattle.df_format.specs.Message.{Message, sectors_of}
+use Rattle.df_format.specs.Own.{place_in}
+use Rattle.df_format.specs.Spelling.{no_checksum}
+use Rattle.df_sessions.specs.Requests.{sessions_of}
+use Rattle.df_sessions.specs.Table.{with_reply}
+use Rattle.df_theory.specs.Units.{Session}
+use Rattle.df_model.specs.Making.{client_of, place_of_op, request_of}
+use Rattle.df_model.specs.Refusals.{first_refusal, reply_refusals}
+use Rattle.df_model.specs.declared.errors.ReplyError.{ReplyError}
+use Rattle.df_model.specs.declared.errors.ReplyError.TheVariants as reply
+use Rattle.df_recovery.specs.State.{State, memory}
+use Rattle.df_replica.specs.Appending.{unit_of}
+
+-- the place of the session that waits for the next reply
+abbrev pub place_waiting : State → ℕ
+place_waiting s = place_of_op (s.replies + 1) (sessions_of s.table.sessions)
+
+abbrev pub session_waiting : State → Option Session
+session_waiting s = slice_get (sessions_of s.table.sessions) (place_waiting s)
+
+-- the first of the checksums that wait
+abbrev pub first_check : List (List ℕ) → List ℕ
+first_check [] = no_checksum
+first_check (check ∷ checks) = check
+
+-- what the maker of the next reply says of it: its parent is the prepare that waits the longest
+abbrev pub reply_given : State → Header
+reply_given s = record {
+  checksum = no_checksum;
+  checksum_body = no_checksum;
+  cluster = s.file.cluster;
+  parent = first_check s.waiting;
+  client = client_of (session_waiting s);
+  op = s.replies + 1;
+  request = request_of (session_waiting s);
+  mark = s.head;
+  checkpoint = s.fields.sequence;
+  size = 0;
+  slot = place_waiting s;
+  kind = AsReply;
+  block_kind = 0;
+}
+
+-- the next reply
+abbrev pub next_reply : State → List ℕ → Message
+next_reply s body = unit_of (reply_given s) body
+
+-- the reply into its client's slot, and a sync
+abbrev pub reply_events : State → Message → List Event
+reply_events s u = Write (span_of s.file.layout (place_in ClientReplies u.header.slot)).first (sectors_of u) ∷ Sync ∷ []
+
+-- the state with a reply more
+abbrev pub replied : State → Header → State
+replied s h = record s {
+  replies = s.replies + 1;
+  waiting = drop 1 s.waiting;
+  table = record s.table { sessions = with_reply h.slot h.checksum s.table.sessions };
+}
+
+-- a reply that isn't refused, as far as the code needs it
+pub record MayReplyNext (s : State) (size : ℕ) : Type 0 where
+  pub waits : s.replies < s.head
+  pub fits : 256 + size ≤ s.file.layout.message_size
+
+-- what a reply answers, with the state after it and what the disk then tells: exact for a checksum and for each refusal, and after a fault the replica isn't live
+abbrev pub IsReply : (op : ℕ) → List ℕ → (s t : State) → (old new : Option Told) → Result (List ℕ) ReplyError → Type 0
+IsReply op body s t old new (Ok check) =
+    let u = next_reply s body in
+    (first_refusal (reply_refusals (memory s) op body) ≡ None) × (check ≡ u.header.checksum) × (t ≡ replied s u.header) × (new ≡ after_all (reply_events s u) old)
+IsReply op body s t old new (Err reply.DiskFault) =
+    (first_refusal (reply_refusals (memory s) op body) ≡ None) × (t.live ≡ false) × AddsPart (reply_events s (next_reply s body)) old new
+IsReply op body s t old new (Err e) = (first_refusal (reply_refusals (memory s) op body) ≡ Some e) × (t ≡ s) × (new ≡ old)
+
+-- the count of faults rose where the disk is blamed, and is the same at every other answer
+abbrev pub BlamesReply : (before now : ℕ) → Result (List ℕ) ReplyError → Type 0
+BlamesReply before now (Ok check) = now ≡ before
+BlamesReply before now (Err reply.DiskFault) = (before ≤ now) × Rose before now
+BlamesReply before now (Err e) = now ≡ before
