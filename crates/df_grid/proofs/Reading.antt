@@ -1,19 +1,16 @@
 -- What was read into a room is what the machine reads there.
-use Rattle.std.proofs.Common.{◌≡◌, ◌==◌, inl, inr, ℕ, ◌/◌, ◌<◌, Bool, true, false, cond, not, Option, Some, None, List, length, refl, sym, ap, subst, ◌∙◌, arith}
+use Rattle.std.proofs.Common.{◌≡◌, ◌==◌, inl, inr, ℕ, ◌<◌, Bool, true, false, cond, not, Option, Some, None, List, refl, sym, ap, subst, ◌∙◌, arith}
 use Rattle.std.specs.Prelude.{Result, Ok, Err}
 use Rattle.std.specs.Bool.{Decides}
 use Rattle.std.specs.Str.{bytes_eq}
 use Rattle.std.proofs.lemmas.Slice.Eq.{bytes_eq-Decides}
-use Rattle.df_base.specs.Fields.{AreBytes}
-use Rattle.df_base.specs.Image.{Image, bytes_at}
-use Rattle.df_disk.specs.Told.{Shows, Told}
+use Rattle.df_base.specs.Image.{Image}
+use Rattle.df_disk.specs.Told.{Told}
 use Rattle.df_layout.specs.declared.damage.Class.{Class}
 use Rattle.df_layout.specs.declared.damage.Class.TheVariants.{Stale}
 use Rattle.df_layout.specs.declared.layout.Layout.{Layout}
 use Rattle.df_layout.specs.declared.places.Place.{Place}
-use Rattle.df_layout.specs.declared.places.Zone.{Zone}
 use Rattle.df_layout.specs.declared.places.Zone.TheVariants.{Grid}
-use Rattle.df_layout.specs.Spans.{span_of}
 use Rattle.df_format.specs.declared.header.Header.{Header}
 use Rattle.df_format.specs.declared.kind.Kind.{Kind}
 use Rattle.df_format.specs.declared.kind.Kind.TheVariants.{Block, Trailer}
@@ -25,9 +22,7 @@ use Rattle.df_format.specs.Spelling.{IsCheck, spelling_rest}
 use Rattle.df_format.specs.Valid.{IsUnit}
 use Rattle.df_format.specs.Rules.{IsSealed, ObeysBlock, ObeysKind, ObeysTrailer}
 use Rattle.df_format.proofs.Laws.{valid_belongs, valid_stale}
-use Rattle.df_format.proofs.Wholes.{one_unit}
 use Rattle.df_buffers.specs.declared.identity.Identity.{Identity}
-use Rattle.df_buffers.specs.Rooms.{FillsRoom}
 use Rattle.df_buffers.specs.Sounds.{Holding}
 use Rattle.df_theory.specs.Units
 use Rattle.df_theory.specs.Units.{AnyUnit, BlockPlace, BlockUnit}
@@ -38,25 +33,18 @@ use Rattle.df_units.proofs.Laws.{one_number}
 use Rattle.df_base.proofs.Laws.{AreBytes-check_of, length-check_of}
 use Rattle.df_places.specs.Units.{IsSeen}
 use Rattle.df_grid.specs.Grid.{IsKnownUnit}
-use Rattle.df_grid.specs.Reads.{IsFaultOf, IsRead, at_address, Judges, ReadsBlock, ReadsTrailer, Tests, class_in, shown_of, trailer_alone}
+use Rattle.df_places.specs.Shelves.{HoldsFound, IsFound, IsOf, IsRead}
+use Rattle.df_grid.specs.Reads.{IsFaultOf, at_address, ReadsBlock, ReadsTrailer, Tests, class_in, shown_of, trailer_alone}
 use Rattle.df_grid.proofs.Single.{eq_true, no_eq, not_both, yes_eq}
 
 -- a sealed header's checksum has sixteen bytes
 sealed_check : (h : Header) → IsSealed h → IsCheck h.checksum
 sealed_check h is = subst IsCheck (sym is.checksum) (record { size = length-check_of (spelling_rest h); each = AreBytes-check_of (spelling_rest h) })
 
--- the bytes of a block, as they are read, are what the place shows
-read_part : (layout : Layout) (a : ℕ) (image : Image) (bytes : List ℕ) → FillsRoom layout Grid bytes → bytes ≡ bytes_at image (span_of layout (place_in Grid a)).first (length bytes / 4096) → bytes ≡ bytes_of layout image (place_in Grid a)
-unfolding span_of bytes_of
-read_part layout a image bytes fills is = is ∙ (let n : length bytes / 4096 ≡ (span_of layout (place_in Grid a)).count = omega (arith, fills) in ap (λ (k : ℕ). bytes_at image (span_of layout (place_in Grid a)).first k) n)
-
-unit_read : (layout : Layout) (cluster a : ℕ) (image : Image) (bytes : List ℕ) → bytes ≡ bytes_of layout image (place_in Grid a) → Shown.unit_at layout cluster image (place_in Grid a) ≡ unit_in layout cluster (place_in Grid a) bytes
-unfolding Shown.unit_at
-unit_read layout cluster a image bytes is = ap (λ (b : List ℕ). unit_in layout cluster (place_in Grid a) b) (sym is)
-
-class_read : (layout : Layout) (cluster a : ℕ) (image : Image) (bytes : List ℕ) → bytes ≡ bytes_of layout image (place_in Grid a) → Shown.class_at layout cluster image (place_in Grid a) ≡ class_of layout cluster (place_in Grid a) bytes
-unfolding Shown.class_at
-class_read layout cluster a image bytes is = ap (λ (b : List ℕ). class_of layout cluster (place_in Grid a) b) (sym is)
+-- a place that shows a unit, where another one is wanted, is stale
+shown_stale : (layout : Layout) (cluster : ℕ) (image : Image) (place : Place) (u : Message) → Shown.unit_at layout cluster image place ≡ Some u → Shown.class_at layout cluster image place ≡ Stale
+unfolding Shown.unit_at Shown.class_at
+shown_stale layout cluster image place u shown = valid_stale layout cluster place (bytes_of layout image place) u shown
 
 -- the machine's answer is one about the message that is shown
 abbrev pub given : Option ℕ → Option Message → Class → Result Units.Block Class
@@ -69,13 +57,6 @@ given_of known a (Some u) class = refl
 
 pub block_image : (layout : Layout) (cluster a : ℕ) (image : Image) (known : Option ℕ) → block_at (shown_of layout cluster image) known a ≡ given known (Shown.unit_at layout cluster image (place_in Grid a)) (Shown.class_at layout cluster image (place_in Grid a))
 block_image layout cluster a image known = given_of known a (Shown.unit_at layout cluster image (place_in Grid a)) (Shown.class_at layout cluster image (place_in Grid a))
-
-block_told : (layout : Layout) (cluster a : ℕ) (t : Told) (known : Option ℕ) (bytes : List ℕ) → FillsRoom layout Grid bytes → Shows (Some t) (span_of layout (place_in Grid a)).first bytes
-    → block_at (shown_of layout cluster t.shown) known a ≡ given known (unit_in layout cluster (place_in Grid a) bytes) (class_of layout cluster (place_in Grid a) bytes)
-block_told layout cluster a t known bytes fills shows =
-    let part = read_part layout a t.shown bytes fills shows in
-    block_image layout cluster a t.shown known ∙ ap (λ (o : Option Message). given known o (Shown.class_at layout cluster t.shown (place_in Grid a))) (unit_read layout cluster a t.shown bytes part)
-    ∙ ap (given known (unit_in layout cluster (place_in Grid a) bytes)) (class_read layout cluster a t.shown bytes part)
 
 -- ---- one kind of block
 
@@ -121,111 +102,98 @@ trailers_tell layout cluster a u is = (
   ],
 )
 
-module _ (layout : Layout) (cluster a : ℕ) (check bytes : List ℕ) (kind : Kind) (p : Units.Block → Bool) (fits : IsCheck check) (fills : FillsRoom layout Grid bytes) (each : AreBytes bytes) (tells : TellsKind layout cluster a kind p) where
+module _ (layout : Layout) (cluster a : ℕ) (check : List ℕ) (image : Image) (kind : Kind) (p : Units.Block → Bool) (fits : IsCheck check) (tells : TellsKind layout cluster a kind p) where
   wanted_answer : Result Units.Block Class
-  wanted_answer = sieve p (given (Some (number_of check)) (unit_in layout cluster (place_in Grid a) bytes) (class_of layout cluster (place_in Grid a) bytes))
-
-  unit_is : (u : Message) → unit_in layout cluster (place_in Grid a) bytes ≡ Some u → IsUnit layout cluster (place_in Grid a) u
-  unit_is u found = ((one_unit layout cluster (place_in Grid a) bytes u fills each).0 found).is
+  wanted_answer = sieve p (given (Some (number_of check)) (Shown.unit_at layout cluster image (place_in Grid a)) (Shown.class_at layout cluster image (place_in Grid a)))
 
   -- the unit wanted is answered
-  found_is : (h : Holding) → Judges kind (at_address layout cluster a check) bytes None (Some h) → Ok (block_of h.unit) ≡ wanted_answer
+  found_is : (h : Holding) → IsFound kind (at_address layout cluster a check) h.unit → IsOf kind (at_address layout cluster a check) image None (Some h) → Ok (block_of h.unit) ≡ wanted_answer
   unfolding wanted_answer
-  found_is h judges =
+  found_is h found read =
       let u = h.unit in
-      let passes : p (block_of u) ≡ true = (tells u (unit_is u judges.0.found.valid)).0 judges.0.of_kind in
-      let same : (number_of u.header.checksum == number_of check) ≡ true = yes_eq (number_of u.header.checksum) (number_of check) (ap number_of judges.0.found.wanted) in
-      sym (ap (λ (o : Option Message). sieve p (given (Some (number_of check)) o (class_of layout cluster (place_in Grid a) bytes))) judges.0.found.valid
+      let passes : p (block_of u) ≡ true = (tells u found.is).0 found.of_kind in
+      let same : (number_of u.header.checksum == number_of check) ≡ true = yes_eq (number_of u.header.checksum) (number_of check) (ap number_of found.wanted) in
+      sym (ap (λ (o : Option Message). sieve p (given (Some (number_of check)) o (Shown.class_at layout cluster image (place_in Grid a)))) read.judges
       ∙ ap (λ (b : Bool). sieve p (given_if b (block_of u) Stale)) same ∙ ap (λ (b : Bool). given_if b (block_of u) Stale) passes)
 
   -- what isn't has a class
-  lacks_case : (class : Class) (held : Option Holding) → Judges kind (at_address layout cluster a check) bytes (Some class) held → (o : Option Message) → unit_in layout cluster (place_in Grid a) bytes ≡ o
-      → Err class ≡ sieve p (given (Some (number_of check)) o (class_of layout cluster (place_in Grid a) bytes))
-  lacks_case class held judges None shown = ap Err judges.1
-  lacks_case class held judges (Some u) shown = ap Err (judges.1 ∙ valid_stale layout cluster (place_in Grid a) bytes u shown) ∙ sym (go (number_of u.header.checksum == number_of check) refl (p (block_of u)) refl)
+  lacks_case : (class : Class) (held : Option Holding) → IsOf kind (at_address layout cluster a check) image (Some class) held → (o : Option Message) → Shown.unit_at layout cluster image (place_in Grid a) ≡ o
+      → Err class ≡ sieve p (given (Some (number_of check)) o (Shown.class_at layout cluster image (place_in Grid a)))
+  lacks_case class held read None shown = ap Err read.judges.1
+  lacks_case class held read (Some u) shown = ap Err (read.judges.1 ∙ shown_stale layout cluster image (place_in Grid a) u shown) ∙ sym (go (number_of u.header.checksum == number_of check) refl (p (block_of u)) refl)
     where
       go : (b : Bool) → (number_of u.header.checksum == number_of check) ≡ b → (q : Bool) → p (block_of u) ≡ q → sieve p (given_if b (block_of u) Stale) ≡ Err Stale
       go false differs q test = refl
       go true same false test = ap (λ (x : Bool). given_if x (block_of u) Stale) test
       go true same true test =
-          let is = unit_is u shown in
+          let is = read.valid u shown in
           let wanted : u.header.checksum ≡ check = one_number u.header.checksum check (sealed_check u.header is.sealed) fits (eq_true (number_of u.header.checksum) (number_of check) same) in
-          absurd (judges.0 u (record { found = record { valid = shown; wanted = wanted }; of_kind = (tells u is).1 test }))
+          absurd (read.judges.0 u shown (record { is = is; of_kind = (tells u is).1 test; wanted = wanted }))
 
-  lacks_is : (class : Class) (held : Option Holding) → Judges kind (at_address layout cluster a check) bytes (Some class) held → Err class ≡ wanted_answer
+  lacks_is : (class : Class) (held : Option Holding) → IsOf kind (at_address layout cluster a check) image (Some class) held → Err class ≡ wanted_answer
   unfolding wanted_answer
-  lacks_is class held judges = lacks_case class held judges (unit_in layout cluster (place_in Grid a) bytes) refl
+  lacks_is class held read = lacks_case class held read (Shown.unit_at layout cluster image (place_in Grid a)) refl
 
 -- ---- what is answered
 
 module _ (layout : Layout) (cluster a : ℕ) (check : List ℕ) (fits : IsCheck check) where
-  pub block_read : (told : Option Told) (h : Holding) → IsRead Block Grid (at_address layout cluster a check) told None (Some h) → ReadsBlock layout cluster told a (Some (number_of check)) (Ok (block_of h.unit))
-  unfolding wanted_answer
-  block_read None h read = tt
-  block_read (Some t) h read = found_is layout cluster a check read.bytes Block (λ b. not (b.kind == 0)) fits read.fills read.each (blocks_tell layout cluster a) h read.judges
-      ∙ sym (ap no_trailer (block_told layout cluster a t (Some (number_of check)) read.bytes read.fills read.shows) ∙ of_blocks (given (Some (number_of check)) (unit_in layout cluster (place_in Grid a) read.bytes) (class_of layout cluster (place_in Grid a) read.bytes)))
+  -- what an image shows at the address
+  shown : Image → Result Units.Block Class
+  shown image = given (Some (number_of check)) (Shown.unit_at layout cluster image (place_in Grid a)) (Shown.class_at layout cluster image (place_in Grid a))
 
-  pub block_lacks : (told : Option Told) (class : Class) (held : Option Holding) → IsRead Block Grid (at_address layout cluster a check) told (Some class) held → ReadsBlock layout cluster told a (Some (number_of check)) (Err class)
-  unfolding wanted_answer
+  pub block_read : (told : Option Told) (h : Holding) → IsFound Block (at_address layout cluster a check) h.unit → IsRead Block (at_address layout cluster a check) told None (Some h) → ReadsBlock layout cluster told a (Some (number_of check)) (Ok (block_of h.unit))
+  unfolding wanted_answer shown
+  block_read None h found read = tt
+  block_read (Some t) h found read = found_is layout cluster a check t.shown Block (λ b. not (b.kind == 0)) fits (blocks_tell layout cluster a) h found read
+      ∙ sym (ap no_trailer (block_image layout cluster a t.shown (Some (number_of check))) ∙ of_blocks (shown t.shown))
+
+  pub block_lacks : (told : Option Told) (class : Class) (held : Option Holding) → IsRead Block (at_address layout cluster a check) told (Some class) held → ReadsBlock layout cluster told a (Some (number_of check)) (Err class)
+  unfolding wanted_answer shown
   block_lacks None class held read = tt
-  block_lacks (Some t) class held read = lacks_is layout cluster a check read.bytes Block (λ b. not (b.kind == 0)) fits read.fills read.each (blocks_tell layout cluster a) class held read.judges
-      ∙ sym (ap no_trailer (block_told layout cluster a t (Some (number_of check)) read.bytes read.fills read.shows) ∙ of_blocks (given (Some (number_of check)) (unit_in layout cluster (place_in Grid a) read.bytes) (class_of layout cluster (place_in Grid a) read.bytes)))
+  block_lacks (Some t) class held read = lacks_is layout cluster a check t.shown Block (λ b. not (b.kind == 0)) fits (blocks_tell layout cluster a) class held read
+      ∙ sym (ap no_trailer (block_image layout cluster a t.shown (Some (number_of check))) ∙ of_blocks (shown t.shown))
 
-  pub trailer_read : (told : Option Told) (h : Holding) → IsRead Trailer Grid (at_address layout cluster a check) told None (Some h) → ReadsTrailer layout cluster told a (number_of check) (Ok (block_of h.unit))
-  unfolding wanted_answer
-  trailer_read None h read = tt
-  trailer_read (Some t) h read = found_is layout cluster a check read.bytes Trailer (λ b. b.kind == 0) fits read.fills read.each (trailers_tell layout cluster a) h read.judges
-      ∙ sym (ap trailer_alone (block_told layout cluster a t (Some (number_of check)) read.bytes read.fills read.shows) ∙ of_trailers (given (Some (number_of check)) (unit_in layout cluster (place_in Grid a) read.bytes) (class_of layout cluster (place_in Grid a) read.bytes)))
+  pub trailer_read : (told : Option Told) (h : Holding) → IsFound Trailer (at_address layout cluster a check) h.unit → IsRead Trailer (at_address layout cluster a check) told None (Some h) → ReadsTrailer layout cluster told a (number_of check) (Ok (block_of h.unit))
+  unfolding wanted_answer shown
+  trailer_read None h found read = tt
+  trailer_read (Some t) h found read = found_is layout cluster a check t.shown Trailer (λ b. b.kind == 0) fits (trailers_tell layout cluster a) h found read
+      ∙ sym (ap trailer_alone (block_image layout cluster a t.shown (Some (number_of check))) ∙ of_trailers (shown t.shown))
 
-  pub trailer_lacks : (told : Option Told) (class : Class) (held : Option Holding) → IsRead Trailer Grid (at_address layout cluster a check) told (Some class) held → ReadsTrailer layout cluster told a (number_of check) (Err class)
-  unfolding wanted_answer
+  pub trailer_lacks : (told : Option Told) (class : Class) (held : Option Holding) → IsRead Trailer (at_address layout cluster a check) told (Some class) held → ReadsTrailer layout cluster told a (number_of check) (Err class)
+  unfolding wanted_answer shown
   trailer_lacks None class held read = tt
-  trailer_lacks (Some t) class held read = lacks_is layout cluster a check read.bytes Trailer (λ b. b.kind == 0) fits read.fills read.each (trailers_tell layout cluster a) class held read.judges
-      ∙ sym (ap trailer_alone (block_told layout cluster a t (Some (number_of check)) read.bytes read.fills read.shows) ∙ of_trailers (given (Some (number_of check)) (unit_in layout cluster (place_in Grid a) read.bytes) (class_of layout cluster (place_in Grid a) read.bytes)))
+  trailer_lacks (Some t) class held read = lacks_is layout cluster a check t.shown Trailer (λ b. b.kind == 0) fits (trailers_tell layout cluster a) class held read
+      ∙ sym (ap trailer_alone (block_image layout cluster a t.shown (Some (number_of check))) ∙ of_trailers (shown t.shown))
 
 -- ---- as the calls answer
 
-module _ (layout : Layout) (cluster a : ℕ) (check : List ℕ) (fits : IsCheck check) (told : Option Told) (identity : Identity) (there : identity ≡ at_address layout cluster a check) (answered : Option Class) (held : Option Holding) where
-  pub shows_other_block : (known : Option ℕ) (class : Class) → answered ≡ Some class → IsRead Block Grid identity told answered held → known ≡ Some (number_of check) → ReadsBlock layout cluster told a known (Err class)
-  shows_other_block known class is read same =
-      let at = subst (λ (o : Option Class). IsRead Block Grid (at_address layout cluster a check) told o held) is (subst (λ (i : Identity). IsRead Block Grid i told answered held) there read) in
-      subst (λ (k : Option ℕ). ReadsBlock layout cluster told a k (Err class)) (sym same) (block_lacks layout cluster a check fits told class held at)
+module _ (layout : Layout) (cluster a : ℕ) (check : List ℕ) (fits : IsCheck check) (told : Option Told) (identity : Identity) (there : identity ≡ at_address layout cluster a check) (wrong : Option Class) (held : Option Holding) where
+  -- what is known of one kind of unit
+  read_there : (kind : Kind) → IsRead kind identity told wrong held → (o : Option Class) → wrong ≡ o → (p : Option Holding) → held ≡ p → IsRead kind (at_address layout cluster a check) told o p
+  read_there kind read o is p has = subst (λ (r : Option Holding). IsRead kind (at_address layout cluster a check) told o r) has
+      (subst (λ (r : Option Class). IsRead kind (at_address layout cluster a check) told r held) is (subst (λ (i : Identity). IsRead kind i told wrong held) there read))
 
-  pub shows_block : (known : Option ℕ) (h : Holding) → answered ≡ None → held ≡ Some h → IsRead Block Grid identity told answered held → known ≡ Some (number_of check) → ReadsBlock layout cluster told a known (Ok (block_of h.unit))
-  shows_block known h is has read same =
-      let at = subst (λ (o : Option Holding). IsRead Block Grid (at_address layout cluster a check) told None o) has (subst (λ (o : Option Class). IsRead Block Grid (at_address layout cluster a check) told o held) is (subst (λ (i : Identity). IsRead Block Grid i told answered held) there read)) in
-      subst (λ (k : Option ℕ). ReadsBlock layout cluster told a k (Ok (block_of h.unit))) (sym same) (block_read layout cluster a check fits told h at)
+  found_there : (kind : Kind) (h : Holding) → HoldsFound kind identity wrong held → wrong ≡ None → held ≡ Some h → IsFound kind (at_address layout cluster a check) h.unit
+  found_there kind h holds is has = subst (λ (r : Option Holding). HoldsFound kind (at_address layout cluster a check) None r) has
+      (subst (λ (r : Option Class). HoldsFound kind (at_address layout cluster a check) r held) is (subst (λ (i : Identity). HoldsFound kind i wrong held) there holds))
 
-  pub shows_other_trailer : (class : Class) → answered ≡ Some class → IsRead Trailer Grid identity told answered held → ReadsTrailer layout cluster told a (number_of check) (Err class)
-  shows_other_trailer class is read =
-      let at = subst (λ (o : Option Class). IsRead Trailer Grid (at_address layout cluster a check) told o held) is (subst (λ (i : Identity). IsRead Trailer Grid i told answered held) there read) in
-      trailer_lacks layout cluster a check fits told class held at
+  pub shows_other_block : (known : Option ℕ) (class : Class) → wrong ≡ Some class → IsRead Block identity told wrong held → known ≡ Some (number_of check) → ReadsBlock layout cluster told a known (Err class)
+  shows_other_block known class is read same = subst (λ (k : Option ℕ). ReadsBlock layout cluster told a k (Err class)) (sym same) (block_lacks layout cluster a check fits told class held (read_there Block read (Some class) is held refl))
 
-  pub shows_trailer : (h : Holding) → answered ≡ None → held ≡ Some h → IsRead Trailer Grid identity told answered held → ReadsTrailer layout cluster told a (number_of check) (Ok (block_of h.unit))
-  shows_trailer h is has read =
-      let at = subst (λ (o : Option Holding). IsRead Trailer Grid (at_address layout cluster a check) told None o) has (subst (λ (o : Option Class). IsRead Trailer Grid (at_address layout cluster a check) told o held) is (subst (λ (i : Identity). IsRead Trailer Grid i told answered held) there read)) in
-      trailer_read layout cluster a check fits told h at
+  pub shows_block : (known : Option ℕ) (h : Holding) → wrong ≡ None → held ≡ Some h → HoldsFound Block identity wrong held → IsRead Block identity told wrong held → known ≡ Some (number_of check) → ReadsBlock layout cluster told a known (Ok (block_of h.unit))
+  shows_block known h is has holds read same =
+      subst (λ (k : Option ℕ). ReadsBlock layout cluster told a k (Ok (block_of h.unit))) (sym same) (block_read layout cluster a check fits told h (found_there Block h holds is has) (read_there Block read None is (Some h) has))
 
-  pub shows_valid : (kind : Kind) (known : Option ℕ) (h : Holding) → answered ≡ None → held ≡ Some h → IsRead kind Grid identity told answered held → known ≡ Some (number_of check) → IsKnownUnit kind layout cluster a known h.unit
-  shows_valid kind known h is has read same =
-      let at = subst (λ (o : Option Holding). IsRead kind Grid (at_address layout cluster a check) told None o) has (subst (λ (o : Option Class). IsRead kind Grid (at_address layout cluster a check) told o held) is (subst (λ (i : Identity). IsRead kind Grid i told answered held) there read)) in
-      record { is = at.judges.1; of_kind = at.judges.0.of_kind; sum = same ∙ ap (λ (b : List ℕ). Some (number_of b)) (sym at.judges.0.found.wanted) }
+  pub shows_other_trailer : (class : Class) → wrong ≡ Some class → IsRead Trailer identity told wrong held → ReadsTrailer layout cluster told a (number_of check) (Err class)
+  shows_other_trailer class is read = trailer_lacks layout cluster a check fits told class held (read_there Trailer read (Some class) is held refl)
 
--- ---- what is seen
+  pub shows_trailer : (h : Holding) → wrong ≡ None → held ≡ Some h → HoldsFound Trailer identity wrong held → IsRead Trailer identity told wrong held → ReadsTrailer layout cluster told a (number_of check) (Ok (block_of h.unit))
+  shows_trailer h is has holds read = trailer_read layout cluster a check fits told h (found_there Trailer h holds is has) (read_there Trailer read None is (Some h) has)
 
-seen_case : (layout : Layout) (cluster : ℕ) (place : Place) (zone : Zone) (told : Option Told) (bytes : List ℕ) → zone ≡ Grid → place ≡ record { zone = zone; index = place.index } → FillsRoom layout Grid bytes → Shows told (span_of layout place).first bytes
-    → IsSeen layout cluster told place (header_or_class (unit_in layout cluster place bytes) (class_of layout cluster place bytes))
-seen_case layout cluster place zone None bytes is same fills shows = tt
-seen_case layout cluster place zone (Some t) bytes is same fills shows =
-    let here : place ≡ place_in Grid place.index = same ∙ ap (λ (z : Zone). record { zone = z; index = place.index }) is in
-    let part = read_part layout place.index t.shown bytes fills (subst (λ (p : Place). Shows (Some t) (span_of layout p).first bytes) here shows) in
-    subst (λ (p : Place). header_or_class (unit_in layout cluster p bytes) (class_of layout cluster p bytes) ≡ header_or_class (Shown.unit_at layout cluster t.shown p) (Shown.class_at layout cluster t.shown p)) (sym here)
-    (sym (ap (λ (o : Option Message). header_or_class o (Shown.class_at layout cluster t.shown (place_in Grid place.index))) (unit_read layout cluster place.index t.shown bytes part)
-    ∙ ap (header_or_class (unit_in layout cluster (place_in Grid place.index) bytes)) (class_read layout cluster place.index t.shown bytes part)))
-
-pub seen_there : (layout : Layout) (cluster : ℕ) (place : Place) (told : Option Told) (bytes : List ℕ) (seen : Result Header Class) → place.zone ≡ Grid → FillsRoom layout Grid bytes → Shows told (span_of layout place).first bytes
-    → seen ≡ header_or_class (unit_in layout cluster place bytes) (class_of layout cluster place bytes) → IsSeen layout cluster told place seen
-seen_there layout cluster place told bytes seen is fills shows value = subst (λ (r : Result Header Class). IsSeen layout cluster told place r) (sym value) (seen_case layout cluster place place.zone told bytes is refl fills shows)
+  pub shows_valid : (kind : Kind) (known : Option ℕ) (h : Holding) → wrong ≡ None → held ≡ Some h → HoldsFound kind identity wrong held → known ≡ Some (number_of check) → IsKnownUnit kind layout cluster a known h.unit
+  shows_valid kind known h is has holds same =
+      let found = found_there kind h holds is has in
+      record { is = found.is; of_kind = found.of_kind; sum = same ∙ ap (λ (b : List ℕ). Some (number_of b)) (sym found.wanted) }
 
 -- ---- a test
 

@@ -1,13 +1,11 @@
 -- The grid as its callers see it: the file's layout and cluster, and what the machine knows of the blocks.
-use Rattle.std.specs.Prelude.{◌≡◌, ◌<◌, ◌≤◌, ◌^◌, ℕ, false, Option, Some, None, List}
+use Rattle.std.specs.Prelude.{◌≡◌, ◌<◌, ◌≤◌, ◌^◌, ℕ, false, Option, Some, List}
 use Rattle.df_layout.specs.declared.layout.Layout.{Layout}
 use Rattle.df_layout.specs.declared.places.Zone.TheVariants.{Grid}
 use Rattle.df_format.specs.declared.kind.Kind.{Kind}
 use Rattle.df_format.specs.Message.{Message}
 use Rattle.df_format.specs.Own.{place_in}
 use Rattle.df_format.specs.Valid.{IsUnit}
-use Rattle.df_buffers.specs.Rooms.{Room}
-use Rattle.df_buffers.specs.Sounds.{Holding}
 use Rattle.df_model.specs.Blocks.{Blocks, free_in, is_held_in, referenced_in}
 use Rattle.df_units.specs.Meaning.{layout_of, number_of}
 
@@ -37,19 +35,13 @@ pub record IsUnheld (g : GridState) (a : ℕ) : Type 0 where
   pub inside : HasAddress g a
   pub unheld : is_held_in g.blocks a ≡ false
 
--- a room lies in one of two shelves: in the one for any bytes, or in the one for a sound unit
-abbrev pub IsShelf : Layout → Option Room → Option Holding → Type 0
-IsShelf layout (Some room) None = room.layout ≡ layout
-IsShelf layout None (Some held) = held.layout ≡ layout
-IsShelf layout loose held = ⊥
-
 -- what holds of the parts of a grid: a table of the layout's addresses, and rooms of the layout
-pub record IsGrid (layout : Layout) (cluster size : ℕ) (loose_block : Option Room) (held_block : Option Holding) (loose_trailer : Option Room) (held_trailer : Option Holding) : Type 0 where
+pub record IsGrid (layout : Layout) (cluster size : ℕ) (of_block of_trailer : Layout) : Type 0 where
   pub named : 0 < cluster
   pub fits : cluster < 2 ^ 128
   pub size_is : size ≡ layout.blocks
-  pub block : IsShelf layout loose_block held_block
-  pub trailer : IsShelf layout loose_trailer held_trailer
+  pub block : of_block ≡ layout
+  pub trailer : of_trailer ≡ layout
 
 -- the unit is one of the kind that is valid at the address, with the checksum that is known
 pub record IsKnownUnit (kind : Kind) (layout : Layout) (cluster address : ℕ) (known : Option ℕ) (u : Message) : Type 0 where

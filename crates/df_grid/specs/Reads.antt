@@ -1,25 +1,17 @@
 -- What is read of an address, in the words of the machine.
 use Rattle.std.specs.Prelude.{◌≡◌, ℕ, ◌==◌, if◌then◌else◌, List, Option, Some, None, Result, Ok, Err}
 use Rattle.std.specs.Str.{bytes_eq}
-use Rattle.df_base.specs.Fields.{AreBytes}
 use Rattle.df_base.specs.Image.{Image}
-use Rattle.df_disk.specs.Told.{Told, Shows}
+use Rattle.df_disk.specs.Told.{Told}
 use Rattle.df_layout.specs.declared.damage.Class.{Class}
 use Rattle.df_layout.specs.declared.damage.Class.TheVariants.{Stale}
 use Rattle.df_layout.specs.declared.layout.Layout.{Layout}
-use Rattle.df_layout.specs.declared.places.Zone.{Zone}
 use Rattle.df_layout.specs.declared.places.Zone.TheVariants.{Grid}
-use Rattle.df_layout.specs.Spans.{span_of}
 use Rattle.df_format.specs.declared.header.Header.{Header}
-use Rattle.df_format.specs.declared.kind.Kind.{Kind}
-use Rattle.df_format.specs.Message.{Message}
 use Rattle.df_format.specs.Own.{place_in}
 use Rattle.df_format.specs.Spelling.{IsCheck}
 use Rattle.df_buffers.specs.declared.identity.Identity.{Identity}
 use Rattle.df_buffers.specs.declared.identity.Wanted.TheVariants.{Checksum}
-use Rattle.df_buffers.specs.Found.{FindsKind, IsThere, class_for}
-use Rattle.df_buffers.specs.Rooms.{FillsRoom}
-use Rattle.df_buffers.specs.Sounds.{Holding}
 use Rattle.df_theory.specs.Units.{Block}
 use Rattle.df_model.specs.Supply.{Shown, block_at, given_if, no_trailer}
 use Rattle.df_units.specs.Bytes.{unit_at}
@@ -63,22 +55,6 @@ abbrev pub IsFaultOf : Result Header Class → List ℕ → Option Class → Typ
 IsFaultOf (Ok header) wanted answer = IsCheck header.checksum × IsCheck wanted × (answer ≡ differs header.checksum wanted)
 IsFaultOf (Err class) wanted answer = answer ≡ Some class
 
--- ---- a room that was read into
-
 -- the unit with this checksum, at an address
 abbrev pub at_address : Layout → ℕ → ℕ → List ℕ → Identity
 at_address layout cluster a check = record { layout = layout; cluster = cluster; place = place_in Grid a; wanted = Checksum check }
-
--- the bytes are the unit wanted, which the shelf holds, or they aren't, and have this class
-abbrev pub Judges : Kind → Identity → List ℕ → Option Class → Option Holding → Type 0
-Judges kind identity bytes None (Some held) = FindsKind kind identity bytes held.unit × IsThere identity held.unit
-Judges kind identity bytes None None = ⊥
-Judges kind identity bytes (Some class) held = ((u : Message) → FindsKind kind identity bytes u → ⊥) × (class ≡ class_for identity bytes)
-
--- so it is with the bytes that the disk shows there
-pub record IsRead (kind : Kind) (zone : Zone) (identity : Identity) (told : Option Told) (answer : Option Class) (held : Option Holding) : Type 0 where
-  pub bytes : List ℕ
-  pub fills : FillsRoom identity.layout zone bytes
-  pub each : AreBytes bytes
-  pub shows : Shows told (span_of identity.layout identity.place).first bytes
-  pub judges : Judges kind identity bytes answer held

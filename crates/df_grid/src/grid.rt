@@ -8,13 +8,13 @@ ghost use Rattle.df_units.specs.Meaning.{number_of};
 ghost use Rattle.df_grid.specs.Grid.{GridState, HasAddress, IsUnheld, free_of, referenced_of, with_blocks};
 ghost use Rattle.df_grid.specs.Table.{IsIdle, adopted, last_of, no_blocks, pair_in};
 
-use crate::shelf::Shelf;
 use crate::table::Table;
 use df_base::Check;
 use df_buffers::{Block, Raw, Trailer};
 use df_format::Reference;
 use df_freeset::FreeSet;
 use df_layout::Layout;
+use df_places::Shelf;
 use std::marker::Model;
 
 /// The blocks of a file. An address is held where it is live (written and not released), captured by the running checkpoint, a block
@@ -35,7 +35,7 @@ impl Model for Grid {
 
     ghost view = { λ g. record { layout = g.layout; cluster = g.cluster; blocks = g.table.blocks } };
 
-    ghost invariant = { λ g. IsGrid g.layout g.cluster g.table.size g.block.loose g.block.held g.trailer.loose g.trailer.held };
+    ghost invariant = { λ g. IsGrid g.layout g.cluster g.table.size g.block.layout g.trailer.layout };
 }
 
 impl Grid {
@@ -63,8 +63,8 @@ impl Grid {
             layout,
             cluster,
             table: Table::over(free, checks, marks),
-            block: Shelf::over(block),
-            trailer: Shelf::over(trailer),
+            block: Shelf::over(layout, block),
+            trailer: Shelf::over(layout, trailer),
         }
     }
 
@@ -78,16 +78,14 @@ impl Grid {
         ensures trailer { result.4.layout ≡ self.layout }
     {
         let Grid {
-            layout,
+            layout: _,
             cluster: _,
             table,
-            mut block,
-            mut trailer,
+            block,
+            trailer,
         } = self;
         let (free, checks, marks) = table.into_room();
-        let block = block.take(&layout);
-        let trailer = trailer.take(&layout);
-        (free, checks, marks, block, trailer)
+        (free, checks, marks, block.into_room(), trailer.into_room())
     }
 
     /// The least address that isn't held, None exactly where all are.

@@ -10,7 +10,6 @@ mod examples;
 mod grid;
 mod lookups;
 mod reads;
-mod shelf;
 mod table;
 mod writes;
 

@@ -11,12 +11,11 @@ ghost use Rattle.df_model.specs.Blocks.{sum_at};
 ghost use Rattle.df_model.specs.Work.{is_known};
 ghost use Rattle.df_units.specs.Meaning.{block_of, number_of};
 ghost use Rattle.df_places.specs.Units.{IsSeen};
-ghost use Rattle.df_grid.specs.Grid.{HasAddress, IsKnownUnit, IsShelf};
+ghost use Rattle.df_grid.specs.Grid.{HasAddress, IsKnownUnit};
 ghost use Rattle.df_grid.specs.Reads.{ReadsBlock, ReadsTrailer, Tests, IsFaultOf, at_address, differs};
 ghost use Rattle.df_grid.specs.contracts.grid.Grid.{the_row};
 
 use crate::Grid;
-use crate::shelf::Shelf;
 use df_base::{Check, Failed};
 use df_buffers::{Block, Identity, Sound, Trailer, Wanted};
 use df_disk::Disk;
@@ -137,7 +136,7 @@ impl Grid {
         ensures cause { HasCause (D.faults disk.old) (D.faults disk.new) result }
     {
         let place = grid_place(reference.address);
-        let seen = self.block.see(disk, &self.layout, self.cluster, place)?;
+        let seen = self.block.see(disk, self.cluster, place)?;
         Ok(fault_of(seen, reference.checksum))
     }
 }

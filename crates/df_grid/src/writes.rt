@@ -12,19 +12,18 @@ ghost use Rattle.df_model.specs.Making.{first_of};
 ghost use Rattle.df_theory.specs.Device.{AreSteps};
 ghost use Rattle.df_units.specs.Format.{format_of};
 ghost use Rattle.df_units.specs.Meaning.{block_of, number_of};
-ghost use Rattle.df_grid.specs.Grid.{HasAddress, IsShelf, with_blocks};
+ghost use Rattle.df_grid.specs.Grid.{HasAddress, with_blocks};
 ghost use Rattle.df_grid.specs.Table.{next_written};
 ghost use Rattle.df_grid.specs.Writes.{IsBefore, address_in, block_events, block_steps, checksum_in, header_with, made, made_events, next_block, next_unit};
 
 use crate::Grid;
 use crate::reads::grid_place;
-use crate::shelf::Shelf;
 use df_base::{Check, Failed};
 use df_buffers::{Block, Sound, Trailer};
 use df_disk::Disk;
 use df_format::{Header, Kind, Reference};
 use df_layout::{Layout, Zone};
-use df_places::put_unit;
+use df_places::{Shelf, put_unit};
 
 // A checksum has sixteen bytes, as its type says.
 fn as_check(check: Check) -> Check
@@ -96,35 +95,31 @@ fn trailer_header(
     }
 }
 
-impl Shelf<Trailer> {
-    /// Makes a trailer block in the room and writes it into its place, without a sync.
-    fn put<D: Disk>(
-        &mut self,
-        disk: &mut D,
-        layout: &Layout,
-        header: Header,
-        piece: &[u8],
-    ) -> Result<Check, Failed>
-        requires shelf { IsShelf layout.now self.old.loose self.old.held }
-        requires rules { ObeysRules (for_body header piece.now) }
-        requires kind { header.kind ≡ Kind.Trailer }
-        requires own { IsSome (own_place layout.now Zone.Grid header) }
-        requires fits { 256 + length piece.now ≤ greatest_size layout.now Zone.Grid }
-        ensures shelf { IsShelf layout.now self.new.loose self.new.held }
-        ensures events { Adds (made_events layout.now (made header piece.now)) (D.told disk.old) (D.told disk.new) result }
-        ensures steps { AreSteps (format_of layout.now header.cluster) (made_events layout.now (made header piece.now)) (block_steps (made header piece.now)) }
-        ensures checksum { IfOk result (λ checksum. checksum ≡ (made header piece.now).header.checksum) }
-        ensures cause { HasCause (D.faults disk.old) (D.faults disk.new) result }
-    {
-        let room = self.take(layout);
-        let unit = room.make(header, piece);
-        let header = *unit.header();
-        let put = put_unit(disk, layout, grid_place(header.op), &unit);
-        self.loose = Some(unit.loosen());
-        match put {
-            Ok(()) => Ok(header.checksum),
-            Err(failed) => Err(failed),
-        }
+// Makes a trailer block in its room and writes it into its place, without a sync.
+fn put_made<D: Disk>(
+    shelf: &mut Shelf<Trailer>,
+    disk: &mut D,
+    layout: &Layout,
+    header: Header,
+    piece: &[u8],
+) -> Result<Check, Failed>
+    requires shelf { shelf.old.layout ≡ layout.now }
+    requires rules { ObeysRules (for_body header piece.now) }
+    requires kind { header.kind ≡ Kind.Trailer }
+    requires own { IsSome (own_place layout.now Zone.Grid header) }
+    requires fits { 256 + length piece.now ≤ greatest_size layout.now Zone.Grid }
+    ensures shelf { shelf.new.layout ≡ layout.now }
+    ensures events { Adds (made_events layout.now (made header piece.now)) (D.told disk.old) (D.told disk.new) result }
+    ensures steps { AreSteps (format_of layout.now header.cluster) (made_events layout.now (made header piece.now)) (block_steps (made header piece.now)) }
+    ensures checksum { IfOk result (λ checksum. checksum ≡ (made header piece.now).header.checksum) }
+    ensures cause { HasCause (D.faults disk.old) (D.faults disk.new) result }
+{
+    shelf.make(header, piece);
+    let unit = shelf.unit();
+    let header = *unit.header();
+    match put_unit(disk, layout, grid_place(header.op), unit) {
+        Ok(()) => Ok(header.checksum),
+        Err(failed) => Err(failed),
     }
 }
 
@@ -174,7 +169,7 @@ impl Grid {
         };
         let before = self.table.last_written();
         let header = trailer_header(self.cluster, address, index, sequence, before, piece);
-        match self.trailer.put(disk, &self.layout, header, piece) {
+        match put_made(&mut self.trailer, disk, &self.layout, header, piece) {
             Ok(checksum) => {
                 self.table.put_trailer(checksum);
                 Ok(())

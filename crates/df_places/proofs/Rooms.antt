@@ -80,7 +80,7 @@ sectors_read layout place zone n in_zone is =
     omega (arith, room)
 
 -- the bytes that were read are those of the place
-read_part : (layout : Layout) (image : Image) (place : Place) (zone : Zone) (bytes : List ℕ) → zone ≢ WalHeaders → place.zone ≡ zone → length bytes ≡ room_size layout zone
+pub read_part : (layout : Layout) (image : Image) (place : Place) (zone : Zone) (bytes : List ℕ) → zone ≢ WalHeaders → place.zone ≡ zone → length bytes ≡ room_size layout zone
     → bytes ≡ bytes_at image (span_of layout place).first (length bytes / 4096) → bytes ≡ bytes_at image (span_of layout place).first (span_of layout place).count
 read_part layout image place zone bytes alone in_zone size is = is ∙ ap (λ (n : ℕ). bytes_at image (span_of layout place).first n) (sectors_read layout place zone (length bytes) in_zone size)
 
@@ -92,7 +92,7 @@ all_own WalPrepares index bytes alone = refl
 all_own ClientReplies index bytes alone = refl
 all_own Grid index bytes alone = refl
 
-place_part : (layout : Layout) (image : Image) (place : Place) → place.zone ≢ WalHeaders → bytes_at image (span_of layout place).first (span_of layout place).count ≡ bytes_of layout image place
+pub place_part : (layout : Layout) (image : Image) (place : Place) → place.zone ≢ WalHeaders → bytes_at image (span_of layout place).first (span_of layout place).count ≡ bytes_of layout image place
 unfolding bytes_of
 place_part layout image place alone = all_own place.zone place.index (bytes_at image (span_of layout place).first (span_of layout place).count) alone
 

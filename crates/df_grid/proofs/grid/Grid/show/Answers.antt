@@ -40,10 +40,10 @@ returns-in-None g c =
       record {
         after = tt;
         block = subst (λ (v : GridState). ReadsBlock v.layout v.cluster (g.D.Disk.told c.args.disk.now) c.args.address (sum_at c.args.address v.blocks.live) (Ok (block_of c.unit.result.now.unit))) c.self.view_is
-            (shows_block s.layout s.cluster c.args.address c.in-Some.checksum c.known_at-identity.ensures.check (g.D.Disk.told c.args.disk.now) c.known_at-identity.result c.known_at-identity.ensures.identity c.in_ok-class.field-0 c.load.new.self.held (sum_at c.args.address s.table.blocks.live) c.unit.result.now c.in-None.is c.unit.ensures c.in_ok-class.ensures.read sum);
+            (shows_block s.layout s.cluster c.args.address c.in-Some.checksum c.known_at-identity.ensures.check (g.D.Disk.told c.args.disk.now) c.known_at-identity.result c.known_at-identity.ensures.identity c.in_ok-class.field-0 c.load.new.self.held (sum_at c.args.address s.table.blocks.live) c.unit.result.now c.in-None.is c.unit.ensures c.in_ok-class.ensures.holds c.in_ok-class.ensures.read sum);
         class = tt;
         valid = subst (λ (v : GridState). IsKnownUnit Block v.layout v.cluster c.args.address (sum_at c.args.address v.blocks.live) c.unit.result.now.unit) c.self.view_is
-            (shows_valid s.layout s.cluster c.args.address c.in-Some.checksum c.known_at-identity.ensures.check (g.D.Disk.told c.args.disk.now) c.known_at-identity.result c.known_at-identity.ensures.identity c.in_ok-class.field-0 c.load.new.self.held Block (sum_at c.args.address s.table.blocks.live) c.unit.result.now c.in-None.is c.unit.ensures c.in_ok-class.ensures.read sum);
+            (shows_valid s.layout s.cluster c.args.address c.in-Some.checksum c.known_at-identity.ensures.check (g.D.Disk.told c.args.disk.now) c.known_at-identity.result c.known_at-identity.ensures.identity c.in_ok-class.field-0 c.load.new.self.held Block (sum_at c.args.address s.table.blocks.live) c.unit.result.now c.in-None.is c.unit.ensures c.in_ok-class.ensures.holds sum);
         same = c.load.ensures.same;
         cause = record { later = c.in_ok-class.ensures.cause.later; failed = tt; same = c.in_ok-class.ensures.cause.same };
       },

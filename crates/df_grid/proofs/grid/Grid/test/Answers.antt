@@ -1,5 +1,6 @@
 -- What is wrong with what is seen is what the machine finds wrong.
 use Rattle.std.proofs.Common.{subst}
+use Rattle.df_layout.specs.declared.layout.Layout.{Layout}
 use Rattle.df_layout.specs.declared.places.Place.{Place}
 use Rattle.df_units.specs.Meaning.{number_of}
 use Rattle.df_places.specs.Units.{IsSeen}
@@ -13,4 +14,5 @@ returns-clause-tested g c =
     let s = c.self.inside in
     subst (λ (v : GridState). Tests v.layout v.cluster (g.D.Disk.told c.args.disk.now) c.args.reference.address (number_of c.args.reference.checksum) c.fault_of.result) c.self.view_is
     (tests s.layout s.cluster c.args.reference.address (g.D.Disk.told c.args.disk.now) c.args.reference.checksum c.in_ok-seen.seen c.fault_of.result c.fault_of.ensures
-    (subst (λ (p : Place). IsSeen s.layout s.cluster (g.D.Disk.told c.args.disk.now) p c.in_ok-seen.seen) c.grid_place-place.ensures c.in_ok-seen.ensures.seen))
+    (subst (λ (p : Place). IsSeen s.layout s.cluster (g.D.Disk.told c.args.disk.now) p c.in_ok-seen.seen) c.grid_place-place.ensures
+    (subst (λ (l : Layout). IsSeen l s.cluster (g.D.Disk.told c.args.disk.now) c.grid_place-place.result c.in_ok-seen.seen) c.self.invariant.block c.in_ok-seen.ensures.seen)))

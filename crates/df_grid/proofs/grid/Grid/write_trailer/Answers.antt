@@ -12,8 +12,8 @@ use Rattle.df_grid.specs.Writes.{address_in, checksum_in, block_steps, made, mad
 use Rattle.df_grid.proofs.Writing.{state_of, header_is, header_owns, next_is}
 use Rattle.df_grid.proofs.grid.Grid.write_trailer.Goals as goal
 
-pub put-requires-clause-own : goal.put-requires-clause-own
-put-requires-clause-own g c =
+pub put_made-requires-clause-own : goal.put_made-requires-clause-own
+put_made-requires-clause-own g c =
     let s = c.self.inside in
     let has = c.in-Some.ensures.inside in
     rw c.trailer_header-header.ensures.header (header_owns s.layout s.cluster c.in-Some.address c.args.index c.args.sequence (address_in c.last_written-before.result) (checksum_in c.last_written-before.result) (has.0, omega (arith, has.1, c.self.invariant.size_is)))
@@ -24,8 +24,8 @@ returns-in-Ok-clause-events g c =
     let b = c.last_written-before in
     let header : c.trailer_header-header.result ≡ next_header s.cluster c.args.sequence s.table.blocks =
     c.trailer_header-header.ensures.header ∙ header_is s.cluster c.args.sequence c.in-Some.address c.args.index s.table.blocks b.result c.in-Some.ensures.next (c.requires.index ∙ ap (λ (v : GridState). length v.blocks.written) (sym c.self.view_is)) b.ensures.pair c.trailer_header-header.ensures.parent in
-    subst (λ (v : GridState). g.D.Disk.told c.put.new.disk ≡ after_all (made_events v.layout (next_unit v c.args.sequence c.args.piece.now)) (g.D.Disk.told c.args.disk.now)) c.self.view_is
-    (subst (λ (h : Header). g.D.Disk.told c.put.new.disk ≡ after_all (made_events s.layout (made h c.args.piece.now)) (g.D.Disk.told c.args.disk.now)) header c.in-Ok.ensures.events)
+    subst (λ (v : GridState). g.D.Disk.told c.put_made.new.disk ≡ after_all (made_events v.layout (next_unit v c.args.sequence c.args.piece.now)) (g.D.Disk.told c.args.disk.now)) c.self.view_is
+    (subst (λ (h : Header). g.D.Disk.told c.put_made.new.disk ≡ after_all (made_events s.layout (made h c.args.piece.now)) (g.D.Disk.told c.args.disk.now)) header c.in-Ok.ensures.events)
 
 pub returns-in-Err-clause-events : goal.returns-in-Err-clause-events
 returns-in-Err-clause-events g c =
@@ -33,8 +33,8 @@ returns-in-Err-clause-events g c =
     let b = c.last_written-before in
     let header : c.trailer_header-header.result ≡ next_header s.cluster c.args.sequence s.table.blocks =
     c.trailer_header-header.ensures.header ∙ header_is s.cluster c.args.sequence c.in-Some.address c.args.index s.table.blocks b.result c.in-Some.ensures.next (c.requires.index ∙ ap (λ (v : GridState). length v.blocks.written) (sym c.self.view_is)) b.ensures.pair c.trailer_header-header.ensures.parent in
-    subst (λ (v : GridState). AddsPart (made_events v.layout (next_unit v c.args.sequence c.args.piece.now)) (g.D.Disk.told c.args.disk.now) (g.D.Disk.told c.put.new.disk)) c.self.view_is
-    (subst (λ (h : Header). AddsPart (made_events s.layout (made h c.args.piece.now)) (g.D.Disk.told c.args.disk.now) (g.D.Disk.told c.put.new.disk)) header c.in-Err.ensures.events)
+    subst (λ (v : GridState). AddsPart (made_events v.layout (next_unit v c.args.sequence c.args.piece.now)) (g.D.Disk.told c.args.disk.now) (g.D.Disk.told c.put_made.new.disk)) c.self.view_is
+    (subst (λ (h : Header). AddsPart (made_events s.layout (made h c.args.piece.now)) (g.D.Disk.told c.args.disk.now) (g.D.Disk.told c.put_made.new.disk)) header c.in-Err.ensures.events)
 
 pub returns-in-Ok-clause-steps : goal.returns-in-Ok-clause-steps
 returns-in-Ok-clause-steps g c =
@@ -43,7 +43,7 @@ returns-in-Ok-clause-steps g c =
     let header : c.trailer_header-header.result ≡ next_header s.cluster c.args.sequence s.table.blocks =
     c.trailer_header-header.ensures.header ∙ header_is s.cluster c.args.sequence c.in-Some.address c.args.index s.table.blocks b.result c.in-Some.ensures.next (c.requires.index ∙ ap (λ (v : GridState). length v.blocks.written) (sym c.self.view_is)) b.ensures.pair c.trailer_header-header.ensures.parent in
     subst (λ (v : GridState). AreSteps (format_of v.layout v.cluster) (made_events v.layout (next_unit v c.args.sequence c.args.piece.now)) (block_steps (next_unit v c.args.sequence c.args.piece.now))) c.self.view_is
-    (subst (λ (h : Header). AreSteps (format_of s.layout h.cluster) (made_events s.layout (made h c.args.piece.now)) (block_steps (made h c.args.piece.now))) header c.put.ensures.steps)
+    (subst (λ (h : Header). AreSteps (format_of s.layout h.cluster) (made_events s.layout (made h c.args.piece.now)) (block_steps (made h c.args.piece.now))) header c.put_made.ensures.steps)
 
 pub returns-in-Err-clause-steps : goal.returns-in-Err-clause-steps
 returns-in-Err-clause-steps g c =
@@ -52,7 +52,7 @@ returns-in-Err-clause-steps g c =
     let header : c.trailer_header-header.result ≡ next_header s.cluster c.args.sequence s.table.blocks =
     c.trailer_header-header.ensures.header ∙ header_is s.cluster c.args.sequence c.in-Some.address c.args.index s.table.blocks b.result c.in-Some.ensures.next (c.requires.index ∙ ap (λ (v : GridState). length v.blocks.written) (sym c.self.view_is)) b.ensures.pair c.trailer_header-header.ensures.parent in
     subst (λ (v : GridState). AreSteps (format_of v.layout v.cluster) (made_events v.layout (next_unit v c.args.sequence c.args.piece.now)) (block_steps (next_unit v c.args.sequence c.args.piece.now))) c.self.view_is
-    (subst (λ (h : Header). AreSteps (format_of s.layout h.cluster) (made_events s.layout (made h c.args.piece.now)) (block_steps (made h c.args.piece.now))) header c.put.ensures.steps)
+    (subst (λ (h : Header). AreSteps (format_of s.layout h.cluster) (made_events s.layout (made h c.args.piece.now)) (block_steps (made h c.args.piece.now))) header c.put_made.ensures.steps)
 
 pub returns-in-Ok-clause-unit : goal.returns-in-Ok-clause-unit
 returns-in-Ok-clause-unit g c =
