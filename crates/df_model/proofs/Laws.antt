@@ -16,6 +16,7 @@ pub use Rattle.df_model.proofs.Answering.{answer_from, answer_is, memory_law, or
 pub use Rattle.df_model.proofs.Changing.{blocks_law}
 pub use Rattle.df_model.proofs.Recalls.{change_law, lists_law}
 pub use Rattle.df_model.proofs.Entries.{entry_at}
+pub use Rattle.df_model.proofs.Sessions.{known_asks, new_asks, op_found}
 -- ---- reads, tours, sessions
 pub use Rattle.df_model.proofs.Kept.{block_read_law, prepare_read_law, reply_read_law, scrub_law}
 pub use Rattle.df_model.proofs.Tours.{tour_law}

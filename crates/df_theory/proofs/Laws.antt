@@ -36,5 +36,5 @@ pub use Rattle.df_theory.proofs.Keeps.{four}
 pub use Rattle.df_theory.proofs.Choices.{chosen_above, same_copy}
 pub use Rattle.df_theory.proofs.Runs.{after_append, each_append, each_weaker}
 pub use Rattle.df_theory.proofs.Tails.{chain_ops, in_dropped, in_either, in_one, in_single}
-pub use Rattle.df_theory.proofs.Sessions.{chain_append, last_mark-append, noted_get, sessions-append, sessions-drop}
+pub use Rattle.df_theory.proofs.Sessions.{chain_append, last_mark-append, noted_get, sessions-append, sessions-drop, tracks_chain, tracks_noted}
 pub use Rattle.df_theory.proofs.Sounds.{append_sound, checkpoint_sound, reply_sound, tracks}
