@@ -15,7 +15,9 @@ use Rattle.df_sessions.specs.Requests.{sessions_of}
 use Rattle.df_theory.specs.Units
 use Rattle.df_theory.specs.Units.{AnyUnit, BlockPlace, CopyPlace, HeaderPlace, HeaderUnit, Message, PreparePlace, PrepareUnit, ReplyPlace, ReplyUnit}
 use Rattle.df_theory.specs.Found.{IsReplies, NotLost}
-use Rattle.df_theory.specs.Sessions.{noted}
+use Rattle.df_theory.specs.Sessions.{MayAsk, Tracks, noted, sessions_after}
+use Rattle.df_theory.proofs.Laws.{noted_get, tracks_chain}
+use Rattle.df_recovery.specs.State.{AreAsked}
 use Rattle.df_theory.specs.Tails.{Chain, last_mark}
 use Rattle.df_theory.specs.Shape.{Shape}
 use Rattle.df_theory.specs.View.{Checkpoint}
@@ -120,6 +122,24 @@ tail_near : (clients op parent top n : ℕ) (ss : List Units.Session) (ps : List
 tail_near clients op parent top n ss [] chain is mark base = omega (arith, is, base)
 tail_near clients op parent top n ss (p ∷ ps) chain is mark base = omega (arith, is, mark, mark_near clients (op + 1) parent 0 0 ss (p ∷ ps) chain (omega arith))
 
+-- ---- the sessions after the tail
+
+may_ask_some : (room : ℕ) (h : Units.Header) (ss : List Units.Session) → MayAsk room h ss → 0 < h.request
+may_ask_some room h [] may = omega (arith, may.0)
+may_ask_some room h (s ∷ ss) (inl same) = omega (arith, same.1)
+may_ask_some room h (s ∷ ss) (inr other) = may_ask_some other.1 h ss other.3
+
+pub asked_noted : (h : Units.Header) (ss : List Units.Session) → AreAsked ss → 0 < h.request → AreAsked (noted h ss)
+asked_noted h ss asked some k t at = elim (noted_get h ss k t at) [
+  | inl new ↦ omega (arith, some, ap (λ (s : Units.Session). s.request) new)
+  | inr old ↦ asked k t old
+]
+
+asked_chain : (clients op parent mark : ℕ) (ss : List Units.Session) (ps : List Message) → Chain clients op parent mark ss ps → AreAsked ss → AreAsked (sessions_after ss ps)
+asked_chain clients op parent mark ss [] chain asked = asked
+asked_chain clients op parent mark ss (p ∷ ps) chain asked =
+    asked_chain clients (op + 1) p.header.checksum p.header.mark (noted p.header ss) ps chain.1 (asked_noted p.header ss asked (may_ask_some clients p.header ss chain.0.asks))
+
 module _ (sh : Shape) (image : Units.Units) (f : SuperFields) (ss after : List Session) (end : Tail) (n : ℕ) (rules : IsSuper f) (found : FindsTail sh image (any_base f ss) end after) (replies : IsReplies image (any_base f ss).content found.tail n) where
   pub few_wait : end.op ≤ n + 8
   few_wait = tail_near sh.layout.clients f.op (any_base f ss).content.op_checksum end.op n (sessions_of ss) found.tail found.is.chain found.ends.op replies.mark (omega (arith, rules.head.0, rules.replies.1, replies.superblock))
@@ -130,3 +150,12 @@ module _ (sh : Shape) (image : Units.Units) (f : SuperFields) (ss after : List S
     | inr (inl mark) ↦ omega (arith, mark, found.ends.op, mark_below sh.layout.clients (f.op + 1) (any_base f ss).content.op_checksum 0 0 (sessions_of ss) found.tail found.is.chain (omega arith))
     | inr (inr reply) ↦ omega (arith, reply.3, (kept.reply reply.0 reply.1 reply.2 reply.4).0)
   ]
+
+  pub tracks_on : Tracks n f.op (sessions_of ss) → Tracks n end.op (sessions_of after)
+  tracks_on tracks =
+      subst (λ (l : List Units.Session). Tracks n end.op l) (sym found.ends.sessions_are)
+      (subst (λ (top : ℕ). Tracks n top (sessions_after (sessions_of ss) found.tail)) (sym found.ends.op)
+      (tracks_chain sh.layout.clients f.op (any_base f ss).content.op_checksum 0 n n (sessions_of ss) found.tail tracks found.is.chain (omega arith) replies.mark))
+
+  pub asked_on : AreAsked (sessions_of ss) → AreAsked (sessions_of after)
+  asked_on asked = subst AreAsked (sym found.ends.sessions_are) (asked_chain sh.layout.clients (f.op + 1) (any_base f ss).content.op_checksum 0 (sessions_of ss) found.tail found.is.chain asked)

@@ -3,6 +3,8 @@ pub use Rattle.df_recovery.proofs.OneAnswer.{one_refusal, one_super, super_or_re
 pub use Rattle.df_recovery.proofs.Written.{super_is_written, written_is}
 pub use Rattle.df_recovery.proofs.FilesRead.{file_is_read}
 pub use Rattle.df_recovery.proofs.OpenAnswers.{kept_is_answer, refused_is_answer}
+-- ---- the sessions after a prepare
+pub use Rattle.df_recovery.proofs.FindingBounds.{asked_noted}
 -- ---- the slots of the four places, and the sectors that they were read from
 pub use Rattle.df_recovery.proofs.Places.{blank_shown, shown_blank, unformatted}
 -- ---- the mends of the slots, one slot more

@@ -10,6 +10,8 @@ use Rattle.df_journal.specs.Tail.{AreNumbered}
 use Rattle.df_sessions.specs.Requests.{sessions_of}
 use Rattle.df_sessions.specs.declared.session.Session.{Session}
 use Rattle.df_sessions.specs.Table.{Table}
+use Rattle.df_theory.specs.Sessions.{Tracks}
+use Rattle.df_theory.specs.Units
 use Rattle.df_theory.specs.Units.{Parts}
 use Rattle.df_theory.specs.Shape.{Shape}
 use Rattle.df_model.specs.Blocks.{Blocks}
@@ -81,6 +83,10 @@ shape file parse = shape_of file.layout file.cluster file.named parse
 
 -- ---- by itself
 
+-- each session's last request is a client's first or a later one
+abbrev pub AreAsked : List Units.Session → Type 0
+AreAsked ss = (k : ℕ) (s : Units.Session) → slice_get ss k ≡ Some s → 0 < s.request
+
 -- the state makes sense by itself: its numbers are in their ranges, and the header ring is one of the file
 pub record IsState (s : State) : Type 0 where
   pub cluster : s.file.cluster < 2 ^ 128
@@ -94,4 +100,6 @@ pub record IsState (s : State) : Type 0 where
   pub places : s.table.max ≡ s.file.layout.clients
   pub first : s.head ≡ 0 → s.head_checksum ≡ no_checksum  -- the first prepare has no parent
   pub requests : AreNumbered s.table.sessions
+  pub asked : AreAsked (sessions_of s.table.sessions)
+  pub tracks : Tracks s.replies s.head (sessions_of s.table.sessions)  -- each prepare that waits for its reply is its client's last request
   pub ring : IsTable s.file.layout s.file.cluster s.headers

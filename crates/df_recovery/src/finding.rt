@@ -2,6 +2,8 @@
 // damage in the order of open.
 ghost use Rattle.std.specs.Prelude.{◌≡◌, ◌≤◌, ◌<◌, ◌+◌, length, position, IfOk, IfErr};
 ghost use Rattle.df_format.specs.Spelling.{IsCheck};
+ghost use Rattle.df_sessions.specs.Requests.{sessions_of};
+ghost use Rattle.df_theory.specs.Sessions.{Tracks};
 ghost use Rattle.df_theory.specs.Units.{CopyPlace, PreparePlace, ReplyPlace, Units};
 ghost use Rattle.df_journal.specs.Counts.{CountsAll};
 ghost use Rattle.df_journal.specs.Scan.{entry};
@@ -10,6 +12,7 @@ ghost use Rattle.df_journal.specs.Tail.{AreNumbered, AreUnstored};
 ghost use Rattle.df_journal.specs.Shows.{IsTable, ShowsTable};
 ghost use Rattle.df_replies.specs.Shown.{ShowsReplies};
 ghost use Rattle.df_recovery.specs.Finding.{Answers, FileIsRead, IsDamage, KeptIsAnswer, RefusedIsAnswer, StateIsOpened, damage, lowest_of};
+ghost use Rattle.df_recovery.specs.State.{AreAsked};
 
 use crate::{Found, OpenError};
 use df_journal::{SlotTable, Tail, count_rings, find_tail, is_behind, is_lost, slot_behind};
@@ -105,6 +108,8 @@ pub fn find_state(
     ensures ring { IfOk result (λ traces. (found.now.content.op ≤ traces.tail.op) × (traces.tail.op ≤ found.now.content.op + layout.now.slots)) }
     ensures few { IfOk result (λ traces. traces.tail.op ≤ traces.replies + 8) }
     ensures order { IfOk result (λ traces. traces.replies ≤ traces.tail.op) }
+    ensures asked { IfOk result (λ _. AreAsked (sessions_of sessions.old.sessions) → AreAsked (sessions_of sessions.new.sessions)) }
+    ensures tracks { IfOk result (λ traces. Tracks traces.replies found.now.content.op (sessions_of sessions.old.sessions) → Tracks traces.replies traces.tail.op (sessions_of sessions.new.sessions)) }
     ensures damage { IfErr result IsDamage }
     ensures unstored { AreUnstored sessions.old.sessions → AreUnstored sessions.new.sessions }
     ensures numbered { AreNumbered sessions.old.sessions → AreNumbered sessions.new.sessions }

@@ -1,14 +1,17 @@
 -- Each step answers as the model's step.
-use Rattle.std.proofs.Common.{refl, sym, ap, subst}
+use Rattle.std.proofs.Common.{ℕ, refl, sym, ap, subst}
 use Rattle.df_layout.specs.declared.damage.Class.TheVariants.{Stale}
 use Rattle.df_format.specs.SuperRules.{IsSuper}
+use Rattle.df_format.specs.declared.superblock.SuperFields.{SuperFields}
 use Rattle.df_journal.specs.Scan.{entry}
 use Rattle.df_journal.specs.Seen.{class_of}
 use Rattle.df_journal.proofs.Laws.{class_shown}
 use Rattle.df_replies.proofs.Laws.{stored_found}
+use Rattle.df_sessions.specs.Requests.{sessions_of}
+use Rattle.df_theory.specs.Sessions.{Tracks}
 use Rattle.df_theory.specs.Units.{Content, CopyPlace, PreparePlace, ReplyPlace}
 use Rattle.df_recovery.specs.Finding.{lowest_of}
-use Rattle.df_recovery.proofs.FindingBounds.{any_base, any_shape, any_starts, few_wait, image_of, not_above, shows_replies, shows_table}
+use Rattle.df_recovery.proofs.FindingBounds.{any_base, any_shape, any_starts, asked_on, few_wait, image_of, not_above, shows_replies, shows_table, tracks_on}
 use Rattle.df_recovery.proofs.FindingSteps.{boot_is, content_same, finds, names_none, opens_behind, opens_lacking, opens_lost, starts}
 use Rattle.df_recovery.proofs.finding.find_state.Goals as goal
 
@@ -92,3 +95,28 @@ returns-in-None-clause-order c =
     let number = c.replies-stored.ensures image b.content found.tail shows refl refl (sym found.ends.mark) in
     let kept = (c.is_lost.ensures.none image b.content (c.count_all-seen.ensures image (shows_table slots c.args.replies.now) shows) refl refl).0 c.if-is_lost.false in
     not_above (any_shape c.args.layout.now) image f c.args.sessions.now.sessions c.find_tail-tail.new.sessions.sessions c.find_tail-tail.result c.replies-stored.result (subst IsSuper (sym c.fields-content.ensures.value) c.fields-content.ensures.usable.rules) found number kept
+
+pub returns-in-None-clause-asked : goal.returns-in-None-clause-asked
+returns-in-None-clause-asked c =
+    let slots = c.args.slots.now.slots in
+    let f = c.fields-content.result.now in
+    let image = image_of slots c.args.replies.now in
+    let b = any_base f c.args.sessions.now.sessions in
+    let shows = shows_replies slots c.args.replies.now in
+    let starts = any_starts c.args.layout.now c.args.slots.now.start.op f c.args.found.now.content c.args.sessions.now.sessions c.requires.start c.fields-content.ensures.value in
+    let found = c.find_tail-tail.ensures.tail (any_shape c.args.layout.now) image b (record { table = c.requires.table; shows = shows_table slots c.args.replies.now }) starts in
+    let number = c.replies-stored.ensures image b.content found.tail shows refl refl (sym found.ends.mark) in
+    asked_on (any_shape c.args.layout.now) image f c.args.sessions.now.sessions c.find_tail-tail.new.sessions.sessions c.find_tail-tail.result c.replies-stored.result (subst IsSuper (sym c.fields-content.ensures.value) c.fields-content.ensures.usable.rules) found number
+
+pub returns-in-None-clause-tracks : goal.returns-in-None-clause-tracks
+returns-in-None-clause-tracks c =
+    let slots = c.args.slots.now.slots in
+    let f = c.fields-content.result.now in
+    let image = image_of slots c.args.replies.now in
+    let b = any_base f c.args.sessions.now.sessions in
+    let shows = shows_replies slots c.args.replies.now in
+    let starts = any_starts c.args.layout.now c.args.slots.now.start.op f c.args.found.now.content c.args.sessions.now.sessions c.requires.start c.fields-content.ensures.value in
+    let found = c.find_tail-tail.ensures.tail (any_shape c.args.layout.now) image b (record { table = c.requires.table; shows = shows_table slots c.args.replies.now }) starts in
+    let number = c.replies-stored.ensures image b.content found.tail shows refl refl (sym found.ends.mark) in
+    subst (λ (op : ℕ). Tracks c.replies-stored.result op (sessions_of c.args.sessions.now.sessions) → Tracks c.replies-stored.result c.find_tail-tail.result.op (sessions_of c.find_tail-tail.new.sessions.sessions)) (ap (λ (x : SuperFields). x.op) c.fields-content.ensures.value)
+    (tracks_on (any_shape c.args.layout.now) image f c.args.sessions.now.sessions c.find_tail-tail.new.sessions.sessions c.find_tail-tail.result c.replies-stored.result (subst IsSuper (sym c.fields-content.ensures.value) c.fields-content.ensures.usable.rules) found number)
