@@ -12,8 +12,7 @@ use Rattle.df_format.specs.Brings.{Brings}
 use Rattle.df_format.specs.declared.header.Header.{Header}
 use Rattle.df_format.specs.Message.{Message, sectors_of}
 use Rattle.df_format.specs.Own.{place_in}
-use Rattle.df_format.proofs.Front.{made_brings}
-use Rattle.df_format.proofs.Laws.{some-eq}
+use Rattle.df_format.proofs.Laws.{made_brings, some-eq}
 use Rattle.df_prepares.specs.Slots.{IsInOwnSlot}
 use Rattle.df_headers.specs.Ring.{IsTable}
 use Rattle.df_journal.specs.Append.{EndsAppended, MayAppendOn, ShowsRing, journal_steps, new_sector, with_header}

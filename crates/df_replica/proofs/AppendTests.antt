@@ -10,12 +10,13 @@ use Rattle.std.proofs.lemmas.List.Quantifiers.{position-Some}
 use Rattle.std.proofs.lemmas.List.Sums.{fails_before_first}
 use Rattle.std.proofs.lemmas.Option.{slice_get-get_or}
 use Rattle.df_sessions.specs.declared.session.Session as told
-use Rattle.df_sessions.specs.Requests.{session_of}
+use Rattle.df_sessions.specs.Requests.{session_of, sessions_of}
 use Rattle.df_sessions.specs.Table.{IsKnown, IsTable, has_client, requested, with_request}
-use Rattle.df_theory.specs.Units.{Session}
-use Rattle.df_model.specs.Refusals.{append_refusals, first_refusal, is_new, next_request, session_of_client}
+use Rattle.df_theory.specs.Sessions.{MayAsk}
+use Rattle.df_theory.specs.Units.{Header, Session}
+use Rattle.df_model.specs.Refusals.{append_refusals, first_refusal, is_new, last_op, next_request, session_of_client}
 use Rattle.df_journal.specs.Tail.{AreNumbered}
-use Rattle.df_model.proofs.Laws.{all_pass}
+use Rattle.df_model.proofs.Laws.{all_pass, known_asks, new_asks}
 use Rattle.df_recovery.specs.State.{IsState, State, memory}
 use Rattle.df_replica.specs.Refusing.{session_at}
 use Rattle.df_replica.specs.Appending.{MayNext}
@@ -77,22 +78,30 @@ or_false : (a b : Bool) → (a || b) ≡ false → (a ≡ false) × (b ≡ false
 or_false true b is = absurd (cc)
 or_false false b is = (refl, is)
 
-not_false : (a : Bool) → not a ≡ false → a ≡ true
+pub not_false : (a : Bool) → not a ≡ false → a ≡ true
 not_false true is = refl
 not_false false is = absurd (cc)
 
-lt_false : (a b : ℕ) → nat_lt a b ≡ false → b ≤ a
+pub lt_false : (a b : ℕ) → nat_lt a b ≡ false → b ≤ a
 lt_false a b is = grind (arith, nat_tests)
 
-eq_false : (a b : ℕ) → (a == b) ≡ false → a ≡ b → ⊥
+pub eq_false : (a b : ℕ) → (a == b) ≡ false → a ≡ b → ⊥
 eq_false a b is same = grind (arith, nat_tests)
 
-eq_true : (a b : ℕ) → (a == b) ≡ true → a ≡ b
+pub eq_true : (a b : ℕ) → (a == b) ≡ true → a ≡ b
 eq_true a b is = grind (arith, nat_tests)
 
 some_request : (o : Option Session) → 0 < next_request o
 some_request None = omega arith
 some_request (Some s) = omega arith
+
+-- the client may make its request now
+may_ask : (room client request replies : ℕ) (h : Header) (ss : List Session) (o : Option Session) → session_of_client client ss ≡ o → length ss ≤ room → (is_new o ≡ true → length ss ≡ room → ⊥) → last_op o ≤ replies → request ≡ next_request o
+    → h.client ≡ client → h.request ≡ request → h.mark ≡ replies → MayAsk room h ss
+may_ask room client request replies h ss None at few places answered next named asked mark =
+    new_asks room h ss (subst (λ (n : ℕ). session_of_client n ss ≡ None) (sym named) at) (let full = places refl in omega arith) (asked ∙ next)
+may_ask room client request replies h ss (Some s) at few places answered next named asked mark =
+    known_asks room h ss s (subst (λ (n : ℕ). session_of_client n ss ≡ Some s) (sym named) at) few (asked ∙ next) (omega (arith, answered, mark))
 
 pub may_next : (s : State) (client request : ℕ) (body : List ℕ) → IsState s → IsTable s.table → first_refusal (append_refusals (memory s) client request body) ≡ None → MayNext s client request (length body)
 may_next s client request body is table none =
@@ -106,6 +115,8 @@ may_next s client request body is table none =
         few = (let pipeline = eq_false _ _ tests.1.1.1.1.1.1.0 in omega (arith, is.waiting, is.few));
         op = (let op = eq_false _ _ last.0 in omega (arith, is.head_to));
         room = lt_false _ _ tests.1.1.1.1.1.1.1.0;
+        asks = λ h named same mark. may_ask s.file.layout.clients client request s.replies h (sessions_of s.table.sessions) (session_of_client client (sessions_of s.table.sessions)) refl
+            (omega (arith, length-map s.table.sessions session_of, table.within, is.places)) (λ new. eq_false _ _ (and_false _ _ tests.1.1.0 new)) (lt_false _ _ tests.1.1.1.1.0) asked named same mark;
         place = elim (cases_Bool (is_new (session_of_client client (map session_of s.table.sessions)))) [
           | inl new ↦ inr (let full = eq_false _ _ (and_false _ _ tests.1.1.0 new) in omega (arith, length-map s.table.sessions session_of, table.within, is.places))
           | inr old ↦ inl (known_client client s.table.sessions old)
@@ -128,3 +139,7 @@ pub numbered_on : (client request op : ℕ) (ss : List told.Session) → AreNumb
 numbered_on client request op [] all small zero s at = let same : requested client request op ≡ s = cc in subst (λ (y : told.Session). y.request ≤ 2 ^ 62) same small
 numbered_on client request op [] all small (suc k) s at = absurd (cc)
 numbered_on client request op (x ∷ ss) all small k s at = numbered_case (has_client client x) client request op x ss all small (λ j t there. numbered_on client request op ss (λ i r here. all (suc i) r here) small j t there) k s at
+
+-- what the sessions are told of a request
+abbrev pub asker : (client request op mark : ℕ) → Header
+asker client request op mark = record { checksum = 0; parent = 0; client = client; op = op; request = request; mark = mark; checkpoint = 0; boot = 0; group = 0; group_last = 0 }

@@ -19,5 +19,9 @@ pub mod Calls
 pub mod Sessions
 pub mod AppendCalls
 pub mod AppendTests
+pub mod ReplyMemory
+pub mod ReplyTests
+pub mod ReplyGiven
+pub mod ReplyAnswers
 pub mod AppendMemory
 pub mod AppendAnswers

@@ -1,5 +1,5 @@
 -- A state that keeps what was found is the answer to an open, and so is a refusal.
-use Rattle.std.proofs.Common.{◌≡◌, ◌∙◌, ℕ, ◌+◌, ◌-◌, ◌%◌, ◌≤◌, ◌^◌, List, [], ◌∷◌, length, map, Option, Some, None, Result, Ok, Err, refl, sym, ap, subst}
+use Rattle.std.proofs.Common.{◌≡◌, ◌∙◌, ℕ, ◌+◌, ◌-◌, ◌%◌, ◌≤◌, ◌^◌, List, [], ◌∷◌, length, map, Option, Some, None, Result, Ok, Err, refl, sym, ap, subst, arith}
 use Rattle.std.specs.Prelude.{option_map}
 use Rattle.std.specs.List.{range_with_len, slice_get}
 use Rattle.std.proofs.lemmas.Option.{slice_get-map}
@@ -26,7 +26,8 @@ use Rattle.df_units.specs.Meaning.{number_of}
 use Rattle.df_recovery.specs.Finding.{Answers, HasHeaders, IsKept, IsOfFile, IsRefused, Read, StoresTo, base_of}
 use Rattle.df_recovery.specs.Opening.{IsLayoutOf}
 use Rattle.df_recovery.specs.Plan.{header_or_none}
-use Rattle.df_recovery.specs.State.{State, shape, sum_of}
+use Rattle.df_recovery.specs.State.{AreAsked, State, shape, sum_of}
+use Rattle.df_theory.specs.Sessions.{Tracks}
 use Rattle.df_replica.specs.Surveying.{IsReadOf, IsSettled, PlansHeaders, checksum_at, checksum_of}
 use Rattle.df_recovery.specs.Surveys.{Surveys}
 use Rattle.df_recovery.specs.declared.file.DataFile.{DataFile}
@@ -114,6 +115,16 @@ none_unstored k s at = absurd (cc)
 
 pub none_numbered : AreNumbered []
 none_numbered k s at = absurd (cc)
+
+pub none_asked : AreAsked []
+none_asked k s at = absurd (cc)
+
+pub none_tracked : (replies op : ℕ) → op ≡ 0 → Tracks replies op []
+none_tracked replies op first = record {
+  below = λ k s at. absurd (cc);
+  apart = λ j k s t one two same. absurd (cc);
+  pending = λ o above within. absurd (omega (arith, first, above, within));
+}
 
 -- sessions with the same requests are within the same limit
 pub numbered_by : (before after : List Session) → sessions_of after ≡ sessions_of before → AreNumbered before → AreNumbered after

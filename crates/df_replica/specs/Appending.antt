@@ -10,7 +10,10 @@ use Rattle.df_format.specs.declared.kind.Kind.TheVariants.{Prepare as AsPrepare}
 use Rattle.df_format.specs.Making.{for_body}
 use Rattle.df_format.specs.Message.{Message, sectors_of}
 use Rattle.df_format.specs.Spelling.{no_checksum, sealed}
+use Rattle.df_sessions.specs.Requests.{sessions_of}
 use Rattle.df_sessions.specs.Table.{IsKnown, with_request}
+use Rattle.df_theory.specs.Sessions.{MayAsk}
+use Rattle.df_theory.specs.Units
 use Rattle.df_units.specs.Append.{append_events as calls_of}
 use Rattle.df_journal.specs.Append as journal
 use Rattle.df_model.specs.Refusals.{append_refusals, first_refusal}
@@ -79,6 +82,7 @@ pub record MayNote (s : State) (client asked : ℕ) : Type 0 where
   pub few : length s.waiting < 8
   pub op : s.head < 2 ^ 62
   pub room : s.head + 1 ≤ s.fields.op + s.file.layout.slots
+  pub asks : (h : Units.Header) → h.client ≡ client → h.request ≡ asked → h.mark ≡ s.replies → MayAsk s.file.layout.clients h (sessions_of s.table.sessions)
   pub place : IsKnown client s.table.sessions ⊎ (length s.table.sessions < s.table.max)
 
 -- an append that isn't refused, as far as the code needs it

@@ -4,6 +4,7 @@ use Rattle.std.specs.List.{slice_get}
 use Rattle.df_base.specs.Causes.{Rose}
 use Rattle.df_base.specs.Log.{Event, Sync, Write}
 use Rattle.df_layout.specs.Spans.{span_of}
+use Rattle.df_layout.specs.declared.layout.Layout.{Layout}
 use Rattle.df_layout.specs.declared.places.Zone.TheVariants.{ClientReplies}
 use Rattle.df_disk.specs.Told.{Told}
 use Rattle.df_disk.specs.Adds.{AddsPart, after_all}
@@ -57,8 +58,11 @@ abbrev pub next_reply : State → List ℕ → Message
 next_reply s body = unit_of (reply_given s) body
 
 -- the reply into its client's slot, and a sync
+abbrev pub reply_calls : Layout → Message → List Event
+reply_calls layout u = Write (span_of layout (place_in ClientReplies u.header.slot)).first (sectors_of u) ∷ Sync ∷ []
+
 abbrev pub reply_events : State → Message → List Event
-reply_events s u = Write (span_of s.file.layout (place_in ClientReplies u.header.slot)).first (sectors_of u) ∷ Sync ∷ []
+reply_events s u = reply_calls s.file.layout u
 
 -- the state with a reply more
 abbrev pub replied : State → Header → State

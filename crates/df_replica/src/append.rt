@@ -112,7 +112,8 @@ impl Replica {
         }
     }
 
-    fn counters(&self) -> Counters
+    // The numbers that refusals go by.
+    pub(crate) fn counters(&self) -> Counters
         ensures { AreCounters (memory self.now) result }
     {
         Counters {

@@ -11,11 +11,12 @@ mod mending;
 mod opened;
 mod refusing;
 mod replica;
+mod reply;
 mod session_laws;
 mod surveyed;
 mod surveying;
 
-pub use df_model::{AppendError, FormatError, OpenError, Receipt};
+pub use df_model::{AppendError, FormatError, OpenError, Receipt, ReplyError};
 pub use df_recovery::{
     DataFile, Found, Rooms, file_is_read, found_is_answer, one_answer, probe, read_superblock,
     state_is_opened, stored_is_kept, super_is_written, survey_superblock,

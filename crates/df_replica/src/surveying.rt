@@ -5,13 +5,16 @@ ghost use Rattle.df_format.specs.Spelling.{IsCheck};
 ghost use Rattle.df_headers.specs.Ring.{IsTable};
 ghost use Rattle.df_journal.specs.Tail.{AreNumbered};
 ghost use Rattle.df_journal.specs.Shows.{IsTable as AreSlots, Tells};
+ghost use Rattle.df_sessions.specs.Requests.{sessions_of};
 ghost use Rattle.df_superblock.specs.Calls.{ShowsSlots};
+ghost use Rattle.df_theory.specs.Sessions.{Tracks};
 ghost use Rattle.df_theory.specs.Units.{Units};
 ghost use Rattle.df_recovery.specs.Plan.{mend_list};
 ghost use Rattle.df_recovery.specs.Finding.{IsDamage};
 ghost use Rattle.df_recovery.specs.Found.{Syncs};
 ghost use Rattle.df_replica.specs.Mending.{ArePlannedFrom, IsPlanned, IsSettledFrom};
 ghost use Rattle.df_recovery.specs.Scanning.{IsServed, SurveysBy, answer_of};
+ghost use Rattle.df_recovery.specs.State.{AreAsked};
 ghost use Rattle.df_recovery.specs.Surveys.{Surveys};
 ghost use Rattle.df_replica.specs.Surveying.{IsMendable, IsReadOf, IsSettled, ListsMends, PlansHeaders, TellsMends, TellsSurvey, checksum_at, state_of, waiting_in};
 
@@ -108,6 +111,8 @@ fn surveyed(copies: &Copies, traces: &Traces, sessions: SessionTable, rooms: Roo
     requires few { traces.now.tail.op ≤ traces.now.replies + 8 }
     requires places { sessions.max ≡ rooms.layout.clients }
     requires numbered { AreNumbered sessions.sessions }
+    requires asked { AreAsked (sessions_of sessions.sessions) }
+    requires tracks { Tracks traces.now.replies traces.now.tail.op (sessions_of sessions.sessions) }
     ensures planned { IsSettledFrom rooms.layout copies.now.found rooms.slots copies.now.slots result }
     ensures settled { IsSettled rooms.layout copies.now.found traces.now sessions result.state }
     ensures plans { PlansHeaders rooms.layout rooms.slots result.state.headers }

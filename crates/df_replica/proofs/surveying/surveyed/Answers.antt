@@ -23,6 +23,8 @@ invariant_of-result c =
         places = c.requires.places;
         first = λ zero_head. c.requires.start (omega (arith, c.requires.from, zero_head)) ∙ usable.rules.op_checksum (omega (arith, c.requires.from, zero_head));
         requests = c.requires.numbered;
+        asked = c.requires.asked;
+        tracks = c.requires.tracks;
         ring = c.plan_rooms-rooms.ensures.planned.is_table;
       },
       c.plan_rooms-rooms.ensures.layout,

@@ -1,10 +1,15 @@
 -- The state behind a prepare that is noted makes sense.
-use Rattle.std.proofs.Common.{◌≡◌, ◌+◌, length, sym, ap, subst, ◌∙◌, arith}
+use Rattle.std.proofs.Common.{◌≡◌, ◌+◌, ℕ, List, length, refl, sym, ap, subst, ◌∙◌, arith}
 use Rattle.std.proofs.lemmas.List.{length_push}
 use Rattle.df_journal.specs.Tail.{AreNumbered}
 use Rattle.df_replica.specs.Appending.{MayNote}
-use Rattle.df_recovery.specs.State.{State}
-use Rattle.df_replica.proofs.AppendTests.{numbered_on}
+use Rattle.df_recovery.specs.State.{AreAsked, State}
+use Rattle.df_recovery.proofs.Laws.{asked_noted}
+use Rattle.df_sessions.specs.Requests.{sessions_of}
+use Rattle.df_theory.specs.Sessions.{Tracks, noted}
+use Rattle.df_theory.specs.Units
+use Rattle.df_theory.proofs.Laws.{tracks_noted}
+use Rattle.df_replica.proofs.AppendTests.{asker, numbered_on}
 use Rattle.df_replica.proofs.replica.Replica.note.Goals as goal
 
 pub invariant_of-self : goal.invariant_of-self
@@ -12,6 +17,8 @@ invariant_of-self c =
     let may = subst (λ (s : State). MayNote s c.args.made.now.client c.args.made.now.request) (sym c.self.view_is) c.requires.may in
     let op = subst (λ (s : State). c.args.made.now.op ≡ s.head + 1) (sym c.self.view_is) c.requires.op in
     let old = c.self.invariant.0 in
+    let h : Units.Header = asker c.args.made.now.client c.args.made.now.request c.args.made.now.op c.self.inside.replies in
+    let sessions : sessions_of c.apply.new.self.sessions ≡ noted h (sessions_of c.self.inside.sessions.sessions) = c.apply.ensures.noted h refl in
     let more : length c.push.new.self.items ≡ length c.self.inside.waiting.items + 1 = ap length c.push.ensures.items ∙ length_push c.self.inside.waiting.items c.args.made.now.checksum in (
       record {
         cluster = old.cluster;
@@ -25,6 +32,11 @@ invariant_of-self c =
         places = c.apply.ensures.places ∙ old.places;
         first = λ zero_head. absurd (omega (arith, op, zero_head));
         requests = subst AreNumbered (sym c.apply.ensures.sessions) (numbered_on c.args.made.now.client c.args.made.now.request c.args.made.now.op c.self.inside.sessions.sessions old.requests may.request.1);
+        asked = subst AreAsked (sym sessions) (asked_noted h (sessions_of c.self.inside.sessions.sessions) old.asked may.request.0);
+        tracks =
+            subst (λ (ss : List Units.Session). Tracks c.self.inside.replies c.args.made.now.op ss) (sym sessions)
+            (subst (λ (top : ℕ). Tracks c.self.inside.replies top (noted h (sessions_of c.self.inside.sessions.sessions))) (sym op)
+            (tracks_noted c.self.inside.file.layout.clients c.self.inside.replies c.self.inside.replies c.self.inside.head h (sessions_of c.self.inside.sessions.sessions) old.tracks (may.asks h refl refl refl) op (omega arith) (omega arith)));
         ring = old.ring;
       },
       c.self.invariant.1,

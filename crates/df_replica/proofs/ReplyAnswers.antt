@@ -1,0 +1,207 @@
+-- Each reply is the machine's: its answer, the state behind it, and what it does to the disk.
+use Rattle.std.proofs.Common.{◌≡◌, ◌∙◌, ℕ, ◌+◌, ◌^◌, ◌<◌, true, false, Bool, List, [], ◌∷◌, length, map, Option, Some, None, refl, sym, ap, subst, arith}
+use Rattle.std.specs.Prelude.{if◌then◌else◌, Ok, Err}
+use Rattle.df_base.proofs.Laws.{AreBytes-check_of, field_at-lt, now_is_image}
+use Rattle.df_base.specs.Image.{IsImage}
+use Rattle.df_base.specs.Log.{Event, now}
+use Rattle.df_disk.specs.Told.{Told}
+use Rattle.df_disk.specs.Adds.{AddsPart, after_all}
+use Rattle.df_layout.specs.declared.places.Zone.TheVariants.{ClientReplies}
+use Rattle.df_format.proofs.Laws.{made_brings, some-eq}
+use Rattle.df_format.specs.Making.{for_body}
+use Rattle.df_format.specs.Message.{Message, sectors_of}
+use Rattle.df_format.specs.Own.{place_in}
+use Rattle.df_format.specs.Spelling.{spelling_rest}
+use Rattle.df_journal.specs.Append.{ShowsRing}
+use Rattle.df_replies.specs.Slots.{IsInOwnSlot, write_steps}
+use Rattle.df_theory.specs.Device.{AreSteps, IsPut}
+use Rattle.df_theory.specs.Units as theory
+use Rattle.df_theory.specs.Units.{HeaderPlace, ReplyPlace, ReplyUnit}
+use Rattle.df_theory.specs.UnitLog.{put_one}
+use Rattle.df_theory.proofs.Laws.{put_one_law}
+use Rattle.df_units.specs.Bytes.{first_at, unit_at}
+use Rattle.df_units.specs.Format.{format_of}
+use Rattle.df_units.specs.Meaning.{message_of, number_of}
+use Rattle.df_units.proofs.Laws.{reply_put}
+use Rattle.df_model.specs.After.{outcome, with_reply}
+use Rattle.df_model.specs.Changing.{blocks_after, replied_in, unless_refused}
+use Rattle.df_model.specs.Codec.{IsChecksum}
+use Rattle.df_model.specs.Commands.{Answer, Command, Given, IsInput, Reply, ToReply, as_answer}
+use Rattle.df_model.specs.Laws.{DoesReply, UnlessRefused}
+use Rattle.df_model.specs.Making.{first_of, place_of_reply, reply_of}
+use Rattle.df_model.specs.Memory.{Memory, memory_of}
+use Rattle.df_model.specs.OnDisk.{DoesOnDisk}
+use Rattle.df_model.specs.Refusals.{first_refusal, reply_refusals}
+use Rattle.df_model.specs.Sense.{IsWork}
+use Rattle.df_model.specs.Work.{Work}
+use Rattle.df_model.proofs.Laws.{change_law}
+use Rattle.df_model.specs.declared.errors.ReplyError.{ReplyError}
+use Rattle.df_model.specs.declared.errors.ReplyError.TheVariants as reply
+use Rattle.df_recovery.specs.State.{IsState, Represents, State, memory, shape}
+use Rattle.df_replica.specs.Answering.{Serves, reply_answer}
+use Rattle.df_replica.specs.Replying.{first_check, next_reply, replied, reply_events, reply_given}
+use Rattle.df_replica.specs.Serving.{IsCall, IsKept, Known, format, next}
+use Rattle.df_replica.specs.Supply.{IsSupplied}
+use Rattle.df_replica.proofs.Calls.{AreCalls, Answered, answered_call, stopped_call}
+use Rattle.df_replica.proofs.ReplyMemory.{replied_memory}
+use Rattle.df_replica.proofs.ReplyTests.{may_reply}
+
+-- the checksum that waits the longest, as a number
+first_number : (ws : List (List ℕ)) → 0 < length ws → first_of (map number_of ws) ≡ number_of (first_check ws)
+first_number [] some = absurd (omega arith)
+first_number (w ∷ ws) some = refl
+
+module _ (s : State) (op : ℕ) (body : List ℕ) (given : Given) (is : IsState s) (live : s.live ≡ true) (sum : given.checksum ≡ number_of (next_reply s body).header.checksum) where
+  abbrev u : Message
+  u = next_reply s body
+
+  abbrev command : Command
+  command = Reply op body
+
+  input : IsInput given command
+  input = record { checksum = subst IsChecksum (sym sum) (field_at-lt 16 0 u.header.checksum (AreBytes-check_of (spelling_rest (for_body (reply_given s) body)))); fields = tt }
+
+  module _ (c : Known) (w : Work) (rep : Represents (shape s.file c.parse) c.spell s w) where
+    test_is : (o : Option ReplyError) → first_refusal (reply_refusals (memory s) op body) ≡ o → first_refusal (reply_refusals (memory_of (shape s.file c.parse) c.spell w) op body) ≡ o
+    test_is o there = ap (λ (x : Memory). first_refusal (reply_refusals x op body)) (sym rep) ∙ there
+
+  -- ---- a refusal
+
+  module _ (e : ReplyError) (some : first_refusal (reply_refusals (memory s) op body) ≡ Some e) where
+    refused_next : (c : Known) (w : Work) → Represents (shape s.file c.parse) c.spell s w → next s.file c w given command ≡ (w, ToReply (Err e))
+    refused_next c w rep =
+        let m = memory_of (shape s.file c.parse) c.spell w in
+        ap (λ (o : Option ReplyError). as_answer ToReply (outcome o w (with_reply w (place_of_reply m) (reply_of m given.checksum body)) given.checksum)) (test_is c w rep (Some e) some)
+
+    refused_does : AreCalls given command s []
+    refused_does c w t k =
+        let m = memory_of (shape s.file c.parse) c.spell w in
+        record {
+          steps = [];
+          are = tt;
+          does = subst (λ (o : Option ReplyError). UnlessRefused o [] (DoesReply w.view (place_of_reply m) (reply_of m given.checksum body) [])) (sym (test_is c w k.stands (Some e) some)) refl;
+        }
+
+    refused_as : Answered given command s s [] (ToReply (Err e))
+    refused_as = record {
+      file = refl;
+      live = live;
+      stands = λ c w work rep. (ap (λ (x : Work × Answer). x.1) (sym (refused_next c w rep)), subst (λ (x : Work × Answer). Represents (shape s.file c.parse) c.spell s x.0) (sym (refused_next c w rep)) rep);
+      ring = λ c w a b k all. subst (λ (x : Told). ShowsRing s.file.layout s.file.cluster (now x.log) s.headers) (sym (some-eq all)) k.ring;
+    }
+
+    refused_call : (old : Option Told) → IsSupplied s old command given → IsCall given command s s old old (Some (ToReply (Err e)))
+    refused_call old supplied = answered_call given command s [] input refused_does s (ToReply (Err e)) refused_as old old supplied refl
+
+  -- ---- a stored reply, and a fault
+
+  module _ (none : first_refusal (reply_refusals (memory s) op body) ≡ None) (own : IsInOwnSlot s.file.layout u) where
+    put : IsPut (format_of s.file.layout s.file.cluster) (first_at s.file.layout (ReplyPlace u.header.slot)) (sectors_of u) (put_one (ReplyPlace u.header.slot) (ReplyUnit (message_of u)))
+    put = reply_put s.file.layout s.file.cluster u.header.slot u (sectors_of u) (made_brings s.file.layout s.file.cluster (place_in ClientReplies u.header.slot) u (λ same. cc) own)
+
+    waits : 0 < length s.waiting
+    waits = omega (arith, (may_reply s op body is none).waits, is.waiting)
+
+    module _ (c : Known) (w : Work) (rep : Represents (shape s.file c.parse) c.spell s w) where
+      reply_is : reply_of (memory_of (shape s.file c.parse) c.spell w) given.checksum body ≡ message_of u
+      reply_is =
+          (λ i. reply_of (sym rep i) (sum i) body)
+          ∙ ap (λ (parent : ℕ). record { header = record (message_of u).header { parent = parent }; body = body }) (first_number s.waiting waits)
+
+      place_is : place_of_reply (memory_of (shape s.file c.parse) c.spell w) ≡ u.header.slot
+      place_is = ap place_of_reply (sym rep)
+
+      none_there : first_refusal (reply_refusals (memory_of (shape s.file c.parse) c.spell w) op body) ≡ None
+      none_there = test_is c w rep None none
+
+    does_reply : (c : Known) (w : Work) (t : Told) → IsKept c s w t.log → DoesOnDisk (format s.file) (shape s.file c.parse) c.spell t.log w given command (reply_events s u)
+    does_reply c w t k =
+        let m = memory_of (shape s.file c.parse) c.spell w in
+        let steps = write_steps u in
+        let does : DoesReply w.view u.header.slot (message_of u) steps = record { put = put_one (ReplyPlace u.header.slot) (ReplyUnit (message_of u)); one = put_one_law (ReplyPlace u.header.slot) (ReplyUnit (message_of u)); are = refl } in
+        record {
+          steps = steps;
+          are = (put, tt);
+          does =
+              subst (λ (o : Option ReplyError). UnlessRefused o steps (DoesReply w.view (place_of_reply m) (reply_of m given.checksum body) steps)) (sym (none_there c w k.stands))
+              (subst (λ (p : theory.Message). DoesReply w.view (place_of_reply m) p steps) (sym (reply_is c w k.stands))
+              (subst (λ (place : ℕ). DoesReply w.view place (message_of u) steps) (sym (place_is c w k.stands)) does));
+        }
+
+    abbrev answer : Answer
+    answer = ToReply (Ok (number_of u.header.checksum))
+
+    module _ (c : Known) (w : Work) (work : IsWork (shape s.file c.parse) c.spell w) (rep : Represents (shape s.file c.parse) c.spell s w) where
+      abbrev m : Memory
+      m = memory_of (shape s.file c.parse) c.spell w
+
+      abbrev later : Work
+      later = with_reply w (place_of_reply m) (reply_of m given.checksum body)
+
+      next_is : next s.file c w given command ≡ (later, ToReply (Ok given.checksum))
+      next_is = ap (λ (o : Option ReplyError). as_answer ToReply (outcome o w later given.checksum)) (none_there c w rep)
+
+      memory_is : memory_of (shape s.file c.parse) c.spell later ≡ replied_in m given.checksum
+      memory_is =
+          subst (λ (o : Option ReplyError). memory_of (shape s.file c.parse) c.spell (outcome o w later given.checksum).0 ≡ record (unless_refused o m (replied_in m given.checksum)) { blocks = blocks_after c.spell m given command })
+          (none_there c w rep) (change_law (shape s.file c.parse) c.spell w given command work)
+
+      stands : Represents (shape s.file c.parse) c.spell (replied s u.header) later
+      stands = replied_memory s u.header refl ∙ (λ i. replied_in (rep i) (sym sum i)) ∙ sym memory_is
+
+      allowed_at : (answer ≡ (next s.file c w given command).1) × Represents (shape s.file c.parse) c.spell (replied s u.header) (next s.file c w given command).0
+      allowed_at =
+          subst (λ (x : Work × Answer). (answer ≡ x.1) × Represents (shape s.file c.parse) c.spell (replied s u.header) x.0) (sym next_is) (ap (λ (n : ℕ). ToReply (Ok n)) (sym sum), stands)
+
+    -- the header ring shows what it did
+    ring_kept : (c : Known) (w : Work) (a b : Told) → IsKept c s w a.log → Some b ≡ after_all (reply_events s u) (Some a) → ShowsRing s.file.layout s.file.cluster (now b.log) s.headers
+    ring_kept c w a b k all =
+        let whole : IsImage (now a.log) = now_is_image a.log.start a.log.events k.log_is.start k.log_is.events in
+        subst (λ (x : Told). ShowsRing s.file.layout s.file.cluster (now x.log) s.headers) (sym (some-eq all)) (λ slot h at. put.shows (now a.log) (HeaderPlace slot) whole ∙ k.ring slot h at)
+
+    allowed_as : Answered given command s (replied s u.header) (reply_events s u) answer
+    allowed_as = record { file = refl; live = live; stands = λ c w work rep. allowed_at c w work rep; ring = λ c w a b k all. ring_kept c w a b k all }
+
+    stored_call : (old new : Option Told) → IsSupplied s old command given → new ≡ after_all (reply_events s u) old → IsCall given command s (replied s u.header) old new (Some answer)
+    stored_call old new supplied all = answered_call given command s (reply_events s u) input does_reply (replied s u.header) answer allowed_as old new supplied all
+
+    fault_call : (old new : Option Told) (t : State) → IsSupplied s old command given → t.live ≡ false → AddsPart (reply_events s u) old new → IsCall given command s t old new None
+    fault_call old new t supplied dead part = stopped_call given command s (reply_events s u) input does_reply t old new supplied dead part
+
+-- no refusal is a fault
+abbrev IsRefusal : ReplyError → Type 0
+IsRefusal reply.DiskFault = ⊥
+IsRefusal e = Unit {0}
+
+abbrev AreRefusals : List (Bool × ReplyError) → Type 0
+AreRefusals [] = Unit {0}
+AreRefusals (t ∷ ts) = IsRefusal t.1 × AreRefusals ts
+
+refusal_is : (b : Bool) (e : ReplyError) (o : Option ReplyError) → IsRefusal e → (if b then Some e else o) ≡ Some reply.DiskFault → (o ≡ Some reply.DiskFault → ⊥) → ⊥
+refusal_is true e o safe is there = let same : e ≡ reply.DiskFault = cc in subst IsRefusal same safe
+refusal_is false e o safe is there = there is
+
+none_faults : (ts : List (Bool × ReplyError)) → AreRefusals ts → first_refusal ts ≡ Some reply.DiskFault → ⊥
+none_faults [] safe is = let same : None ≡ Some reply.DiskFault = is in absurd (cc)
+none_faults (t ∷ ts) safe is = refusal_is t.0 t.1 (first_refusal ts) safe.0 is (λ more. none_faults ts safe.1 more)
+
+no_fault : (seen : Memory) (op : ℕ) (body : List ℕ) → first_refusal (reply_refusals seen op body) ≡ Some reply.DiskFault → ⊥
+no_fault seen op body is = none_faults (reply_refusals seen op body) (tt, (tt, (tt, tt))) is
+
+module _ (s : State) (op : ℕ) (body : List ℕ) (is : IsState s) (live : s.live ≡ true) where
+  pub refusal_serves : (e : ReplyError) → first_refusal (reply_refusals (memory s) op body) ≡ Some e → (old : Option Told) → Serves (Reply op body) s s old old (reply_answer (Err e))
+  refusal_serves (reply.NothingPending a) some old = λ given supplied. refused_call s op body given is live supplied (reply.NothingPending a) some old supplied
+  refusal_serves (reply.ReplyOrder a) some old = λ given supplied. refused_call s op body given is live supplied (reply.ReplyOrder a) some old supplied
+  refusal_serves (reply.BodyTooLong a) some old = λ given supplied. refused_call s op body given is live supplied (reply.BodyTooLong a) some old supplied
+  refusal_serves reply.DiskFault some old = absurd (no_fault (memory s) op body some)
+
+  pub stored_serves : first_refusal (reply_refusals (memory s) op body) ≡ None → IsInOwnSlot s.file.layout (next_reply s body) → (t : State) (check : List ℕ) (old new : Option Told) → check ≡ (next_reply s body).header.checksum
+      → t ≡ replied s (next_reply s body).header → new ≡ after_all (reply_events s (next_reply s body)) old → Serves (Reply op body) s t old new (reply_answer (Ok check))
+  stored_serves none own t check old new same next_is all =
+      subst (λ (x : State). Serves (Reply op body) s x old new (reply_answer (Ok check))) (sym next_is)
+      (subst (λ (r : List ℕ). Serves (Reply op body) s (replied s (next_reply s body).header) old new (reply_answer (Ok r))) (sym same)
+      (λ given supplied. stored_call s op body given is live supplied none own old new supplied all))
+
+  pub fault_serves : first_refusal (reply_refusals (memory s) op body) ≡ None → IsInOwnSlot s.file.layout (next_reply s body) → (t : State) (old new : Option Told) → t.live ≡ false
+      → AddsPart (reply_events s (next_reply s body)) old new → Serves (Reply op body) s t old new None
+  fault_serves none own t old new dead part = λ given supplied. fault_call s op body given is live supplied none own old new t supplied dead part

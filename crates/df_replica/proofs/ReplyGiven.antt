@@ -1,0 +1,90 @@
+-- What the maker says of the next reply obeys the rules of a reply, and its place is one of the layout.
+use Rattle.std.proofs.Common.{◌≡◌, ◌∙◌, ℕ, ◌+◌, ◌^◌, ◌<◌, ◌≤◌, true, List, length, Option, Some, IsSome, refl, sym, ap, subst, arith, rules}
+use Rattle.std.specs.Prelude.{nat_lt}
+use Rattle.std.specs.List.{slice_get}
+use Rattle.std.proofs.lemmas.Bool.Decides.{nat_tests}
+use Rattle.df_base.proofs.Laws.{length-check_of, AreBytes-check_of}
+use Rattle.df_layout.specs.declared.places.Zone.TheVariants.{ClientReplies}
+use Rattle.df_format.specs.declared.header.Header.{Header}
+use Rattle.df_format.specs.declared.kind.Kind.TheVariants.{Reply as AsReply}
+use Rattle.df_format.specs.Making.{for_body}
+use Rattle.df_format.specs.Own.{own_place}
+use Rattle.df_format.specs.Rules.{ObeysRules}
+use Rattle.df_format.specs.Spelling.{IsCheck, no_checksum}
+use Rattle.df_sessions.specs.declared.session.Session as told
+use Rattle.df_sessions.specs.Requests.{session_of, sessions_of}
+use Rattle.df_sessions.specs.Table.{IsTable}
+use Rattle.df_theory.specs.Units.{Session}
+use Rattle.df_model.specs.Making.{client_of, request_of}
+use Rattle.df_recovery.specs.State.{IsState, State}
+use Rattle.df_replica.specs.Replying.{MayReplyNext, first_check, place_waiting, reply_given, session_waiting}
+use Rattle.df_replica.proofs.ReplyTests.{client_named, place_inside, session_told, waiting_told}
+
+-- the header of these parts
+pub header_is : (s : State) (parent : List ℕ) (client place sequence : ℕ) (r : told.Session) → client ≡ r.client → parent ≡ first_check s.waiting → place ≡ place_waiting s → slice_get s.table.sessions place ≡ Some r → sequence ≡ s.fields.sequence
+    → record { checksum = no_checksum; checksum_body = no_checksum; cluster = s.file.cluster; parent = parent; client = client; op = s.replies + 1; request = r.request; mark = s.head; checkpoint = sequence; size = 0; slot = place; kind = AsReply; block_kind = 0 }
+    ≡ reply_given s
+header_is s parent client place sequence r client_here parent_is place_is at sequence_is =
+    let there : session_waiting s ≡ Some (session_of r) = session_told s.table.sessions (place_waiting s) r (subst (λ (k : ℕ). slice_get s.table.sessions k ≡ Some r) place_is at) in
+    let client_is : client ≡ client_of (session_waiting s) = client_here ∙ ap client_of (sym there) in
+    let request_is : r.request ≡ request_of (session_waiting s) = ap request_of (sym there) in
+    λ i. record {
+      checksum = no_checksum;
+      checksum_body = no_checksum;
+      cluster = s.file.cluster;
+      parent = parent_is i;
+      client = client_is i;
+      op = s.replies + 1;
+      request = request_is i;
+      mark = s.head;
+      checkpoint = sequence_is i;
+      size = 0;
+      slot = place_is i;
+      kind = AsReply;
+      block_kind = 0;
+    }
+
+module _ (s : State) (is : IsState s) (table : IsTable s.table) (waits : s.replies < s.head) where
+  pub place_small : place_waiting s < 64
+  place_small = omega (arith, place_inside s is waits, table.within, table.most)
+
+  place_of_layout : place_waiting s < s.file.layout.clients
+  place_of_layout = omega (arith, place_inside s is waits, table.within, is.places)
+
+  pub given_own : IsSome (own_place s.file.layout ClientReplies (reply_given s))
+  unfolding own_place
+  given_own = let inside : nat_lt (place_waiting s) s.file.layout.clients ≡ true = grind (arith, nat_tests, place_of_layout) in rw inside (search rules)
+
+  pub given_rules : (body : List ℕ) → MayReplyNext s (length body) → IsCheck (first_check s.waiting) → client_of (session_waiting s) < 2 ^ 128 → ObeysRules (for_body (reply_given s) body)
+  given_rules body may parent small =
+      let there = waiting_told s is waits in
+      let client : client_of (session_waiting s) ≡ there.0.client = ap client_of there.2 in
+      let request : request_of (session_waiting s) ≡ there.0.request = ap request_of there.2 in
+      let named = client_named s.table.sessions (place_waiting s) there.0 table.named there.1 in
+      let most = is.requests (place_waiting s) there.0 there.1 in
+      let asked = is.asked (place_waiting s) (session_of there.0) there.2 in
+      record {
+        fits = record {
+          body = record { size = length-check_of body; each = AreBytes-check_of body };
+          cluster = is.cluster;
+          parent = parent;
+          client = small;
+          op = omega (arith, is.head_to, waits);
+          request = omega (arith, request, most);
+          mark = omega (arith, is.head_to);
+          checkpoint = omega (arith, is.sequence.1);
+          size = omega (arith, may.fits, s.file.layout.message_size_within.1);
+          slot = omega (arith, place_small);
+          block_kind = omega arith;
+        };
+        cluster = s.file.named;
+        size = omega arith;
+        kind = record {
+          client = omega (arith, client, named);
+          op = (omega arith, omega (arith, is.head_to, waits));
+          request = (omega (arith, request, asked), omega (arith, request, most));
+          mark = (omega (arith, waits), is.head_to);
+          checkpoint = is.sequence;
+          block_kind = refl;
+        };
+      }

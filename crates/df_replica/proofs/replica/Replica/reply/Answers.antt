@@ -1,0 +1,21 @@
+-- What isn't refused may be the next reply, and each call is the machine's.
+use Rattle.std.proofs.Common.{refl, sym, ◌∙◌}
+use Rattle.df_replica.proofs.ReplyAnswers.{fault_serves, refusal_serves, stored_serves}
+use Rattle.df_replica.proofs.ReplyTests.{may_reply}
+use Rattle.df_replica.proofs.replica.Replica.reply.Goals as goal
+
+pub reply_next-requires : goal.reply_next-requires
+reply_next-requires g c = may_reply c.args.self.now c.args.op c.args.body.now c.why_no_reply.ensures.state (sym (c.why_no_reply.ensures.why c.args.body.now refl) ∙ c.in_default.is)
+
+pub returns-in-Some-clause-call : goal.returns-in-Some-clause-call
+returns-in-Some-clause-call g c = refusal_serves c.args.self.now c.args.op c.args.body.now c.why_no_reply.ensures.state c.requires.live c.in-Some.error (sym (c.in-Some.ensures.why c.args.body.now refl)) (g.D.Disk.told c.args.disk.now)
+
+pub returns-in-Ok-clause-call : goal.returns-in-Ok-clause-call
+returns-in-Ok-clause-call g c =
+    stored_serves c.args.self.now c.args.op c.args.body.now c.why_no_reply.ensures.state c.requires.live (sym (c.why_no_reply.ensures.why c.args.body.now refl) ∙ c.in_default.is)
+    c.reply_next.ensures.own c.reply_next.new.self c.in-Ok.check (g.D.Disk.told c.args.disk.now) (g.D.Disk.told c.reply_next.new.disk) c.in-Ok.ensures.check c.in-Ok.ensures.state c.in-Ok.ensures.events
+
+pub returns-in-Err-clause-call : goal.returns-in-Err-clause-call
+returns-in-Err-clause-call g c =
+    fault_serves c.args.self.now c.args.op c.args.body.now c.why_no_reply.ensures.state c.requires.live (sym (c.why_no_reply.ensures.why c.args.body.now refl) ∙ c.in_default.is)
+    c.reply_next.ensures.own _ (g.D.Disk.told c.args.disk.now) (g.D.Disk.told c.reply_next.new.disk) refl c.in-Err.ensures.events

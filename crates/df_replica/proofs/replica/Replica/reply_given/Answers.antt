@@ -1,0 +1,52 @@
+-- The parts are those of the next reply, which obeys the rules.
+use Rattle.std.proofs.Common.{◌≡◌, ◌<◌, ◌^◌, ◌∙◌, ℕ, List, IsSome, length, sym, ap, subst, arith}
+use Rattle.df_layout.specs.declared.places.Zone.TheVariants.{ClientReplies}
+use Rattle.df_format.specs.declared.header.Header.{Header}
+use Rattle.df_format.specs.declared.superblock.SuperFields.{SuperFields}
+use Rattle.df_format.specs.Making.{for_body}
+use Rattle.df_format.specs.Own.{own_place}
+use Rattle.df_format.specs.Rules.{ObeysRules}
+use Rattle.df_format.specs.Spelling.{IsCheck, no_checksum}
+use Rattle.df_sessions.specs.Table.{IsTable, Table}
+use Rattle.df_model.specs.Making.{client_of}
+use Rattle.df_recovery.specs.State.{IsState, State}
+use Rattle.df_replica.specs.Held.{headers_of}
+use Rattle.df_replica.specs.Replica.{state_with}
+use Rattle.df_replica.specs.Replying.{first_check, place_waiting, reply_given}
+use Rattle.df_replica.proofs.ReplyGiven.{given_own, given_rules, header_is, place_small}
+use Rattle.df_replica.proofs.ReplyTests.{place_inside}
+use Rattle.df_replica.proofs.replica.Replica.reply_given.Goals as goal
+
+pub session_in-session-requires : goal.session_in-session-requires
+session_in-session-requires c =
+    let waits = subst (λ (s : State). s.replies < s.head) (sym c.self.view_is) c.requires.waits in
+    subst (λ (n : ℕ). n < length c.self.inside.sessions.sessions) (sym c.place_of_op-place.ensures.place) (place_inside _ c.self.invariant.0 waits)
+
+pub overflow_cast-result : goal.overflow_cast-result
+overflow_cast-result c =
+    let waits = subst (λ (s : State). s.replies < s.head) (sym c.self.view_is) c.requires.waits in
+    omega (arith, c.place_of_op-place.ensures.place, place_small _ c.self.invariant.0 c.place_of_op-place.ensures.table waits)
+
+pub returns-clause-value : goal.returns-clause-value
+unfolding no_checksum
+returns-clause-value c =
+    let s : State = state_with c.self.inside.file c.self.inside.content c.self.inside.head c.self.inside.head_checksum c.self.inside.replies c.self.inside.sessions c.self.inside.waiting.items (headers_of c.self.inside.rooms) c.self.inside.live in
+    let same : s ≡ c.args.self.now = c.self.view_is in
+    header_is s c.first_waiting-parent.result c.client_of-client.result c.place_of_op-place.result c.fields.result.now.sequence c.session_in-session.result c.client_of-client.ensures.value
+    (c.first_waiting-parent.ensures.value ∙ ap (λ (x : State). first_check x.waiting) (sym same)) c.place_of_op-place.ensures.place c.session_in-session.ensures (ap (λ (f : SuperFields). f.sequence) c.fields.ensures.value)
+    ∙ ap (λ (x : State). reply_given x) same
+
+pub returns-clause-rules : goal.returns-clause-rules
+returns-clause-rules c =
+    let value = returns-clause-value c in
+    let is = subst IsState c.self.view_is c.self.invariant.0 in
+    let table = subst IsTable (ap (λ (s : State). s.table) c.self.view_is) c.place_of_op-place.ensures.table in
+    let parent = subst IsCheck c.first_waiting-parent.ensures.value c.first_waiting-parent.ensures.check in
+    let small = subst (λ (n : ℕ). n < 2 ^ 128) (ap (λ (h : Header). h.client) value) c.client_of-client.ensures.small in
+    subst (λ (h : Header). ObeysRules (for_body h c.args.body.now)) (sym value) (given_rules c.args.self.now is table c.requires.waits c.args.body.now c.requires parent small)
+
+pub returns-clause-own : goal.returns-clause-own
+returns-clause-own c =
+    let is = subst IsState c.self.view_is c.self.invariant.0 in
+    let table = subst IsTable (ap (λ (s : State). s.table) c.self.view_is) c.place_of_op-place.ensures.table in
+    subst (λ (h : Header). IsSome (own_place c.args.self.now.file.layout ClientReplies h)) (sym (returns-clause-value c)) (given_own c.args.self.now is table c.requires.waits)

@@ -1,0 +1,6 @@
+-- The refusal is the model's.
+use Rattle.df_recovery.specs.State.{memory}
+use Rattle.df_replica.proofs.replica.Replica.why_no_reply.Goals as goal
+
+pub returns-clause-why : goal.returns-clause-why
+returns-clause-why c = λ body size. c.reply_refusal.ensures (memory c.args.self.now) body c.counters.ensures size

@@ -1,0 +1,249 @@
+// The reply of a replica: the next reply is made in its room, and is durable in its client's slot before anything in memory
+// moves on. Replies are stored in order of op.
+ghost use Rattle.std.specs.Prelude.{◌≡◌, ◌<◌, ◌≤◌, ◌+◌, ◌^◌, ℕ, List, length, slice_get, true, Some, IsSome, IfOk, OnOk};
+ghost use Rattle.df_base.specs.Causes.{HasCause};
+ghost use Rattle.df_disk.specs.Adds.{Adds};
+ghost use Rattle.df_layout.specs.declared.places.Zone.TheVariants.{ClientReplies};
+ghost use Rattle.df_format.specs.declared.kind.Kind.TheVariants.{Reply as AsReply};
+ghost use Rattle.df_format.specs.Making.{for_body};
+ghost use Rattle.df_format.specs.Own.{own_place};
+ghost use Rattle.df_format.specs.Rules.{ObeysRules};
+ghost use Rattle.df_format.specs.Spelling.{IsCheck};
+ghost use Rattle.df_replies.specs.Slots.{IsInOwnSlot};
+ghost use Rattle.df_sessions.specs.Requests.{sessions_of};
+ghost use Rattle.df_sessions.specs.Table.{IsTable};
+ghost use Rattle.df_model.specs.Commands.{Reply as Replies};
+ghost use Rattle.df_model.specs.Making.{place_of_op};
+ghost use Rattle.df_model.specs.Refusals.{first_refusal, reply_refusals};
+ghost use Rattle.df_replica.specs.Answering.{Serves, reply_answer};
+ghost use Rattle.df_replica.specs.Appending.{unit_of};
+ghost use Rattle.df_replica.specs.Replying.{BlamesReply, IsReply, MayReplyNext, first_check, next_reply, replied, reply_calls, reply_events, reply_given};
+ghost use Rattle.df_recovery.specs.State.{IsState, memory};
+
+use crate::refusing::reply_refusal;
+use crate::{Replica, Rooms};
+use df_base::{Check, Failed};
+use df_disk::Disk;
+use df_format::{Header, Kind};
+use df_model::ReplyError;
+use df_replies::write_reply;
+use df_sessions::{Session, SessionTable};
+
+// What stands in place of a checksum that is set later.
+const NO_CHECKSUM: [u8; 16] = [0; 16];
+
+// The session at a place.
+fn session_in(table: &SessionTable, place: u64) -> Session
+    requires { place < length table.now.sessions }
+    ensures { slice_get table.now.sessions place ≡ Some result }
+{
+    match table.get(place) {
+        Some(session) => session,
+        None => unreachable!(),
+    }
+}
+
+// The place of the session whose last request has this op, and past all of them where none has.
+fn place_of_op(table: &SessionTable, op: u64) -> u64
+    ensures table { IsTable table.now }
+    ensures place { result ≡ place_of_op op (sessions_of table.now.sessions) }
+{
+    let count = table.len();
+    let mut place = 0;
+    while place < count {
+        let session = session_in(table, place);
+        if session.op == op {
+            return place;
+        }
+        place += 1;
+    }
+    count
+}
+
+// A checksum is one.
+fn as_check(check: Check) -> Check
+    ensures value { result ≡ check }
+    ensures check { IsCheck check }
+{
+    check
+}
+
+// The client of a session.
+fn client_of(session: &Session) -> u128
+    ensures value { result ≡ session.now.client }
+    ensures small { result < 2 ^ 128 }
+{
+    session.client
+}
+
+// Makes a reply in its room, and makes it durable.
+fn reply_in<D: Disk>(
+    disk: &mut D,
+    header: Header,
+    body: &[u8],
+    rooms: Rooms,
+) -> (Rooms, Result<Header, Failed>)
+    requires rules { ObeysRules (for_body header body.now) }
+    requires kind { header.kind ≡ AsReply }
+    requires own { IsSome (own_place rooms.layout ClientReplies header) }
+    requires fits { 256 + length body.now ≤ rooms.layout.message_size }
+    ensures events { Adds (reply_calls rooms.layout (unit_of header body.now)) (D.told disk.old) (D.told disk.new) result.1 }
+    ensures own { IsInOwnSlot rooms.layout (unit_of header body.now) }
+    ensures header { IfOk result.1 (λ h. h ≡ (unit_of header body.now).header) }
+    ensures headers { result.0.headers ≡ rooms.headers }
+    ensures layout { result.0.layout ≡ rooms.layout }
+    ensures cause { HasCause (D.faults disk.old) (D.faults disk.new) result.1 }
+{
+    let Rooms {
+        layout,
+        superblock,
+        sector,
+        prepare,
+        reply,
+        headers,
+        slots,
+        replies,
+        mends,
+    } = rooms;
+    let unit = reply.make(header, body);
+    let made = *unit.header();
+    let done = write_reply(disk, &layout, &unit);
+    let rooms = Rooms {
+        layout,
+        superblock,
+        sector,
+        prepare,
+        reply: unit.loosen(),
+        headers,
+        slots,
+        replies,
+        mends,
+    };
+    match done {
+        Ok(()) => (rooms, Ok(made)),
+        Err(failed) => (rooms, Err(failed)),
+    }
+}
+
+impl Replica {
+    // The checksum of the prepare that waits the longest.
+    fn first_waiting(&self) -> Check
+        requires { self.now.replies < self.now.head }
+        ensures value { result ≡ first_check self.now.waiting }
+        ensures check { IsCheck result }
+    {
+        let first = self.waiting[0];
+        as_check(first)
+    }
+
+    // What the maker of the next reply says of it.
+    #[tactic(auto, unfolding(df_format::specs::Own::own_place, df_format::specs::Spelling::no_checksum))]
+    fn reply_given(&self, body: &[u8]) -> Header
+        requires { MayReplyNext self.now (length body.now) }
+        ensures value { result ≡ reply_given self.now }
+        ensures rules { ObeysRules (for_body result body.now) }
+        ensures own { IsSome (own_place self.now.file.layout ClientReplies result) }
+    {
+        let place = place_of_op(&self.sessions, self.replies + 1);
+        let session = session_in(&self.sessions, place);
+        let client = client_of(&session);
+        let parent = self.first_waiting();
+        Header {
+            checksum: NO_CHECKSUM,
+            checksum_body: NO_CHECKSUM,
+            cluster: self.file.cluster,
+            parent,
+            client,
+            op: self.replies + 1,
+            request: session.request,
+            mark: self.head,
+            checkpoint: self.content.fields().sequence,
+            size: 0,
+            slot: place as u32,
+            kind: Kind::Reply,
+            block_kind: 0,
+        }
+    }
+
+    // Why a reply is refused.
+    fn why_no_reply(&self, op: u64, size: u64) -> Option<ReplyError>
+        ensures why { (body : List ℕ) → size ≡ length body → result ≡ first_refusal (reply_refusals (memory self.now) op body) }
+        ensures state { IsState self.now }
+    {
+        // The state makes sense.
+        let _count = self.sessions.len();
+        reply_refusal(&self.counters(), op, size)
+    }
+
+    // Makes the next reply and makes it durable.
+    fn write_next_reply<D: Disk>(&mut self, disk: &mut D, body: &[u8]) -> Result<Header, Failed>
+        requires { MayReplyNext self.old (length body.now) }
+        ensures events { Adds (reply_events self.old (next_reply self.old body.now)) (D.told disk.old) (D.told disk.new) result }
+        ensures own { IsInOwnSlot self.old.file.layout (next_reply self.old body.now) }
+        ensures header { IfOk result (λ h. h ≡ (next_reply self.old body.now).header) }
+        ensures state { self.new ≡ self.old }
+        ensures cause { HasCause (D.faults disk.old) (D.faults disk.new) result }
+    {
+        let header = self.reply_given(body);
+        let Some(rooms) = self.rooms.take() else {
+            unreachable!()
+        };
+        let (rooms, result) = reply_in(disk, header, body, rooms);
+        self.rooms = Some(rooms);
+        result
+    }
+
+    // Notes a reply that is durable.
+    fn note_reply(&mut self, made: &Header)
+        requires waits { self.old.replies < self.old.head }
+        requires place { made.now.slot < length self.old.table.sessions }
+        ensures { self.new ≡ replied self.old made.now }
+    {
+        self.replies += 1;
+        self.waiting.remove(0);
+        let checksum = made.checksum;
+        self.sessions.store(u64::from(made.slot), checksum);
+    }
+
+    // Stores the next reply.
+    fn reply_next<D: Disk>(&mut self, disk: &mut D, body: &[u8]) -> Result<Check, Failed>
+        requires { MayReplyNext self.old (length body.now) }
+        ensures events { Adds (reply_events self.old (next_reply self.old body.now)) (D.told disk.old) (D.told disk.new) result }
+        ensures own { IsInOwnSlot self.old.file.layout (next_reply self.old body.now) }
+        ensures check { IfOk result (λ check. check ≡ (next_reply self.old body.now).header.checksum) }
+        ensures state { OnOk result (self.new ≡ replied self.old (next_reply self.old body.now).header) }
+        ensures cause { HasCause (D.faults disk.old) (D.faults disk.new) result }
+    {
+        let made = self.write_next_reply(disk, body)?;
+        self.note_reply(&made);
+        let checksum = made.checksum;
+        Ok(checksum)
+    }
+
+    /// Stores the reply to the prepare that waits the longest, and makes it durable: one write into its client's own slot, and
+    /// a sync. The answer is the reply's checksum. The first reason of the order refuses it: nothing waits, another op is
+    /// next, the body is too long; a refusal touches no disk and changes nothing. After a fault the reply may be kept or not,
+    /// and no call may follow.
+    pub fn reply<D: Disk>(
+        &mut self,
+        disk: &mut D,
+        op: u64,
+        body: &[u8],
+    ) -> Result<Check, ReplyError>
+        requires live { self.old.live ≡ true }
+        ensures exact { IsReply op body.now self.old self.new (D.told disk.old) (D.told disk.new) result }
+        ensures call { Serves (Replies op body.now) self.old self.new (D.told disk.old) (D.told disk.new) (reply_answer result) }
+        ensures cause { BlamesReply (D.faults disk.old) (D.faults disk.new) result }
+    {
+        if let Some(error) = self.why_no_reply(op, body.len() as u64) {
+            return Err(error);
+        }
+        match self.reply_next(disk, body) {
+            Ok(check) => Ok(check),
+            Err(_) => {
+                self.live = false;
+                Err(ReplyError::DiskFault)
+            }
+        }
+    }
+}
