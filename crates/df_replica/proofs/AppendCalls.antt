@@ -1,9 +1,9 @@
 -- What an append does to the disk is the machine's append, and behind it the header ring shows the table.
 use Rattle.std.specs.Prelude.{Ok, slice_get}
-use Rattle.std.proofs.Common.{◌≡◌, inl, inr, ℕ, ◌+◌, ◌/◌, ◌%◌, ◌==◌, List, [], ◌∷◌, Option, Some, None, refl, sym, ◌∙◌, ap, subst}
+use Rattle.std.proofs.Common.{◌≡◌, inl, inr, ℕ, ◌/◌, ◌%◌, ◌==◌, List, [], ◌∷◌, Option, Some, None, refl, sym, ◌∙◌, ap, subst}
 use Rattle.std.proofs.lemmas.Bool.{cond-true, eq-eqb}
 use Rattle.df_base.specs.Image.{Image}
-use Rattle.df_base.specs.Log.{Event, now}
+use Rattle.df_base.specs.Log.{now}
 use Rattle.df_disk.specs.Told.{Told}
 use Rattle.df_disk.specs.Adds.{after_all}
 use Rattle.df_layout.specs.declared.layout.Layout.{Layout}
@@ -14,7 +14,6 @@ use Rattle.df_format.specs.Message.{Message, sectors_of}
 use Rattle.df_format.specs.Own.{place_in}
 use Rattle.df_format.proofs.Laws.{made_brings, some-eq}
 use Rattle.df_prepares.specs.Slots.{IsInOwnSlot}
-use Rattle.df_headers.specs.Ring.{IsTable}
 use Rattle.df_journal.specs.Append.{EndsAppended, MayAppendOn, ShowsRing, journal_steps, new_sector, with_header}
 use Rattle.df_journal.proofs.Laws.{append_steps, ends_appended, next_sector}
 use Rattle.df_theory.specs.Units as theory
@@ -22,7 +21,6 @@ use Rattle.df_theory.specs.Units.{HeaderPlace, HeaderUnit, PreparePlace, Prepare
 use Rattle.df_theory.specs.Next.{MayAppend}
 use Rattle.df_theory.specs.Shape.{Shape}
 use Rattle.df_theory.specs.UnitLog.{put_one}
-use Rattle.df_theory.specs.View.{View}
 use Rattle.df_theory.specs.WriterLaws.{IsHeaderSector}
 use Rattle.df_theory.proofs.Laws.{put_one_law}
 use Rattle.df_units.specs.Bytes.{unit_at}

@@ -1,14 +1,14 @@
 -- Every call: whose device calls are the machine's has good moments, and where it answered what is kept goes on.
 use Rattle.std.proofs.Common.{◌≡◌, ℕ, inl, inr, true, false, List, [], ◌∷◌, ◌++◌, append_assoc, Option, Some, None, refl, sym, ◌∙◌, ap, subst}
 use Rattle.df_base.specs.Log.{Event, IsLog, Log, now}
-use Rattle.df_base.specs.Moments.{EachMoment, Extends, IsMoment, adds}
+use Rattle.df_base.specs.Moments.{EachMoment, Extends, adds}
 use Rattle.df_base.proofs.Laws.{extends_self}
 use Rattle.df_disk.specs.Told as told
 use Rattle.df_disk.specs.Told.{Told, did}
 use Rattle.df_disk.specs.Adds.{AddsPart, after_all}
 use Rattle.df_format.proofs.Laws.{some-eq}
 use Rattle.df_journal.specs.Append.{ShowsRing}
-use Rattle.df_theory.specs.Device.{Format, IsGoodDisk, IsGoodWholeDisk, IsSafeDisk, units_log}
+use Rattle.df_theory.specs.Device.{Format, IsSafeDisk, units_log}
 use Rattle.df_theory.specs.Shape.{Shape}
 use Rattle.df_theory.specs.UnitLog.{UnitLog}
 use Rattle.df_theory.specs.Units.{Parts}

@@ -25,3 +25,4 @@ pub mod ReplyGiven
 pub mod ReplyAnswers
 pub mod AppendMemory
 pub mod AppendAnswers
+pub mod Laws

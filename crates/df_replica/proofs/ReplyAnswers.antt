@@ -1,9 +1,9 @@
 -- Each reply is the machine's: its answer, the state behind it, and what it does to the disk.
-use Rattle.std.proofs.Common.{◌≡◌, ◌∙◌, ℕ, ◌+◌, ◌^◌, ◌<◌, true, false, Bool, List, [], ◌∷◌, length, map, Option, Some, None, refl, sym, ap, subst, arith}
+use Rattle.std.proofs.Common.{◌≡◌, ◌∙◌, ℕ, ◌<◌, true, false, Bool, List, [], ◌∷◌, length, map, Option, Some, None, refl, sym, ap, subst, arith}
 use Rattle.std.specs.Prelude.{if◌then◌else◌, Ok, Err}
 use Rattle.df_base.proofs.Laws.{AreBytes-check_of, field_at-lt, now_is_image}
 use Rattle.df_base.specs.Image.{IsImage}
-use Rattle.df_base.specs.Log.{Event, now}
+use Rattle.df_base.specs.Log.{now}
 use Rattle.df_disk.specs.Told.{Told}
 use Rattle.df_disk.specs.Adds.{AddsPart, after_all}
 use Rattle.df_layout.specs.declared.places.Zone.TheVariants.{ClientReplies}
@@ -14,12 +14,12 @@ use Rattle.df_format.specs.Own.{place_in}
 use Rattle.df_format.specs.Spelling.{spelling_rest}
 use Rattle.df_journal.specs.Append.{ShowsRing}
 use Rattle.df_replies.specs.Slots.{IsInOwnSlot, write_steps}
-use Rattle.df_theory.specs.Device.{AreSteps, IsPut}
+use Rattle.df_theory.specs.Device.{IsPut}
 use Rattle.df_theory.specs.Units as theory
 use Rattle.df_theory.specs.Units.{HeaderPlace, ReplyPlace, ReplyUnit}
 use Rattle.df_theory.specs.UnitLog.{put_one}
 use Rattle.df_theory.proofs.Laws.{put_one_law}
-use Rattle.df_units.specs.Bytes.{first_at, unit_at}
+use Rattle.df_units.specs.Bytes.{first_at}
 use Rattle.df_units.specs.Format.{format_of}
 use Rattle.df_units.specs.Meaning.{message_of, number_of}
 use Rattle.df_units.proofs.Laws.{reply_put}

@@ -1,20 +1,18 @@
 -- What the maker says of the next reply obeys the rules of a reply, and its place is one of the layout.
-use Rattle.std.proofs.Common.{◌≡◌, ◌∙◌, ℕ, ◌+◌, ◌^◌, ◌<◌, ◌≤◌, true, List, length, Option, Some, IsSome, refl, sym, ap, subst, arith, rules}
+use Rattle.std.proofs.Common.{◌≡◌, ◌∙◌, ℕ, ◌+◌, ◌^◌, ◌<◌, true, List, length, Some, IsSome, refl, sym, ap, subst, arith, rules}
 use Rattle.std.specs.Prelude.{nat_lt}
 use Rattle.std.specs.List.{slice_get}
 use Rattle.std.proofs.lemmas.Bool.Decides.{nat_tests}
 use Rattle.df_base.proofs.Laws.{length-check_of, AreBytes-check_of}
 use Rattle.df_layout.specs.declared.places.Zone.TheVariants.{ClientReplies}
-use Rattle.df_format.specs.declared.header.Header.{Header}
 use Rattle.df_format.specs.declared.kind.Kind.TheVariants.{Reply as AsReply}
 use Rattle.df_format.specs.Making.{for_body}
 use Rattle.df_format.specs.Own.{own_place}
 use Rattle.df_format.specs.Rules.{ObeysRules}
 use Rattle.df_format.specs.Spelling.{IsCheck, no_checksum}
 use Rattle.df_sessions.specs.declared.session.Session as told
-use Rattle.df_sessions.specs.Requests.{session_of, sessions_of}
+use Rattle.df_sessions.specs.Requests.{session_of}
 use Rattle.df_sessions.specs.Table.{IsTable}
-use Rattle.df_theory.specs.Units.{Session}
 use Rattle.df_model.specs.Making.{client_of, request_of}
 use Rattle.df_recovery.specs.State.{IsState, State}
 use Rattle.df_replica.specs.Replying.{MayReplyNext, first_check, place_waiting, reply_given, session_waiting}

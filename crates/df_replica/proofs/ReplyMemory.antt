@@ -1,5 +1,5 @@
 -- What a reply leaves in memory is what the machine's reply leaves there.
-use Rattle.std.proofs.Common.{◌≡◌, ◌∙◌, ℕ, zero, suc, ◌+◌, ◌<◌, List, [], ◌∷◌, drop, length, map, Option, Some, refl, ap}
+use Rattle.std.proofs.Common.{◌≡◌, ◌∙◌, ℕ, zero, suc, List, [], ◌∷◌, drop, map, Option, Some, refl, ap}
 use Rattle.std.specs.Prelude.{slice_set}
 use Rattle.df_format.specs.declared.header.Header.{Header}
 use Rattle.df_sessions.specs.declared.session.Session as told

@@ -1,6 +1,6 @@
 -- What a reply that isn't refused may rely on: the session of the prepare that waits the longest, and its place.
-use Rattle.std.proofs.Common.{◌≡◌, ◌≢◌, ◌∙◌, inl, inr, ℕ, zero, suc, ◌+◌, ◌<◌, ◌≤◌, ◌==◌, Bool, true, false, List, [], ◌∷◌, length, map, Option, Some, None, refl, sym, ap, subst, arith}
-use Rattle.std.specs.Prelude.{if◌then◌else◌, option_map}
+use Rattle.std.proofs.Common.{◌≡◌, ◌≢◌, ◌∙◌, inl, inr, ℕ, zero, suc, ◌+◌, ◌<◌, ◌==◌, true, false, List, [], ◌∷◌, length, map, Option, Some, None, refl, sym, ap, subst, arith}
+use Rattle.std.specs.Prelude.{option_map}
 use Rattle.std.specs.List.{AllByRecursion, slice_get}
 use Rattle.std.proofs.lemmas.Bool.{cases_lt, eq-eqb, ne_eqb}
 use Rattle.std.proofs.lemmas.Option.{slice_get-map, slice_get_within}
@@ -8,7 +8,6 @@ use Rattle.df_format.proofs.Laws.{some-eq}
 use Rattle.df_sessions.specs.declared.session.Session as told
 use Rattle.df_sessions.specs.Requests.{session_of, sessions_of}
 use Rattle.df_sessions.specs.Table.{clients_of}
-use Rattle.df_theory.specs.Sessions.{Tracks}
 use Rattle.df_theory.specs.Units.{Session}
 use Rattle.df_model.specs.Making.{place_of_op}
 use Rattle.df_model.specs.Refusals.{first_refusal, reply_refusals}

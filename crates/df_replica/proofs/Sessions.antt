@@ -1,5 +1,5 @@
 -- Calls one after the other: nothing is served at first, one more call goes on, and a fault stops them.
-use Rattle.std.proofs.Common.{◌≡◌, ◌⊎◌, ℕ, inl, inr, true, List, [], ◌∷◌, ◌++◌, Option, Some, None, Err, refl, sym, ◌∙◌, ap, subst, arith}
+use Rattle.std.proofs.Common.{◌≡◌, ◌⊎◌, inl, inr, List, [], ◌∷◌, ◌++◌, Option, Some, None, Err, refl, sym, ◌∙◌, ap, subst, arith}
 use Rattle.df_base.specs.Image.{Image}
 use Rattle.df_base.specs.Log.{Event, IsLeft, Log}
 use Rattle.df_base.specs.Moments.{EachMoment, Extends}
@@ -8,13 +8,13 @@ use Rattle.df_disk.specs.Told.{Told}
 use Rattle.df_layout.specs.declared.damage.Class.TheVariants.{Blank}
 use Rattle.df_theory.specs.View.{View}
 use Rattle.df_theory.specs.Device.{NoChanceOf}
-use Rattle.df_model.specs.Commands.{Answer, Command, Given, Recent}
+use Rattle.df_model.specs.Commands.{Answer, Given, Recent}
 use Rattle.df_model.specs.declared.answers.Verdict.TheVariants.{Sound}
 use Rattle.df_model.specs.Work.{Work, kept}
 use Rattle.df_recovery.specs.declared.file.DataFile.{DataFile}
 use Rattle.df_recovery.specs.State.{State, shape}
-use Rattle.df_replica.specs.Serving.{EachIsGood, Firm, Grade, IsCall, IsGoodFor, IsKept, Keeps, Known, Whole, format, next}
-use Rattle.df_replica.specs.Session.{Act, AnsweredIsThere, EachIsMidway, FaultStopsThem, HasView, HoldsFor, HoldsSome, IsMidway, IsServed, IsStopped, LeavesEither, LeavesView, NothingIsServed, OneMoreIsServed, answers_of, work_after}
+use Rattle.df_replica.specs.Serving.{EachIsGood, Firm, Grade, IsGoodFor, IsKept, Keeps, Known, Whole, format, next}
+use Rattle.df_replica.specs.Session.{Act, AnsweredIsThere, EachIsMidway, FaultStopsThem, HasView, HoldsFor, HoldsSome, IsMidway, LeavesEither, LeavesView, NothingIsServed, OneMoreIsServed, answers_of, work_after}
 use Rattle.df_replica.proofs.Calls.{extends_on, good_safe, firmly, moments}
 
 -- ---- the acts with one more

@@ -1,5 +1,5 @@
 -- A reply of a replica: what it makes, what it asks of the disk, and the state that it leads to. No state of the machine is in sight.
-use Rattle.std.specs.Prelude.{◌≡◌, ◌<◌, ◌≤◌, ◌+◌, ℕ, false, List, [], ◌∷◌, drop, length, Option, Some, None, Result, Ok, Err}
+use Rattle.std.specs.Prelude.{◌≡◌, ◌<◌, ◌≤◌, ◌+◌, ℕ, false, List, [], ◌∷◌, drop, Option, Some, None, Result, Ok, Err}
 use Rattle.std.specs.List.{slice_get}
 use Rattle.df_base.specs.Causes.{Rose}
 use Rattle.df_base.specs.Log.{Event, Sync, Write}

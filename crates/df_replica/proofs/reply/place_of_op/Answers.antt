@@ -1,5 +1,5 @@
 -- The first session with the op, or the end of the table.
-use Rattle.std.proofs.Common.{◌≡◌, ◌≤◌, ◌∙◌, ℕ, length, sym, subst, arith}
+use Rattle.std.proofs.Common.{◌≡◌, ◌∙◌, ℕ, length, subst, arith}
 use Rattle.df_replica.proofs.ReplyTests.{LackBefore, first_place, no_place}
 use Rattle.df_replica.proofs.reply.place_of_op.Goals as goal
 

@@ -1,5 +1,5 @@
 -- The parts are those of the next reply, which obeys the rules.
-use Rattle.std.proofs.Common.{◌≡◌, ◌<◌, ◌^◌, ◌∙◌, ℕ, List, IsSome, length, sym, ap, subst, arith}
+use Rattle.std.proofs.Common.{◌≡◌, ◌<◌, ◌^◌, ◌∙◌, ℕ, IsSome, length, sym, ap, subst, arith}
 use Rattle.df_layout.specs.declared.places.Zone.TheVariants.{ClientReplies}
 use Rattle.df_format.specs.declared.header.Header.{Header}
 use Rattle.df_format.specs.declared.superblock.SuperFields.{SuperFields}
@@ -7,12 +7,11 @@ use Rattle.df_format.specs.Making.{for_body}
 use Rattle.df_format.specs.Own.{own_place}
 use Rattle.df_format.specs.Rules.{ObeysRules}
 use Rattle.df_format.specs.Spelling.{IsCheck, no_checksum}
-use Rattle.df_sessions.specs.Table.{IsTable, Table}
-use Rattle.df_model.specs.Making.{client_of}
+use Rattle.df_sessions.specs.Table.{IsTable}
 use Rattle.df_recovery.specs.State.{IsState, State}
 use Rattle.df_replica.specs.Held.{headers_of}
 use Rattle.df_replica.specs.Replica.{state_with}
-use Rattle.df_replica.specs.Replying.{first_check, place_waiting, reply_given}
+use Rattle.df_replica.specs.Replying.{first_check, reply_given}
 use Rattle.df_replica.proofs.ReplyGiven.{given_own, given_rules, header_is, place_small}
 use Rattle.df_replica.proofs.ReplyTests.{place_inside}
 use Rattle.df_replica.proofs.replica.Replica.reply_given.Goals as goal
