@@ -25,4 +25,5 @@ pub mod ReplyGiven
 pub mod ReplyAnswers
 pub mod AppendMemory
 pub mod AppendAnswers
+pub mod Followed
 pub mod Laws

@@ -1,5 +1,5 @@
 -- What an open leaves is kept by what the machine begins with: a mending writes no prepare.
-use Rattle.std.proofs.Common.{◌≡◌, ◌-◌, ◌+◌, ◌%◌, ℕ, List, [], ◌∷◌, ◌++◌, map, Bool, true, false, if◌then◌else◌, Option, Some, None, refl, sym, ◌∙◌, ap, subst}
+use Rattle.std.proofs.Common.{◌≡◌, ◌-◌, ◌+◌, ◌%◌, ℕ, List, [], ◌∷◌, ◌++◌, map, Bool, true, false, if◌then◌else◌, inl, inr, Option, Some, None, refl, sym, ◌∙◌, ap, subst}
 use Rattle.std.specs.Prelude.{nat_lt, Ok}
 use Rattle.std.specs.List.{range_with_len, slice_get}
 use Rattle.df_base.specs.Image.{Image, IsImage}
@@ -7,8 +7,9 @@ use Rattle.df_base.specs.Log
 use Rattle.df_base.specs.Log.{Event, IsLog, Sync}
 use Rattle.df_base.specs.Moments.{EachMoment, Extends}
 use Rattle.df_base.proofs.Laws.{adds_extends, extends_self, now_is_image}
+use Rattle.df_disk.specs.Told as told
 use Rattle.df_disk.specs.Told.{Told, did}
-use Rattle.df_disk.specs.Adds.{after_all}
+use Rattle.df_disk.specs.Adds.{AddsPart, after_all}
 use Rattle.df_layout.specs.declared.damage.Mend.{Mend}
 use Rattle.df_format.specs.declared.header.Header.{Header}
 use Rattle.df_format.specs.declared.superblock.SuperFields.{SuperFields}
@@ -35,6 +36,7 @@ use Rattle.df_layout.specs.declared.layout.Layout.{Layout}
 use Rattle.df_replica.specs.Surveying.{TellsSurvey}
 use Rattle.df_replica.specs.Mending.{IsMended, MayOpen, live_state, mending_events, mending_steps, sector_puts, sectors_of}
 use Rattle.df_replica.specs.Serving.{Firm, IsKept, Known, format}
+use Rattle.df_replica.specs.Opened.{ToldBy}
 use Rattle.df_recovery.specs.State.{Represents, State, shape}
 use Rattle.df_recovery.specs.Surveys.{IsOpened}
 
@@ -88,7 +90,7 @@ opened_same sh image other v same =
 pub open_keeps : (s : State) (mends : List Mend) (members : List Bool) (parse : ℕ → List ℕ → Option Units.Parts) (spell : Units.Parts → List ℕ) (view : View) (before after : Told) → IsCodec (shape s.file parse) spell → MayOpen s.file parse view before
     → IsOpened s.file.layout before.shown s → AreSteps (format s.file) (mending_events s.file.layout s.headers mends s.fields members) (mending_steps s.file.layout s.headers mends s.fields members)
     → Some after ≡ after_all (mending_events s.file.layout s.headers mends s.fields members) (Some (did Sync before)) → EachMoment (did Sync before).log after.log (IsGoodDisk (format s.file) (shape s.file parse) view view) → IsMended s.file parse view s.headers after
-    → IsKept (record { parse = parse; spell = spell; grade = Firm }) s (opened (shape s.file parse) (unit_at s.file.layout s.file.cluster (Log.now after.log)) view) after.log
+    → IsKept (record { parse = parse; spell = spell; grade = Firm }) s (opened (shape s.file parse) (unit_at s.file.layout s.file.cluster before.shown) view) after.log
 open_keeps s mends members parse spell view before after codec may is steps all moments mended =
     let sh = shape s.file parse in
     let fmt = format s.file in
@@ -113,8 +115,10 @@ open_keeps s mends members parse spell view before after codec may is steps all 
     (subst (AreOfPlaces sh) image (of_places s.file.layout s.file.cluster s.file.named parse (Log.now after.log) whole))).0 in
     record {
       log_is = is_log;
-      stands = subst (Represents sh spell s) (opened_same sh (units before.shown) (units (Log.now after.log)) view prepares) (subst (λ (v : View). Represents sh spell s (opened sh (units before.shown) v)) one (is.stands parse spell));
-      kept_by = subst (λ (u : Units.Units). IsKeptBy sh spell log (opened sh u view)) (sym image) kept;
+      stands = subst (λ (v : View). Represents sh spell s (opened sh (units before.shown) v)) one (is.stands parse spell);
+      kept_by =
+          subst (IsKeptBy sh spell log) (sym (opened_same sh (units before.shown) (units (Log.now after.log)) view prepares))
+          (subst (λ (u : Units.Units). IsKeptBy sh spell log (opened sh u view)) (sym image) kept);
       ring = mended.ring;
     }
 
@@ -128,3 +132,15 @@ survey_opened layout told before s is parse view may same answer =
 -- a state is kept as a live one
 pub live_kept : (c : Known) (s : State) (w : Work) (log : Log.Log) → IsKept c s w log → IsKept c (live_state s) w log
 live_kept c s w log is = record { log_is = is.log_is; stands = is.stands; kept_by = is.kept_by; ring = is.ring }
+
+-- ---- where the disk failed
+
+part_told : (es : List Event) (old new : Option Told) → AddsPart es old new → ToldBy old new
+part_told [] old new is = ([], is)
+part_told (e ∷ es) old new (inl same) = ([], same)
+part_told (e ∷ es) old new (inr more) =
+    let rest = part_told es (told.after e old) new more in
+    (e ∷ rest.0, rest.1)
+
+pub mend_stops : (es : List Event) (old new : Option Told) (t : Told) → old ≡ Some t → AddsPart es old new → ToldBy (Some t) new
+mend_stops es old new t is part = part_told es (Some t) new (subst (λ (o : Option Told). AddsPart es o new) is part)

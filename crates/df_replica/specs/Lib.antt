@@ -13,3 +13,5 @@ pub mod Answering
 pub mod Replying
 pub mod Supply
 pub mod Session
+pub mod Opened
+pub mod Following

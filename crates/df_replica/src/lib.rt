@@ -5,6 +5,7 @@ mod append;
 mod content_laws;
 mod first;
 mod first_copies;
+mod following;
 mod making;
 mod mended;
 mod mending;
@@ -26,6 +27,7 @@ pub use df_recovery::{
     state_is_opened, stored_is_kept, super_is_written, survey_superblock,
 };
 pub use first_copies::format_superblock;
+pub use following::what_is_left_may_be_opened;
 pub use making::format;
 pub use replica::Replica;
 pub use session_laws::{

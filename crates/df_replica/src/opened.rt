@@ -1,8 +1,9 @@
 // An open: a survey, and then the mending of what it lists.
 ghost use Rattle.std.specs.Prelude.{◌≡◌, Option, ℕ, List, IfOk, IfErr, OnOk, Some, true};
-ghost use Rattle.df_base.specs.Log.{Sync, now};
+ghost use Rattle.df_base.specs.Image.{IsImage};
+ghost use Rattle.df_base.specs.Log.{Sync};
 ghost use Rattle.df_base.specs.Moments.{EachMoment};
-ghost use Rattle.df_disk.specs.Told.{Told, did};
+ghost use Rattle.df_disk.specs.Told.{Told, after, did};
 ghost use Rattle.df_theory.specs.Device.{IsGoodDisk};
 ghost use Rattle.df_theory.specs.Units.{Parts};
 ghost use Rattle.df_theory.specs.View.{View};
@@ -11,6 +12,7 @@ ghost use Rattle.df_model.specs.Codec.{IsCodec};
 ghost use Rattle.df_model.specs.Work.{opened};
 ghost use Rattle.df_replica.specs.Mending.{IsMended, MayOpen};
 ghost use Rattle.df_recovery.specs.Scanning.{SurveysBy, answer_of};
+ghost use Rattle.df_replica.specs.Opened.{StopsOpening, ToldBy};
 ghost use Rattle.df_replica.specs.Serving.{Firm, IsKept, format};
 ghost use Rattle.df_recovery.specs.State.{shape};
 ghost use Rattle.df_replica.specs.Surveying.{TellsSurvey};
@@ -32,7 +34,10 @@ impl Replica {
             → MayOpen replica.file parse view before → IsMended replica.file parse view replica.headers after) }
         ensures kept_for { (before after : Told) → D.told disk.old ≡ Some before → D.told disk.new ≡ Some after → IfOk result (λ replica. (parse : ℕ → List ℕ → Option Parts) (spell : Parts → List ℕ) (view : View)
             → IsCodec (shape replica.file parse) spell → MayOpen replica.file parse view before
-            → IsKept (record { parse = parse; spell = spell; grade = Firm }) replica (opened (shape replica.file parse) (unit_at replica.file.layout replica.file.cluster (now after.log)) view) after.log) }
+            → IsKept (record { parse = parse; spell = spell; grade = Firm }) replica (opened (shape replica.file parse) (unit_at replica.file.layout replica.file.cluster before.shown) view) after.log) }
+        ensures told { IfOk result (λ replica. ToldBy (after Sync (D.told disk.old)) (D.told disk.new)) }
+        ensures refused { IfErr result (λ refused. (refused.1 ≡ OpenError.DiskFault → ⊥) → D.told disk.new ≡ after Sync (D.told disk.old)) }
+        ensures stopped { (t : Told) → D.told disk.old ≡ Some t → IfErr result (λ refused. IsImage t.shown → refused.1 ≡ OpenError.DiskFault → StopsOpening rooms.layout t (D.told disk.new)) }
         ensures cause { SurveysBy (D.faults disk.old) (D.faults disk.new) (answer_of result) }
     {
         let surveyed = match survey(disk, rooms) {

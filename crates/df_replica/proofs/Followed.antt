@@ -1,0 +1,53 @@
+-- A file that is tidy, or that a stop left, is one that may be opened.
+use Rattle.std.proofs.Common.{◌≡◌, inl, inr, List, ◌∷◌, Some, subst}
+use Rattle.df_base.specs.Image.{Image, changed}
+use Rattle.df_base.specs.Log as logs
+use Rattle.df_base.specs.Log.{IsLog, Stop}
+use Rattle.df_theory.specs.Chance.{InPool, InPools}
+use Rattle.df_theory.specs.Device.{units_log}
+use Rattle.df_theory.specs.Holds.{Holds}
+use Rattle.df_theory.specs.UnitLog.{Stopped, UnitEvent, UnitLog}
+use Rattle.df_theory.specs.Units
+use Rattle.df_theory.specs.Units.{AnyUnit, Place}
+use Rattle.df_theory.proofs.Laws.{disk_stop_law, found_law, now_units, rests_safe, safe_disk_law}
+use Rattle.df_units.proofs.Laws.{is_format}
+use Rattle.df_recovery.specs.State.{shape}
+use Rattle.df_replica.specs.Following.{StoppedMayOpen, TidyMayOpen}
+use Rattle.df_replica.specs.Serving.{format}
+use Rattle.df_replica.proofs.Mendable.{in_pools}
+
+pub tidy_may_open : TidyMayOpen
+tidy_may_open file parse view t is_log honest tidy chance =
+    let fmt = format file in
+    let sh = shape file parse in
+    record {
+      safe = safe_disk_law fmt sh t.log (is_format file.layout file.cluster) is_log (rests_safe sh (units_log fmt t.log) view tidy.rests);
+      honest = honest;
+      found = (found_law sh (fmt.unit_at (logs.now t.log)) view).0 (subst (λ (u : Units.Units). Holds sh u view) (now_units fmt t.log.start t.log.events) tidy.rests.holds);
+      no_chance = chance;
+    }
+
+-- a stop adds no unit to the pools, where those that it left came from them
+pools_stopped : (start : Units.Units) (es : List UnitEvent) (image : Units.Units) (place : Place) (x : AnyUnit) → ((p : Place) (z : AnyUnit) → image p ≡ Some z → InPool (record { start = start; events = es }) p z)
+    → InPools start (Stopped image ∷ es) place x → InPools start es place x
+pools_stopped start es image place x pooled (inl (inl (inl here))) = in_pools start es place x (pooled place x here)
+pools_stopped start es image place x pooled (inl (inl (inr settled))) = in_pools start es place x (inl settled)
+pools_stopped start es image place x pooled (inl (inr none)) = absurd none
+pools_stopped start es image place x pooled (inr before) = before
+
+pub stopped_may_open : StoppedMayOpen
+stopped_may_open file parse view t changes safe honest loose chance held =
+    let fmt = format file in
+    let sh = shape file parse in
+    let log : UnitLog = units_log fmt t.log in
+    let left : Image = changed changes (logs.now t.log) in
+    let is_log : IsLog (logs.add (Stop changes) t.log) = record { start = safe.is_log.start; events = (loose, safe.is_log.events) } in
+    record {
+      safe = safe_disk_law fmt sh (logs.add (Stop changes) t.log) (is_format file.layout file.cluster) is_log (rests_safe sh (units_log fmt (logs.add (Stop changes) t.log)) view (disk_stop_law fmt sh view t.log changes safe loose chance held));
+      honest = record { shows = λ sector i. changed changes (λ s. honest.shows s i) sector };
+      found = (found_law sh (fmt.unit_at left) view).0 held;
+      no_chance = record {
+        pooled = λ p z is. inl (inl is);
+        distinct = λ p q x y one two. chance.distinct p q x y (pools_stopped log.start log.events (fmt.unit_at left) p x chance.pooled one) (pools_stopped log.start log.events (fmt.unit_at left) q y chance.pooled two);
+      };
+    }
