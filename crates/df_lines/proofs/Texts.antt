@@ -1,0 +1,129 @@
+-- The next line of a text, from what a window holds of it.
+use Rattle.std.proofs.Common.{◌≡◌, ◌≢◌, ℕ, ◌+◌, ◌-◌, ◌<◌, inl, inr, IsTrue, List, [], ◌++◌, length, take, drop, refl, sym, ap, subst, ◌∙◌, arith, length-append, length-drop}
+use Rattle.std.proofs.lemmas.List.{length-take-le}
+use Rattle.std.specs.Prelude.{Option, None, Some, Ok}
+use Rattle.std.proofs.lemmas.List.{append-nil, drop_all, take-append-le, drop-append-le}
+use Rattle.df_base.specs.declared.Failed.{Failed}
+use Rattle.df_lines.specs.declared.next.Next.{Next}
+use Rattle.df_lines.specs.declared.next.Next.TheVariants as nexts
+use Rattle.df_lines.specs.Grammar.{Says, said_with}
+use Rattle.df_lines.specs.Reads.{GivesNext, Takes, text_after}
+use Rattle.df_lines.specs.Room.{Contents, Room, IsAtEnd, Tells}
+use Rattle.df_lines.specs.Text.{IsWithin, Reading, line_of, after_line, unread}
+use Rattle.df_lines.specs.Text as text
+use Rattle.df_lines.specs.Window.{is_feed, line_end, IsWhole, IsOverfull}
+use Rattle.df_lines.proofs.Cutting.{position_past, position_within, position_le}
+
+-- the text whose front is held
+pub parts_of : (bytes all : List ℕ) (left : Option (List ℕ)) → unread bytes left ≡ Some all → (rest : List ℕ) × (left ≡ Some rest) × (all ≡ bytes ++ rest)
+parts_of bytes all None is = cc is
+parts_of bytes all (Some rest) is = (rest, refl, let same : Some (bytes ++ rest) ≡ Some all = is in cc)
+
+-- the first line of the text, where it is whole
+pub record Front (window : Contents) (size taken : ℕ) (left : Option (List ℕ)) (all : List ℕ) : Type 0 where
+  pub line : line_of all ≡ take size window.bytes
+  pub rest : unread (drop taken window.bytes) left ≡ Some (after_line all)
+  pub size_is : length (line_of all) ≡ size
+  pub taken_is : text.taken all ≡ taken
+  pub some : all ≢ []
+  pub read : line_of window.bytes ≡ line_of all
+
+not_none : (xs : List ℕ) → 0 < length xs → xs ≢ []
+not_none xs some none = omega (arith, ap length none)
+
+length_line : (bytes : List ℕ) → length (line_of bytes) ≡ line_end bytes
+length_line bytes = length-take-le (line_end bytes) bytes (position_le is_feed bytes)
+
+-- a line that ends before a byte 10
+fed : (window : Contents) (size : ℕ) (rest : List ℕ) → size ≡ line_end window.bytes → size < length window.bytes → Front window size (size + 1) (Some rest) (window.bytes ++ rest)
+fed window size rest is within =
+    let b = window.bytes in
+    let at : line_end (b ++ rest) ≡ size = position_within is_feed b rest (omega arith) ∙ sym is in
+    let line : line_of (b ++ rest) ≡ take size b = ap (λ (n : ℕ). take n (b ++ rest)) at ∙ take-append-le size b rest (omega arith) in
+    let after : after_line (b ++ rest) ≡ drop (size + 1) b ++ rest = ap (λ (n : ℕ). drop (n + 1) (b ++ rest)) at ∙ drop-append-le (size + 1) b rest (omega arith) in
+    let after_size = ap length after ∙ length-append (drop (size + 1) b) rest in
+    record {
+      line = line;
+      rest = ap Some (sym after);
+      size_is = length_line (b ++ rest) ∙ at;
+      taken_is = omega (arith, after_size, length-drop (size + 1) b, length-append b rest);
+      some = not_none (b ++ rest) (omega (arith, length-append b rest));
+      read = ap (λ (n : ℕ). take n b) (sym is) ∙ sym line;
+    }
+
+-- a last line
+last : (window : Contents) (size : ℕ) → size ≡ line_end window.bytes → size ≡ length window.bytes → 0 < size → Front window size size (Some []) (window.bytes ++ [])
+last window size is all some =
+    let b = window.bytes in
+    let nil : b ++ [] ≡ b = append-nil b in
+    let at : line_end (b ++ []) ≡ size = ap line_end nil ∙ sym is in
+    let line : line_of (b ++ []) ≡ take size b = ap (λ (n : ℕ). take n (b ++ [])) at ∙ ap (λ (l : List ℕ). take size l) nil in
+    let after : after_line (b ++ []) ≡ [] = drop_all (line_end (b ++ []) + 1) (b ++ []) (omega (arith, at, ap length nil)) in
+    let held : drop size b ≡ [] = drop_all size b (omega arith) in
+    record {
+      line = line;
+      rest = ap (λ (l : List ℕ). Some (l ++ [])) held ∙ ap Some (sym after);
+      size_is = length_line (b ++ []) ∙ at;
+      taken_is = omega (arith, ap length after, ap length nil);
+      some = not_none (b ++ []) (omega (arith, ap length nil));
+      read = ap (λ (n : ℕ). take n b) (sym is) ∙ sym line;
+    }
+
+pub front_line : (window : Contents) (size taken : ℕ) (left : Option (List ℕ)) (all : List ℕ) → IsWhole window size taken → unread window.bytes left ≡ Some all → (IsTrue window.ended → IsAtEnd left) → Front window size taken left all
+front_line window size taken left all whole is at_end =
+    let parts = parts_of window.bytes all left is in
+    let FrontOf : ℕ → List ℕ → Type 0 = λ n l. Front window size n (Some l) (window.bytes ++ l) in
+    let front : FrontOf taken parts.0 = elim whole.ends [
+      | inl fed_line ↦ subst (λ (n : ℕ). FrontOf n parts.0) (sym fed_line.1) (fed window size parts.0 whole.line fed_line.0)
+      | inr last_line ↦
+          let none : parts.0 ≡ [] = subst IsAtEnd parts.1 (at_end last_line.0) in
+          subst (λ (n : ℕ). FrontOf n parts.0) (sym last_line.2) (subst (FrontOf size) (sym none) (last window size whole.line last_line.1 last_line.3))
+    ] in
+    let here : Front window size taken left (window.bytes ++ parts.0) = subst (λ (o : Option (List ℕ)). Front window size taken o (window.bytes ++ parts.0)) (sym parts.1) front in
+    subst (λ (l : List ℕ). Front window size taken left l) (sym parts.2) here
+
+pub gives_line : (old : Room) (window new : Contents) (size taken rest : ℕ) (left : Option (List ℕ)) (all body : List ℕ) (next : Next) → old.reading.bound ≡ window.size - 1 → size < window.size → unread window.bytes left ≡ Some all → Front window size taken left all → Takes window new old.reading.budget rest body size taken next → GivesNext old (record { reading = record { held = new.bytes; bound = new.size - 1; budget = rest }; ended = new.ended; body = body }) all left next
+gives_line old window new size taken rest left all body (nexts.Line l) bound fits is front takes = record {
+  line = record {
+    within = record { line = omega (arith, front.size_is); all = omega (arith, front.taken_is, takes.0) };
+    says = subst (λ (line : List ℕ). Says line (said_with body l)) (sym front.line) takes.4;
+  };
+  rest = ap (λ (b : List ℕ). unread b left) takes.2 ∙ front.rest;
+  budget = omega (arith, front.taken_is, takes.1);
+}
+gives_line old window new size taken rest left all body nexts.Refused bound fits is front takes = record {
+  refuses = record {
+    some = front.some;
+    none = λ said line. takes.2 said (omega (arith, front.taken_is, line.within.all)) (subst (λ (l : List ℕ). Says l said) front.line line.says);
+  };
+  rest = ap (λ (w : Contents). unread w.bytes left) takes.0 ∙ is;
+  read = inl (ap (λ (w : Contents). line_of w.bytes) takes.0 ∙ front.read);
+}
+gives_line old window new size taken rest left all body nexts.End bound fits is front takes = absurd takes
+
+-- what is still unread after it
+pub tells_line : (bound : ℕ) (window new : Contents) (size taken budget rest : ℕ) (left : Option (List ℕ)) (all body : List ℕ) (next : Next) → unread window.bytes left ≡ Some all → (IsTrue window.ended → IsAtEnd left) → Front window size taken left all → Takes window new budget rest body size taken next → Tells (record { reading = record { held = new.bytes; bound = bound; budget = rest }; ended = new.ended; body = body }) left (text_after {E = Failed} (Ok next) all)
+tells_line bound window new size taken budget rest left all body (nexts.Line l) is at_end front takes = record {
+  is = ap (λ (b : List ℕ). unread b left) takes.2 ∙ front.rest;
+  ended = λ now. at_end (sym takes.3 ∙ now);
+}
+tells_line bound window new size taken budget rest left all body nexts.Refused is at_end front takes = record {
+  is = ap (λ (w : Contents). unread w.bytes left) takes.0 ∙ is;
+  ended = λ now. at_end (sym (ap (λ (w : Contents). w.ended) takes.0) ∙ now);
+}
+tells_line bound window new size taken budget rest left all body nexts.End is at_end front takes = absurd takes
+
+pub gives_refusal : (old : Room) (window : Contents) (left : Option (List ℕ)) (all body : List ℕ) → old.reading.bound ≡ window.size - 1 → 0 < window.size → IsOverfull window → unread window.bytes left ≡ Some all → GivesNext old (record { reading = record { held = window.bytes; bound = window.size - 1; budget = old.reading.budget }; ended = window.ended; body = body }) all left nexts.Refused
+gives_refusal old window left all body bound some over is =
+    let b = window.bytes in
+    let parts = parts_of b all left is in
+    let at = position_past is_feed b parts.0 over.none in
+    let size = ap (λ (l : List ℕ). length (line_of l)) parts.2 ∙ length_line (b ++ parts.0) in
+    record {
+      refuses = record {
+        some = not_none all (omega (arith, ap length parts.2, length-append b parts.0, over.full));
+        none = λ said line. omega (arith, size, at, line.within.line, over.full);
+      };
+      rest = is;
+      read = inr (omega (arith, length_line b, over.none, over.full));
+    }

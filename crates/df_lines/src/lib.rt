@@ -1,0 +1,21 @@
+//! The lines of a script: their grammar, and their reading in pieces through one buffer.
+#![tactic(auto)]
+
+mod line;
+mod meaning;
+mod next;
+mod number;
+mod parser;
+mod reader;
+mod window;
+mod words;
+
+pub use line::Line;
+pub use meaning::one_meaning;
+pub use next::Next;
+pub use number::{u32_of, u64_of, u128_of};
+pub use parser::parse;
+pub use reader::LineRoom;
+
+#[cfg(test)]
+mod tests;

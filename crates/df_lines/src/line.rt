@@ -1,0 +1,26 @@
+// One line of a script, as its words say it.
+
+/// A line of a script. Its body stands in the buffer that the line was read with, and `length` is the number of the
+/// body's bytes.
+#[derive(Clone, Copy, Debug, PartialEq, Eq)]
+pub enum Line {
+    /// `append CLIENT REQUEST BODY`
+    Append {
+        client: u128,
+        request: u64,
+        length: u64,
+    },
+    /// `reply OP BODY`
+    Reply {
+        op: u64,
+        length: u64,
+    },
+    /// `prepare OP`
+    Prepare {
+        op: u64,
+    },
+    /// `lookup CLIENT`
+    Lookup {
+        client: u128,
+    },
+}

@@ -1,0 +1,10 @@
+// What a script's text says is determined.
+ghost use Rattle.df_lines.specs.Laws.{OneMeaning, OneText, OneScript};
+
+/// A line says one thing at most, a text has one list of lines at most, and within a bound on a line and a budget of bytes
+/// one script: the lines before the first that is refused.
+pub fn one_meaning()
+    ensures line { OneMeaning }
+    ensures text { OneText }
+    ensures script { OneScript }
+{}

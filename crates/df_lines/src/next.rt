@@ -1,0 +1,14 @@
+// What a reader answers for the next line.
+
+use crate::line::Line;
+
+/// What comes next in a script.
+#[derive(Clone, Copy, Debug, PartialEq, Eq)]
+pub enum Next {
+    /// A line of the script. Its body is at the front of the reader's body buffer.
+    Line(Line),
+    /// The next line is no line of a script, is longer than the bound, or is past the budget.
+    Refused,
+    /// The script has no further line.
+    End,
+}

@@ -1,0 +1,70 @@
+// Decimal numbers in their one spelling: digits with no zero before them, `0` itself aside.
+ghost use Rattle.std.specs.Prelude.{◌≡◌, ◌<◌, ◌^◌, ℕ, List, [], ◌∷◌, ◌++◌};
+ghost use Rattle.std.specs.Prelude.{decimal, IfSome, IfNone};
+
+/// The number that the bytes spell, or None where they spell none below 2^32.
+pub fn u32_of(digits: &[u8]) -> Option<u32>
+    ensures found { IfSome result (λ n. digits.now ≡ decimal n) }
+    ensures none { IfNone result ((n : ℕ) → n < 2 ^ 32 → digits.now ≡ decimal n → ⊥) }
+{
+    u32::try_from(u64_of(digits)?).ok()
+}
+
+/// The number that the bytes spell, or None where they spell none below 2^64.
+pub fn u64_of(digits: &[u8]) -> Option<u64>
+    ensures found { IfSome result (λ n. digits.now ≡ decimal n) }
+    ensures none { IfNone result ((n : ℕ) → n < 2 ^ 64 → digits.now ≡ decimal n → ⊥) }
+{
+    u64::try_from(u128_of(digits)?).ok()
+}
+
+/// The number that the bytes spell, or None where they spell none below 2^128.
+pub fn u128_of(digits: &[u8]) -> Option<u128>
+    ensures found { IfSome result (λ n. digits.now ≡ decimal n) }
+    ensures none { IfNone result ((n : ℕ) → n < 2 ^ 128 → digits.now ≡ decimal n → ⊥) }
+{
+    if digits == b"0".as_slice() {
+        return Some(0);
+    }
+    let (first, rest) = digits.split_first()?;
+    number_from(first_digit(*first)?, rest)
+}
+
+/// What a first digit that isn't 0 stands for.
+fn first_digit(byte: u8) -> Option<u128>
+    ensures some { IfSome result (λ n. 0 < n) }
+    ensures found { IfSome result (λ n. byte ∷ [] ≡ decimal n) }
+    ensures none { IfNone result ((n : ℕ) (rest : List ℕ) → n < 2 ^ 128
+        → byte ∷ rest ≡ decimal n → n ≡ 0) }
+{
+    match byte {
+        b'1'..=b'9' => Some(u128::from(byte - b'0')),
+        _ => None,
+    }
+}
+
+/// The number whose spelling is that of `front` with these digits behind it.
+fn number_from(front: u128, digits: &[u8]) -> Option<u128>
+    requires { 0 < front }
+    ensures found { IfSome result (λ n. decimal front ++ digits.now ≡ decimal n) }
+    ensures none { IfNone result ((n : ℕ) → n < 2 ^ 128
+        → decimal front ++ digits.now ≡ decimal n → ⊥) }
+{
+    let mut value = front;
+    for byte in digits {
+        value = with_digit(value, *byte)?;
+    }
+    Some(value)
+}
+
+/// The number whose spelling is that of `front` with this digit behind it.
+fn with_digit(front: u128, byte: u8) -> Option<u128>
+    requires { 0 < front }
+    ensures some { IfSome result (λ n. 0 < n) }
+    ensures found { IfSome result (λ n. decimal front ++ byte ∷ [] ≡ decimal n) }
+    ensures none { IfNone result ((n : ℕ) (rest : List ℕ) → n < 2 ^ 128
+        → decimal front ++ byte ∷ rest ≡ decimal n → ⊥) }
+{
+    let digit = char::from(byte).to_digit(10)?;
+    front.checked_mul(10)?.checked_add(u128::from(digit))
+}

@@ -1,0 +1,112 @@
+// What a line says, by cases of its first word. The grammar has one meaning for a line at most.
+ghost use Rattle.std.specs.Prelude.{◌≡◌, ◌≤◌, ◌*◌, ◌++◌, List, ℕ, length, take, codes};
+ghost use Rattle.std.specs.Prelude.{IfSome, IfNone};
+ghost use Rattle.df_lines.specs.Grammar.{IsBody, Said, Says, said_with, body_length};
+ghost use Rattle.df_lines.specs.Grammar.{Append, Lookup, Prepare, Reply};
+
+use crate::line::Line;
+use crate::number::{u64_of, u128_of};
+use crate::words::cut;
+use hex::decode_to_slice;
+
+/// What the line says, with its decoded body at the front of `body`; None where it is no line of a
+/// script. After None `body` holds any bytes. The line is given without its byte 10.
+pub fn parse(line: &[u8], body: &mut [u8]) -> Option<Line>
+    requires { length line.now ≤ 2 * length body.old }
+    ensures found { IfSome result (λ l. Says line.now (said_with body.new l)) }
+    ensures none { IfNone result ((said : Said) → Says line.now said → ⊥) }
+    ensures size { IfSome result (λ l. body_length l ≤ length body.new) }
+{
+    let (name, words) = cut(line)?;
+    if name == b"append".as_slice() {
+        return append(words, body);
+    }
+    if name == b"reply".as_slice() {
+        return reply(words, body);
+    }
+    if name == b"prepare".as_slice() {
+        return prepare(words);
+    }
+    if name == b"lookup".as_slice() {
+        return lookup(words);
+    }
+    None
+}
+
+/// What the line `append ` with these words behind it says.
+fn append(words: &[u8], body: &mut [u8]) -> Option<Line>
+    requires { length words.now ≤ 2 * length body.old }
+    ensures found { IfSome result (λ l.
+        Says (codes "append " ++ words.now) (said_with body.new l)) }
+    ensures none { IfNone result ((client request : ℕ) (bytes : List ℕ) →
+        Says (codes "append " ++ words.now) (Append client request bytes) → ⊥) }
+    ensures size { IfSome result (λ l. body_length l ≤ length body.new) }
+{
+    let (client, words) = cut(words)?;
+    let (request, word) = cut(words)?;
+    let client = u128_of(client)?;
+    let request = u64_of(request)?;
+    let length = decode(word, body)?;
+    Some(Line::Append {
+        client,
+        request,
+        length,
+    })
+}
+
+/// What the line `reply ` with these words behind it says.
+fn reply(words: &[u8], body: &mut [u8]) -> Option<Line>
+    requires { length words.now ≤ 2 * length body.old }
+    ensures found { IfSome result (λ l.
+        Says (codes "reply " ++ words.now) (said_with body.new l)) }
+    ensures none { IfNone result ((op : ℕ) (bytes : List ℕ) →
+        Says (codes "reply " ++ words.now) (Reply op bytes) → ⊥) }
+    ensures size { IfSome result (λ l. body_length l ≤ length body.new) }
+{
+    let (op, word) = cut(words)?;
+    let op = u64_of(op)?;
+    let length = decode(word, body)?;
+    Some(Line::Reply { op, length })
+}
+
+/// What the line `prepare ` with this word behind it says.
+fn prepare(word: &[u8]) -> Option<Line>
+    ensures found { IfSome result (λ l. (body : List ℕ) →
+        Says (codes "prepare " ++ word.now) (said_with body l)) }
+    ensures none { IfNone result ((op : ℕ) →
+        Says (codes "prepare " ++ word.now) (Prepare op) → ⊥) }
+    ensures size { IfSome result (λ l. body_length l ≡ 0) }
+{
+    let op = u64_of(word)?;
+    Some(Line::Prepare { op })
+}
+
+/// What the line `lookup ` with this word behind it says.
+fn lookup(word: &[u8]) -> Option<Line>
+    ensures found { IfSome result (λ l. (body : List ℕ) →
+        Says (codes "lookup " ++ word.now) (said_with body l)) }
+    ensures none { IfNone result ((client : ℕ) →
+        Says (codes "lookup " ++ word.now) (Lookup client) → ⊥) }
+    ensures size { IfSome result (λ l. body_length l ≡ 0) }
+{
+    let client = u128_of(word)?;
+    Some(Line::Lookup { client })
+}
+
+/// Puts the bytes that a body's word stands for at the front of `body`, and says how many they are.
+fn decode(word: &[u8], body: &mut [u8]) -> Option<u64>
+    requires { length word.now ≤ 2 * length body.old }
+    ensures found { IfSome result (λ n. IsBody word.now (take n body.new)) }
+    ensures none { IfNone result ((bytes : List ℕ) → IsBody word.now bytes → ⊥) }
+    ensures size { IfSome result (λ n. n ≤ length body.new) }
+{
+    match word {
+        [] => None,
+        b"-" => Some(0),
+        _ => {
+            let length = word.len() / 2;
+            decode_to_slice(word, &mut body[..length]).ok()?;
+            Some(length as u64)
+        }
+    }
+}

@@ -1,0 +1,301 @@
+// Worked lines, and scripts that come in pieces.
+
+ghost use Rattle.std.specs.Prelude.{None};
+
+use super::*;
+use df_base::{Failed, MemorySource, Source};
+use df_layout::Layout;
+use std::process::Abort;
+use std::test::Fail;
+
+/// Three lines. The second is as long as a reader for 64 bytes takes, and the last has no byte 10.
+const SCRIPT: &[u8] = b"append 4 1 -\n\
+    append 55 1 000102030405060708090a0b0c0d0e0f10111213141516171819\n\
+    append 6 2 ff";
+
+const LONG_BODY: &[u8] = &[
+    0, 1, 2, 3, 4, 5, 6, 7, 8, 9, 10, 11, 12, 13, 14, 15, 16, 17, 18, 19, 20, 21, 22, 23, 24, 25,
+];
+
+#[test]
+fn script_lines_are_read_with_their_bodies(rt: HostRuntime) {
+    one_meaning();
+    let rows = [
+        (b"append 5 1 -".as_slice(), append(5, 1, 0), b"".as_slice()),
+        (b"append 0 0 00", append(0, 0, 1), b"\x00"),
+        (b"append 10 90 aBcDeF", append(10, 90, 3), b"\xab\xcd\xef"),
+        (
+            b"append 340282366920938463463374607431768211455 18446744073709551615 7f",
+            append(u128::MAX, u64::MAX, 1),
+            b"\x7f",
+        ),
+        (b"reply 1 aa", Line::Reply { op: 1, length: 1 }, b"\xaa"),
+        (b"reply 0 -", Line::Reply { op: 0, length: 0 }, b""),
+        (
+            b"reply 18446744073709551615 0102",
+            Line::Reply {
+                op: u64::MAX,
+                length: 2,
+            },
+            b"\x01\x02",
+        ),
+        (b"prepare 2", Line::Prepare { op: 2 }, b""),
+        (
+            b"prepare 18446744073709551615",
+            Line::Prepare { op: u64::MAX },
+            b"",
+        ),
+        (b"lookup 5", Line::Lookup { client: 5 }, b""),
+        (
+            b"lookup 340282366920938463463374607431768211455",
+            Line::Lookup { client: u128::MAX },
+            b"",
+        ),
+    ];
+    for (line, want, bytes) in rows {
+        let mut body = [9u8; 40];
+        assert!(rt; line.len() <= 80);
+        assert_eq!(rt; parse(line, &mut body), Some(want));
+        assert!(rt; bytes.len() <= body.len());
+        assert_eq!(rt; &body[..bytes.len()], bytes);
+    }
+}
+
+fn append(client: u128, request: u64, length: u64) -> Line {
+    Line::Append {
+        client,
+        request,
+        length,
+    }
+}
+
+#[test]
+fn other_lines_are_refused(rt: HostRuntime) {
+    let lines = [
+        b"".as_slice(),
+        b"append".as_slice(),
+        b"append ".as_slice(),
+        b"append 5 1".as_slice(),
+        b"append 5 1 ".as_slice(),
+        b"append 5  -".as_slice(),
+        b"append 5 01 -".as_slice(),
+        b"append 00 1 -".as_slice(),
+        b"append 340282366920938463463374607431768211456 1 -".as_slice(),
+        b"append 5 18446744073709551616 -".as_slice(),
+        b"append 5 1 abc".as_slice(),
+        b"append 5 1 ag".as_slice(),
+        b"append 5 1 --".as_slice(),
+        b"append  5 1 -".as_slice(),
+        b"append 5 1  -".as_slice(),
+        b"append 5 1 - ".as_slice(),
+        b"append 5 1 - -".as_slice(),
+        b" append 5 1 -".as_slice(),
+        b"Append 5 1 -".as_slice(),
+        b"append +5 1 -".as_slice(),
+        b"append 5 -1 -".as_slice(),
+        b"append\t5 1 -".as_slice(),
+        b"append 5 1 -\r".as_slice(),
+        b"reply".as_slice(),
+        b"reply 1".as_slice(),
+        b"reply 1 ".as_slice(),
+        b"reply  -".as_slice(),
+        b"reply 01 -".as_slice(),
+        b"reply 18446744073709551616 -".as_slice(),
+        b"reply 1 a".as_slice(),
+        b"reply 1 - -".as_slice(),
+        b"prepare".as_slice(),
+        b"prepare ".as_slice(),
+        b"prepare 02".as_slice(),
+        b"prepare 18446744073709551616".as_slice(),
+        b"prepare 2 -".as_slice(),
+        b"prepare  2".as_slice(),
+        b"lookup ".as_slice(),
+        b"lookup 340282366920938463463374607431768211456".as_slice(),
+        b"lookup 5 ".as_slice(),
+        b"lookup -".as_slice(),
+        b"step".as_slice(),
+        b"block 1 aa".as_slice(),
+    ];
+    for line in lines {
+        let mut body = [0u8; 40];
+        assert!(rt; line.len() <= 80);
+        assert_eq!(rt; parse(line, &mut body), None);
+    }
+}
+
+#[test]
+fn numbers_are_read_up_to_their_width(rt: HostRuntime) {
+    let rows = [
+        (b"0".as_slice(), Some(0), Some(0), Some(0)),
+        (b"10", Some(10), Some(10), Some(10)),
+        (
+            b"4294967295",
+            Some(u32::MAX),
+            Some(4_294_967_295),
+            Some(4_294_967_295),
+        ),
+        (b"4294967296", None, Some(1 << 32), Some(1 << 32)),
+        (
+            b"18446744073709551615",
+            None,
+            Some(u64::MAX),
+            Some(18_446_744_073_709_551_615),
+        ),
+        (b"18446744073709551616", None, None, Some(1 << 64)),
+        (
+            b"340282366920938463463374607431768211455",
+            None,
+            None,
+            Some(u128::MAX),
+        ),
+        (b"340282366920938463463374607431768211456", None, None, None),
+        (b"", None, None, None),
+        (b"00", None, None, None),
+        (b"07", None, None, None),
+        (b"+7", None, None, None),
+        (b"-7", None, None, None),
+        (b" 7", None, None, None),
+        (b"7 ", None, None, None),
+        (b"7a", None, None, None),
+    ];
+    for (digits, small, middle, large) in rows {
+        assert_eq!(rt; u32_of(digits), small);
+        assert_eq!(rt; u64_of(digits), middle);
+        assert_eq!(rt; u128_of(digits), large);
+    }
+}
+
+#[test]
+fn a_script_is_read_in_pieces_of_any_size(rt: HostRuntime) -> Result<(), Fail> {
+    for piece in [1, 2, 7, 64, 65, 1000] {
+        let mut source = Drip {
+            source: MemorySource::new(SCRIPT.to_vec(rt.alloc())?, Vec::new(rt.alloc())),
+            piece,
+            ended: 0,
+        };
+        let mut room = LineRoom::with_bound(rt.alloc(), 64)?;
+        expect_line(&rt, &mut room, &mut source, 4, 1, b"")?;
+        expect_line(&rt, &mut room, &mut source, 55, 1, LONG_BODY)?;
+        expect_line(&rt, &mut room, &mut source, 6, 2, b"\xff")?;
+        assert_eq!(rt; room.next(&mut source), Ok(Next::End));
+        assert_eq!(rt; room.next(&mut source), Ok(Next::End));
+        assert_eq!(rt; source.ended, 1);
+    }
+    Ok(())
+}
+
+#[test]
+fn a_failed_read_loses_nothing(rt: HostRuntime) -> Result<(), Fail> {
+    let mut source = MemorySource::new(SCRIPT.to_vec(rt.alloc())?, [1, 3].to_vec(rt.alloc())?);
+    let mut room = LineRoom::with_bound(rt.alloc(), 64)?;
+    assert_eq!(rt; room.next(&mut source), Err(Failed));
+    expect_line(&rt, &mut room, &mut source, 4, 1, b"")?;
+    assert_eq!(rt; room.next(&mut source), Err(Failed));
+    expect_line(&rt, &mut room, &mut source, 55, 1, LONG_BODY)?;
+    expect_line(&rt, &mut room, &mut source, 6, 2, b"\xff")?;
+    assert_eq!(rt; room.next(&mut source), Ok(Next::End));
+    Ok(())
+}
+
+#[test]
+fn a_line_past_the_bound_is_refused(rt: HostRuntime) -> Result<(), Fail> {
+    let line = b"append 555 1 000102030405060708090a0b0c0d0e0f10111213141516171819";
+    for ending in [
+        b"".as_slice(),
+        b"\n".as_slice(),
+        b"\nappend 6 1 -\n".as_slice(),
+    ] {
+        let mut text = b"append 4 1 -\n".to_vec(rt.alloc())?;
+        text.extend_from_slice(line)?;
+        text.extend_from_slice(ending)?;
+        let mut source = MemorySource::new(text, Vec::new(rt.alloc()));
+        let mut room = LineRoom::with_bound(rt.alloc(), 64)?;
+        expect_line(&rt, &mut room, &mut source, 4, 1, b"")?;
+        assert_eq!(rt; room.next(&mut source), Ok(Next::Refused));
+        assert_eq!(rt; room.next(&mut source), Ok(Next::Refused));
+    }
+    Ok(())
+}
+
+#[test]
+fn an_empty_line_is_refused_and_an_empty_script_ends(rt: HostRuntime) -> Result<(), Fail> {
+    for (text, want) in [
+        (b"".as_slice(), Next::End),
+        (b"\n".as_slice(), Next::Refused),
+    ] {
+        let mut source = MemorySource::new(text.to_vec(rt.alloc())?, Vec::new(rt.alloc()));
+        let mut room = LineRoom::with_bound(rt.alloc(), 64)?;
+        assert_eq!(rt; room.next(&mut source), Ok(want));
+    }
+    Ok(())
+}
+
+fn expect_line<S: Source>(
+    rt: &impl Abort,
+    room: &mut LineRoom,
+    source: &mut S,
+    client: u128,
+    request: u64,
+    bytes: &[u8],
+) -> Result<(), Failed> {
+    let length = bytes.len() as u64;
+    let want = Line::Append {
+        client,
+        request,
+        length,
+    };
+    let next = room.next(source)?;
+    assert_eq!(rt; next, Next::Line(want));
+    let Next::Line(Line::Append { length, .. }) = next else {
+        return Err(Failed);
+    };
+    assert_eq!(rt; room.body(length), bytes);
+    Ok(())
+}
+
+/// Hands over the bytes of another source in small pieces, and counts how often that had ended.
+#[derive(Drop)]
+struct Drip {
+    source: MemorySource,
+    piece: usize,
+    ended: u64,
+}
+
+impl Source for Drip {
+    ghost left = { λ _. None };
+
+    ghost faults = { λ s. ⟦<MemorySource as Source>⟧.faults s.source };
+
+    fn read(&mut self, into: &mut [u8]) -> Result<usize, Failed> {
+        let room = into.len().min(self.piece.max(1));
+        let count = self.source.read(&mut into[..room])?;
+        if count == 0 {
+            self.ended = self.ended.saturating_add(1);
+        }
+        Ok(count)
+    }
+}
+
+#[test]
+fn a_room_is_as_large_as_the_layout_asks(rt: HostRuntime) -> Result<(), Fail> {
+    let mut line = b"reply 1 ".to_vec(rt.alloc())?;
+    for _ in 0..16_412u32 {
+        line.extend_from_slice(b"ab")?;
+    }
+    for (more, taken) in [(0u32, true), (1, false)] {
+        let mut text = line.as_slice().to_vec(rt.alloc())?;
+        for _ in 0..more {
+            text.extend_from_slice(b"ab")?;
+        }
+        let mut source = MemorySource::new(text, Vec::new(rt.alloc()));
+        let mut room = LineRoom::reserve(rt.alloc(), &Layout::small())?;
+        let next = room.next(&mut source)?;
+        let want = Line::Reply {
+            op: 1,
+            length: 16_412,
+        };
+        assert_eq!(rt; next == Next::Line(want), taken);
+        assert_eq!(rt; next == Next::Refused, !taken);
+    }
+    Ok(())
+}
