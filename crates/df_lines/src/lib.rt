@@ -1,6 +1,8 @@
 //! The lines of a script: their grammar, and their reading in pieces through one buffer.
 #![tactic(auto)]
 
+#[cfg(test)]
+mod grammar_tests;
 mod line;
 mod meaning;
 mod next;
