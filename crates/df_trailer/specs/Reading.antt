@@ -1,5 +1,7 @@
 -- What a reader keeps of a text, and what fails in that.
-use Rattle.std.specs.Prelude.{◌≡◌, ℕ, ◌+◌, ◌-◌, ◌*◌, ◌/◌, ◌^◌, ◌<◌, ◌≤◌, ◌==◌, nat_lt, nat_le, Bool, true, not, List, [], ◌∷◌, ◌++◌, length, Option, slice_index}
+use Rattle.std.specs.Prelude.{◌≡◌, ℕ, ◌+◌, ◌-◌, ◌*◌, ◌/◌, ◌^◌, ◌<◌, ◌≤◌, ◌==◌, nat_lt, nat_le, Bool, true, not, if◌then◌else◌, List, [], ◌∷◌, ◌++◌, length, Option, Some, None, slice_index}
+use Rattle.std.specs.Int.{bit_at}
+use Rattle.df_base.specs.Fields.{field_at}
 use Rattle.df_layout.specs.declared.layout.Layout as file
 use Rattle.df_layout.specs.declared.fields.Field.TheVariants.{TrailerBits, TrailerEnd}
 use Rattle.df_theory.specs.Units.{Layout}
@@ -48,6 +50,19 @@ checks_room r = listed (byte_in_checks r.parts.checks.items) (16 * r.layout.bloc
 -- what fails in what a reader keeps
 abbrev pub failing_in : Reader → Option Failing
 failing_in r = failing_of (layout_of r.layout) r.op r.front.head.items (bits_room r) r.behind
+
+-- an address of the grid has a bit
+abbrev pub HasBit : Reader → ℕ → Type 0
+HasBit r address = (1 ≤ address) × (address ≤ r.layout.blocks)
+
+-- how many addresses below one are referenced, by the bits that a reader keeps
+abbrev pub referenced_below : Reader → ℕ → ℕ
+referenced_below r address = ones (bits_of (address - 1) (bits_in (bits_room r)))
+
+-- what a reader keeps of the block at an address: its checksum stands behind those of the lower ones
+abbrev pub kept_at : Reader → ℕ → Option ℕ
+kept_at r address =
+    if bit_at (bits_in (bits_room r)) (address - 1) == 1 then Some (field_at 16 (16 * referenced_below r address) (checks_room r)) else None
 
 -- how many bytes a reader took
 abbrev pub bytes_read : Reader → ℕ

@@ -1,16 +1,18 @@
 // The reader of a text that comes in pieces. It keeps what it needs of the text and nothing else: the head, the bits and the checksums.
-ghost use Rattle.std.specs.Prelude.{◌≡◌, ◌≢◌, ◌↔◌, ◌++◌, IsOk, ◌+◌, ◌-◌, ◌*◌, ◌/◌, ◌<◌, ◌≤◌, ◌^◌, ℕ, List, Option, [], None, length, vec_len};
+ghost use Rattle.std.specs.Prelude.{◌≡◌, ◌≢◌, ◌↔◌, ◌++◌, IsOk, IfSome, IfNone, ◌+◌, ◌-◌, ◌*◌, ◌/◌, ◌<◌, ◌≤◌, ◌^◌, ℕ, List, Option, [], None, get_or, length, vec_len};
 ghost use Rattle.df_layout.specs.declared.layout.Layout.{Layout as FileLayout};
 ghost use Rattle.df_units.specs.Meaning.{layout_of};
 ghost use Rattle.df_trailer.specs.Rooms.{byte_in_checks, byte_in_words};
 ghost use Rattle.df_trailer.specs.Text.{answer, fault_in, refusal_in};
 
 use crate::behind::{put_bits, put_checks};
+use crate::bitmap::is_set;
 use crate::fault::{Cause, Failing};
 use crate::front::Front;
 use crate::parts::{root_in, sessions_in, spread};
 use crate::rest::failing_rest;
 use crate::{Fault, Parts};
+use df_base::Check;
 use df_layout::Layout;
 
 /// A reader of one text.
@@ -49,10 +51,18 @@ fn fault_of(failing: Option<Failing>) -> Result<(), Fault>
     }
 }
 
+/// The checksum with a number.
+fn check_at(checks: &[Check], number: u64) -> Check
+    requires { number < length checks.now }
+    ensures { result ≡ get_or checks.now number [] }
+{
+    checks[number as usize]
+}
+
 impl Reader {
-    ghost use Rattle.df_trailer.specs.Rooms.{AreParts};
+    ghost use Rattle.df_trailer.specs.Rooms.{AreParts, number_in};
     ghost use Rattle.df_trailer.specs.Text.{fault, parts_of, refusal};
-    ghost use Rattle.df_trailer.specs.Reading.{HasRead, IsRestTaken, bytes_read, failing_in};
+    ghost use Rattle.df_trailer.specs.Reading.{HasBit, HasRead, IsRestTaken, bytes_read, failing_in, kept_at, referenced_below};
 
     /// A reader that was fed nothing, of the trailer of a checkpoint of this op.
     pub fn new(layout: Layout, op: u64, parts: Parts) -> Reader
@@ -142,6 +152,24 @@ impl Reader {
         ensures whole { IsOk result ↔ (failing_in self.now ≡ None) }
     {
         fault_of(self.failing())
+    }
+
+    /// The checksum of the block at an address of the grid, None exactly where the text doesn't refer to it, once `end` has answered Ok.
+    /// The caller counts how many lower addresses the text refers to: their checksums stand before.
+    pub fn reference(&self, address: u64, before: u64) -> Option<Check>
+        requires inside { HasBit self.now address }
+        requires before { before ≡ referenced_below self.now address }
+        ensures value { number_in result ≡ kept_at self.now address }
+        ensures said { (layout : FileLayout) (op : ℕ) (text : List ℕ) → failing_in self.now ≡ None → HasRead layout op self.now text → number_in result ≡ (parts_of (layout_of layout) text).references address }
+        ensures more { IfSome result (λ check. referenced_below self.now (address + 1) ≡ before + 1) }
+        ensures same { IfNone result (referenced_below self.now (address + 1) ≡ before) }
+        ensures few { before < address }
+    {
+        if is_set(&self.parts.bits, address - 1) {
+            Some(check_at(&self.parts.checks, before))
+        } else {
+            None
+        }
     }
 
     /// The parts of the text, in the rooms that the reader was given, once `end` has answered Ok.

@@ -1,0 +1,45 @@
+-- A block's checksum stands behind those of the lower ones.
+use Rattle.std.proofs.Common.{◌∙◌, ℕ, true, false, [], get_or, refl, sym, ap, arith}
+use Rattle.df_trailer.proofs.Said.{below_few, below_next, inside_of, kept_here, kept_said}
+use Rattle.df_trailer.proofs.reader.Reader.reference.Goals as goal
+
+pub check_at-requires : goal.check_at-requires
+check_at-requires c = let few = below_few c.args.self.now c.args.address c.args.before c.requires.inside c.requires.before in let rows = c.args.self.now.checks_room in omega (arith, c.requires.inside.1, rows, c.deref-then-is_set.ensures.len)
+
+pub returns-then-is_set-clause-value : goal.returns-then-is_set-clause-value
+returns-then-is_set-clause-value c =
+    kept_here c.args.self.now c.args.address c.deref.result.now c.deref-then-is_set.result.now true c.check_at.result c.requires.inside c.deref.ensures.value c.deref-then-is_set.ensures.value
+    (λ bytes h. sym c.if-is_set.true ∙ c.is_set.ensures bytes h)
+    (λ _. c.check_at.ensures ∙ ap (λ (n : ℕ). get_or c.deref-then-is_set.result.now n []) c.requires.before)
+
+pub returns-then-is_set-clause-said : goal.returns-then-is_set-clause-said
+returns-then-is_set-clause-said c = λ layout op text none read.
+    kept_here c.args.self.now c.args.address c.deref.result.now c.deref-then-is_set.result.now true c.check_at.result c.requires.inside c.deref.ensures.value c.deref-then-is_set.ensures.value
+    (λ bytes h. sym c.if-is_set.true ∙ c.is_set.ensures bytes h)
+    (λ _. c.check_at.ensures ∙ ap (λ (n : ℕ). get_or c.deref-then-is_set.result.now n []) c.requires.before)
+    ∙ kept_said layout op text c.args.self.now c.args.address none read c.requires.inside.0 (inside_of layout op text c.args.self.now read c.args.address c.requires.inside)
+
+pub returns-then-is_set-clause-more : goal.returns-then-is_set-clause-more
+returns-then-is_set-clause-more c =
+    below_next c.args.self.now c.args.address c.args.before c.deref.result.now true c.requires.inside c.deref.ensures.value c.requires.before (λ bytes h. sym c.if-is_set.true ∙ c.is_set.ensures bytes h)
+
+pub returns-then-is_set-clause-few : goal.returns-then-is_set-clause-few
+returns-then-is_set-clause-few c = below_few c.args.self.now c.args.address c.args.before c.requires.inside c.requires.before
+
+pub returns-else-is_set-clause-value : goal.returns-else-is_set-clause-value
+returns-else-is_set-clause-value c =
+    kept_here c.args.self.now c.args.address c.deref.result.now c.args.self.now.parts.checks.items false [] c.requires.inside c.deref.ensures.value refl
+    (λ bytes h. sym c.if-is_set.false ∙ c.is_set.ensures bytes h) (λ no. cc)
+
+pub returns-else-is_set-clause-said : goal.returns-else-is_set-clause-said
+returns-else-is_set-clause-said c = λ layout op text none read.
+    kept_here c.args.self.now c.args.address c.deref.result.now c.args.self.now.parts.checks.items false [] c.requires.inside c.deref.ensures.value refl
+    (λ bytes h. sym c.if-is_set.false ∙ c.is_set.ensures bytes h) (λ no. cc)
+    ∙ kept_said layout op text c.args.self.now c.args.address none read c.requires.inside.0 (inside_of layout op text c.args.self.now read c.args.address c.requires.inside)
+
+pub returns-else-is_set-clause-same : goal.returns-else-is_set-clause-same
+returns-else-is_set-clause-same c =
+    below_next c.args.self.now c.args.address c.args.before c.deref.result.now false c.requires.inside c.deref.ensures.value c.requires.before (λ bytes h. sym c.if-is_set.false ∙ c.is_set.ensures bytes h)
+
+pub returns-else-is_set-clause-few : goal.returns-else-is_set-clause-few
+returns-else-is_set-clause-few c = below_few c.args.self.now c.args.address c.args.before c.requires.inside c.requires.before
