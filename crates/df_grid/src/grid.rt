@@ -88,6 +88,13 @@ impl Grid {
         (free, checks, marks, block.into_room(), trailer.into_room())
     }
 
+    /// The layout of the file.
+    pub fn layout(&self) -> Layout
+        ensures { result ≡ self.now.layout }
+    {
+        self.layout
+    }
+
     /// The least address that isn't held, None exactly where all are.
     pub fn next(&self) -> Option<u64>
         ensures next { result ≡ slice_get (free_of self.now) 0 }
