@@ -1,0 +1,55 @@
+// What a checkpoint captured, and how a piece of its trailer's text is written: one block, which refers to the one before.
+ghost use Rattle.std.specs.Prelude.{◌≡◌, ◌≢◌, ◌-◌, ◌≤◌, ◌<◌, ◌^◌, [], length, OnErr, OnOk};
+ghost use Rattle.df_base.specs.Causes.{HasCause};
+ghost use Rattle.df_disk.specs.Adds.{Adds};
+ghost use Rattle.df_theory.specs.Device.{AreSteps};
+ghost use Rattle.df_units.specs.Format.{format_of};
+ghost use Rattle.df_units.specs.Meaning.{block_of, number_of};
+ghost use Rattle.df_grid.specs.Grid.{with_blocks};
+ghost use Rattle.df_grid.specs.Table.{next_written};
+ghost use Rattle.df_grid.specs.Writes.{block_steps, made_events, next_block};
+ghost use Rattle.df_checkpoint.specs.Writing.{piece_in, unit_in};
+
+use arrayvec::ArrayVec;
+use df_base::Failed;
+use df_disk::Disk;
+use df_grid::Grid;
+use df_sessions::Session;
+use df_trailer::piece;
+
+/// What a checkpoint captured beside the grid's blocks, which the grid marks.
+#[derive(Drop)]
+pub struct Capture {
+    /// What the caller of the checkpoint gave: at most 1,024 bytes.
+    pub root: ArrayVec<u8, 1024>,
+    /// The sessions in order of their places.
+    pub sessions: ArrayVec<Session, 64>,
+    /// The superblock's next sequence, 2 to 2^62.
+    pub sequence: u64,
+}
+
+/// Writes the piece with this index of the text of what was captured, without a sync: the running trailer's next block, made in a room
+/// of a block's body. Its index is the number of blocks that are written, below 70. After an error the block is still the next one.
+pub fn write_piece<D: Disk>(
+    disk: &mut D,
+    grid: &mut Grid,
+    capture: &Capture,
+    room: &mut [u8],
+    index: u64,
+) -> Result<(), Failed>
+    requires next { grid.old.blocks.left ≢ [] }
+    requires index { (index ≡ length grid.old.blocks.written) × (index < 70) }
+    requires sequence { (2 ≤ capture.now.sequence) × (capture.now.sequence ≤ 2 ^ 62) }
+    requires room { grid.old.layout.block_size - 256 ≤ length room.old }
+    ensures events { Adds (made_events grid.old.layout (unit_in grid.old capture.now index)) (D.told disk.old) (D.told disk.new) result }
+    ensures steps { AreSteps (format_of grid.old.layout grid.old.cluster) (made_events grid.old.layout (unit_in grid.old capture.now index)) (block_steps (unit_in grid.old capture.now index)) }
+    ensures unit { block_of (unit_in grid.old capture.now index) ≡ next_block grid.old capture.now.sequence (piece_in grid.old capture.now index) (number_of (unit_in grid.old capture.now index).header.checksum) }
+    ensures written { OnOk result (grid.new ≡ with_blocks grid.old (next_written grid.old.blocks (number_of (unit_in grid.old capture.now index).header.checksum))) }
+    ensures failed { OnErr result (grid.new ≡ grid.old) }
+    ensures room { length room.new ≡ length room.old }
+    ensures cause { HasCause (D.faults disk.old) (D.faults disk.new) result }
+{
+    let layout = grid.layout();
+    let size = piece(&layout, &capture.root, &capture.sessions, grid, index, room);
+    grid.write_trailer(disk, index, capture.sequence, &room[..size as usize])
+}

@@ -1,0 +1,58 @@
+// The text of the chain, from its first block to its last one: each is shown again, and its body given to the reader.
+ghost use Rattle.std.specs.Prelude.{◌≡◌, ◌+◌, ◌-◌, ◌*◌, ◌≤◌, ◌<◌, ◌^◌, [], ℕ, length};
+ghost use Rattle.df_grid.specs.Grid.{HasAddress};
+ghost use Rattle.df_trailer.specs.Reading.{HasRead, bytes_read};
+ghost use Rattle.df_checkpoint.specs.Chain.{AreApart, IsBlamed};
+ghost use Rattle.df_checkpoint.specs.Texts.{FeedAnswer, Feeds, TextAnswer, bad_of};
+
+use crate::TrailerFault;
+use crate::links::Link;
+use df_disk::Disk;
+use df_grid::Grid;
+use df_trailer::{Fault, Reader};
+
+// What is refused of the text.
+fn as_bad(answer: Result<(), Fault>) -> Result<(), TrailerFault>
+    ensures { result ≡ bad_of answer }
+{
+    match answer {
+        Ok(()) => Ok(()),
+        Err(fault) => Err(TrailerFault::BadField {
+            field: fault.field,
+            value: u128::from(fault.value),
+        }),
+    }
+}
+
+// Gives the reader the next piece of the text.
+fn feed(reader: &mut Reader, piece: &[u8]) -> Result<(), TrailerFault>
+    requires { bytes_read reader.old + length piece.now < 2 ^ 62 }
+    ensures { Feeds reader.old reader.new piece.now result }
+{
+    as_bad(reader.feed(piece))
+}
+
+// Shows a block of the chain again, and gives its body to the reader.
+fn feed_block<D: Disk>(
+    disk: &mut D,
+    grid: &mut Grid,
+    at: Link,
+    reader: &mut Reader,
+) -> Result<(), TrailerFault>
+    requires inside { HasAddress grid.old at.address }
+    requires small { bytes_read reader.old < 2 ^ 60 }
+    ensures fed { FeedAnswer grid.old (D.told disk.old) at reader.old reader.new result }
+    ensures size { bytes_read reader.new ≤ bytes_read reader.old + 2 ^ 32 }
+    ensures grid { grid.new ≡ grid.old }
+    ensures same { D.told disk.new ≡ D.told disk.old }
+    ensures cause { IsBlamed (D.faults disk.old) (D.faults disk.new) result }
+{
+    match grid.show_trailer(disk, at.reference()) {
+        Ok(Ok(unit)) => feed(reader, unit.body()),
+        Ok(Err(class)) => Err(TrailerFault::Damaged {
+            address: at.address,
+            class,
+        }),
+        Err(_) => Err(TrailerFault::DiskFault),
+    }
+}

@@ -1,0 +1,11 @@
+//! A checkpoint's trailer on the disk: its text is written as a chain of blocks, and read back from the last block of the chain.
+#![tactic(auto)]
+
+mod backwards;
+mod capture;
+mod fault;
+mod forwards;
+mod links;
+
+pub use capture::{Capture, write_piece};
+pub use fault::TrailerFault;

@@ -1,0 +1,132 @@
+// One link of the chain: the block that is asked for, and the reference that it has to the one before.
+ghost use Rattle.std.specs.Prelude.{◌≡◌, ◌+◌, ◌-◌, ◌≤◌, ◌<◌, length, true, false, IfOk, MatchResult};
+ghost use Rattle.df_layout.specs.declared.fields.Field.TheVariants.{TrailerChain};
+ghost use Rattle.df_theory.specs.Shape.{Shape};
+ghost use Rattle.df_theory.specs.Trailer.{piece_size};
+ghost use Rattle.df_units.specs.Meaning.{layout_of};
+ghost use Rattle.df_units.specs.Superblocks.{AreFieldsOf};
+ghost use Rattle.df_grid.specs.Grid.{HasAddress};
+ghost use Rattle.df_checkpoint.specs.Chain.{IsBlamed, LinkAnswer, OfTold, before_of, content_in, is_link};
+
+use crate::TrailerFault;
+use df_base::Check;
+use df_buffers::{Sound, Trailer};
+use df_disk::Disk;
+use df_format::{Header, Reference, SuperFields};
+use df_grid::Grid;
+use df_layout::{Field, Layout};
+
+/// Bytes of a block that aren't body.
+const HEADER: u32 = 256;
+
+/// Where a block of the chain stands, and the checksum that its header has to have; address 0 ends the chain.
+#[derive(Clone, Copy, Debug, PartialEq, Eq, Default)]
+pub(crate) struct Link {
+    pub(crate) address: u64,
+    pub(crate) checksum: Check,
+}
+
+impl Link {
+    /// The block, as the grid is asked for it.
+    pub(crate) fn reference(&self) -> Reference
+        ensures { result ≡ record { address = self.now.address; checksum = self.now.checksum } }
+    {
+        let checksum = self.checksum;
+        Reference {
+            address: self.address,
+            checksum,
+        }
+    }
+}
+
+// Bytes of the piece with an index: a block's body, or what is left for the last one.
+fn piece_size(layout: &Layout, content: &SuperFields, index: u64) -> u64
+    requires { index < 70 }
+    ensures { result ≡ piece_size (layout.now.block_size - 256) content.now.trailer_size index }
+{
+    let room = u64::from(layout.block_size - HEADER);
+    room.min(content.trailer_size.saturating_sub(room * index))
+}
+
+// Whether a trailer block with a body of this size is the link with this index: the checkpoint's sequence, that index, the size of that
+// piece, and but for the first one a block of the grid before it.
+fn is_link(
+    layout: &Layout,
+    content: &SuperFields,
+    index: u64,
+    header: &Header,
+    size: u64,
+) -> bool
+    requires { index < 70 }
+    ensures { result ≡ is_link layout.now content.now index header.now size }
+{
+    let wanted = piece_size(layout, content, index);
+    let before = header.request;
+    header.checkpoint == content.sequence
+        && header.mark == index
+        && size == wanted
+        && (index == 0 || (1 <= before && before <= u64::from(layout.blocks)))
+}
+
+// A block that isn't the link that the chain asks for.
+pub(crate) fn broken(address: u64) -> TrailerFault
+    ensures { result ≡ TrailerFault.BadField TrailerChain address }
+{
+    TrailerFault::BadField {
+        field: Field::TrailerChain,
+        value: u128::from(address),
+    }
+}
+
+// The reference that a block has to the one before, where it is the link with this index.
+fn before_in(
+    unit: &Sound<Trailer>,
+    layout: &Layout,
+    content: &SuperFields,
+    address: u64,
+    index: u64,
+) -> Result<Link, TrailerFault>
+    requires { index < 70 }
+    ensures ok { MatchResult result (λ before. (is_link layout.now content.now index unit.now.unit.header (length unit.now.unit.body) ≡ true) × (before ≡ before_of unit.now.unit))
+        (λ fault. (is_link layout.now content.now index unit.now.unit.header (length unit.now.unit.body) ≡ false) × (fault ≡ TrailerFault.BadField TrailerChain address)) }
+{
+    let header = unit.header();
+    let size = unit.body().len() as u64;
+    if is_link(layout, content, index, header, size) {
+        let checksum = header.parent;
+        Ok(Link {
+            address: header.request,
+            checksum,
+        })
+    } else {
+        Err(broken(address))
+    }
+}
+
+/// The reference before the link with this index, which is asked for at a reference; 0 before the first one.
+pub(crate) fn read_link<D: Disk>(
+    disk: &mut D,
+    content: &SuperFields,
+    grid: &mut Grid,
+    at: Link,
+    index: u64,
+) -> Result<Link, TrailerFault>
+    requires inside { HasAddress grid.old at.address }
+    requires few { index < 70 }
+    requires file { AreFieldsOf grid.old.layout grid.old.cluster content.now }
+    ensures link { (sh : Shape) → sh.layout ≡ layout_of grid.old.layout → OfTold grid.old (D.told disk.old) (λ shown. LinkAnswer sh shown (content_in content.now) index at result) }
+    ensures inside { IfOk result (λ before. 0 < index → HasAddress grid.old before.address) }
+    ensures grid { grid.new ≡ grid.old }
+    ensures same { D.told disk.new ≡ D.told disk.old }
+    ensures cause { IsBlamed (D.faults disk.old) (D.faults disk.new) result }
+{
+    let layout = grid.layout();
+    match grid.show_trailer(disk, at.reference()) {
+        Ok(Ok(unit)) => before_in(unit, &layout, content, at.address, index),
+        Ok(Err(class)) => Err(TrailerFault::Damaged {
+            address: at.address,
+            class,
+        }),
+        Err(_) => Err(TrailerFault::DiskFault),
+    }
+}
