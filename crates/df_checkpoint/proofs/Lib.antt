@@ -1,2 +1,4 @@
 pub mod OneLink
 pub mod Walked
+pub mod Fed
+pub mod Adopted

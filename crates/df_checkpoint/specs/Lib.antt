@@ -1,3 +1,4 @@
 pub mod Chain
 pub mod Writing
 pub mod Texts
+pub mod Adopting

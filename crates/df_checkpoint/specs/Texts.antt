@@ -24,6 +24,8 @@ bad_of (Err f) = Err (BadField f.field f.value)
 pub record Feeds (old new : Reader) (piece : List ℕ) (result : Result (Unit {0}) TrailerFault) : Type 0 where
   pub size : bytes_read new ≡ bytes_read old + length piece
   pub kept : (layout : Layout) (op : ℕ) (text : List ℕ) → HasRead layout op old text → HasRead layout op new (text ++ piece)
+  pub given : Result (Unit {0}) Fault
+  pub is : result ≡ bad_of given
   pub refuses : (layout : Layout) (op : ℕ) (text : List ℕ) → HasRead layout op old text → result ≡ bad_of (answer (refusal (layout_of layout) op (text ++ piece)))
 
 -- the piece is the body of the block that is asked for
@@ -54,6 +56,7 @@ pub record HasText (g : GridState) (told : Option Told) (refs : List Link) (op :
   pub text : List ℕ
   pub has : HasRead g.layout op reader text
   pub whole : failing_in reader ≡ None
+  pub fine : fault (layout_of g.layout) op text ≡ None
   pub is : OfTold g told (λ shown. (chain : List (ℕ × Block)) → Names shown refs chain → text ≡ text_of chain)
 
 -- where the disk tells what it shows, the second reading adds no refusal but the first part of the text that fails
@@ -63,3 +66,8 @@ TextAnswer g told refs op reader (Err (BadField field value)) =
     OfTold g told (λ shown. (chain : List (ℕ × Block)) → Names shown refs chain → fault (layout_of g.layout) op (text_of chain) ≡ Some (record { field = field; value = value }))
 TextAnswer g told refs op reader (Err (Damaged address class)) = OfTold g told (λ shown. (chain : List (ℕ × Block)) → Names shown refs chain → ⊥)
 TextAnswer g told refs op reader (Err DiskFault) = Unit {0}
+
+-- all blocks were read, or the first refusal came before that
+abbrev pub FedAnswer : GridState → Option Told → List Link → ℕ → Reader → Result (Unit {0}) TrailerFault → Type 0
+FedAnswer g told refs op reader (Ok x) = HasReadTo g told refs op (length refs) reader
+FedAnswer g told refs op reader (Err e) = TextAnswer g told refs op reader (Err e)

@@ -1,9 +1,9 @@
 // The text of the chain, from its first block to its last one: each is shown again, and its body given to the reader.
-ghost use Rattle.std.specs.Prelude.{◌≡◌, ◌+◌, ◌-◌, ◌*◌, ◌≤◌, ◌<◌, ◌^◌, [], ℕ, length};
+ghost use Rattle.std.specs.Prelude.{◌≡◌, ◌+◌, ◌-◌, ◌*◌, ◌≤◌, ◌<◌, ◌^◌, [], ℕ, length, get_or};
 ghost use Rattle.df_grid.specs.Grid.{HasAddress};
 ghost use Rattle.df_trailer.specs.Reading.{HasRead, bytes_read};
 ghost use Rattle.df_checkpoint.specs.Chain.{AreApart, IsBlamed};
-ghost use Rattle.df_checkpoint.specs.Texts.{FeedAnswer, Feeds, TextAnswer, bad_of};
+ghost use Rattle.df_checkpoint.specs.Texts.{FeedAnswer, FedAnswer, Feeds, TextAnswer, bad_of};
 
 use crate::TrailerFault;
 use crate::links::Link;
@@ -54,5 +54,59 @@ fn feed_block<D: Disk>(
             class,
         }),
         Err(_) => Err(TrailerFault::DiskFault),
+    }
+}
+
+/// The link that is so many behind the first block of the chain: the links are from the last block to the first.
+pub(crate) fn link_after(blocks: &[Link], done: usize) -> Link
+    requires { done < length blocks.now }
+    ensures { result ≡ get_or blocks.now (length blocks.now - 1 - done) result }
+{
+    blocks[blocks.len() - 1 - done]
+}
+
+// Gives the reader all blocks, from the first to the last.
+fn feed_all<D: Disk>(
+    disk: &mut D,
+    grid: &mut Grid,
+    blocks: &[Link],
+    reader: &mut Reader,
+) -> Result<(), TrailerFault>
+    requires apart { AreApart grid.old blocks.now }
+    requires few { length blocks.now ≤ 70 }
+    requires fresh { bytes_read reader.old ≡ 0 }
+    ensures fed { (op : ℕ) → HasRead grid.old.layout op reader.old [] → FedAnswer grid.old (D.told disk.old) blocks.now op reader.new result }
+    ensures size { bytes_read reader.new < 2 ^ 60 }
+    ensures grid { grid.new ≡ grid.old }
+    ensures same { D.told disk.new ≡ D.told disk.old }
+    ensures cause { IsBlamed (D.faults disk.old) (D.faults disk.new) result }
+{
+    for done in 0..blocks.len() {
+        match feed_block(disk, grid, link_after(blocks, done), reader) {
+            Ok(()) => {}
+            Err(fault) => return Err(fault),
+        }
+    }
+    Ok(())
+}
+
+/// Reads the text of the chain to its end.
+pub(crate) fn read_text<D: Disk>(
+    disk: &mut D,
+    grid: &mut Grid,
+    blocks: &[Link],
+    reader: &mut Reader,
+) -> Result<(), TrailerFault>
+    requires apart { AreApart grid.old blocks.now }
+    requires few { length blocks.now ≤ 70 }
+    requires fresh { bytes_read reader.old ≡ 0 }
+    ensures text { (op : ℕ) → HasRead grid.old.layout op reader.old [] → TextAnswer grid.old (D.told disk.old) blocks.now op reader.new result }
+    ensures grid { grid.new ≡ grid.old }
+    ensures same { D.told disk.new ≡ D.told disk.old }
+    ensures cause { IsBlamed (D.faults disk.old) (D.faults disk.new) result }
+{
+    match feed_all(disk, grid, blocks, reader) {
+        Ok(()) => as_bad(reader.end()),
+        Err(fault) => Err(fault),
     }
 }

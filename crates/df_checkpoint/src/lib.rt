@@ -1,6 +1,7 @@
 //! A checkpoint's trailer on the disk: its text is written as a chain of blocks, and read back from the last block of the chain.
 #![tactic(auto)]
 
+mod adopting;
 mod backwards;
 mod capture;
 mod fault;

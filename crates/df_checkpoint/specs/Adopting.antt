@@ -1,0 +1,65 @@
+-- What the grid holds of a checkpoint that was read.
+use Rattle.std.specs.Prelude.{◌≡◌, ◌+◌, ◌-◌, ◌<◌, ◌≤◌, ℕ, true, List, [], ◌∷◌, map, Option, Some, None, Result, Ok, Err}
+use Rattle.std.specs.List.{range_with_len}
+use Rattle.df_layout.specs.declared.fields.Field.TheVariants.{TrailerChain}
+use Rattle.df_model.specs.Blocks.{Blocks, entries}
+use Rattle.df_model.specs.Work.{is_known}
+use Rattle.df_units.specs.Meaning.{number_of}
+use Rattle.df_trailer.specs.declared.reader.Reader.{Reader}
+use Rattle.df_trailer.specs.Reading.{kept_at, referenced_below}
+use Rattle.df_grid.specs.Grid.{GridState, HasAddress, with_blocks}
+use Rattle.df_checkpoint.specs.declared.links.Link.{Link}
+use Rattle.df_checkpoint.specs.declared.fault.TrailerFault.{TrailerFault}
+use Rattle.df_checkpoint.specs.declared.fault.TrailerFault.TheVariants.{Damaged, BadField, DiskFault}
+use Rattle.df_checkpoint.specs.Chain.{is_among}
+
+-- the referenced blocks at the addresses below one are live and of the durable checkpoint
+abbrev pub blocks_to : (ℕ → Option ℕ) → ℕ → Blocks
+blocks_to said address = record {
+  live = entries said (range_with_len 1 (address - 1));
+  captured = [];
+  written = [];
+  left = [];
+  durable = entries said (range_with_len 1 (address - 1));
+  chain = [];
+}
+
+-- an address with its checksum
+abbrev pub pair_of : Link → ℕ × ℕ
+pair_of link = (link.address, number_of link.checksum)
+
+-- and these are the trailer's blocks, from the last to the first
+abbrev pub chained : Blocks → List Link → Blocks
+chained b refs = record b { chain = map pair_of refs }
+
+-- the layout and the cluster are the same
+pub record SameFile (old new : GridState) : Type 0 where
+  pub layout : new.layout ≡ old.layout
+  pub cluster : new.cluster ≡ old.cluster
+
+-- the block at an address is adopted where it is referenced, or the address is one of the chain's
+abbrev pub LiveStep : GridState → GridState → Reader → List Link → ℕ → Result ℕ ℕ → Type 0
+LiveStep old new reader refs address (Ok count) =
+    (new ≡ with_blocks old (blocks_to (kept_at reader) (address + 1))) × (count ≡ referenced_below reader (address + 1)) × (count ≤ address) × (is_among address refs ≡ true → kept_at reader address ≡ None)
+LiveStep old new reader refs address (Err at) = (at ≡ address) × (is_among address refs ≡ true) × (is_known (kept_at reader address) ≡ true) × SameFile old new
+
+-- the address is one of the chain's and is referenced, and it is the least one
+pub record LiveRefused (g : GridState) (reader : Reader) (refs : List Link) (at : ℕ) : Type 0 where
+  pub inside : HasAddress g at
+  pub chained : is_among at refs ≡ true
+  pub known : is_known (kept_at reader at) ≡ true
+  pub least : (a : ℕ) → HasAddress g a → a < at → is_among a refs ≡ true → kept_at reader a ≡ None
+
+-- all are adopted and no address of the chain is one of theirs, or this is the least one that is
+abbrev pub LiveAnswer : GridState → GridState → Reader → List Link → Result (Unit {0}) ℕ → Type 0
+LiveAnswer old new reader refs (Ok x) =
+    (new ≡ with_blocks old (blocks_to (kept_at reader) (old.layout.blocks + 1))) × ((a : ℕ) → HasAddress old a → is_among a refs ≡ true → kept_at reader a ≡ None)
+LiveAnswer old new reader refs (Err at) = SameFile old new × LiveRefused old reader refs at
+
+-- of any reader: what it keeps is adopted, and none of the chain is referenced, or this is the least one that is
+abbrev pub AdoptAnswer : GridState → GridState → Reader → List Link → Result (Unit {0}) TrailerFault → Type 0
+AdoptAnswer old new reader refs (Ok x) =
+    (new ≡ with_blocks old (chained (blocks_to (kept_at reader) (old.layout.blocks + 1)) refs)) × ((a : ℕ) → HasAddress old a → is_among a refs ≡ true → kept_at reader a ≡ None)
+AdoptAnswer old new reader refs (Err (BadField field value)) = (field ≡ TrailerChain) × (SameFile old new) × LiveRefused old reader refs value
+AdoptAnswer old new reader refs (Err (Damaged address class)) = ⊥
+AdoptAnswer old new reader refs (Err DiskFault) = ⊥
