@@ -3,6 +3,7 @@ use Rattle.std.proofs.Common.{◌≡◌, ℕ, zero, suc, ◌+◌, ◌-◌, ◌<�
 use Rattle.std.specs.Prelude.{if◌then◌else◌}
 use Rattle.std.specs.List.{range_with_len}
 use Rattle.std.proofs.lemmas.Bool.Decides.{nat_tests}
+use Rattle.df_layout.specs.declared.layout.Layout.{Layout}
 use Rattle.df_model.specs.Blocks.{Blocks, entries, entry, is_held_in, sum_at, with_entry}
 use Rattle.df_model.specs.Work.{is_in, is_known}
 use Rattle.df_units.specs.Meaning.{number_of}
@@ -127,3 +128,8 @@ chain_more g h refs done at apart less here is =
     let two : length refs - (done + 1) ≡ length refs - 1 - done = omega arith in
     ap (λ (x : GridState). with_blocks x (adopted x.blocks false at.address (number_of at.checksum))) is
     ∙ ap (λ (k : ℕ). with_blocks g (chained g.blocks (at ∷ drop k refs))) one ∙ ap (λ (l : List Link). with_blocks g (chained g.blocks l)) (sym n.split) ∙ ap (λ (k : ℕ). with_blocks g (chained g.blocks (drop k refs))) (sym two)
+
+-- addresses are apart in each grid of the layout
+pub apart_same : (g h : GridState) (refs : List Link) → h.layout ≡ g.layout → AreApart g refs → AreApart h refs
+apart_same g h [] same apart = tt
+apart_same g h (r ∷ rs) same apart = (subst (λ (l : Layout). (1 ≤ r.address) × (r.address ≤ l.blocks)) (sym same) apart.0, apart.1, apart_same g h rs same apart.2)

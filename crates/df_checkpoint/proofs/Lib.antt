@@ -2,3 +2,5 @@ pub mod OneLink
 pub mod Walked
 pub mod Fed
 pub mod Adopted
+pub mod Complete
+pub mod ReadWhole

@@ -2,3 +2,4 @@ pub mod Chain
 pub mod Writing
 pub mod Texts
 pub mod Adopting
+pub mod Reads

@@ -7,6 +7,8 @@ mod capture;
 mod fault;
 mod forwards;
 mod links;
+mod reading;
 
 pub use capture::{Capture, write_piece};
 pub use fault::TrailerFault;
+pub use reading::read_chain;
