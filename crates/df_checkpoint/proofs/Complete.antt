@@ -25,9 +25,16 @@ use Rattle.df_checkpoint.proofs.Walked.{Whole, names_length}
 links_walked : (sh : Shape) (image : Units) (c : Content) (n : ℕ) (chain : List (ℕ × Block)) (address sum a k : ℕ) → Arrives image chain address sum a k → a ≡ 0 → AreLinks sh c n chain → length chain ≡ n → Links (sh.layout.block_size - 256) c chain address sum
 links_walked sh image c n [] address sum a k arrives ends are all = sym arrives.0 ∙ ends
 links_walked sh image c n (b ∷ bs) address sum a k arrives ends are all =
-    let rest : length bs ≡ are.0 = omega (arith, are.1, all) in
-    (arrives.0, arrives.1, arrives.2, are.2.sequence, are.2.place ∙ sym rest, are.2.size ∙ ap (λ (i : ℕ). piece_size (sh.layout.block_size - 256) c.trailer_size i) (sym rest), arrives.4,
-    links_walked sh image c are.0 bs b.1.before b.1.before_checksum a k arrives.5 ends are.3 rest)
+    let rest : length bs ≡ are.0 = omega (arith, are.1, all) in (
+      arrives.0,
+      arrives.1,
+      arrives.2,
+      are.2.sequence,
+      are.2.place ∙ sym rest,
+      are.2.size ∙ ap (λ (i : ℕ). piece_size (sh.layout.block_size - 256) c.trailer_size i) (sym rest),
+      arrives.4,
+      links_walked sh image c are.0 bs b.1.before b.1.before_checksum a k arrives.5 ends are.3 rest,
+    )
 
 -- the block of an address of the chain is shown there, and the address is among the references
 pub record IsListed (g : GridState) (shown : Shown) (refs : List Link) (a : ℕ) (b : Block) : Type 0 where

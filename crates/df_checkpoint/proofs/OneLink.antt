@@ -140,11 +140,15 @@ link_answer g (Some t) f index at u (Ok before) reads known answers sh same =
       first = λ zeros. ap (λ (l : Link). l.address) answers.1 ∙ obeys.request.1 (link.place ∙ zeros);
     }
 link_answer g (Some t) f index at u (Err e) reads known answers sh same =
-    subst (λ (x : TrailerFault). LinkAnswer sh (shown_of g.layout g.cluster t.shown) (content_in f) index at (Err x)) (sym answers.1) (refl, refl, record {
-      block = block_of u;
-      is = sym reads;
-      broken = λ link. let yes = link_passes g.layout f index u sh same link in let no = answers.0 in cc;
-    })
+    subst (λ (x : TrailerFault). LinkAnswer sh (shown_of g.layout g.cluster t.shown) (content_in f) index at (Err x)) (sym answers.1) (
+      refl,
+      refl,
+      record {
+        block = block_of u;
+        is = sym reads;
+        broken = λ link. let yes = link_passes g.layout f index u sh same link in let no = answers.0 in cc;
+      },
+    )
 
 -- the same, of a copy of the layout, and of the reference that the grid was asked for
 pub link_answers : (g : GridState) (told : Option Told) (f : SuperFields) (index : ℕ) (at : Link) (u : Message) (result : Result Link TrailerFault) (layout : Layout) (r : Reference)

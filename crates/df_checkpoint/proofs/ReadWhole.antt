@@ -1,7 +1,8 @@
 -- A whole chain whose text is read: what the text says of the blocks is what the grid adopts.
-use Rattle.std.proofs.Common.{◌≡◌, ℕ, zero, suc, ◌+◌, ◌-◌, ◌*◌, ◌^◌, ◌<◌, ◌≤◌, Bool, true, Option, Some, None, List, [], ◌∷◌, length, map, min, refl, sym, ap, ◌∙◌, subst, arith, inl, inr}
+use Rattle.std.proofs.Common.{◌≡◌, ℕ, zero, suc, ◌+◌, ◌-◌, ◌*◌, ◌^◌, ◌<◌, ◌≤◌, Bool, true, Option, Some, None, List, [], ◌∷◌, ◌++◌, length, map, min, refl, sym, ap, ◌∙◌, subst, arith, inl, inr, length-append}
 use Rattle.std.specs.Prelude.{◌≢◌, Result, Ok, Err}
 use Rattle.std.specs.List.{range_with_len}
+use Rattle.arrayvec.specs.ArrayVec.{ArrayVec}
 use Rattle.df_disk.specs.Told.{Told}
 use Rattle.df_layout.specs.declared.layout.Layout.{Layout}
 use Rattle.df_format.specs.declared.superblock.SuperFields.{SuperFields}
@@ -19,7 +20,7 @@ use Rattle.df_units.specs.Superblocks.{AreFieldsOf}
 use Rattle.df_units.proofs.Laws.{usable_passes}
 use Rattle.df_trailer.specs.declared.fault.Fault.{Fault}
 use Rattle.df_trailer.specs.declared.reader.Reader.{Reader}
-use Rattle.df_trailer.specs.Reading.{HasRead, failing_in, kept_at}
+use Rattle.df_trailer.specs.Reading.{HasRead, bytes_read, failing_in, kept_at}
 use Rattle.df_trailer.specs.Text.{fault, parse_of, parts_of, unless}
 use Rattle.df_trailer.proofs.Laws.{kept_said}
 use Rattle.df_grid.specs.Grid.{GridState, HasAddress}
@@ -157,3 +158,25 @@ chain_adopted g h None f refs reader result sh same parse fields super named apa
 chain_adopted g h (Some t) f refs reader result sh same parse fields super named apart has text answer =
     let is : text.text ≡ text_of has.chain = text.is has.chain has.names in
     adopt_answered sh g (shown_of g.layout g.cluster t.shown) f refs reader same parse fields super named apart has (subst (λ (l : List ℕ). HasRead g.layout f.op reader l) is text.has) text.whole (subst (λ (l : List ℕ). fault (layout_of g.layout) f.op l ≡ None) is text.fine) h result answer
+
+-- ---- the same, of copies of the grid, of the disk and of the references
+
+-- a reader that was fed nothing has read nothing
+pub fresh_size : (layout : Layout) (op : ℕ) (reader : Reader) → HasRead layout op reader [] → bytes_read reader ≡ 0
+fresh_size layout op reader has =
+    let size = length-append reader.front.head.items has.kept.rest in
+    let none : 0 ≡ length (reader.front.head.items ++ has.kept.rest) = ap (λ (l : List ℕ). length l) has.kept.is in
+    let behind = has.kept.size in
+    omega (arith, size, none, behind)
+
+pub text_same : (g h : GridState) (told tell : Option Told) (refs rs : List Link) (op : ℕ) (old new : Reader) (result : Result (Unit {0}) TrailerFault) → h ≡ g → tell ≡ told → rs ≡ refs
+    → ((op : ℕ) → HasRead h.layout op old [] → TextAnswer h tell rs op new result) → HasRead g.layout op old [] → TextAnswer g told refs op new result
+text_same g h told tell refs rs op old new result one two three text fresh =
+    subst (λ (t : Option Told). TextAnswer g t refs op new result) two (subst (λ (l : List Link). TextAnswer g tell l op new result) three
+    (subst (λ (x : GridState). TextAnswer x tell rs op new result) one (text op (subst (λ (x : GridState). HasRead x.layout op old []) (sym one) fresh))))
+
+pub adopt_same : (g h new : GridState) (refs rs : List Link) (reader : Reader) (result : Result (Unit {0}) TrailerFault) → h ≡ g → rs ≡ refs → AdoptAnswer h new reader rs result → AdoptAnswer g new reader refs result
+adopt_same g h new refs rs reader result one two answer = subst (λ (l : List Link). AdoptAnswer g new reader l result) two (subst (λ (x : GridState). AdoptAnswer x new reader rs result) one answer)
+
+pub found_same : (g : GridState) (told : Option Told) (f e : SuperFields) (result : Result (ArrayVec Link) TrailerFault) (sh : Shape) → e ≡ f → OfTold g told (λ shown. FoundAnswer sh shown (content_in e) result) → OfTold g told (λ shown. FoundAnswer sh shown (content_in f) result)
+found_same g told f e result sh same answer = subst (λ (x : SuperFields). OfTold g told (λ shown. FoundAnswer sh shown (content_in x) result)) same answer

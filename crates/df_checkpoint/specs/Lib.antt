@@ -3,3 +3,4 @@ pub mod Writing
 pub mod Texts
 pub mod Adopting
 pub mod Reads
+pub mod Waiting

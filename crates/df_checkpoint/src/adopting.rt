@@ -75,11 +75,7 @@ fn adopt_chain(grid: &mut Grid, blocks: &[Link])
 
 /// Adopts the checkpoint that was read: the blocks that it references, and those of its chain. It is refused with the least address of the
 /// chain that is referenced, where there is one.
-pub(crate) fn adopt(
-    grid: &mut Grid,
-    reader: &Reader,
-    blocks: &[Link],
-) -> Result<(), TrailerFault>
+pub(crate) fn adopt(grid: &mut Grid, reader: &Reader, blocks: &[Link]) -> Result<(), TrailerFault>
     requires apart { AreApart grid.old blocks.now }
     requires few { length blocks.now ≤ 70 }
     requires bits { (address : ℕ) → 1 ≤ address → address ≤ grid.old.layout.blocks → HasBit reader.now address }

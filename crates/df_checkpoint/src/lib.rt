@@ -8,7 +8,9 @@ mod fault;
 mod forwards;
 mod links;
 mod reading;
+mod waiting;
 
 pub use capture::{Capture, write_piece};
 pub use fault::TrailerFault;
 pub use reading::read_chain;
+pub use waiting::pending;

@@ -50,13 +50,7 @@ fn piece_size(layout: &Layout, content: &SuperFields, index: u64) -> u64
 
 // Whether a trailer block with a body of this size is the link with this index: the checkpoint's sequence, that index, the size of that
 // piece, and but for the first one a block of the grid before it.
-fn is_link(
-    layout: &Layout,
-    content: &SuperFields,
-    index: u64,
-    header: &Header,
-    size: u64,
-) -> bool
+fn is_link(layout: &Layout, content: &SuperFields, index: u64, header: &Header, size: u64) -> bool
     requires { index < 70 }
     ensures { result ≡ is_link layout.now content.now index header.now size }
 {

@@ -15,7 +15,7 @@ pub returns-else-is_among : goal.returns-else-is_among
 returns-else-is_among c = record {
   step = (
     c.adopt.ensures ∙ ap (λ (b : Blocks). with_blocks c.args.grid.now (adopted b true c.args.address (number_of c.in-Some.checksum))) c.requires.blocks
-    ∙ ap (λ (b : Blocks). with_blocks c.args.grid.now b) (live_next (kept_at c.args.reader.now) c.args.address (number_of c.in-Some.checksum) c.requires.inside.0 (sym c.in-Some.ensures.value)),
+        ∙ ap (λ (b : Blocks). with_blocks c.args.grid.now b) (live_next (kept_at c.args.reader.now) c.args.address (number_of c.in-Some.checksum) c.requires.inside.0 (sym c.in-Some.ensures.value)),
     sym c.in-Some.ensures.more,
     omega (arith, c.in-Some.ensures.few),
     λ yes. let no = sym c.is_among.ensures ∙ c.if-is_among.false in absurd (cc),

@@ -11,4 +11,3 @@ adopt-requires-clause-free c =
     subst (λ (r : Reference). IsUnheld c.loop-done.grid r.address) (sym c.reference.ensures)
     (chain_next c.args.grid.now c.loop-done.grid c.args.blocks.now c.loop-done.done c.link_after.result c.requires.apart c.loop-done-test.true c.link_after.ensures c.loop-done.invariant c.requires.none c.requires.free
     (apart_inside c.args.grid.now c.args.blocks.now (length c.args.blocks.now - 1 - c.loop-done.done) c.link_after.result c.requires.apart (omega (arith, c.loop-done-test)) c.link_after.ensures))
-

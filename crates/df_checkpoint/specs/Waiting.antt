@@ -1,0 +1,19 @@
+-- The ops that wait for their replies: each has its session.
+use Rattle.std.specs.Prelude.{◌≡◌, ◌==◌, ◌<◌, ◌≤◌, ℕ, Bool, true, false, List, Option, Some, None}
+use Rattle.std.specs.List.{list_any}
+use Rattle.df_sessions.specs.declared.session.Session.{Session}
+
+-- the op is that of a session
+abbrev pub has_op : ℕ → List Session → Bool
+has_op op sessions = list_any (λ s. s.op == op) sessions
+
+-- the op is above the stored replies, the checkpoint reaches it, and no session has it; each lower one has its session
+pub record IsLeast (sessions : List Session) (replies op n : ℕ) : Type 0 where
+  pub above : replies < n
+  pub reached : n ≤ op
+  pub lacks : has_op n sessions ≡ false
+  pub least : (m : ℕ) → replies < m → m < n → has_op m sessions ≡ true
+
+abbrev pub IsPending : List Session → (replies op : ℕ) → Option ℕ → Type 0
+IsPending sessions replies op None = (n : ℕ) → replies < n → n ≤ op → has_op n sessions ≡ true
+IsPending sessions replies op (Some n) = IsLeast sessions replies op n
