@@ -1,0 +1,10 @@
+//! What the tests of a replica share: files on a disk in memory, calls of a replica as data, and stops within a write.
+#![tactic(auto)]
+
+mod calls;
+mod files;
+mod stops;
+
+pub use calls::{Call, cut_file, cut_making, ops_and_append, ops_of_one, serve, served_file};
+pub use files::{SURVEY_CALLS, found, new_file, open, rooms_of, small_file, strike, survey_small};
+pub use stops::{FATES, Fate, stop};
