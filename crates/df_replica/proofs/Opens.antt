@@ -29,13 +29,13 @@ use Rattle.df_units.proofs.Laws.{all_added, call_ends, chosen_choice, of_places}
 use Rattle.df_model.specs.Codec.{IsCodec}
 use Rattle.df_model.specs.Laws.{IsKeptBy}
 use Rattle.df_model.specs.Work.{Work, checksum_of, checksum_of_op, first_tour, opened, waiting_checksum}
-use Rattle.df_model.proofs.Laws.{opened_kept_law}
+use Rattle.df_model.proofs.Laws.{found_law, opened_kept_law}
 use Rattle.df_superblock.specs.Steps.{repaired}
 use Rattle.df_recovery.specs.declared.file.DataFile.{DataFile}
 use Rattle.df_layout.specs.declared.layout.Layout.{Layout}
 use Rattle.df_replica.specs.Surveying.{TellsSurvey}
 use Rattle.df_replica.specs.Mending.{IsMended, MayOpen, live_state, mending_events, mending_steps, sector_puts, sectors_of}
-use Rattle.df_replica.specs.Serving.{Firm, IsKept, Known, format}
+use Rattle.df_replica.specs.Serving.{Firm, IsKept, Keeps, Known, format}
 use Rattle.df_replica.specs.Opened.{ToldBy}
 use Rattle.df_recovery.specs.State.{Represents, State, shape}
 use Rattle.df_recovery.specs.Surveys.{IsOpened}
@@ -128,6 +128,22 @@ survey_opened layout told before s is parse view may same answer =
     let shown : before.shown ≡ Log.now before.log = λ i sector. may.honest.shows sector i in
     let whole : IsImage before.shown = subst IsImage (sym shown) (now_is_image before.log.start before.log.events may.safe.is_log.start may.safe.is_log.events) in
     subst (λ (l : Layout). IsOpened l before.shown s) (sym same) ((subst (λ (o : Option Told). TellsSurvey layout o (Ok s)) is answer) whole)
+
+-- ---- what an open finds in an image, whatever was done to it
+
+-- the state stands for what the machine begins with, which makes sense
+pub found_keeps : (s : State) (image : Image) (parse : ℕ → List ℕ → Option Units.Parts) (spell : Units.Parts → List ℕ) (view : View) → IsImage image → IsOpened s.file.layout image s → IsCodec (shape s.file parse) spell
+    → IsFound (shape s.file parse) (unit_at s.file.layout s.file.cluster image) view
+    → Keeps (record { parse = parse; spell = spell; grade = Firm }) s (opened (shape s.file parse) (unit_at s.file.layout s.file.cluster image) view) None
+found_keeps s image parse spell view whole is codec found =
+    let sh = shape s.file parse in
+    let units = unit_at s.file.layout s.file.cluster image in
+    let one : is.view ≡ view = one_found_law sh units is.view view (is.found parse) found in
+    let choice = chosen_choice s.file.layout s.file.cluster image view.checkpoint.content whole found.chosen in (
+      found_law sh spell units view codec (record { version = refl; names = ap (λ (c : Units.Content). c.reply_checksums) (sym choice.1) })
+          (of_places s.file.layout s.file.cluster s.file.named parse image whole) found,
+      subst (λ (v : View). Represents sh spell s (opened sh units v)) one (is.stands parse spell),
+    )
 
 -- a state is kept as a live one
 pub live_kept : (c : Known) (s : State) (w : Work) (log : Log.Log) → IsKept c s w log → IsKept c (live_state s) w log

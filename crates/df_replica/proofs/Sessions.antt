@@ -73,7 +73,7 @@ grow (e ∷ new) entry mid P one two =
     (grow new entry mid P one (λ log moment. two log (record { since = moment.since; until = extends_add e (record { start = mid.start; events = new ++ mid.events }) log moment.until })))
     (two (record { start = mid.start; events = e ∷ new ++ mid.events }) (record { since = (e ∷ new, refl, refl); until = extends_self _ }))
 
-joined : (entry mid exit : Log) (P : Log → Type 0) → Extends exit mid → EachMoment entry mid P → EachMoment mid exit P → EachMoment entry exit P
+pub joined : (entry mid exit : Log) (P : Log → Type 0) → Extends exit mid → EachMoment entry mid P → EachMoment mid exit P → EachMoment entry exit P
 joined entry mid exit P later one two =
     let same : exit ≡ record { start = mid.start; events = later.0 ++ mid.events } = same_log exit (record { start = mid.start; events = later.0 ++ mid.events }) later.1 later.2 in
     subst (λ (l : Log). EachMoment entry l P) (sym same) (grow later.0 entry mid P one (subst (λ (l : Log). EachMoment mid l P) same two))
@@ -124,7 +124,7 @@ pub nothing_is_served : NothingIsServed
 nothing_is_served s told live = record { file = refl; live = live; answered = λ c w k. (refl, k); kept_on = λ c w k. (midway_now s told c w k, k) }
 
 -- what was kept goes on being kept where no log is told
-keeps_alone : (c : Known) (s : State) (w : Work) (told : Option Told) → Keeps c s w told → Keeps c s w None
+pub keeps_alone : (c : Known) (s : State) (w : Work) (told : Option Told) → Keeps c s w told → Keeps c s w None
 keeps_alone c s w None k = k
 keeps_alone c s w (Some t) k = let k_is : IsKept c s w t.log = k in ((firmly c s w t.log k_is).sense, k_is.stands)
 
