@@ -77,13 +77,13 @@ pub record MayReplyNext (s : State) (size : ℕ) : Type 0 where
   pub waits : s.replies < s.head
   pub fits : 256 + size ≤ s.file.layout.message_size
 
--- what a reply answers, with the state after it and what the disk then tells: exact for a checksum and for each refusal, and after a fault the replica isn't live
+-- what a reply answers, with the state after it and what the disk then tells: exact for a checksum and for each refusal; after a fault the replica isn't live, and nothing else in memory moved
 abbrev pub IsReply : (op : ℕ) → List ℕ → (s t : State) → (old new : Option Told) → Result (List ℕ) ReplyError → Type 0
 IsReply op body s t old new (Ok check) =
     let u = next_reply s body in
     (first_refusal (reply_refusals (memory s) op body) ≡ None) × (check ≡ u.header.checksum) × (t ≡ replied s u.header) × (new ≡ after_all (reply_events s u) old)
 IsReply op body s t old new (Err reply.DiskFault) =
-    (first_refusal (reply_refusals (memory s) op body) ≡ None) × (t.live ≡ false) × AddsPart (reply_events s (next_reply s body)) old new
+    (first_refusal (reply_refusals (memory s) op body) ≡ None) × (t ≡ record s { live = false }) × AddsPart (reply_events s (next_reply s body)) old new
 IsReply op body s t old new (Err e) = (first_refusal (reply_refusals (memory s) op body) ≡ Some e) × (t ≡ s) × (new ≡ old)
 
 -- the count of faults rose where the disk is blamed, and is the same at every other answer

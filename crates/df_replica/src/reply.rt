@@ -1,6 +1,6 @@
 // The reply of a replica: the next reply is made in its room, and is durable in its client's slot before anything in memory
 // moves on. Replies are stored in order of op.
-ghost use Rattle.std.specs.Prelude.{◌≡◌, ◌<◌, ◌≤◌, ◌+◌, ◌^◌, ℕ, List, length, slice_get, true, Some, IsSome, IfOk, OnOk};
+ghost use Rattle.std.specs.Prelude.{◌≡◌, ◌<◌, ◌≤◌, ◌+◌, ◌^◌, ℕ, List, length, slice_get, true, Some, IsSome, IfOk, OnErr, OnOk};
 ghost use Rattle.df_base.specs.Causes.{HasCause};
 ghost use Rattle.df_disk.specs.Adds.{Adds};
 ghost use Rattle.df_layout.specs.declared.places.Zone.TheVariants.{ClientReplies};
@@ -212,6 +212,7 @@ impl Replica {
         ensures own { IsInOwnSlot self.old.file.layout (next_reply self.old body.now) }
         ensures check { IfOk result (λ check. check ≡ (next_reply self.old body.now).header.checksum) }
         ensures state { OnOk result (self.new ≡ replied self.old (next_reply self.old body.now).header) }
+        ensures kept { OnErr result (self.new ≡ self.old) }
         ensures cause { HasCause (D.faults disk.old) (D.faults disk.new) result }
     {
         let made = self.write_next_reply(disk, body)?;
