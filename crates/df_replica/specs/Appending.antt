@@ -91,13 +91,13 @@ pub record MayNext (s : State) (client asked size : ℕ) : Type 0 where
   pub fits : 256 + size ≤ s.file.layout.message_size
   pub first : s.head ≡ 0 → s.head_checksum ≡ no_checksum
 
--- what an append answers, with the state after it and what the disk then tells: exact for a receipt and for each refusal, and after a fault the replica isn't live
+-- what an append answers, with the state after it and what the disk then tells: exact for a receipt and for each refusal, and after a fault the replica isn't live, and nothing in memory but the table of headers moved
 abbrev pub IsAppend : (client request : ℕ) → List ℕ → (s t : State) → (old new : Option Told) → Result Receipt AppendError → Type 0
 IsAppend client request body s t old new (Ok receipt) =
     let u = next_unit s client request body in
     (first_refusal (append_refusals (memory s) client request body) ≡ None) × (receipt ≡ receipt_of u.header) × (t ≡ appended s u) × (new ≡ after_all (append_events s u) old)
 IsAppend client request body s t old new (Err append.DiskFault) =
-    (first_refusal (append_refusals (memory s) client request body) ≡ None) × (t.live ≡ false) × AddsPart (append_events s (next_unit s client request body)) old new
+    (first_refusal (append_refusals (memory s) client request body) ≡ None) × (t ≡ record s { live = false; headers = t.headers }) × AddsPart (append_events s (next_unit s client request body)) old new
 IsAppend client request body s t old new (Err e) = (first_refusal (append_refusals (memory s) client request body) ≡ Some e) × (t ≡ s) × (new ≡ old)
 
 -- the count of faults rose where the disk is blamed, and is the same at every other answer

@@ -1,6 +1,6 @@
 // The append of a replica: the next prepare is made in its room, and is durable, with its header, before anything in memory
 // moves on.
-ghost use Rattle.std.specs.Prelude.{◌≡◌, ◌≤◌, ◌+◌, ℕ, List, length, true, IsSome, IfOk, OnOk};
+ghost use Rattle.std.specs.Prelude.{◌≡◌, ◌≤◌, ◌+◌, ℕ, List, length, true, IsSome, IfOk, OnErr, OnOk};
 ghost use Rattle.df_base.specs.Causes.{HasCause};
 ghost use Rattle.df_disk.specs.Adds.{Adds};
 ghost use Rattle.df_layout.specs.declared.places.Zone.TheVariants.{WalPrepares};
@@ -152,6 +152,7 @@ impl Replica {
         ensures own { IsInOwnSlot self.old.file.layout (next_unit self.old client request body.now) }
         ensures header { IfOk result (λ h. h ≡ (next_unit self.old client request body.now).header) }
         ensures state { OnOk result (self.new ≡ with_header self.old (next_unit self.old client request body.now)) }
+        ensures kept { OnErr result (self.new ≡ record self.old { headers = self.new.headers }) }
         ensures cause { HasCause (D.faults disk.old) (D.faults disk.new) result }
     {
         let header = self.header_given(client, request, body);
@@ -189,6 +190,7 @@ impl Replica {
         ensures own { IsInOwnSlot self.old.file.layout (next_unit self.old client request body.now) }
         ensures receipt { IfOk result (λ r. r ≡ receipt_of (next_unit self.old client request body.now).header) }
         ensures state { OnOk result (self.new ≡ appended self.old (next_unit self.old client request body.now)) }
+        ensures kept { OnErr result (self.new ≡ record self.old { headers = self.new.headers }) }
         ensures cause { HasCause (D.faults disk.old) (D.faults disk.new) result }
     {
         let made = self.write_next(disk, client, request, body)?;
