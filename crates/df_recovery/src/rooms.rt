@@ -7,6 +7,7 @@ use df_format::{Header, Kind};
 use df_headers::HeaderTable;
 use df_journal::SlotTable;
 use df_layout::{Class, Layout, Mend};
+use df_places::Shelf;
 use df_replies::ReplyTable;
 use std::alloc::Global;
 
@@ -17,8 +18,8 @@ pub struct Rooms {
     // The rooms that copies of the superblock are read into and made in.
     pub superblock: ProbeRoom,
     pub sector: Raw<HeaderSector>,
-    pub prepare: Raw<Prepare>,
-    pub reply: Raw<Reply>,
+    pub prepare: Shelf<Prepare>,
+    pub reply: Shelf<Reply>,
     // What the header ring shows or is to show, what a scan saw of both rings, and of the reply slots.
     pub headers: HeaderTable,
     pub slots: SlotTable,
@@ -101,8 +102,8 @@ impl Rooms {
             layout: *layout,
             superblock,
             sector,
-            prepare,
-            reply,
+            prepare: Shelf::over(*layout, prepare),
+            reply: Shelf::over(*layout, reply),
             headers,
             slots,
             replies,

@@ -15,6 +15,7 @@ use df_disk::Disk;
 use df_format::Super;
 use df_journal::{Start, scan};
 use df_layout::{Field, Layout};
+use df_places::Shelf;
 use df_quorum::Slot;
 use df_superblock::read_all;
 
@@ -130,12 +131,19 @@ fn scan_rings<D: Disk>(disk: &mut D, start: &Start, rooms: Rooms) -> (Rooms, Res
         replies,
         mends,
     } = rooms;
-    let (prepare, done) = scan(disk, &layout, start, &mut slots, &mut sector, prepare);
+    let (prepare, done) = scan(
+        disk,
+        &layout,
+        start,
+        &mut slots,
+        &mut sector,
+        prepare.into_room(),
+    );
     let rooms = Rooms {
         layout,
         superblock,
         sector,
-        prepare,
+        prepare: Shelf::over(layout, prepare),
         reply,
         headers,
         slots,
@@ -164,13 +172,13 @@ fn scan_replies<D: Disk>(disk: &mut D, cluster: u128, rooms: Rooms) -> (Rooms, R
         mut replies,
         mends,
     } = rooms;
-    let (reply, done) = replies.scan(disk, &layout, cluster, reply);
+    let (reply, done) = replies.scan(disk, &layout, cluster, reply.into_room());
     let rooms = Rooms {
         layout,
         superblock,
         sector,
         prepare,
-        reply,
+        reply: Shelf::over(layout, reply),
         headers,
         slots,
         replies,

@@ -1,4 +1,9 @@
 pub mod OneContent
+pub mod ReadCalls
+pub mod ReadFinds
+pub mod LookupSessions
+pub mod LookupFinds
+pub mod LookupCalls
 pub mod TwoCopies
 pub mod Safe
 pub mod FirstSuper

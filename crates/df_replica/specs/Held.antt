@@ -1,6 +1,7 @@
 -- The rooms that a replica holds: a call takes them out while it works, and puts them back.
-use Rattle.std.specs.Prelude.{◌≡◌, List, [], Option, Some, None}
+use Rattle.std.specs.Prelude.{◌≡◌, List, [], Option, Some, None, IsSome}
 use Rattle.df_format.specs.declared.header.Header.{Header}
+use Rattle.df_buffers.specs.Sounds.{Holding}
 use Rattle.df_recovery.specs.declared.file.DataFile.{DataFile}
 use Rattle.df_recovery.specs.declared.rooms.Rooms.{Rooms}
 
@@ -13,3 +14,22 @@ headers_of (Some rooms) = rooms.headers
 abbrev pub AreFor : DataFile → Option Rooms → Type 0
 AreFor file None = ⊥
 AreFor file (Some rooms) = rooms.layout ≡ file.layout
+
+-- the room of a prepare holds one
+abbrev pub HoldsPrepare : Option Rooms → Type 0
+HoldsPrepare None = ⊥
+HoldsPrepare (Some rooms) = IsSome rooms.prepare.held
+
+-- and lends it
+abbrev pub LendsPrepare : Option Rooms → Holding → Type 0
+LendsPrepare None lent = ⊥
+LendsPrepare (Some rooms) lent = rooms.prepare.held ≡ Some lent
+
+-- so it is with the room of a reply
+abbrev pub HoldsReply : Option Rooms → Type 0
+HoldsReply None = ⊥
+HoldsReply (Some rooms) = IsSome rooms.reply.held
+
+abbrev pub LendsReply : Option Rooms → Holding → Type 0
+LendsReply None lent = ⊥
+LendsReply (Some rooms) lent = rooms.reply.held ≡ Some lent

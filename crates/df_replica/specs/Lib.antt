@@ -11,6 +11,8 @@ pub mod Refusing
 pub mod Appending
 pub mod Answering
 pub mod Replying
+pub mod Reading
+pub mod Lookups
 pub mod Supply
 pub mod Session
 pub mod Opened

@@ -5,9 +5,10 @@ use Rattle.df_units.specs.Meaning.{number_of}
 use Rattle.df_model.specs.Commands.{Advance, Append, Begin, Command, Given, ReadBlock, ReadPrepare, ReadReply, Recent, Release, Reply, Scrub, WriteBlock}
 use Rattle.df_recovery.specs.State.{State}
 use Rattle.df_replica.specs.Appending.{next_unit}
+use Rattle.df_replica.specs.Reading.{IsFoundBy}
 use Rattle.df_replica.specs.Replying.{next_reply}
 
--- the checksum is that of the unit which the call makes
+-- the checksum is that of the unit which the call makes; the message is what a read finds at its place
 abbrev pub IsSupplied : State → Option Told → Command → Given → Type 0
 IsSupplied s told (Append client request body) given = given.checksum ≡ number_of (next_unit s client request body).header.checksum
 IsSupplied s told (Reply op body) given = given.checksum ≡ number_of (next_reply s body).header.checksum
@@ -15,8 +16,8 @@ IsSupplied s told (WriteBlock kind body) given = Unit {0}
 IsSupplied s told (Release address) given = Unit {0}
 IsSupplied s told (Begin root) given = Unit {0}
 IsSupplied s told Advance given = Unit {0}
-IsSupplied s told (ReadPrepare op) given = Unit {0}
-IsSupplied s told (ReadReply client) given = Unit {0}
+IsSupplied s told (ReadPrepare op) given = (given.checksum ≡ 0) × IsFoundBy s (ReadPrepare op) told given.message
+IsSupplied s told (ReadReply client) given = (given.checksum ≡ 0) × IsFoundBy s (ReadReply client) told given.message
 IsSupplied s told (ReadBlock address) given = Unit {0}
 IsSupplied s told Scrub given = Unit {0}
 IsSupplied s told (Recent place) given = Unit {0}

@@ -27,6 +27,7 @@ use df_disk::Disk;
 use df_format::{Header, Kind};
 use df_journal::append;
 use df_model::{AppendError, Receipt};
+use df_places::Shelf;
 
 // What stands in place of a checksum that is set later.
 const NO_CHECKSUM: [u8; 16] = [0; 16];
@@ -65,14 +66,14 @@ fn append_in<D: Disk>(
         replies,
         mends,
     } = rooms;
-    let unit = prepare.make(header, body);
+    let unit = prepare.into_room().make(header, body);
     let made = *unit.header();
     let done = append(disk, &layout, &unit, &mut headers, &mut sector);
     let rooms = Rooms {
         layout,
         superblock,
         sector,
-        prepare: unit.loosen(),
+        prepare: Shelf::over(layout, unit.loosen()),
         reply,
         headers,
         slots,

@@ -6,10 +6,12 @@ mod content_laws;
 mod first;
 mod first_copies;
 mod following;
+mod lookup;
 mod making;
 mod mended;
 mod mending;
 mod opened;
+mod reading;
 mod refusing;
 mod replica;
 mod reply;
@@ -21,7 +23,9 @@ pub use content_laws::{
     choices_have_two_members, copies_are_apart, copies_format, events_are_of_file, safe_stays_safe,
     stop_stays_safe, two_copies_stay_chosen, untouched_is_safe,
 };
-pub use df_model::{AppendError, FormatError, OpenError, Receipt, ReplyError};
+pub use df_model::{
+    AppendError, FormatError, LookupError, OpenError, PrepareError, Receipt, ReplyError,
+};
 pub use df_recovery::{
     DataFile, Found, Rooms, file_is_read, found_is_answer, one_answer, probe, read_superblock,
     state_is_opened, stored_is_kept, super_is_written, survey_superblock,

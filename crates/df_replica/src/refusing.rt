@@ -4,10 +4,10 @@ ghost use Rattle.std.specs.List.{position};
 ghost use Rattle.df_sessions.specs.Requests.{session_of};
 ghost use Rattle.df_sessions.specs.Table.{has_client};
 ghost use Rattle.df_model.specs.Memory.{Memory};
-ghost use Rattle.df_model.specs.Refusals.{append_refusals, first_refusal, reply_refusals, session_of_client};
+ghost use Rattle.df_model.specs.Refusals.{append_refusals, first_refusal, prepare_refusals, reply_refusals, session_of_client};
 ghost use Rattle.df_replica.specs.Refusing.{AreCounters, session_at};
 
-use df_model::{AppendError, ReplyError};
+use df_model::{AppendError, PrepareError, ReplyError};
 use df_sessions::{Session, SessionTable};
 
 /// The numbers that refusals go by.
@@ -111,4 +111,19 @@ pub(crate) fn reply_refusal(counters: &Counters, op: u64, size: u64) -> Option<R
         });
     }
     None
+}
+
+// Why a prepare isn't read.
+pub(crate) fn prepare_refusal(counters: &Counters, op: u64) -> Option<PrepareError>
+    requires order { counters.now.op ≤ counters.now.head }
+    requires head { counters.now.head ≤ 2 ^ 62 }
+    ensures { (m : Memory) → AreCounters m counters.now → result ≡ first_refusal (prepare_refusals m op) }
+{
+    if counters.op < op && op <= counters.head {
+        return None;
+    }
+    Some(PrepareError::NotKept {
+        first: counters.op + 1,
+        last: counters.head,
+    })
 }

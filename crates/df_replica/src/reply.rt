@@ -26,6 +26,7 @@ use df_base::{Check, Failed};
 use df_disk::Disk;
 use df_format::{Header, Kind};
 use df_model::ReplyError;
+use df_places::Shelf;
 use df_replies::write_reply;
 use df_sessions::{Session, SessionTable};
 
@@ -61,7 +62,7 @@ fn place_of_op(table: &SessionTable, op: u64) -> u64
 }
 
 // A checksum is one.
-fn as_check(check: Check) -> Check
+pub(crate) fn as_check(check: Check) -> Check
     ensures value { result ≡ check }
     ensures check { IsCheck check }
 {
@@ -105,7 +106,7 @@ fn reply_in<D: Disk>(
         replies,
         mends,
     } = rooms;
-    let unit = reply.make(header, body);
+    let unit = reply.into_room().make(header, body);
     let made = *unit.header();
     let done = write_reply(disk, &layout, &unit);
     let rooms = Rooms {
@@ -113,7 +114,7 @@ fn reply_in<D: Disk>(
         superblock,
         sector,
         prepare,
-        reply: unit.loosen(),
+        reply: Shelf::over(layout, unit.loosen()),
         headers,
         slots,
         replies,

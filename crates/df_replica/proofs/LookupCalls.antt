@@ -1,0 +1,146 @@
+-- Each read of a reply is the machine's: it does nothing to the disk, and what it found is what it was supplied with.
+use Rattle.std.proofs.Common.{◌≡◌, ℕ, ◌^◌, ◌<◌, Bool, true, false, cond, nat_lt, [], Option, Some, None, refl, sym, ◌∙◌, ap, subst, arith}
+use Rattle.std.specs.Prelude.{Result, Ok, Err}
+use Rattle.df_base.specs.Log.{now}
+use Rattle.df_disk.specs.Told.{Told}
+use Rattle.df_layout.specs.declared.damage.Class.{Class}
+use Rattle.df_format.proofs.Laws.{some-eq}
+use Rattle.df_format.specs.declared.kind.Kind.TheVariants.{Reply}
+use Rattle.df_format.specs.Message.{Message}
+use Rattle.df_format.specs.Own.{place_in}
+use Rattle.df_buffers.specs.Sounds.{Holding}
+use Rattle.df_layout.specs.declared.places.Place.{Place}
+use Rattle.df_units.specs.Meaning.{message_of}
+use Rattle.df_layout.specs.declared.places.Zone.TheVariants.{ClientReplies}
+use Rattle.df_journal.specs.Append.{ShowsRing}
+use Rattle.df_theory.specs.Units
+use Rattle.df_model.specs.After as after
+use Rattle.df_model.specs.After.{shown_or}
+use Rattle.df_model.specs.Codec.{IsChecksum}
+use Rattle.df_model.specs.Commands.{Given, IsInput, ReadReply, ToReadReply}
+use Rattle.df_model.specs.Memory.{Memory}
+use Rattle.df_model.specs.Memory as memory
+use Rattle.df_model.specs.Refusals.{first_refusal, is_new, last_op, lookup_refusals, session_of_client}
+use Rattle.df_model.specs.declared.reading.LookupError.{LookupError}
+use Rattle.df_model.specs.declared.reading.LookupError.TheVariants as lookup
+use Rattle.df_recovery.specs.State.{State, memory, reply_sum as known_sum}
+use Rattle.df_replica.specs.Answering.{Gives, ServesRead, read_reply_answer}
+use Rattle.df_replica.specs.declared.lookup.Stored.{Stored}
+use Rattle.df_replica.specs.Lookups.{HoldsKnown, IsReadReply, IsStoredFor, ReplyBlames, Tells, place_for, reply_found, reply_leaves, reply_shown}
+use Rattle.df_replica.specs.Reading.{IsFoundBy, IsKnownUnit}
+use Rattle.df_replica.specs.Supply.{IsSupplied}
+use Rattle.df_replica.proofs.LookupFinds.{reply_found_by, reply_known, reply_lacks_by}
+use Rattle.df_replica.proofs.Calls.{AreCalls, Answered, answered_call, stopped_call}
+
+zero_sum : (given : Given) → given.checksum ≡ 0 → IsChecksum given.checksum
+zero_sum given zero = subst IsChecksum (sym zero) (let small : 0 < 2 ^ 128 = omega arith in small)
+
+module _ (s : State) (client : ℕ) (live : s.live ≡ true) where
+  calls : (given : Given) → AreCalls given (ReadReply client) s []
+  calls given c w t k = record { steps = []; are = tt; does = refl }
+
+  input : (told : Option Told) (given : Given) → IsSupplied s told (ReadReply client) given → IsInput given (ReadReply client)
+  input told given supplied = record { checksum = zero_sum given supplied.0; fields = tt }
+
+  answered : (given : Given) (answer : Result Units.Message LookupError) → after.lookup_answer (memory s) given.message client ≡ answer → Answered given (ReadReply client) s s [] (ToReadReply answer)
+  answered given answer same = record {
+    file = refl;
+    live = live;
+    stands = λ c w work rep. (ap ToReadReply (sym same) ∙ ap (λ (m : Memory). ToReadReply (after.lookup_answer m given.message client)) rep, rep);
+    ring = λ c w a b k all. subst (λ (x : Told). ShowsRing s.file.layout s.file.cluster (now x.log) s.headers) (sym (some-eq all)) k.ring;
+  }
+
+  answers : (told : Option Told) (found : Option (Result Units.Message Class)) (answer : Result Units.Message LookupError)
+      → ((given : Given) → IsSupplied s told (ReadReply client) given → Gives told found given → after.lookup_answer (memory s) given.message client ≡ answer)
+      → ServesRead (ReadReply client) s s told found (Some (ToReadReply answer))
+  answers told found answer same given supplied gives =
+      answered_call given (ReadReply client) s [] (input told given supplied) (calls given) s (ToReadReply answer) (answered given answer (same given supplied gives)) told told supplied refl
+
+  message_is : (told : Option Told) (m : Result Units.Message Class) → IsFoundBy s (ReadReply client) told m → (given : Given) → IsSupplied s told (ReadReply client) given → Gives told (Some m) given → given.message ≡ m
+  message_is None m by given supplied gives = gives
+  message_is (Some t) m by given supplied gives = supplied.1 ∙ sym by
+
+  -- a refusal
+  pub lookup_refused : (told : Option Told) (e : LookupError) → first_refusal (lookup_refusals (memory s) client) ≡ Some e → ServesRead (ReadReply client) s s told None (Some (ToReadReply (Err e)))
+  lookup_refused told e some = answers told None (Err e) (λ given supplied gives. ap (λ (o : Option LookupError). shown_or o (lookup.Damaged (place_in ClientReplies (place_for s client))) given.message) some)
+
+  -- what was found
+  pub lookup_serves : (told : Option Told) (m : Result Units.Message Class) → first_refusal (lookup_refusals (memory s) client) ≡ None → IsFoundBy s (ReadReply client) told m
+      → ServesRead (ReadReply client) s s told (Some m) (Some (ToReadReply (shown_or None (lookup.Damaged (place_in ClientReplies (place_for s client))) m)))
+  lookup_serves told m none by = answers told (Some m) (shown_or None (lookup.Damaged (place_in ClientReplies (place_for s client))) m) (λ given supplied gives.
+      ap (λ (o : Option LookupError). shown_or o (lookup.Damaged (place_in ClientReplies (place_for s client))) given.message) none
+      ∙ ap (λ (r : Result Units.Message Class). shown_or None (lookup.Damaged (place_in ClientReplies (place_for s client))) r) (message_is told m by given supplied gives))
+
+  -- a fault
+  pub lookup_stopped : (told : Option Told) (t : State) → t.live ≡ false → ServesRead (ReadReply client) s t told None None
+  lookup_stopped told t dead given supplied gives = stopped_call given (ReadReply client) s [] (input told given supplied) (calls given) t told told supplied dead refl
+
+-- ---- a refusal
+
+-- the two refusals of a read of a reply
+abbrev pub IsRefusal : LookupError → Type 0
+IsRefusal lookup.NoClient = Unit {0}
+IsRefusal (lookup.ReplyPending op) = Unit {0}
+IsRefusal e = ⊥
+
+is_refusal : (s : State) (client : ℕ) (e : LookupError) → first_refusal (lookup_refusals (memory s) client) ≡ Some e → IsRefusal e
+is_refusal s client e some =
+    let session = session_of_client client (memory s).sessions in
+    by (is_new session) (nat_lt s.replies (last_op session)) (last_op session) some
+  where
+    by : (new waits : Bool) (op : ℕ) → cond new (Some lookup.NoClient) (cond waits (Some (lookup.ReplyPending op)) None) ≡ Some e → IsRefusal e
+    by true waits op is = subst IsRefusal (some-eq is) tt
+    by false true op is = subst IsRefusal (some-eq is) tt
+    by false false op is = absurd (cc)
+
+-- what a read answers where it is refused
+pub refused_leaves : (A : Type 0) (s : State) (client : ℕ) (live : s.live ≡ true) (told : Option Told) (e : LookupError) → first_refusal (lookup_refusals (memory s) client) ≡ Some e → s ≡ reply_leaves {A = A} s (Err e)
+refused_leaves A s client live told lookup.NoClient some = refl
+refused_leaves A s client live told (lookup.ReplyPending op) some = refl
+refused_leaves A s client live told (lookup.Damaged place class) some = absurd (is_refusal s client (lookup.Damaged place class) some)
+refused_leaves A s client live told lookup.DiskFault some = absurd (is_refusal s client lookup.DiskFault some)
+
+pub refused_reads : (s : State) (client : ℕ) (live : s.live ≡ true) (told : Option Told) (e : LookupError) → first_refusal (lookup_refusals (memory s) client) ≡ Some e → IsReadReply client s told (Err e)
+refused_reads s client live told lookup.NoClient some = some
+refused_reads s client live told (lookup.ReplyPending op) some = some
+refused_reads s client live told (lookup.Damaged place class) some = absurd (is_refusal s client (lookup.Damaged place class) some)
+refused_reads s client live told lookup.DiskFault some = absurd (is_refusal s client lookup.DiskFault some)
+
+pub refused_serves : (A : Type 0) (s : State) (client : ℕ) (live : s.live ≡ true) (told : Option Told) (e : LookupError) → first_refusal (lookup_refusals (memory s) client) ≡ Some e → ServesRead (ReadReply client) s (reply_leaves {A = A} s (Err e)) told (reply_found (Err e)) (read_reply_answer (Err e))
+refused_serves A s client live told lookup.NoClient some = lookup_refused s client live told lookup.NoClient some
+refused_serves A s client live told (lookup.ReplyPending op) some = lookup_refused s client live told (lookup.ReplyPending op) some
+refused_serves A s client live told (lookup.Damaged place class) some = absurd (is_refusal s client (lookup.Damaged place class) some)
+refused_serves A s client live told lookup.DiskFault some = absurd (is_refusal s client lookup.DiskFault some)
+
+pub refused_blames : (A : Type 0) (s : State) (client : ℕ) (live : s.live ≡ true) (told : Option Told) (e : LookupError) → first_refusal (lookup_refusals (memory s) client) ≡ Some e → (count : ℕ) → ReplyBlames {A = A} count count (Err e)
+refused_blames A s client live told lookup.NoClient some = λ count. refl
+refused_blames A s client live told (lookup.ReplyPending op) some = λ count. refl
+refused_blames A s client live told (lookup.Damaged place class) some = absurd (is_refusal s client (lookup.Damaged place class) some)
+refused_blames A s client live told lookup.DiskFault some = absurd (is_refusal s client lookup.DiskFault some)
+
+-- ---- what was read
+
+-- a unit is lent
+pub record LendsAs (s : State) (client : ℕ) (told : Option Told) (u : Message) : Type 0 where
+  pub exact : IsReadReply client s told (Ok (message_of u))
+  pub known : IsKnownUnit Reply s.file (place_in ClientReplies (place_for s client)) (memory.reply_sum (memory s) (place_for s client)) u
+  pub call : ServesRead (ReadReply client) s s told (Some (Ok (message_of u))) (Some (ToReadReply (Ok (message_of u))))
+
+-- a class is told
+pub record TellsOf (s : State) (client : ℕ) (told : Option Told) (place : Place) (class : Class) : Type 0 where
+  pub exact : IsReadReply client s told (Err (lookup.Damaged place class))
+  pub call : ServesRead (ReadReply client) s s told (Some (Err class)) (Some (ToReadReply (Err (lookup.Damaged place class))))
+
+module _ (s : State) (client : ℕ) (live : s.live ≡ true) (told : Option Told) (stored : Stored) (for : IsStoredFor s client stored) (wrong : Option Class) (held : Option Holding)
+    (known : HoldsKnown Reply s.file (place_in ClientReplies stored.place) (known_sum stored.reply) wrong held) (tells : Tells told (reply_shown s.file stored.place stored.reply) wrong held) where
+  pub lends_as : (h : Holding) → wrong ≡ None → held ≡ Some h → LendsAs s client told h.unit
+  lends_as h is has =
+      let unit = subst (λ (o : Option Holding). HoldsKnown Reply s.file (place_in ClientReplies stored.place) (known_sum stored.reply) None o) has (subst (λ (o : Option Class). HoldsKnown Reply s.file (place_in ClientReplies stored.place) (known_sum stored.reply) o held) is known) in
+      let shown = subst (λ (o : Option Holding). Tells told (reply_shown s.file stored.place stored.reply) None o) has (subst (λ (o : Option Class). Tells told (reply_shown s.file stored.place stored.reply) o held) is tells) in
+      let by = reply_found_by s client stored for told h shown in
+      record { exact = (for.served, by); known = reply_known s client stored for h.unit unit; call = lookup_serves s client live told (Ok (message_of h.unit)) for.served by }
+
+  pub tells_of : (class : Class) (place : Place) → wrong ≡ Some class → place ≡ place_in ClientReplies stored.place → TellsOf s client told place class
+  tells_of class place is there =
+      let by = reply_lacks_by s client stored for told class held (subst (λ (o : Option Class). Tells told (reply_shown s.file stored.place stored.reply) o held) is tells) in
+      subst (λ (p : Place). TellsOf s client told p class) (sym (there ∙ ap (place_in ClientReplies) for.place)) (record { exact = (for.served, refl, by); call = lookup_serves s client live told (Err class) for.served by })

@@ -1,0 +1,145 @@
+-- Each read is the machine's: it does nothing to the disk, and what it found is what it was supplied with.
+use Rattle.std.proofs.Common.{◌≡◌, ℕ, ◌+◌, ◌%◌, ◌^◌, ◌<◌, Bool, true, false, cond, not, ◌&&◌, nat_lt, [], Option, Some, None, refl, sym, ◌∙◌, ap, subst, arith}
+use Rattle.std.specs.Prelude.{Result, Ok, Err, nat_le, slice_get}
+use Rattle.df_base.specs.Log.{now}
+use Rattle.df_disk.specs.Told.{Told}
+use Rattle.df_layout.specs.declared.damage.Class.{Class}
+use Rattle.df_format.proofs.Laws.{some-eq}
+use Rattle.df_format.specs.declared.kind.Kind.TheVariants.{Prepare}
+use Rattle.df_format.specs.Message.{Message}
+use Rattle.df_format.specs.Own.{place_in}
+use Rattle.df_format.specs.Spelling.{IsCheck}
+use Rattle.df_buffers.specs.Sounds.{Holding}
+use Rattle.df_places.specs.Shelves.{HoldsFound, IsFound, IsRead}
+use Rattle.df_layout.specs.declared.places.Place.{Place}
+use Rattle.df_units.specs.Meaning.{message_of}
+use Rattle.df_layout.specs.declared.places.Zone.TheVariants.{WalPrepares}
+use Rattle.df_journal.specs.Append.{ShowsRing}
+use Rattle.df_theory.specs.Units
+use Rattle.df_model.specs.After as after
+use Rattle.df_model.specs.After.{shown_or}
+use Rattle.df_model.specs.Codec.{IsChecksum}
+use Rattle.df_model.specs.Commands.{Given, IsInput, ReadPrepare, ToReadPrepare}
+use Rattle.df_model.specs.Memory.{Memory, prepare_sum}
+use Rattle.df_model.specs.Refusals.{first_refusal, prepare_refusals}
+use Rattle.df_model.specs.declared.reading.PrepareError.{PrepareError}
+use Rattle.df_model.specs.declared.reading.PrepareError.TheVariants as prepare
+use Rattle.df_recovery.specs.State.{State, memory}
+use Rattle.df_replica.specs.Answering.{Gives, ServesRead, read_prepare_answer}
+use Rattle.df_replica.specs.Reading.{IsFoundBy, IsKnownUnit, IsReadPrepare, PrepareBlames, check_in, prepare_found, prepare_leaves, prepare_wanted}
+use Rattle.df_replica.specs.Supply.{IsSupplied}
+use Rattle.df_replica.proofs.ReadFinds.{prepare_found_by, prepare_known, prepare_lacks_by}
+use Rattle.df_replica.proofs.Calls.{AreCalls, Answered, answered_call, stopped_call}
+
+zero_sum : (given : Given) → given.checksum ≡ 0 → IsChecksum given.checksum
+zero_sum given zero = subst IsChecksum (sym zero) (let small : 0 < 2 ^ 128 = omega arith in small)
+
+module _ (s : State) (op : ℕ) (live : s.live ≡ true) where
+  calls : (given : Given) → AreCalls given (ReadPrepare op) s []
+  calls given c w t k = record { steps = []; are = tt; does = refl }
+
+  input : (told : Option Told) (given : Given) → IsSupplied s told (ReadPrepare op) given → IsInput given (ReadPrepare op)
+  input told given supplied = record { checksum = zero_sum given supplied.0; fields = tt }
+
+  answered : (given : Given) (answer : Result Units.Message PrepareError) → after.prepare_answer (memory s) given.message op ≡ answer → Answered given (ReadPrepare op) s s [] (ToReadPrepare answer)
+  answered given answer same = record {
+    file = refl;
+    live = live;
+    stands = λ c w work rep. (ap ToReadPrepare (sym same) ∙ ap (λ (m : Memory). ToReadPrepare (after.prepare_answer m given.message op)) rep, rep);
+    ring = λ c w a b k all. subst (λ (x : Told). ShowsRing s.file.layout s.file.cluster (now x.log) s.headers) (sym (some-eq all)) k.ring;
+  }
+
+  answers : (told : Option Told) (found : Option (Result Units.Message Class)) (answer : Result Units.Message PrepareError)
+      → ((given : Given) → IsSupplied s told (ReadPrepare op) given → Gives told found given → after.prepare_answer (memory s) given.message op ≡ answer)
+      → ServesRead (ReadPrepare op) s s told found (Some (ToReadPrepare answer))
+  answers told found answer same given supplied gives =
+      answered_call given (ReadPrepare op) s [] (input told given supplied) (calls given) s (ToReadPrepare answer) (answered given answer (same given supplied gives)) told told supplied refl
+
+  message_is : (told : Option Told) (m : Result Units.Message Class) → IsFoundBy s (ReadPrepare op) told m → (given : Given) → IsSupplied s told (ReadPrepare op) given → Gives told (Some m) given → given.message ≡ m
+  message_is None m by given supplied gives = gives
+  message_is (Some t) m by given supplied gives = supplied.1 ∙ sym by
+
+  -- a refusal
+  pub prepare_refused : (told : Option Told) (e : PrepareError) → first_refusal (prepare_refusals (memory s) op) ≡ Some e → ServesRead (ReadPrepare op) s s told None (Some (ToReadPrepare (Err e)))
+  prepare_refused told e some = answers told None (Err e) (λ given supplied gives. ap (λ (o : Option PrepareError). shown_or o (prepare.Damaged (place_in WalPrepares (op % s.file.layout.slots))) given.message) some)
+
+  -- what was found
+  pub prepare_serves : (told : Option Told) (m : Result Units.Message Class) → first_refusal (prepare_refusals (memory s) op) ≡ None → IsFoundBy s (ReadPrepare op) told m
+      → ServesRead (ReadPrepare op) s s told (Some m) (Some (ToReadPrepare (shown_or None (prepare.Damaged (place_in WalPrepares (op % s.file.layout.slots))) m)))
+  prepare_serves told m none by = answers told (Some m) (shown_or None (prepare.Damaged (place_in WalPrepares (op % s.file.layout.slots))) m) (λ given supplied gives.
+      ap (λ (o : Option PrepareError). shown_or o (prepare.Damaged (place_in WalPrepares (op % s.file.layout.slots))) given.message) none
+      ∙ ap (λ (r : Result Units.Message Class). shown_or None (prepare.Damaged (place_in WalPrepares (op % s.file.layout.slots))) r) (message_is told m by given supplied gives))
+
+  -- a fault
+  pub prepare_stopped : (told : Option Told) (t : State) → t.live ≡ false → ServesRead (ReadPrepare op) s t told None None
+  prepare_stopped told t dead given supplied gives = stopped_call given (ReadPrepare op) s [] (input told given supplied) (calls given) t told told supplied dead refl
+
+-- ---- a refusal
+
+-- the one refusal of a read of a prepare
+abbrev pub IsNotKept : PrepareError → Type 0
+IsNotKept (prepare.NotKept first last) = Unit {0}
+IsNotKept e = ⊥
+
+not_kept : (s : State) (op : ℕ) (e : PrepareError) → first_refusal (prepare_refusals (memory s) op) ≡ Some e → IsNotKept e
+not_kept s op e some = by (not (nat_lt s.fields.op op && nat_le op s.head)) some
+  where
+    by : (b : Bool) → cond b (Some (prepare.NotKept (s.fields.op + 1) s.head)) None ≡ Some e → IsNotKept e
+    by true is = subst IsNotKept (some-eq is) tt
+    by false is = absurd (cc)
+
+-- what a read answers where it is refused
+pub refused_leaves : (A : Type 0) (s : State) (op : ℕ) (live : s.live ≡ true) (told : Option Told) (e : PrepareError) → first_refusal (prepare_refusals (memory s) op) ≡ Some e → s ≡ prepare_leaves {A = A} s (Err e)
+refused_leaves A s op live told (prepare.NotKept first last) some = refl
+refused_leaves A s op live told (prepare.Damaged place class) some = absurd (not_kept s op (prepare.Damaged place class) some)
+refused_leaves A s op live told prepare.DiskFault some = absurd (not_kept s op prepare.DiskFault some)
+
+pub refused_reads : (s : State) (op : ℕ) (live : s.live ≡ true) (told : Option Told) (e : PrepareError) → first_refusal (prepare_refusals (memory s) op) ≡ Some e → IsReadPrepare op s told (Err e)
+refused_reads s op live told (prepare.NotKept first last) some = some
+refused_reads s op live told (prepare.Damaged place class) some = absurd (not_kept s op (prepare.Damaged place class) some)
+refused_reads s op live told prepare.DiskFault some = absurd (not_kept s op prepare.DiskFault some)
+
+pub refused_serves : (A : Type 0) (s : State) (op : ℕ) (live : s.live ≡ true) (told : Option Told) (e : PrepareError) → first_refusal (prepare_refusals (memory s) op) ≡ Some e → ServesRead (ReadPrepare op) s (prepare_leaves {A = A} s (Err e)) told (prepare_found (Err e)) (read_prepare_answer (Err e))
+refused_serves A s op live told (prepare.NotKept first last) some = prepare_refused s op live told (prepare.NotKept first last) some
+refused_serves A s op live told (prepare.Damaged place class) some = absurd (not_kept s op (prepare.Damaged place class) some)
+refused_serves A s op live told prepare.DiskFault some = absurd (not_kept s op prepare.DiskFault some)
+
+pub refused_blames : (A : Type 0) (s : State) (op : ℕ) (live : s.live ≡ true) (told : Option Told) (e : PrepareError) → first_refusal (prepare_refusals (memory s) op) ≡ Some e → (count : ℕ) → PrepareBlames {A = A} count count (Err e)
+refused_blames A s op live told (prepare.NotKept first last) some = λ count. refl
+refused_blames A s op live told (prepare.Damaged place class) some = absurd (not_kept s op (prepare.Damaged place class) some)
+refused_blames A s op live told prepare.DiskFault some = absurd (not_kept s op prepare.DiskFault some)
+
+-- ---- what was read
+
+abbrev pub place_for : State → ℕ → Place
+place_for s op = place_in WalPrepares (op % s.file.layout.slots)
+
+-- a unit is lent
+pub record LendsAs (s : State) (op : ℕ) (told : Option Told) (u : Message) : Type 0 where
+  pub exact : IsReadPrepare op s told (Ok (message_of u))
+  pub known : IsKnownUnit Prepare s.file (place_for s op) (prepare_sum (memory s) op) u
+  pub call : ServesRead (ReadPrepare op) s s told (Some (Ok (message_of u))) (Some (ToReadPrepare (Ok (message_of u))))
+
+-- a class is told
+pub record TellsOf (s : State) (op : ℕ) (told : Option Told) (place : Place) (class : Class) : Type 0 where
+  pub exact : IsReadPrepare op s told (Err (prepare.Damaged place class))
+  pub call : ServesRead (ReadPrepare op) s s told (Some (Err class)) (Some (ToReadPrepare (Err (prepare.Damaged place class))))
+
+module _ (s : State) (op : ℕ) (live : s.live ≡ true) (told : Option Told) (none : first_refusal (prepare_refusals (memory s) op) ≡ None) (fits : IsCheck (check_in (slice_get s.headers (op % s.file.layout.slots)))) where
+  lends : (h : Holding) → IsFound Prepare (prepare_wanted s.file s.headers op) h.unit → IsRead Prepare (prepare_wanted s.file s.headers op) told None (Some h) → LendsAs s op told h.unit
+  lends h found read =
+      let by = prepare_found_by s op none fits told h found read in
+      record { exact = (none, by); known = prepare_known s op none fits h found; call = prepare_serves s op live told (Ok (message_of h.unit)) none by }
+
+  module _ (wrong : Option Class) (held : Option Holding) (holds : HoldsFound Prepare (prepare_wanted s.file s.headers op) wrong held) (read : IsRead Prepare (prepare_wanted s.file s.headers op) told wrong held) where
+    pub lends_as : (h : Holding) → wrong ≡ None → held ≡ Some h → LendsAs s op told h.unit
+    lends_as h is has =
+        let w = prepare_wanted s.file s.headers op in
+        lends h (subst (λ (o : Option Holding). HoldsFound Prepare w None o) has (subst (λ (o : Option Class). HoldsFound Prepare w o held) is holds))
+        (subst (λ (o : Option Holding). IsRead Prepare w told None o) has (subst (λ (o : Option Class). IsRead Prepare w told o held) is read))
+
+    pub tells_of : (class : Class) (place : Place) → wrong ≡ Some class → place ≡ place_for s op → TellsOf s op told place class
+    tells_of class place is there =
+        let w = prepare_wanted s.file s.headers op in
+        let by = prepare_lacks_by s op none fits told class held (subst (λ (o : Option Class). IsRead Prepare w told o held) is read) in
+        subst (λ (p : Place). TellsOf s op told p class) (sym there) (record { exact = (none, refl, by); call = prepare_serves s op live told (Err class) none by })

@@ -1,0 +1,140 @@
+// The reads of a replica: a unit is lent from the room that it was read into, exactly where its place shows the one that is known.
+ghost use Rattle.std.specs.Prelude.{◌≡◌, ◌<◌, ◌%◌, true, length, slice_get, IfOk};
+ghost use Rattle.std.specs.Borrow.{sem};
+ghost use Rattle.std.specs.Io.BufRead.{Rests};
+ghost use Rattle.df_base.specs.Causes.{HasCause};
+ghost use Rattle.df_layout.specs.declared.places.Zone.TheVariants.{WalPrepares};
+ghost use Rattle.df_format.specs.declared.kind.Kind.TheVariants.{Prepare as AsPrepare};
+ghost use Rattle.df_format.specs.Own.{place_in};
+ghost use Rattle.df_format.specs.Spelling.{IsCheck};
+ghost use Rattle.df_headers.specs.Ring.{IsTable};
+ghost use Rattle.df_model.specs.Commands.{ReadPrepare};
+ghost use Rattle.df_model.specs.Memory.{prepare_sum};
+ghost use Rattle.df_model.specs.Refusals.{first_refusal, prepare_refusals};
+ghost use Rattle.df_places.specs.Shelves.{HoldsFound, IsRead};
+ghost use Rattle.df_recovery.specs.State.{IsState, memory};
+ghost use Rattle.df_replica.specs.Answering.{ServesRead, read_prepare_answer};
+ghost use Rattle.df_replica.specs.Held.{HoldsPrepare, LendsPrepare};
+ghost use Rattle.df_replica.specs.Reading.{IsKnownUnit, IsReadPrepare, PrepareBlames, check_in, in_words, prepare_found, prepare_leaves, prepare_wanted};
+ghost use Rattle.df_replica.specs.contracts.replica.Replica.{the_row};
+
+use crate::refusing::prepare_refusal;
+use crate::{DataFile, Replica, Rooms};
+use df_base::Failed;
+use df_buffers::{Identity, Prepare, Sound, Wanted};
+use df_disk::Disk;
+use df_layout::{Class, Layout, Place, Zone};
+use df_model::PrepareError;
+
+// The place of the prepare of an op.
+fn prepare_place(layout: &Layout, op: u64) -> Place
+    ensures { result ≡ place_in WalPrepares (op % layout.now.slots) }
+{
+    Place {
+        zone: Zone::WalPrepares,
+        index: op % u64::from(layout.slots),
+    }
+}
+
+// The prepare of an op that is kept, with the checksum of the header in its slot.
+fn prepare_wanted(file: &DataFile, rooms: &Rooms, op: u64) -> Identity
+    requires layout { rooms.now.layout ≡ file.now.layout }
+    requires table { IsTable file.now.layout file.now.cluster rooms.now.headers }
+    ensures identity { result ≡ prepare_wanted file.now rooms.now.headers op }
+    ensures check { IsCheck (check_in (slice_get rooms.now.headers (op % file.now.layout.slots))) }
+{
+    let place = prepare_place(&file.layout, op);
+    let header = rooms.headers.get(place.index as u32);
+    Identity {
+        layout: file.layout,
+        cluster: file.cluster,
+        place,
+        wanted: Wanted::Checksum(header.checksum),
+    }
+}
+
+// Reads the slot of an op that is kept: None exactly where its prepare is there, which the room holds then.
+fn load_prepare<D: Disk>(
+    disk: &mut D,
+    file: &DataFile,
+    op: u64,
+    rooms: Rooms,
+) -> (Rooms, Result<Option<Class>, Failed>)
+    requires layout { rooms.layout ≡ file.now.layout }
+    requires table { IsTable file.now.layout file.now.cluster rooms.headers }
+    ensures layout { result.0.layout ≡ rooms.layout }
+    ensures headers { result.0.headers ≡ rooms.headers }
+    ensures check { IsCheck (check_in (slice_get rooms.headers (op % file.now.layout.slots))) }
+    ensures holds { IfOk result.1 (λ wrong. HoldsFound AsPrepare (prepare_wanted file.now rooms.headers op) wrong result.0.prepare.held) }
+    ensures read { IfOk result.1 (λ wrong. IsRead AsPrepare (prepare_wanted file.now rooms.headers op) (D.told disk.old) wrong result.0.prepare.held) }
+    ensures same { D.told disk.new ≡ D.told disk.old }
+    ensures cause { HasCause (D.faults disk.old) (D.faults disk.new) result.1 }
+{
+    let identity = prepare_wanted(file, &rooms, op);
+    let mut rooms = rooms;
+    let loaded = rooms.prepare.load(disk, &identity);
+    (rooms, loaded)
+}
+
+// The prepare that the room holds.
+fn prepare_in(rooms: &Option<Rooms>) -> &Sound<Prepare>
+    requires { HoldsPrepare rooms.now }
+    ensures { LendsPrepare rooms.now result.now }
+{
+    match rooms {
+        Some(rooms) => rooms.prepare.unit(),
+        None => unreachable!(),
+    }
+}
+
+impl Replica {
+    // Why a prepare isn't read.
+    fn prepare_refusal(&self, op: u64) -> Option<PrepareError>
+        ensures why { result ≡ first_refusal (prepare_refusals (memory self.now) op) }
+        ensures state { IsState self.now }
+    {
+        // The state makes sense.
+        let _file = &self.file;
+        prepare_refusal(&self.counters(), op)
+    }
+
+    /// Lends a prepare that is kept, from the room that its slot is read into, by one device call: the ops above the checkpoint's up to
+    /// the head are kept. It is lent exactly where the slot shows the unit whose header the replica knows; else `Damaged` has the
+    /// class of what is shown. After a fault no call may follow.
+    pub fn read_prepare<D: Disk>(
+        &mut self,
+        disk: &mut D,
+        op: u64,
+    ) -> Result<&Sound<Prepare>, PrepareError>
+        requires live { self.old.live ≡ true }
+        ensures* after { sem 𝓛 (Rests the_row self.entry (λ s. s ≡ prepare_leaves self.entry.now result)) }
+        ensures exact { IsReadPrepare op self.old (D.told disk.old) (in_words (λ u. u.now.unit) result) }
+        ensures lent { IfOk result (λ u. IsKnownUnit AsPrepare self.old.file (place_in WalPrepares (op % self.old.file.layout.slots)) (prepare_sum (memory self.old) op) u.now.unit) }
+        ensures call { ServesRead (ReadPrepare op) self.old (prepare_leaves self.old result) (D.told disk.old) (prepare_found (in_words (λ u. u.now.unit) result)) (read_prepare_answer (in_words (λ u. u.now.unit) result)) }
+        ensures same { D.told disk.new ≡ D.told disk.old }
+        ensures cause { PrepareBlames (D.faults disk.old) (D.faults disk.new) result }
+    {
+        if let Some(error) = self.prepare_refusal(op) {
+            return Err(error);
+        }
+        let Some(rooms) = self.rooms.take() else {
+            unreachable!()
+        };
+        let (rooms, loaded) = load_prepare(disk, &self.file, op, rooms);
+        self.rooms = Some(rooms);
+        let wrong = match loaded {
+            Ok(wrong) => wrong,
+            Err(_) => {
+                self.live = false;
+                return Err(PrepareError::DiskFault);
+            }
+        };
+        match wrong {
+            Some(class) => Err(PrepareError::Damaged {
+                place: prepare_place(&self.file.layout, op),
+                class,
+            }),
+            None => Ok(prepare_in(&self.rooms)),
+        }
+    }
+}
