@@ -3,7 +3,7 @@ use Rattle.std.proofs.Common.{◌≡◌, ◌⊎◌, ℕ, ◌-◌, ◌^◌, ◌<�
 use Rattle.std.specs.Prelude.{decimal, codes, Ok}
 use Rattle.hex.specs.Hex.{decode_of}
 use Rattle.df_lines.specs.Grammar.{IsBody, Said, Append, Reply, Prepare, Lookup, Says}
-use Rattle.df_lines.specs.Laws.{OneMeaning, OneText, OneScript}
+use Rattle.df_lines.specs.Laws.{OneMeaning, OneText, OneScript, WholeScript}
 use Rattle.df_lines.specs.Script.{Begins, IsLine, IsRefused}
 use Rattle.df_lines.specs.Text.{line_of, after_line, taken}
 use Rattle.df_lines.proofs.Cutting.{decimal_no_space, one_split}
@@ -94,3 +94,11 @@ same_script bound budget text (a ∷ one) (b ∷ other) left left' rest rest' fi
 
 pub one_script : OneScript
 one_script bound budget text one other first second = same_script bound budget text one other first.left second.left first.rest second.rest first.begins second.begins first.ends second.ends
+
+pub whole_script : WholeScript
+whole_script bound budget text [] left begins = sym begins.1
+whole_script bound budget text (said ∷ more) left begins = (
+  λ none. nothing_said said (subst (λ (t : List ℕ). Says (line_of t) said) none begins.0.says),
+  begins.0.says,
+  whole_script bound (budget - taken text) (after_line text) more left begins.1,
+)
