@@ -1,5 +1,5 @@
 // A line in the making, in a buffer of its own and without taking memory, and its one call of the sink.
-ghost use Rattle.std.specs.Prelude.{◌≡◌, ◌≤◌, ◌+◌, [], ◌∷◌, ◌++◌, length, decimal, IsOk};
+ghost use Rattle.std.specs.Prelude.{◌≡◌, ◌≤◌, ◌+◌, [], ◌++◌, length, decimal, IsOk};
 ghost use Rattle.df_base.specs.Causes.{HasCause};
 ghost use Rattle.df_script_model.specs.Texts.{line_of, numbered, spaced};
 ghost use Rattle.df_inspect.specs.Prints.{Prints};
