@@ -2,3 +2,4 @@ pub mod Written
 pub mod Digits
 pub mod Classes
 pub mod Fronts
+pub mod Laws
