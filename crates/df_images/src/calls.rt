@@ -5,14 +5,14 @@ ghost use Rattle.df_format.specs.Making.{for_body};
 ghost use Rattle.df_format.specs.Own.{own_place};
 ghost use Rattle.df_format.specs.Rules.{ObeysRules};
 
-use crate::files::{open, rooms_of, small_file};
+use crate::files::{format_in, open, rooms_of, small_file};
 use crate::stops::{Fate, stop};
 use df_base::check;
 use df_buffers::{Raw, Reply};
 use df_format::{Header, Kind};
 use df_layout::{Layout, Zone};
 use df_memdisk::MemoryDisk;
-use df_replica::{Replica, format};
+use df_replica::Replica;
 use df_replies::write_reply;
 use df_sessions::Session;
 use std::alloc::Global;
@@ -195,7 +195,7 @@ pub fn cut_making(alloc: Global, number: u64, loose: &[(u16, Fate)]) -> Result<M
     let mut before = MemoryDisk::new(alloc, Vec::new(alloc));
     let mut disk = MemoryDisk::new(alloc, Vec::from_slice(alloc, &[number])?);
     let mut rooms = rooms_of(alloc, &Layout::small())?;
-    if format(&mut disk, &mut rooms, 7).is_ok() {
+    if format_in(&mut disk, &mut rooms, 7).is_ok() {
         return Err("the making isn't stopped".into());
     }
     stop(alloc, disk, &mut before, loose)

@@ -1,14 +1,31 @@
 // Files of cluster 7 on a disk in memory: how they are made, hurt, surveyed and opened. What a call of the replica promises
 // isn't passed on, so that a test's proof doesn't carry it.
-use df_layout::Layout;
+use df_layout::{Layout, Mend};
 use df_memdisk::{MemoryDisk, Strike};
 use df_model::Summary;
-use df_replica::{OpenError, Replica, Rooms, Surveyed, format, survey};
+use df_replica::{FormatError, OpenError, Replica, Rooms, Surveyed, format, survey};
 use std::alloc::Global;
 use std::test::Fail;
 
 /// Device calls of a survey of a small file: a sync, four copies, two header sectors, 32 prepare slots, four reply slots.
 pub const SURVEY_CALLS: u64 = 43;
+
+/// `format`, `survey` and `Replica::open`, of which a caller's proof is told nothing.
+pub fn format_in(
+    disk: &mut MemoryDisk,
+    rooms: &mut Rooms,
+    cluster: u128,
+) -> Result<(), FormatError> {
+    format(disk, rooms, cluster)
+}
+
+pub fn survey_in(disk: &mut MemoryDisk, rooms: Rooms) -> Result<Surveyed, (Rooms, OpenError)> {
+    survey(disk, rooms)
+}
+
+pub fn open_in(disk: &mut MemoryDisk, rooms: Rooms) -> Result<Replica, (Rooms, OpenError)> {
+    Replica::open(disk, rooms)
+}
 
 /// Rooms for a layout.
 pub fn rooms_of(alloc: Global, layout: &Layout) -> Result<Rooms, Fail> {
@@ -22,7 +39,7 @@ pub fn rooms_of(alloc: Global, layout: &Layout) -> Result<Rooms, Fail> {
 pub fn new_file(alloc: Global, layout: &Layout, failing: &[u64]) -> Result<MemoryDisk, Fail> {
     let mut disk = MemoryDisk::new(alloc, Vec::from_slice(alloc, failing)?);
     let mut rooms = rooms_of(alloc, layout)?;
-    match format(&mut disk, &mut rooms, 7) {
+    match format_in(&mut disk, &mut rooms, 7) {
         Ok(()) => Ok(disk),
         Err(_) => Err("the file isn't made".into()),
     }
@@ -47,9 +64,17 @@ pub fn survey_small(
     disk: &mut MemoryDisk,
 ) -> Result<Result<Surveyed, OpenError>, Fail> {
     let rooms = rooms_of(alloc, &Layout::small())?;
-    match survey(disk, rooms) {
+    match survey_in(disk, rooms) {
         Ok(surveyed) => Ok(Ok(surveyed)),
         Err((_, refusal)) => Ok(Err(refusal)),
+    }
+}
+
+/// Whether a survey of a small file lists exactly these.
+pub fn lists(alloc: Global, disk: &mut MemoryDisk, mends: &[Mend]) -> Result<bool, Fail> {
+    match survey_small(alloc, disk)? {
+        Ok(surveyed) => Ok(surveyed.to_mend() == mends),
+        Err(_) => Err("a file that can be mended is refused".into()),
     }
 }
 
@@ -60,7 +85,7 @@ pub fn open(
     layout: &Layout,
 ) -> Result<Result<Replica, OpenError>, Fail> {
     let rooms = rooms_of(alloc, layout)?;
-    match Replica::open(disk, rooms) {
+    match open_in(disk, rooms) {
         Ok(replica) => Ok(Ok(replica)),
         Err((_, refusal)) => Ok(Err(refusal)),
     }

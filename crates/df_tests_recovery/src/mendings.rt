@@ -1,7 +1,9 @@
 // Mendings that are stopped within each of their writes: the file opens again as what it was, and then nothing is left to
 // mend.
-use crate::names::{lists, summary};
-use df_images::{Call, FATES, Fate, SURVEY_CALLS, found, open, serve, small_file, stop, strike};
+use crate::names::summary;
+use df_images::{
+    Call, FATES, Fate, SURVEY_CALLS, found, lists, open, serve, small_file, stop, strike,
+};
 use df_layout::Layout;
 use df_memdisk::MemoryDisk;
 use std::alloc::Global;

@@ -1,11 +1,7 @@
-// What the tests share: places and classes by short names, and what a survey lists.
-use df_images::survey_small;
+// What the tests share: places, classes and summaries by short names.
 use df_layout::{Class, Layout, Mend, Place, Zone};
-use df_memdisk::MemoryDisk;
 use df_model::Summary;
 use df_replica::OpenError;
-use std::alloc::Global;
-use std::test::Fail;
 
 pub(crate) fn place(zone: Zone, index: u64) -> Place {
     Place { zone, index }
@@ -36,13 +32,5 @@ pub(crate) fn summary(sequence: u64, head: u64, replies: u64, sessions: u64) -> 
         replies,
         sessions,
         references: 0,
-    }
-}
-
-/// Whether a survey lists exactly these.
-pub(crate) fn lists(alloc: Global, disk: &mut MemoryDisk, mends: &[Mend]) -> Result<bool, Fail> {
-    match survey_small(alloc, disk)? {
-        Ok(surveyed) => Ok(surveyed.to_mend() == mends),
-        Err(_) => Err("a file that can be mended is refused".into()),
     }
 }

@@ -1,7 +1,7 @@
 // Files behind a stop within a write: the unit that was being written is there, or what was there before, or nothing; each
 // opens, with what is to be mended listed exactly.
-use crate::names::{lists, mend, summary};
-use df_images::{Call, Fate, cut_file, cut_making, found, ops_and_append};
+use crate::names::{mend, summary};
+use df_images::{Call, Fate, cut_file, cut_making, found, lists, ops_and_append};
 use df_layout::{Class, Mend, Zone};
 use df_memdisk::MemoryDisk;
 use df_model::Summary;

@@ -6,19 +6,18 @@ use df_buffers::{HeaderSector, Identity, Raw, Wanted};
 use df_disk::Disk;
 use df_format::{Header, Kind};
 use df_headers::read_sector;
+use df_images::{format_in, rooms_of};
 use df_layout::{Class, Layout, Place, Zone};
 use df_memdisk::MemoryDisk;
-use df_replica::{FormatError, Rooms, format};
+use df_replica::FormatError;
 use std::alloc::Global;
 use std::test::Fail;
 
 type Answer = Result<(), FormatError>;
 
 fn format_small(alloc: Global, disk: &mut MemoryDisk, cluster: u128) -> Result<Answer, Fail> {
-    let Ok(mut rooms) = Rooms::reserve(alloc, &Layout::small()) else {
-        return Err("no memory for the rooms".into());
-    };
-    Ok(format(disk, &mut rooms, cluster))
+    let mut rooms = rooms_of(alloc, &Layout::small())?;
+    Ok(format_in(disk, &mut rooms, cluster))
 }
 
 // The header that the ring of a small file of this cluster shows in a slot.

@@ -1,37 +1,23 @@
 // Small files on a disk in memory that are hurt, opened and mended: the calls and events of a mending, and each failing
 // call.
-use df_disk::Disk;
+use df_images::{open, open_in, rooms_of, small_file, strike, survey_small};
 use df_layout::Layout;
-use df_memdisk::{MemoryDisk, Strike};
-use df_replica::{OpenError, Replica, Rooms, format, survey};
+use df_memdisk::MemoryDisk;
+use df_replica::OpenError;
 use std::alloc::Global;
 use std::test::Fail;
-
-fn rooms_of(alloc: Global) -> Result<Rooms, Fail> {
-    match Rooms::reserve(alloc, &Layout::small()) {
-        Ok(rooms) => Ok(rooms),
-        Err(_) => Err("no memory for the rooms".into()),
-    }
-}
 
 // A disk with a new small file, the work of 15 calls, of which these sectors hold A5 then; one later call may be listed to
 // fail.
 fn hurt_file(alloc: Global, listed: u64, sectors: &[u64]) -> Result<MemoryDisk, Fail> {
-    let failing = Vec::from_slice(alloc, &[listed])?;
-    let mut disk = MemoryDisk::new(alloc, failing);
-    let mut rooms = rooms_of(alloc)?;
-    if format(&mut disk, &mut rooms, 7).is_err() {
-        return Err("the file isn't made".into());
-    }
-    for sector in sectors {
-        disk.strike(*sector, Strike::Fill { byte: 0xa5 })?;
-    }
+    let mut disk = small_file(alloc, listed)?;
+    strike(&mut disk, sectors, 0xa5)?;
     Ok(disk)
 }
 
 // How many places are to be mended.
 fn left_to_mend(alloc: Global, disk: &mut MemoryDisk) -> Result<usize, Fail> {
-    match survey(disk, rooms_of(alloc)?) {
+    match survey_small(alloc, disk)? {
         Ok(surveyed) => Ok(surveyed.to_mend().len()),
         Err(_) => Err("the file is refused".into()),
     }
@@ -40,7 +26,7 @@ fn left_to_mend(alloc: Global, disk: &mut MemoryDisk) -> Result<usize, Fail> {
 // The calls and events of a making and an open that mends what was hurt in between; nothing is left to mend behind it.
 fn open_hurt(alloc: Global, sectors: &[u64]) -> Result<(u64, u64), Fail> {
     let mut disk = hurt_file(alloc, 0, sectors)?;
-    let Ok(replica) = Replica::open(&mut disk, rooms_of(alloc)?) else {
+    let Ok(replica) = open(alloc, &mut disk, &Layout::small())? else {
         return Err("a file that can be mended is refused".into());
     };
     let done = (disk.calls(), disk.events());
@@ -71,12 +57,13 @@ fn what_is_hurt_is_written_once(rt: HostRuntime) -> Result<(), Fail> {
 fn a_mending_that_fails_is_gone_on_with(rt: HostRuntime) -> Result<(), Fail> {
     for listed in 59..65u64 {
         let mut disk = hurt_file(rt.alloc(), listed, &[5, 3, 1])?;
-        let Err((rooms, refusal)) = Replica::open(&mut disk, rooms_of(rt.alloc())?) else {
+        let Err((rooms, refusal)) = open_in(&mut disk, rooms_of(rt.alloc(), &Layout::small())?)
+        else {
             return Err("a failing call is passed over".into());
         };
         assert_eq!(rt; refusal, OpenError::DiskFault, "call {listed}");
         assert_eq!(rt; (rooms.layout(), disk.calls()), (Layout::small(), listed));
-        let Ok(replica) = Replica::open(&mut disk, rooms) else {
+        let Ok(replica) = open_in(&mut disk, rooms) else {
             return Err("the next open is refused".into());
         };
         assert_eq!(rt; replica.close().layout(), Layout::small());
