@@ -12,7 +12,7 @@ use Rattle.df_grid.specs.Table.{adopted}
 use Rattle.df_checkpoint.specs.declared.links.Link.{Link}
 use Rattle.df_checkpoint.specs.Chain.{AreApart, is_among}
 use Rattle.df_checkpoint.specs.Adopting.{blocks_to, chained, pair_of}
-use Rattle.df_checkpoint.proofs.OneLink.{eq_true, no_eq}
+use Rattle.df_checkpoint.proofs.OneLink.{no_eq}
 
 -- blocks that are live and referenced
 abbrev held_by : List (ℕ × ℕ) → Blocks

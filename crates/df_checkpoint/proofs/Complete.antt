@@ -1,5 +1,5 @@
 -- A chain that was walked is whole: its blocks are links from the last to the first, and their bodies are a text of the superblock's size.
-use Rattle.std.proofs.Common.{◌≡◌, ℕ, zero, suc, ◌+◌, ◌-◌, ◌*◌, ◌<◌, ◌≤◌, ◌==◌, ◌||◌, Bool, true, false, Option, Some, None, List, [], ◌∷◌, ◌++◌, length, map, min, refl, sym, ap, ◌∙◌, subst, arith, inl, inr, length-append}
+use Rattle.std.proofs.Common.{◌≡◌, ℕ, suc, ◌+◌, ◌-◌, ◌*◌, ◌≤◌, ◌==◌, ◌||◌, Bool, true, false, Option, Some, None, List, [], ◌∷◌, length, min, refl, sym, ap, ◌∙◌, subst, arith, inl, inr, length-append}
 use Rattle.std.specs.Prelude.{Result, Ok, Err, IfOk}
 use Rattle.std.proofs.lemmas.Bool.Decides.{nat_tests}
 use Rattle.arrayvec.specs.ArrayVec.{ArrayVec}
@@ -17,8 +17,8 @@ use Rattle.df_grid.specs.Reads.{shown_of}
 use Rattle.df_checkpoint.specs.declared.links.Link.{Link}
 use Rattle.df_checkpoint.specs.declared.fault.TrailerFault.{TrailerFault}
 use Rattle.df_checkpoint.specs.declared.fault.TrailerFault.TheVariants.{Damaged, BadField, DiskFault}
-use Rattle.df_checkpoint.specs.Chain.{AreApart, HasChain, Names, OfTold, WalkAnswer, content_in, is_among}
-use Rattle.df_checkpoint.specs.Reads.{FoundAnswer, IsNamed, IsWhole}
+use Rattle.df_checkpoint.specs.Chain.{AreApart, HasChain, Names, OfTold, content_in, is_among}
+use Rattle.df_checkpoint.specs.Reads.{FoundAnswer, IsNamed}
 use Rattle.df_checkpoint.proofs.OneLink.{asked_is}
 use Rattle.df_checkpoint.proofs.Walked.{Whole, names_length}
 

@@ -1,5 +1,5 @@
 -- The text of a chain, as its blocks are shown again from the first to the last.
-use Rattle.std.proofs.Common.{◌≡◌, ℕ, zero, suc, ◌+◌, ◌-◌, ◌<◌, ◌≤◌, Bool, true, false, Option, Some, None, List, [], ◌∷◌, ◌++◌, length, drop, get_or, refl, sym, ap, ◌∙◌, subst, arith, append_assoc, rules}
+use Rattle.std.proofs.Common.{◌≡◌, ℕ, zero, suc, ◌+◌, ◌-◌, ◌<◌, ◌≤◌, Option, Some, None, List, [], ◌∷◌, ◌++◌, length, drop, get_or, refl, sym, ap, ◌∙◌, subst, arith, append_assoc, rules}
 use Rattle.std.specs.Prelude.{◌↔◌, IsOk, Result, Ok, Err}
 use Rattle.df_disk.specs.Told.{Told}
 use Rattle.df_layout.specs.declared.layout.Layout.{Layout}
@@ -11,7 +11,7 @@ use Rattle.df_model.specs.Supply.{Shown}
 use Rattle.df_units.specs.Meaning.{block_of, layout_of, number_of}
 use Rattle.df_trailer.specs.declared.fault.Fault.{Fault}
 use Rattle.df_trailer.specs.declared.reader.Reader.{Reader}
-use Rattle.df_trailer.specs.Reading.{HasRead, bytes_read, failing_in}
+use Rattle.df_trailer.specs.Reading.{HasRead, failing_in}
 use Rattle.df_trailer.specs.Text.{answer, fault, refusal}
 use Rattle.df_trailer.proofs.Laws.{refusal_is_fault, refusal_stays}
 use Rattle.df_grid.specs.Grid.{GridState, HasAddress}
@@ -21,7 +21,7 @@ use Rattle.df_checkpoint.specs.declared.fault.TrailerFault.{TrailerFault}
 use Rattle.df_checkpoint.specs.declared.fault.TrailerFault.TheVariants.{Damaged, BadField, DiskFault}
 use Rattle.df_checkpoint.specs.Chain.{AreApart, IsBlamed, Names, OfTold, asked}
 use Rattle.df_checkpoint.proofs.Walked.{names_length}
-use Rattle.df_checkpoint.specs.Texts.{FeedAnswer, Feeds, HasReadTo, HasText, IsBody, IsFed, TextAnswer, bad_of}
+use Rattle.df_checkpoint.specs.Texts.{FeedAnswer, Feeds, HasReadTo, IsBody, TextAnswer, bad_of}
 
 -- ---- one block
 

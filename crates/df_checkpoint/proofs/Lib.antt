@@ -4,3 +4,4 @@ pub mod Fed
 pub mod Adopted
 pub mod Complete
 pub mod ReadWhole
+pub mod Unreadable

@@ -18,14 +18,14 @@ use Rattle.df_theory.specs.Units.{AnyUnit, Block, BlockPlace, BlockUnit, CopyUni
 use Rattle.df_theory.specs.Shape.{Shape}
 use Rattle.df_theory.specs.Trailer.{piece_size}
 use Rattle.df_theory.specs.Opens.{IsLink}
-use Rattle.df_model.specs.Supply.{Shown, block_given, class_at, given_if, is_sum}
+use Rattle.df_model.specs.Supply.{Shown, block_given, class_at, given_if}
 use Rattle.df_units.specs.Meaning.{block_of, layout_of, number_of}
 use Rattle.df_grid.specs.Grid.{GridState, IsKnownUnit}
 use Rattle.df_grid.specs.Reads.{ReadsTrailer, shown_of, trailer_alone}
 use Rattle.df_checkpoint.specs.declared.links.Link.{Link}
 use Rattle.df_checkpoint.specs.declared.fault.TrailerFault.{TrailerFault}
 use Rattle.df_checkpoint.specs.declared.fault.TrailerFault.TheVariants.{BadField}
-use Rattle.df_checkpoint.specs.Chain.{IsTaken, IsUnlinked, LinkAnswer, OfTold, asked, before_of, content_in, is_link}
+use Rattle.df_checkpoint.specs.Chain.{LinkAnswer, OfTold, asked, before_of, content_in, is_link}
 
 both : (a b : Bool) → (a && b) ≡ true → (a ≡ true) × (b ≡ true)
 both true b is = (refl, is)

@@ -1,5 +1,5 @@
 -- A whole chain whose text is read: what the text says of the blocks is what the grid adopts.
-use Rattle.std.proofs.Common.{◌≡◌, ℕ, zero, suc, ◌+◌, ◌-◌, ◌*◌, ◌^◌, ◌<◌, ◌≤◌, Bool, true, Option, Some, None, List, [], ◌∷◌, ◌++◌, length, map, min, refl, sym, ap, ◌∙◌, subst, arith, inl, inr, length-append}
+use Rattle.std.proofs.Common.{◌≡◌, ℕ, zero, suc, ◌+◌, ◌-◌, ◌*◌, ◌^◌, ◌<◌, ◌≤◌, Option, Some, None, List, [], ◌∷◌, ◌++◌, length, map, min, refl, sym, ap, ◌∙◌, subst, arith, inl, inr, length-append}
 use Rattle.std.specs.Prelude.{◌≢◌, Result, Ok, Err}
 use Rattle.std.specs.List.{range_with_len}
 use Rattle.arrayvec.specs.ArrayVec.{ArrayVec}
@@ -11,7 +11,7 @@ use Rattle.df_format.specs.SuperRules.{IsSuper}
 use Rattle.df_theory.specs.Units as model
 use Rattle.df_theory.specs.Units.{Block, Content, Parts}
 use Rattle.df_theory.specs.Shape.{Shape}
-use Rattle.df_theory.specs.Trailer.{InChain, IsReference, IsTrailer, Says, text_of}
+use Rattle.df_theory.specs.Trailer.{IsReference, Says, text_of}
 use Rattle.df_model.specs.Blocks.{Blocks, entries, entry, pair_of}
 use Rattle.df_model.specs.Supply.{Shown}
 use Rattle.df_model.specs.Work.{is_known}
@@ -30,9 +30,9 @@ use Rattle.df_checkpoint.specs.declared.fault.TrailerFault.{TrailerFault}
 use Rattle.df_checkpoint.specs.declared.fault.TrailerFault.TheVariants.{Damaged, BadField, DiskFault}
 use Rattle.df_checkpoint.specs.Adopting.{AdoptAnswer, LiveRefused}
 use Rattle.df_checkpoint.specs.Adopting as adopting
-use Rattle.df_checkpoint.specs.Chain.{AreApart, Names, OfTold, content_in, is_among}
+use Rattle.df_checkpoint.specs.Chain.{AreApart, Names, OfTold, content_in}
 use Rattle.df_checkpoint.specs.Texts.{HasText, TextAnswer}
-use Rattle.df_checkpoint.specs.Reads.{ChainAnswer, FoundAnswer, IsAdopted, IsNamed, IsReferenced, IsWhole, blocks_read}
+use Rattle.df_checkpoint.specs.Reads.{ChainAnswer, FoundAnswer, IsAdopted, IsNamed, IsReferenced, blocks_read}
 use Rattle.df_checkpoint.proofs.OneLink.{asked_is}
 use Rattle.df_checkpoint.proofs.Walked.{among_there}
 use Rattle.df_checkpoint.proofs.Complete.{chain_listed}

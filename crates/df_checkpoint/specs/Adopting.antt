@@ -1,5 +1,5 @@
 -- What the grid holds of a checkpoint that was read.
-use Rattle.std.specs.Prelude.{◌≡◌, ◌+◌, ◌-◌, ◌<◌, ◌≤◌, ℕ, true, List, [], ◌∷◌, map, Option, Some, None, Result, Ok, Err}
+use Rattle.std.specs.Prelude.{◌≡◌, ◌+◌, ◌-◌, ◌<◌, ◌≤◌, ℕ, true, List, [], map, Option, None, Result, Ok, Err}
 use Rattle.std.specs.List.{range_with_len}
 use Rattle.df_layout.specs.declared.fields.Field.TheVariants.{TrailerChain}
 use Rattle.df_model.specs.Blocks.{Blocks, entries}

@@ -1,11 +1,10 @@
 -- The chain of a checkpoint's trailer: what is asked for, what is shown of it, and where it breaks.
-use Rattle.std.specs.Prelude.{◌≡◌, ◌==◌, ◌&&◌, ◌||◌, ◌<◌, ◌≤◌, ◌+◌, ◌-◌, ℕ, Bool, true, false, nat_le, List, [], ◌∷◌, length, Option, Some, None, Result, Ok, Err}
+use Rattle.std.specs.Prelude.{◌≡◌, ◌==◌, ◌&&◌, ◌||◌, ◌≤◌, ◌+◌, ◌-◌, ℕ, Bool, false, nat_le, List, [], ◌∷◌, length, Option, Some, None, Result, Ok, Err}
 use Rattle.std.specs.List.{list_any}
 use Rattle.arrayvec.specs.ArrayVec.{ArrayVec}
 use Rattle.df_base.specs.Causes.{Rose}
 use Rattle.df_disk.specs.Told.{Told}
 use Rattle.df_layout.specs.declared.damage.Class.{Class}
-use Rattle.df_layout.specs.declared.fields.Field.{Field}
 use Rattle.df_layout.specs.declared.fields.Field.TheVariants.{TrailerChain}
 use Rattle.df_layout.specs.declared.layout.Layout.{Layout}
 use Rattle.df_format.specs.declared.header.Header.{Header}
@@ -14,7 +13,7 @@ use Rattle.df_format.specs.Copies.{content_with}
 use Rattle.df_format.specs.Message.{Message}
 use Rattle.df_theory.specs.Units.{Block, Content}
 use Rattle.df_theory.specs.Shape.{Shape}
-use Rattle.df_theory.specs.Trailer.{IsCount, piece_size}
+use Rattle.df_theory.specs.Trailer.{piece_size}
 use Rattle.df_theory.specs.Opens.{AreLinks, Arrives, IsLink, ReadsTo}
 use Rattle.df_model.specs.Supply.{Shown, block_at}
 use Rattle.df_units.specs.Meaning.{content_of, number_of}

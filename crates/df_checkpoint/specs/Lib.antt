@@ -4,3 +4,4 @@ pub mod Texts
 pub mod Adopting
 pub mod Reads
 pub mod Waiting
+pub mod Laws

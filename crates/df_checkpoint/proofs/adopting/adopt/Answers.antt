@@ -1,5 +1,5 @@
 -- None of the chain is held by the blocks that are referenced.
-use Rattle.std.proofs.Common.{◌≡◌, ◌+◌, ◌∙◌, sym, ap, arith, false}
+use Rattle.std.proofs.Common.{◌+◌, ◌∙◌, ap, arith}
 use Rattle.df_model.specs.Blocks.{is_held_in}
 use Rattle.df_trailer.specs.Reading.{kept_at}
 use Rattle.df_grid.specs.Grid.{GridState}

@@ -1,5 +1,5 @@
 -- A block that is referenced is adopted at a free address.
-use Rattle.std.proofs.Common.{◌≡◌, ℕ, ◌∙◌, sym, ap, true, arith}
+use Rattle.std.proofs.Common.{◌∙◌, sym, ap, true, arith}
 use Rattle.df_model.specs.Blocks.{Blocks}
 use Rattle.df_units.specs.Meaning.{number_of}
 use Rattle.df_trailer.specs.Reading.{kept_at}

@@ -1,5 +1,5 @@
 -- Each step takes the walk one link further.
-use Rattle.std.proofs.Common.{◌≡◌, ◌+◌, ◌-◌, ◌∙◌, length, arith, subst}
+use Rattle.std.proofs.Common.{◌-◌, ◌∙◌, arith, subst}
 use Rattle.df_grid.specs.Grid.{GridState, HasAddress}
 use Rattle.df_checkpoint.specs.Chain.{AreApart}
 use Rattle.df_checkpoint.proofs.Walked.{walk_done, walk_more, walk_refused}

@@ -1,5 +1,5 @@
 -- The links that were read are the last ones of the chain, and the next one is asked for where they end.
-use Rattle.std.proofs.Common.{◌≡◌, ◌<◌, ◌≤◌}
+use Rattle.std.proofs.Common.{◌≡◌, ◌<◌}
 use Rattle.arrayvec.specs.ArrayVec.{array_vec_len}
 use Rattle.df_theory.specs.Shape.{Shape}
 use Rattle.df_units.specs.Meaning.{layout_of}

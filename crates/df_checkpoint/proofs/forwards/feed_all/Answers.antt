@@ -1,5 +1,5 @@
 -- Each block adds its body to the text.
-use Rattle.std.proofs.Common.{◌≡◌, ℕ, ◌+◌, ◌-◌, ◌∙◌, length, refl, sym, arith, subst}
+use Rattle.std.proofs.Common.{◌≡◌, ℕ, ◌-◌, ◌∙◌, length, refl, sym, arith, subst}
 use Rattle.std.specs.Prelude.{Ok, Err}
 use Rattle.df_grid.specs.Grid.{GridState, HasAddress}
 use Rattle.df_checkpoint.specs.Texts.{HasReadTo}

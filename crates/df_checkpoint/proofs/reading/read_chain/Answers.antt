@@ -1,5 +1,5 @@
 -- The chain, the text and what the grid adopts, one behind the other.
-use Rattle.std.proofs.Common.{◌∙◌, sym}
+use Rattle.std.proofs.Common.{◌∙◌}
 use Rattle.std.specs.Prelude.{Err, Ok}
 use Rattle.df_checkpoint.proofs.ReadWhole.{adopt_same, chain_adopted, chain_refused, found_same, fresh_size, text_refused, text_same}
 use Rattle.df_checkpoint.proofs.reading.read_chain.Goals as goal

@@ -1,0 +1,33 @@
+-- What a refusal of a trailer says of the model's checkpoint.
+use Rattle.std.specs.Prelude.{◌≡◌, ◌<◌, ◌≤◌, ◌^◌, ℕ}
+use Rattle.df_layout.specs.declared.damage.Class.{Class}
+use Rattle.df_layout.specs.declared.fields.Field.{Field}
+use Rattle.df_theory.specs.Units.{Content}
+use Rattle.df_theory.specs.Shape.{Shape}
+use Rattle.df_theory.specs.Opens.{IsReadable, IsShown, ReadsTo}
+use Rattle.df_theory.specs.View.{Checkpoint}
+use Rattle.df_model.specs.Supply.{Shown}
+use Rattle.df_trailer.specs.Text.{parse_of}
+use Rattle.df_checkpoint.specs.Chain.{IsBroken, IsLacking}
+use Rattle.df_checkpoint.specs.Reads.{IsBadText, IsReferenced}
+
+-- a block that is wanted and not shown
+pub record IsMissed (sh : Shape) (shown : Shown) (c : Content) (a : ℕ) : Type 0 where
+  pub sum : ℕ
+  pub reads : ReadsTo sh shown.units c a sum
+  pub missed : IsShown shown.units a sum → ⊥
+
+-- a block that is refused as damaged is one that the model misses
+abbrev pub DamageIsMissed : Type 0
+DamageIsMissed = (sh : Shape) (shown : Shown) (c : Content) (a : ℕ) (class : Class) → IsLacking sh shown c a class → IsMissed sh shown c a
+
+-- a text that is refused is that of no checkpoint that can be read
+abbrev pub BadTextIsUnreadable : Type 0
+BadTextIsUnreadable = (sh : Shape) (shown : Shown) (c : Content) (field : Field) (value : ℕ) → sh.parse ≡ parse_of sh.layout → 0 < c.trailer → c.op ≤ 2 ^ 62 → IsBadText sh shown c field value → (b : Checkpoint) → b.content ≡ c → IsReadable sh shown.units b → ⊥
+
+-- and so is a chain that is refused, for a link or for an address that is referenced
+abbrev pub ReferencedIsUnreadable : Type 0
+ReferencedIsUnreadable = (sh : Shape) (shown : Shown) (c : Content) (at : ℕ) → 0 < c.trailer → IsReferenced sh shown c at → (b : Checkpoint) → b.content ≡ c → IsReadable sh shown.units b → ⊥
+
+abbrev pub BrokenIsUnreadable : Type 0
+BrokenIsUnreadable = (sh : Shape) (shown : Shown) (c : Content) (at : ℕ) → IsBroken sh shown c at → (b : Checkpoint) → b.content ≡ c → IsReadable sh shown.units b → ⊥

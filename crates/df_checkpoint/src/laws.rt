@@ -1,0 +1,14 @@
+// What a refusal of a trailer says of the checkpoints of the model, as functions with an empty body.
+ghost use Rattle.df_checkpoint.specs.Laws.{BadTextIsUnreadable, BrokenIsUnreadable, DamageIsMissed, ReferencedIsUnreadable};
+
+/// A block that is refused as damaged is one that the model misses.
+pub fn damage_is_missed()
+    ensures { DamageIsMissed }
+{}
+
+/// Where a field is refused, no checkpoint of the superblock can be read.
+pub fn refused_is_unreadable()
+    ensures text { BadTextIsUnreadable }
+    ensures referenced { ReferencedIsUnreadable }
+    ensures broken { BrokenIsUnreadable }
+{}
