@@ -120,15 +120,6 @@ chain_next g h refs done at apart less here is none free inside =
     let same : suc (length refs - 1 - done) ≡ length refs - done = omega arith in
     chain_free h g.blocks (drop (length refs - done) refs) at.address (ap (λ (x : GridState). x.blocks) is) none (subst (λ (x : GridState). HasAddress x at.address) (sym is) inside) (free at.address n.there) (ap (λ (k : ℕ). is_among at.address (drop k refs)) (sym same) ∙ n.apart)
 
-pub chain_more : (g h : GridState) (refs : List Link) (done : ℕ) (at : Link) → AreApart g refs → done < length refs → at ≡ get_or refs (length refs - 1 - done) at → h ≡ with_blocks g (chained g.blocks (drop (length refs - done) refs))
-    → with_blocks h (adopted h.blocks false at.address (number_of at.checksum)) ≡ with_blocks g (chained g.blocks (drop (length refs - (done + 1)) refs))
-chain_more g h refs done at apart less here is =
-    let n = next_at g refs (length refs - 1 - done) at apart (omega arith) here in
-    let one : length refs - done ≡ suc (length refs - 1 - done) = omega arith in
-    let two : length refs - (done + 1) ≡ length refs - 1 - done = omega arith in
-    ap (λ (x : GridState). with_blocks x (adopted x.blocks false at.address (number_of at.checksum))) is
-    ∙ ap (λ (k : ℕ). with_blocks g (chained g.blocks (at ∷ drop k refs))) one ∙ ap (λ (l : List Link). with_blocks g (chained g.blocks l)) (sym n.split) ∙ ap (λ (k : ℕ). with_blocks g (chained g.blocks (drop k refs))) (sym two)
-
 -- addresses are apart in each grid of the layout
 pub apart_same : (g h : GridState) (refs : List Link) → h.layout ≡ g.layout → AreApart g refs → AreApart h refs
 apart_same g h [] same apart = tt
