@@ -5,7 +5,10 @@ mod calls;
 mod files;
 mod stops;
 
-pub use calls::{Call, cut_file, cut_making, ops_and_append, ops_of_one, serve, served_file};
+pub use calls::{
+    Answer, Call, cut_file, cut_making, faulty_file, make_call, ops_and_append, ops_of_one, serve,
+    served_file,
+};
 pub use files::{
     SURVEY_CALLS, format_in, found, lists, new_file, open, open_in, rooms_of, small_file, strike,
     survey_in, survey_small,
