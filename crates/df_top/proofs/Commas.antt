@@ -8,7 +8,7 @@ use Rattle.std.proofs.lemmas.Fmt.{decimal_is_IsNumeral, decimal_injective}
 use Rattle.df_layout.specs.declared.layout.Layout.{Layout}
 use Rattle.df_layout.specs.declared.fields.Field.{Field}
 use Rattle.df_layout.specs.Limits.{AreWithin}
-use Rattle.df_top.specs.Command.{numbers_of}
+use Rattle.df_top.specs.Mode.{numbers_of}
 
 are_digits : (n : ℕ) → n < 2 ^ 32 → AllDigits 10 (decimal n)
 are_digits n fits = (decimal_is_IsNumeral n (omega arith)).0.1

@@ -1,21 +1,14 @@
-mod Written
-mod Writes
-mod Lines
-mod Rounds
-mod Steps
-mod Wals
-mod Fronts
-mod Members
-mod Opens
-mod Begins
+mod Commas
+mod Modes
 mod Words
-mod Refused
-mod Made
+mod Written
 mod Progress
 mod LineEnds
-pub mod Commas
-pub mod Commands
-pub mod Refusing
-mod Whole
-mod Makes
-mod Follows
+mod Answered
+mod AppendTurns
+mod ReplyTurns
+mod Kept
+mod Served
+mod ReadTurns
+mod Causes
+mod Made

@@ -1,47 +1,46 @@
--- An append's prepare as it is made in a room and written into its slot.
-use Rattle.std.proofs.Common.{◌≡◌, ℕ, ◌+◌, ◌%◌, List, [], ◌∷◌, take, sym, ◌∙◌, ap, subst}
-use Rattle.df_base.specs.Log.{Write, Sync}
-use Rattle.df_format.specs.declared.wal.Wal.{Wal}
-use Rattle.df_format.specs.declared.header.Header.{Header}
-use Rattle.df_format.specs.Making.{for_body}
-use Rattle.df_format.specs.Message.{Message, sectors_end, sectors_of}
-use Rattle.df_format.specs.Spelling.{sealed}
-use Rattle.df_format.specs.Unit.{IsPrepare, slot_start}
-use Rattle.df_format.specs.Valid.{IsUnit}
-use Rattle.df_format.proofs.Ring.{same_first, units_are_prepares}
-use Rattle.df_buffers.specs.Sounds.{Holding}
-use Rattle.df_prepares.specs.declared.ring.Head.{Head}
-use Rattle.df_prepares.specs.Slots.{slot_place, slot_first, IsInOwnSlot, write_events}
-use Rattle.df_script.specs.Grammar.{Said, Append}
-use Rattle.df_top.specs.declared.session.DataFile.{DataFile}
-use Rattle.df_top.specs.Logs.{IsLogOf, header_given}
-use Rattle.df_top.specs.Step.{behind, append_events}
+-- A file that is made on an honest disk.
+use Rattle.std.proofs.Common.{◌≡◌, ℕ, List, Option, Some, [], refl, subst, Result, Ok, Err, OnOk}
+use Rattle.df_base.specs.Log.{Event}
+use Rattle.df_disk.specs.Told.{IsHonest, Told}
+use Rattle.df_layout.specs.declared.layout.Layout.{Layout}
+use Rattle.df_model.specs.declared.errors.FormatError.{FormatError}
+use Rattle.df_model.specs.declared.errors.FormatError.TheVariants as formats
+use Rattle.df_replica.specs.Formatting.{AddsFormat}
+use Rattle.df_replica.specs.Making.{Makes, MayMakeOn, making_events}
+use Rattle.df_replica.specs.Opened.{ToldBy}
+use Rattle.df_top.specs.Formats.{MakesOn}
+use Rattle.df_top.specs.Refusing.{PrintsFormatError}
+use Rattle.df_top.specs.declared.status.Status.{Status}
+use Rattle.df_top.specs.declared.status.Status.TheVariants.{Done, Refused}
+use Rattle.df_top.proofs.Answered.{part_told}
+use Rattle.df_top.proofs.Causes.{line_ends}
+use Rattle.df_top.proofs.Kept.{goes_told}
 
-abbrev made_of : Header → List ℕ → Message
-made_of h body = record { header = sealed (for_body h body); body = body }
+format_told : {T : Type 0} (es : List Event) (old new : Option Told) (r : Result T FormatError) → AddsFormat es old new r → ToldBy old new
+format_told es old new (Ok x) is = (es, is)
+format_told es old new (Err formats.DiskFault) is = part_told es old new is
+format_told es old new (Err formats.ClusterZero) is = ([], is)
+format_told es old new (Err (formats.NotBlank copy)) is = ([], is)
 
--- what is made of a header and a body is the append's prepare
-pub made_unit : (file : DataFile) (wal : Wal) (log : IsLogOf file wal) (head : Head) (client request : ℕ) (body : List ℕ) (h : Header) → h ≡ header_given file head client request
-    → made_of h body ≡ behind wal head (Append client request body)
-made_unit file wal log head client request body h is =
-    ap (λ (x : Header). made_of x body) is
-    ∙ (λ i. made_of (record (header_given file head client request) { cluster = sym log.owner i; slot = (head.op + 1) % sym log.slots i }) body)
+on_ok : (T P : Type 0) (r : Result T FormatError) (x : T) → r ≡ Ok x → OnOk r P → P
+on_ok T P r x is has = subst (λ (q : Result T FormatError). OnOk q P) is has
 
-module _ (file : DataFile) (wal : Wal) (log : IsLogOf file wal) (head : Head) (client request : ℕ) (body : List ℕ) (held : Holding) (unit : held.unit ≡ behind wal head (Append client request body)) where
-  abbrev said : Said
-  said = Append client request body
+module _ (layout : Layout) (cluster : ℕ) (before : Told) (may : MayMakeOn layout cluster before) (told new : Option Told) (status : Status) (is : told ≡ Some before) (honest : IsHonest before) where
+  pub makes_on : {T : Type 0} (r : Result T FormatError) → AddsFormat (making_events layout cluster) told new r → ((n : Told) → new ≡ Some n → Makes layout cluster before may n r) → (status ≡ Done → (x : T) × (r ≡ Ok x)) → MakesOn layout cluster before may new status
+  makes_on {T} r events makes done =
+      let by : ToldBy (Some before) new = subst (λ (o : Option Told). ToldBy o new) is (format_told (making_events layout cluster) told new r events) in
+      let goes = goes_told before new by in
+      let made = makes goes.0 goes.1 in
+      record {
+        after = goes.0;
+        is = goes.1;
+        honest = goes.2.honest honest;
+        moments = made.moments;
+        made = λ yes. on_ok T _ r (done yes).0 (done yes).1 made.made;
+      }
 
-  -- what is written is the prepare, into its slot of the log
-  pub made_events : take (sectors_end held.unit.header.size) held.bytes ≡ sectors_of held.unit → write_events file.layout held ≡ append_events wal head said
-  made_events sectors =
-      let at : slot_first file.layout held.unit.header.slot ≡ slot_start wal (behind wal head said).header.slot =
-      ap (λ (u : Message). slot_first file.layout u.header.slot) unit ∙ sym (same_first file.layout file.cluster wal (behind wal head said).header.slot log) in
-      let bytes : take (sectors_end held.unit.header.size) held.bytes ≡ sectors_of (behind wal head said) = sectors ∙ ap (λ (u : Message). sectors_of u) unit in
-      λ i. Write (at i) (bytes i) ∷ Sync ∷ []
-
-  -- it is a prepare of the log
-  pub made_prepare : IsInOwnSlot file.layout held.unit → IsPrepare wal (behind wal head said)
-  made_prepare own =
-      let its : IsInOwnSlot file.layout (behind wal head said) = subst (λ (u : Message). IsInOwnSlot file.layout u) unit own in
-      let slot : ℕ = (behind wal head said).header.slot in
-      (units_are_prepares file.layout file.cluster wal slot (behind wal head said) log (subst (λ (c : ℕ). IsUnit file.layout c (slot_place slot) (behind wal head said)) log.owner its)).0
+-- a format that is refused, or in which the disk failed, doesn't end with Done
+pub not_done : (e : FormatError) (old new : Option (List ℕ)) (status : Status) → PrintsFormatError e old new status → status ≡ Done → ⊥
+not_done formats.DiskFault old new status prints is = absurd (cc ((prints.fault refl).0, is))
+not_done formats.ClusterZero old new status prints is = line_ends _ Refused Done old new status (prints.other (λ no. cc)) (λ no. cc) (λ no. cc) is
+not_done (formats.NotBlank copy) old new status prints is = line_ends _ Refused Done old new status (prints.other (λ no. cc)) (λ no. cc) (λ no. cc) is

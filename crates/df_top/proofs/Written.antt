@@ -1,9 +1,14 @@
--- What a sink has taken goes on, piece by piece.
-use Rattle.std.proofs.Common.{◌≡◌, ℕ, ◌+◌, List, [], ◌∷◌, ◌++◌, length, take, suc, Option, Some, None, refl, sym, ◌∙◌, ap, subst, arith, append_assoc, length-append}
+-- What a sink has taken goes on, piece by piece; and lists go on by one item.
+use Rattle.std.proofs.Common.{◌≡◌, ℕ, ◌+◌, ◌-◌, List, [], ◌∷◌, ◌++◌, length, map, take, suc, Option, Some, None, refl, sym, ◌∙◌, ap, subst, arith, append_assoc, length-append}
 use Rattle.std.proofs.lemmas.List.{append-nil}
 use Rattle.df_base.specs.Streams.{Appends, AppendsPart}
-use Rattle.df_script.specs.Grammar.{Said}
-use Rattle.df_top.specs.Texts.{answer, answers, count_after, counts_after}
+use Rattle.df_lines.specs.Grammar.{Said}
+use Rattle.df_lines.specs.Script.{Begins, IsLine}
+use Rattle.df_lines.specs.Text.{after_line, taken}
+use Rattle.df_model.specs.Commands.{Answer, Command}
+use Rattle.df_replica.specs.Session.{Act}
+use Rattle.df_script_model.specs.Script.{answer_text}
+use Rattle.df_top.specs.Lines.{AreAsked, answers_text, command_in, command_of}
 
 pub appends_none : (old : Option (List ℕ)) → Appends old old []
 appends_none None = tt
@@ -27,13 +32,30 @@ pub appends_part : (old mid new : Option (List ℕ)) (x y : List ℕ) → Append
 appends_part old mid new x y one two =
     (length x + two.0, omega (arith, two.1, length-append x y), subst (λ (l : List ℕ). Appends old new l) (sym (take_behind x y two.0)) (appends_more old mid new x (take two.0 y) one two.2))
 
--- the answers to one append more
-pub answers_more : (slots n : ℕ) (asked : List Said) (said : Said) → answers slots n (asked ++ said ∷ []) ≡ answers slots n asked ++ answer slots (counts_after slots n asked)
-answers_more slots n [] said = append-nil (answer slots n)
-answers_more slots n (x ∷ asked) said =
-    ap (λ (l : List ℕ). answer slots n ++ l) (answers_more slots (count_after slots n) asked said)
-    ∙ sym (append_assoc (answer slots n) (answers slots (count_after slots n) asked) (answer slots (counts_after slots (count_after slots n) asked)))
+-- ---- one line more
 
-pub counts_more : (slots n : ℕ) (asked : List Said) (said : Said) → counts_after slots n (asked ++ said ∷ []) ≡ count_after slots (counts_after slots n asked)
-counts_more slots n [] said = refl
-counts_more slots n (x ∷ asked) said = counts_more slots (count_after slots n) asked said
+-- as many answers as acts
+pub answers_more : (acts : List Act) (answers : List Answer) (a : Act) (x : Answer) → length answers ≡ length acts → answers_text (acts ++ a ∷ []) (answers ++ x ∷ []) ≡ answers_text acts answers ++ answer_text a.command x
+answers_more [] [] a x same = append-nil (answer_text a.command x)
+answers_more [] (y ∷ answers) a x same = absurd (omega (arith, same))
+answers_more (b ∷ acts) [] a x same = absurd (omega (arith, same))
+answers_more (b ∷ acts) (y ∷ answers) a x same =
+    ap (λ (l : List ℕ). answer_text b.command y ++ l) (answers_more acts answers a x (omega (arith, same)))
+    ∙ sym (append_assoc (answer_text b.command y) (answers_text acts answers) (answer_text a.command x))
+
+map_more : {A B : Type 0} (f : A → B) (xs : List A) (x : A) → map f (xs ++ x ∷ []) ≡ map f xs ++ f x ∷ []
+map_more f [] x = refl
+map_more f (y ∷ xs) x = ap (λ (l : List _). f y ∷ l) (map_more f xs x)
+
+pub asked_more : (asked : List Said) (acts : List Act) (said : Said) (a : Act) → AreAsked asked acts → a.command ≡ command_of said → AreAsked (asked ++ said ∷ []) (acts ++ a ∷ [])
+asked_more asked acts said a are is =
+    map_more command_in acts a ∙ ap (λ (l : List Command). l ++ a.command ∷ []) are ∙ ap (λ (c : Command). map command_of asked ++ c ∷ []) is ∙ sym (map_more command_of asked said)
+
+pub begins_more : (bound budget : ℕ) (text : List ℕ) (asked : List Said) (left : ℕ) (rest : List ℕ) (said : Said) → Begins bound budget text asked left rest → IsLine bound left rest said
+    → Begins bound budget text (asked ++ said ∷ []) (left - taken rest) (after_line rest)
+begins_more bound budget text [] left rest said begins is = (
+  subst (λ (n : ℕ). IsLine bound n text said) begins.0 (subst (λ (t : List ℕ). IsLine bound left t said) begins.1 is),
+  ((λ i. begins.0 i - taken (begins.1 i)), λ i. after_line (begins.1 i)),
+)
+begins_more bound budget text (x ∷ asked) left rest said begins is =
+    (begins.0, begins_more bound (budget - taken text) (after_line text) asked left rest said begins.1 is)

@@ -1,23 +1,36 @@
 -- What the program promises of a run of a script.
-use Rattle.std.specs.Prelude.{◌≡◌, ◌⊎◌, ◌+◌, ◌^◌, ◌≤◌, ℕ, Bool, List, [], ◌∷◌, length, Option, Some}
-use Rattle.df_base.specs.Log.{Log, Sync, add, now}
+use Rattle.std.specs.Prelude.{◌≡◌, ◌⊎◌, ◌^◌, ℕ, List, [], ◌∷◌, ◌++◌, Option, Some, None}
+use Rattle.df_base.specs.Image.{IsImage}
+use Rattle.df_base.specs.Log.{Sync}
 use Rattle.df_base.specs.Moments.{EachMoment, Extends}
 use Rattle.df_base.specs.Streams.{Appends, AppendsPart}
-use Rattle.df_disk.specs.Told.{Told, IsHonest}
-use Rattle.df_format.specs.declared.wal.Wal.{Wal}
-use Rattle.df_format.specs.Unit.{Prepare}
-use Rattle.df_format.specs.Chance.{EachLeft}
-use Rattle.df_prepares.specs.Ring.{IsRing}
-use Rattle.df_script.specs.Grammar.{Said}
-use Rattle.df_top.specs.Script.{Begins}
-use Rattle.df_top.specs.Appends.{LeavesSome}
-use Rattle.df_top.specs.Texts.{usage}
-use Rattle.df_top.specs.Ending.{EndsText, IsAnswered, IsAfter}
-use Rattle.df_top.specs.Files.{IsSafeFile, LeavesChosen}
-use Rattle.df_top.specs.Logs.{line_bound}
-use Rattle.df_top.specs.declared.session.DataFile.{DataFile}
+use Rattle.df_disk.specs.Told.{IsHonest, Told, did}
+use Rattle.df_layout.specs.declared.layout.Layout.{Layout}
+use Rattle.df_lines.specs.Room.{line_bound}
+use Rattle.df_theory.specs.Device.{units_log}
+use Rattle.df_theory.specs.Found.{IsFound}
+use Rattle.df_theory.specs.TidyLaws.{IsTidy}
+use Rattle.df_theory.specs.Units.{Parts}
+use Rattle.df_theory.specs.View.{View}
+use Rattle.df_units.specs.Bytes.{unit_at}
+use Rattle.df_model.specs.Codec.{IsCodec}
+use Rattle.df_model.specs.Commands.{Answer}
+use Rattle.df_model.specs.Work.{Work, kept, opened}
+use Rattle.df_model.specs.declared.errors.OpenError.{OpenError}
+use Rattle.df_recovery.specs.declared.file.DataFile.{DataFile}
+use Rattle.df_recovery.specs.Found.{IsLayoutShown}
+use Rattle.df_recovery.specs.Opening.{Refuses}
+use Rattle.df_recovery.specs.State.{State as Replica, shape}
+use Rattle.df_recovery.specs.Surveys.{IsOpened}
+use Rattle.df_replica.specs.Mending.{MayOpen}
+use Rattle.df_replica.specs.Serving.{Firm, Known, format}
+use Rattle.df_replica.specs.Session.{Act, IsMidway, LeavesEither, LeavesView, answers_of, work_after}
+use Rattle.df_top.specs.Opening.{FailsToOpen, IsSilent, PrintsRefusal, RefusesFile}
+use Rattle.df_top.specs.Outside.{Outside}
+use Rattle.df_top.specs.Session.{Ended, State, list_of}
+use Rattle.df_top.specs.Usage.{usage}
 use Rattle.df_top.specs.declared.status.Status.{Status}
-use Rattle.df_top.specs.declared.status.Status.TheVariants.{Words, DiskFault, WriteFault, Memory}
+use Rattle.df_top.specs.declared.status.Status.TheVariants.{DiskFault, Memory, Words, WriteFault}
 
 -- all that other words do: the usage line is printed, or a front of it where the sink fails
 abbrev pub PrintsUsage : Option (List ℕ) → Option (List ℕ) → Status → Type 0
@@ -27,61 +40,80 @@ PrintsUsage old new status = ((status ≡ Words) × Appends old new usage) ⊎ (
 abbrev pub script_budget : ℕ
 script_budget = 2 ^ 32
 
--- What was read of the text and what was written, where the ring had n prepares: these appends are the text's first
--- lines, the text ends behind them or is cut there, and what is written is what is printed for them.
-pub record Printed (wal : Wal) (bound n : ℕ) (text : List ℕ) (left old new : Option (List ℕ)) (status : Status) : Type 0 where
-  pub asked : List Said
-  pub done : ℕ
-  pub cut : Bool
-  pub within : (done ≤ length asked) × (length asked ≤ done + 1)
-  pub budget : ℕ
-  pub rest : List ℕ
-  pub begins : Begins wal bound script_budget text asked budget rest
-  pub ends : EndsText wal bound budget rest left cut status
-  pub written : IsAnswered wal.slots n 0 old new asked done cut status
+-- ---- what is kept of a file
 
--- Where the disk tells what it shows and the source what it has, the answers are those over the ring that is shown.
-abbrev pub Prints : DataFile → Wal → Option Told → Option (List ℕ) → Option (List ℕ) → Option (List ℕ) → Option (List ℕ) → Status → Type 0
-Prints file wal told text left old new status =
-    (t : Told) (opening : List Prepare) (bytes : List ℕ) → told ≡ Some t → IsRing wal t.shown opening → text ≡ Some bytes → (status ≡ Memory → ⊥) → Printed wal (line_bound file) (length opening) bytes left old new status
+-- whatever a stop leaves at the end has all the acts that were answered; one more only where the disk failed in it
+abbrev pub LeavesAll : DataFile → Known → Work → List Act → Option Act → Told → Type 0
+LeavesAll file c w acts None n = LeavesView file c (work_after file c w acts) (Some n)
+LeavesAll file c w acts (Some a) n = LeavesEither file c (work_after file c w acts) (work_after file c w (acts ++ a ∷ [])) (Some n)
 
--- From the barrier on: whatever a stop leaves at any moment has the opening ring after some of the appends, from the
--- first on, and the superblock that was chosen; what it leaves at the exit has all that were done, one more only where the
--- disk failed; and their answers are written.
-pub record FromBarrier (file : DataFile) (wal : Wal) (entry exit : Log) (opening : List Prepare) (asked : List Said) (done : ℕ) (old new : Option (List ℕ)) (status : Status) : Type 0 where
-  pub barrier : Extends exit (add Sync entry)
-  pub moments : EachMoment (add Sync entry) exit (LeavesSome wal opening asked)
-  pub chosen : EachMoment (add Sync entry) exit (LeavesChosen file)
-  pub left : EachLeft wal exit (IsAfter wal opening asked done status)
-  pub cut : Bool
-  pub answered : IsAnswered wal.slots (length opening) 0 old new asked done cut status
+-- where the disk didn't fail nothing of the file is loose, and nothing of it is left to mend
+abbrev pub EndsTidy : DataFile → Known → Work → List Act → Option Act → Told → Type 0
+EndsTidy file c w acts None n = IsTidy (shape file c.parse) (units_log (format file) n.log) (kept (work_after file c w acts))
+EndsTidy file c w acts (Some a) n = Unit {0}
 
--- no barrier returned: nothing was written, neither to the disk nor to the sink, and the status says why
-pub record NoBarrier (entry exit : Log) (old new : Option (List ℕ)) (status : Status) : Type 0 where
-  pub same : exit ≡ entry
-  pub silent : new ≡ old
-  pub cause : (status ≡ DiskFault) ⊎ (status ≡ Memory)
-
--- A run over an honest disk whose log is safe: it is safe at every moment, and from the barrier on the ring grows by
--- appends of the script, one after the other.
-pub record Ran (file : DataFile) (wal : Wal) (before : Told) (told : Option Told) (opening : List Prepare) (text old new : Option (List ℕ)) (status : Status) : Type 0 where
+-- From the barrier on, where the machine began with this state: at each moment the log is safe, and whatever a stop leaves has the view after some of the
+-- acts, from the first on. At the end it has all that were answered.
+pub record KeepsFile (file : DataFile) (c : Known) (w : Work) (t : Told) (acts : List Act) (answers : List Answer) (failed : Option Act) (told : Option Told) : Type 0 where
   pub after : Told
   pub is : told ≡ Some after
   pub honest : IsHonest after
-  pub grown : Extends after.log before.log
-  pub safe : EachMoment before.log after.log (IsSafeFile file wal)
-  pub asked : List Said
-  pub done : ℕ
-  pub within : (done ≤ length asked) × (length asked ≤ done + 1)
-  pub script : (bytes : List ℕ) → text ≡ Some bytes → (budget : ℕ) × (rest : List ℕ) × Begins wal (line_bound file) script_budget bytes asked budget rest
-  pub course : NoBarrier before.log after.log old new status ⊎ FromBarrier file wal before.log after.log opening asked done old new status
+  pub barrier : Extends after.log (did Sync t).log
+  pub moments : EachMoment (did Sync t).log after.log (IsMidway file c w (acts ++ list_of failed))
+  pub left : LeavesAll file c w acts failed after
+  pub tidy : EndsTidy file c w acts failed after
+  pub answered : answers ≡ answers_of file c w acts
 
-abbrev pub Runs : DataFile → Wal → Option Told → Option Told → Option (List ℕ) → Option (List ℕ) → Option (List ℕ) → Status → Type 0
-Runs file wal told later text old new status =
-    (before : Told) (opening : List Prepare) → told ≡ Some before → IsHonest before → IsSafeFile file wal before.log → IsRing wal (now before.log) opening → Ran file wal before later opening text old new status
+-- ---- a session
 
--- nothing was written to the disk or to the sink, and nothing was read of the source
-pub record DidNothing (told later : Option Told) (left after old new : Option (List ℕ)) : Type 0 where
-  pub disk : later ≡ told
-  pub source : after ≡ left
-  pub sink : new ≡ old
+-- a state of a session that was just opened: nothing was executed
+abbrev pub start : (told : Option Told) → Outside → Replica → State
+start told old replica = record { outside = record { told = told; left = old.left; written = old.written }; text = old.left; budget = script_budget; lines = 0; replica = replica }
+
+-- the file that the disk shows is opened, and the script is served: what is answered is what the machine answers from the state that is found, on whatever
+-- image; and over an honest disk whose log is safe, all that was answered is kept
+pub record ServesScript (layout : Layout) (t : Told) (old new : Outside) (status : Status) : Type 0 where
+  pub replica : Replica
+  pub is_opened : IsOpened layout t.shown replica
+  pub mended : Option Told
+  pub last : State
+  pub last_is : last.outside ≡ new
+  pub session : Ended (line_bound layout) (start mended old replica) last status
+  pub answered : (parse : ℕ → List ℕ → Option Parts) (spell : Parts → List ℕ) (view : View) → IsCodec (shape replica.file parse) spell
+      → IsFound (shape replica.file parse) (unit_at replica.file.layout replica.file.cluster t.shown) view
+      → session.answers ≡ answers_of replica.file (record { parse = parse; spell = spell; grade = Firm }) (opened (shape replica.file parse) (unit_at replica.file.layout replica.file.cluster t.shown) view) session.acts
+  pub keeps : (parse : ℕ → List ℕ → Option Parts) (spell : Parts → List ℕ) (view : View) → IsCodec (shape replica.file parse) spell → MayOpen replica.file parse view t
+      → KeepsFile replica.file (record { parse = parse; spell = spell; grade = Firm }) (opened (shape replica.file parse) (unit_at replica.file.layout replica.file.cluster t.shown) view) t session.acts session.answers session.failed new.told
+
+-- a file is served in rooms of a layout: it is refused, the disk fails before a session begins, or the script is served
+abbrev pub ServesIn : Layout → Outside → Outside → Status → Type 0
+ServesIn layout old new status = (t : Told) → old.told ≡ Some t → IsImage t.shown → RefusesFile layout t old new status ⊎ FailsToOpen layout t old new status ⊎ ServesScript layout t old new status
+
+-- ---- the program
+
+-- the superblock that the disk shows can't be used
+pub record RefusesSuperblock (t : Told) (old new : Outside) (status : Status) : Type 0 where
+  pub error : OpenError
+  pub is : Refuses t.shown error
+  pub refusal : PrintsRefusal error old new status
+  pub same : new.told ≡ old.told
+
+-- nothing was read of the source, and nothing was written to the disk or to the sink
+pub record IsWithout (old new : Outside) : Type 0 where
+  pub silent : IsSilent old new
+  pub same : new.told ≡ old.told
+
+-- memory was wanting, or the disk failed in the first reads
+pub record DidNothing (old new : Outside) (status : Status) : Type 0 where
+  pub without : IsWithout old new
+  pub why : (status ≡ Memory) ⊎ (status ≡ DiskFault)
+
+-- rooms are taken for the layout that the superblock names, and the file is served in them
+pub record ServesOwn (t : Told) (old new : Outside) (status : Status) : Type 0 where
+  pub layout : Layout
+  pub shown : IsLayoutShown t.shown layout
+  pub serves : RefusesFile layout t old new status ⊎ FailsToOpen layout t old new status ⊎ ServesScript layout t old new status
+
+-- what the word `run` does over a disk that tells what it shows
+abbrev pub Runs : Outside → Outside → Status → Type 0
+Runs old new status = (t : Told) → old.told ≡ Some t → IsImage t.shown → DidNothing old new status ⊎ RefusesSuperblock t old new status ⊎ ServesOwn t old new status

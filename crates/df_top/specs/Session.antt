@@ -1,57 +1,97 @@
--- How far a session has come: what it has executed, and what a stop may leave of it.
-use Rattle.std.specs.Prelude.{◌≡◌, ◌+◌, ℕ, List, [], length, Option, Some}
-use Rattle.df_base.specs.Log.{Log}
-use Rattle.df_base.specs.Moments.{EachMoment, Extends}
-use Rattle.df_base.specs.Streams.{Appends}
-use Rattle.df_disk.specs.Told.{Told, IsHonest}
-use Rattle.df_format.specs.declared.wal.Wal.{Wal}
-use Rattle.df_format.specs.Unit.{Prepare}
-use Rattle.df_prepares.specs.declared.ring.Head.{Head}
-use Rattle.df_prepares.specs.Ring.{IsHead}
-use Rattle.df_prepares.specs.Steady.{IsAtRest}
-use Rattle.df_script.specs.Grammar.{Said}
-use Rattle.df_top.specs.Script.{Begins}
-use Rattle.df_top.specs.Appends.{ring_after, IsGood}
-use Rattle.df_top.specs.Texts.{answers, counts_after}
+-- How far a session has come, and what it has done when it ends.
+use Rattle.std.specs.Prelude.{◌≡◌, ◌+◌, ℕ, Bool, true, false, IsTrue, List, [], ◌∷◌, ◌++◌, length, Option, Some, None}
+use Rattle.df_base.specs.Streams.{Appends, AppendsPart}
+use Rattle.df_disk.specs.Told.{Told}
+use Rattle.df_lines.specs.Grammar.{Said}
+use Rattle.df_lines.specs.Room.{IsAtEnd}
+use Rattle.df_lines.specs.Script.{Begins, IsRefused}
+use Rattle.df_lines.specs.Text.{unread}
+use Rattle.df_model.specs.Commands.{Answer}
+use Rattle.df_recovery.specs.State.{State as Replica}
+use Rattle.df_replica.specs.Opened.{ToldBy}
+use Rattle.df_replica.specs.Serving.{IsCall}
+use Rattle.df_replica.specs.Session.{Act}
+use Rattle.df_top.specs.Lines.{AreAsked, printed}
+use Rattle.df_top.specs.Outside.{Outside}
+use Rattle.df_top.specs.declared.session.Session.{Session}
+use Rattle.df_top.specs.declared.status.Status.{Status}
+use Rattle.df_top.specs.declared.status.Status.TheVariants.{Done, Script, DiskFault, ReadFault, WriteFault}
 
--- What a session has before it: what the disk tells, the text that is unread and what the source has left of it where
--- the source tells that, what the sink has taken where it tells that, how many bytes may still be taken, how many lines
--- were executed, and the ring's end.
+-- What a session has before it: the outside, the text that is unread where the source tells it, how many bytes may still be taken, how many lines were
+-- executed, and the replica.
 pub record State : Type 0 where
-  pub told : Option Told
+  pub outside : Outside
   pub text : Option (List ℕ)
-  pub left : Option (List ℕ)
-  pub written : Option (List ℕ)
   pub budget : ℕ
   pub lines : ℕ
-  pub head : Head
+  pub replica : Replica
 
--- An honest disk whose ring is at rest with these prepares, of which the head is the end.
-pub record Rests (wal : Wal) (told : Option Told) (head : Head) (ps : List Prepare) : Type 0 where
-  pub disk : Told
-  pub is : told ≡ Some disk
-  pub honest : IsHonest disk
-  pub rest : IsAtRest wal disk.log ps
-  pub head_is : IsHead ps head
+abbrev pub state : Outside → Session → State
+state outside s = record { outside = outside; text = unread s.lines.reading.held outside.left; budget = s.lines.reading.budget; lines = s.count; replica = s.replica }
 
--- P held at each moment since entry
-pub record Since (entry : Log) (told : Option Told) (P : Log → Type 0) : Type 0 where
-  pub disk : Told
-  pub is : told ≡ Some disk
-  pub grown : Extends disk.log entry
-  pub moments : EachMoment entry disk.log P
+-- a source that has said that it has ended has nothing left
+abbrev pub EndedIsEnd : Session → Option (List ℕ) → Type 0
+EndedIsEnd s left = IsTrue s.lines.ended → IsAtEnd left
 
--- from a ring at rest on: it is at rest again behind these appends, and each moment since entry was good
-abbrev pub KeepsRing : Wal → State → State → List Said → Type 0
-KeepsRing wal origin now asked =
-    (entry : Log) (opening : List Prepare) → Rests wal origin.told origin.head opening → Since entry origin.told (IsGood wal opening [])
-    → Rests wal now.told now.head (ring_after wal opening asked) × Since entry now.told (IsGood wal opening asked)
+-- ---- calls
 
--- From origin to now these appends were executed: they are the first lines of the text, their answers are written, and
--- the ring has them.
-pub record Executed (wal : Wal) (bound : ℕ) (origin now : State) (asked : List Said) : Type 0 where
-  pub text : (text : List ℕ) → origin.text ≡ Some text → (rest : List ℕ) × (now.text ≡ Some rest) × Begins wal bound origin.budget text asked now.budget rest
-  pub written : Appends origin.written now.written (answers wal.slots origin.head.op asked)
-  pub count : now.head.op ≡ counts_after wal.slots origin.head.op asked
-  pub lines : now.lines ≡ origin.lines + length asked
-  pub ring : KeepsRing wal origin now asked
+-- one call: what it was supplied with is right, and what the disk tells changed by events alone
+pub record Calls (a : Act) (s t : Replica) (old new : Option Told) (answer : Option Answer) : Type 0 where
+  pub call : IsCall a.given a.command s t old new answer
+  pub told : ToldBy old new
+
+-- from one state to another these calls were made, one after the other, and each was answered
+abbrev pub AreCalls : Replica → Option Told → List Act → List Answer → Replica → Option Told → Type 0
+AreCalls s old [] [] t new = (t ≡ s) × (new ≡ old)
+AreCalls s old [] (x ∷ answers) t new = ⊥
+AreCalls s old (a ∷ acts) [] t new = ⊥
+AreCalls s old (a ∷ acts) (x ∷ answers) t new = (u : Replica) × (mid : Option Told) × Calls a s u old mid (Some x) × AreCalls u mid acts answers t new
+
+-- the act in which the disk failed, if there is one
+abbrev pub list_of : Option Act → List Act
+list_of None = []
+list_of (Some a) = a ∷ []
+
+-- the calls were made, and the disk failed in the last one, if there is one
+abbrev pub EndsCalls : (s t : Replica) → (old new : Option Told) → List Act → List Answer → Option Act → Type 0
+EndsCalls s t old new acts answers None = AreCalls s old acts answers t new
+EndsCalls s t old new acts answers (Some a) = (u : Replica) × (mid : Option Told) × AreCalls s old acts answers u mid × Calls a u t mid new None
+
+-- ---- executed, and ended
+
+-- from origin to now these lines were executed: they are the first ones of the text, the calls that they ask for were made and answered, and the answers
+-- are printed
+pub record Executed (bound : ℕ) (origin now : State) (asked : List Said) (acts : List Act) (answers : List Answer) : Type 0 where
+  pub text : (text : List ℕ) → origin.text ≡ Some text → (rest : List ℕ) × (now.text ≡ Some rest) × Begins bound origin.budget text asked now.budget rest
+  pub are : AreAsked asked acts
+  pub written : Appends origin.outside.written now.outside.written (printed origin.lines acts answers false)
+  pub lines : now.lines ≡ origin.lines + length acts
+  pub calls : AreCalls origin.replica origin.outside.told acts answers now.replica now.outside.told
+
+-- what is unread at the end: where the script is cut, a line that is refused; at Done nothing at all
+pub record EndsText (bound budget : ℕ) (rest : List ℕ) (left : Option (List ℕ)) (cut : Bool) (status : Status) : Type 0 where
+  pub refused : cut ≡ true → IsRefused bound budget rest
+  pub finished : status ≡ Done → (rest ≡ []) × (left ≡ Some [])
+
+-- what is written at the end, and whether the disk failed: all that is to be printed, or a front of it where the sink failed
+abbrev pub EndsWith : (n : ℕ) → (old new : Option (List ℕ)) → List Act → List Answer → (failed : Option Act) → (cut : Bool) → Status → Type 0
+EndsWith n old new acts answers None cut Done = (cut ≡ false) × Appends old new (printed n acts answers cut)
+EndsWith n old new acts answers None cut Script = (cut ≡ true) × Appends old new (printed n acts answers cut)
+EndsWith n old new acts answers None cut ReadFault = (cut ≡ false) × Appends old new (printed n acts answers cut)
+EndsWith n old new acts answers None cut WriteFault = AppendsPart old new (printed n acts answers cut)
+EndsWith n old new acts answers (Some a) cut DiskFault = (cut ≡ false) × Appends old new (printed n acts answers cut)
+EndsWith n old new acts answers failed cut status = ⊥
+
+-- from origin to now a session was executed to its end: these lines are the first ones of the text, each was answered, and then the disk failed in one
+-- more, or not
+pub record Ended (bound : ℕ) (origin now : State) (status : Status) : Type 0 where
+  pub asked : List Said
+  pub acts : List Act
+  pub answers : List Answer
+  pub failed : Option Act
+  pub cut : Bool
+  pub text : (text : List ℕ) → origin.text ≡ Some text
+      → (budget : ℕ) × (rest : List ℕ) × Begins bound origin.budget text asked budget rest × EndsText bound budget rest now.outside.left cut status
+  pub are : AreAsked asked (acts ++ list_of failed)
+  pub written : EndsWith origin.lines origin.outside.written now.outside.written acts answers failed cut status
+  pub calls : EndsCalls origin.replica now.replica origin.outside.told now.outside.told acts answers failed

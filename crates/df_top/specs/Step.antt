@@ -1,57 +1,54 @@
--- What one step of a session does, whatever was executed before it.
-use Rattle.std.specs.Prelude.{◌≡◌, ◌+◌, ◌-◌, ℕ, List, [], ◌∷◌, ◌++◌, length, Option, Some, Result, Ok, Err}
-use Rattle.df_base.specs.Log.{Event, Write, Sync, Log}
+-- What one line of a script does to a session, whatever was executed before it.
+use Rattle.std.specs.Prelude.{◌≡◌, ◌+◌, ◌-◌, ℕ, List, [], ◌∷◌, ◌++◌, Option, Some, None}
+use Rattle.df_base.specs.Streams.{Appends, AppendsPart}
 use Rattle.df_disk.specs.Told.{Told}
-use Rattle.df_format.specs.declared.wal.Wal.{Wal}
-use Rattle.df_format.specs.Unit.{Prepare, slot_start, sectors_of}
-use Rattle.df_prepares.specs.declared.ring.Head.{Head}
-use Rattle.df_script.specs.Grammar.{Said}
-use Rattle.df_script.specs.Text.{after_line, taken}
-use Rattle.df_top.specs.Script.{IsAppend}
-use Rattle.df_top.specs.Appends.{prepare_for, ring_after, IsGood}
-use Rattle.df_top.specs.Session.{State, Rests, Since, Executed}
-use Rattle.df_top.specs.Ending.{LeavesRing, Ended}
+use Rattle.df_inspect.specs.Opening.{script_text}
+use Rattle.df_lines.specs.Grammar.{Said}
+use Rattle.df_lines.specs.Script.{IsLine}
+use Rattle.df_lines.specs.Text.{after_line, taken}
+use Rattle.df_model.specs.Commands.{Answer, Command}
+use Rattle.df_recovery.specs.State.{State as Replica}
+use Rattle.df_replica.specs.Session.{Act}
+use Rattle.df_script_model.specs.Script.{answer_text}
+use Rattle.df_top.specs.Session.{Calls, Ended, Executed, State}
+use Rattle.df_top.specs.declared.turns.Turn.{Turn}
+use Rattle.df_top.specs.declared.turns.Turn.TheVariants.{GoesOn as Goes, Ends as EndsBy}
 use Rattle.df_top.specs.declared.status.Status.{Status}
-use Rattle.df_top.specs.declared.status.Status.TheVariants.{DiskFault}
+use Rattle.df_top.specs.declared.status.Status.TheVariants.{Script, DiskFault, WriteFault}
 
--- the prepare of an append behind a head
-abbrev pub behind : Wal → Head → Said → Prepare
-behind wal head said = prepare_for wal head.checksum (head.op + 1) said
+-- the call that a command asks for
+pub record Makes (command : Command) (s t : Replica) (old new : Option Told) (answer : Option Answer) : Type 0 where
+  pub act : Act
+  pub is : act.command ≡ command
+  pub calls : Calls act s t old new answer
 
--- the events of an append: the prepare is written into its slot, and then synced
-abbrev pub append_events : Wal → Head → Said → List Event
-append_events wal head said = Write (slot_start wal (behind wal head said).header.slot) (sectors_of (behind wal head said)) ∷ Sync ∷ []
+-- the call was made and its answer is printed; or the disk failed in it; or the sink with its answer
+abbrev pub Answers : Command → (s t : Replica) → (old new : Option Told) → (written took : Option (List ℕ)) → Turn → Type 0
+Answers command s t old new written took Goes = (x : Answer) × Makes command s t old new (Some x) × Appends written took (answer_text command x)
+Answers command s t old new written took (EndsBy DiskFault) = Makes command s t old new None × (took ≡ written)
+Answers command s t old new written took (EndsBy WriteFault) = (x : Answer) × Makes command s t old new (Some x) × AppendsPart written took (answer_text command x)
+Answers command s t old new written took (EndsBy status) = ⊥
 
--- the end of the ring with the append behind it
-pub record IsNextHead (wal : Wal) (old : Head) (said : Said) (new : Head) : Type 0 where
-  pub op : new.op ≡ old.op + 1
-  pub checksum : new.checksum ≡ (behind wal old said).header.checksum
+-- the line that refuses the next line was written, or a front of it where the sink failed
+abbrev pub RefusesLine : (n : ℕ) → (old new : Option (List ℕ)) → Status → Type 0
+RefusesLine n old new Script = Appends old new (script_text (n + 1))
+RefusesLine n old new WriteFault = AppendsPart old new (script_text (n + 1))
+RefusesLine n old new status = ⊥
 
--- an append was done: the ring has it, at rest, and each moment was good
-abbrev pub StepDone : Wal → Option Told → Head → Said → Option Told → Head → Type 0
-StepDone wal told head said later next =
-    (entry : Log) (opening : List Prepare) (asked : List Said) → Rests wal told head (ring_after wal opening asked) → Since entry told (IsGood wal opening asked)
-    → Rests wal later next (ring_after wal opening (asked ++ said ∷ [])) × Since entry later (IsGood wal opening (asked ++ said ∷ []))
+-- the next line was taken, and says this
+abbrev pub Takes : (bound : ℕ) → State → Said → Option (List ℕ) → ℕ → Type 0
+Takes bound old said text budget =
+    (rest : List ℕ) → old.text ≡ Some rest → IsLine bound old.budget rest said × (text ≡ Some (after_line rest)) × (budget ≡ old.budget - taken rest)
 
--- the disk failed within an append
-abbrev pub StepFailed : Wal → Option Told → Head → Said → Option Told → Type 0
-StepFailed wal told head said later =
-    (entry : Log) (opening : List Prepare) (asked : List Said) → Rests wal told head (ring_after wal opening asked) → Since entry told (IsGood wal opening asked)
-    → LeavesRing wal entry opening (asked ++ said ∷ []) (length asked) later DiskFault
+-- the session goes on with one line more, or ends
+abbrev pub GoesOn : (bound : ℕ) → (old new : State) → Type 0
+GoesOn bound old new =
+    (origin : State) (asked : List Said) (acts : List Act) (answers : List Answer) → Executed bound origin old asked acts answers
+    → (said : Said) × (a : Act) × (x : Answer) × Executed bound origin new (asked ++ said ∷ []) (acts ++ a ∷ []) (answers ++ x ∷ [])
 
-abbrev pub Steps : {T E : Type 0} → Wal → Option Told → Head → Said → Option Told → Head → Result T E → Type 0
-Steps wal told head said later next (Ok x) = StepDone wal told head said later next
-Steps wal told head said later next (Err e) = StepFailed wal told head said later
+abbrev pub EndsIn : (bound : ℕ) → (old new : State) → Status → Type 0
+EndsIn bound old new status = (origin : State) (asked : List Said) (acts : List Act) (answers : List Answer) → Executed bound origin old asked acts answers → Ended bound origin new status
 
--- the next line was taken, and asks for this append
-abbrev pub Takes : Wal → ℕ → State → Said → Option (List ℕ) → ℕ → Type 0
-Takes wal bound old said text budget =
-    (rest : List ℕ) → old.text ≡ Some rest → IsAppend wal bound old.budget rest said × (text ≡ Some (after_line rest)) × (budget ≡ old.budget - taken rest)
-
--- the session goes on with one append more
-abbrev pub GoesOn : Wal → ℕ → State → State → Type 0
-GoesOn wal bound old new = (origin : State) (asked : List Said) → Executed wal bound origin old asked → (said : Said) × Executed wal bound origin new (asked ++ said ∷ [])
-
--- the session ends
-abbrev pub Ends : Wal → ℕ → State → State → Status → Type 0
-Ends wal bound old new status = (origin : State) (asked : List Said) → Executed wal bound origin old asked → Ended wal bound origin new status
+abbrev pub Turns : (bound : ℕ) → (old new : State) → Turn → Type 0
+Turns bound old new Goes = GoesOn bound old new
+Turns bound old new (EndsBy status) = EndsIn bound old new status

@@ -1,23 +1,18 @@
 //! What the program does: its words, its script, its answers and its status.
 #![tactic(auto)]
 
-mod append;
-mod command;
+mod calls;
 mod engine;
-mod laws;
 mod making;
-mod opening;
-mod refusals;
-mod serve;
+mod mode;
+mod serving;
 mod session;
 mod status;
-mod texts;
 mod turns;
 
-pub use command::{Command, command_of, words_have_one_meaning};
 pub use engine::run;
-pub use laws::{new_disk_is_safe, one_script, runs_follow};
-pub use refusals::{Refusal, format_refusal, formatted_line, open_refusal};
+pub use mode::{Mode, mode_of, words_have_one_meaning};
+pub use serving::serve;
 pub use status::Status;
 
 #[cfg(test)]

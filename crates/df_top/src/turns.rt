@@ -1,110 +1,135 @@
 // The session over a script: one turn for each line, until there is none, one is refused, or something fails.
-ghost use Rattle.std.specs.Prelude.{◌≡◌, ◌<◌, ◌≤◌, ◌+◌, ◌^◌, length, take, OnOk, IfErr};
-ghost use Rattle.df_format.specs.declared.wal.Wal.{Wal};
-ghost use Rattle.df_script.specs.Grammar.{body_length, said_with};
-ghost use Rattle.df_top.specs.Ending.{Ended};
-ghost use Rattle.df_top.specs.Logs.{IsLogOf, line_bound};
-ghost use Rattle.df_top.specs.Step.{GoesOn, Ends};
-ghost use Rattle.df_top.specs.Serving.{AnswersLine, Blames, BlamesIfErr, EndedIsEnd, IsReady, KeepsReader, state};
-ghost use Rattle.df_top.specs.Writes.{WritesRing};
+ghost use Rattle.std.specs.Prelude.{◌≡◌, ◌<◌, ◌≤◌, ◌+◌, ◌^◌, length, true};
+ghost use Rattle.df_lines.specs.Grammar.{body_length, said_with};
+ghost use Rattle.df_top.specs.Lines.{command_of};
+ghost use Rattle.df_top.specs.Outside.{Blames};
+ghost use Rattle.df_top.specs.Session.{Ended, EndedIsEnd, state};
+ghost use Rattle.df_top.specs.Step.{Answers, RefusesLine, Turns};
+ghost use Rattle.df_top.specs.Turning.{BlamesIfEnds, IsReady, OnGoing};
 
-use crate::serve::{is_taken, refuse, serve_append};
+use crate::calls::{append, lookup, prepare, reply};
 use crate::session::Session;
 use crate::status::Status;
 use df_base::{Sink, Source};
 use df_disk::Disk;
-use df_script::{Line, Next};
+use df_inspect::print_script;
+use df_lines::{Line, Next};
 
-// Serves the line that was taken last, if the ring takes what it asks for.
+/// What became of a session by one turn.
+#[derive(Clone, Copy, Debug, PartialEq, Eq)]
+pub enum Turn {
+    GoesOn,
+    Ends(Status),
+}
+
+// Writes the line that refuses the next line of a script, of which `lines` were executed.
+fn refuse<W: Sink>(sink: &mut W, lines: u64) -> Status
+    requires { lines < 2 ^ 63 }
+    ensures line { RefusesLine lines (W.written sink.old) (W.written sink.new) result }
+    ensures fault { Blames Status.WriteFault (W.faults sink.old) (W.faults sink.new) result }
+{
+    match print_script(sink, lines + 1) {
+        Ok(()) => Status::Script,
+        Err(_) => Status::WriteFault,
+    }
+}
+
+// Makes the call that a line asks for, whose body is in the reader's buffer.
+fn call<D: Disk, W: Sink>(disk: &mut D, sink: &mut W, session: &mut Session, line: Line) -> Turn
+    requires live { session.old.replica.live ≡ true }
+    requires size { body_length line ≤ length session.old.lines.body }
+    ensures answers { Answers (command_of (said_with session.old.lines.body line)) session.old.replica session.new.replica (D.told disk.old) (D.told disk.new) (W.written sink.old) (W.written sink.new) result }
+    ensures lines { session.new.lines ≡ session.old.lines }
+    ensures count { session.new.count ≡ session.old.count }
+    ensures disk { BlamesIfEnds Status.DiskFault (D.faults disk.old) (D.faults disk.new) result }
+    ensures sink { BlamesIfEnds Status.WriteFault (W.faults sink.old) (W.faults sink.new) result }
+{
+    let replica = &mut session.replica;
+    match line {
+        Line::Append {
+            client,
+            request,
+            length,
+        } => append(
+            disk,
+            sink,
+            replica,
+            client,
+            request,
+            session.lines.body(length),
+        ),
+        Line::Reply { op, length } => reply(disk, sink, replica, op, session.lines.body(length)),
+        Line::Prepare { op } => prepare(disk, sink, replica, op),
+        Line::Lookup { client } => lookup(disk, sink, replica, client),
+    }
+}
+
+// Serves the line that was taken last.
 fn serve_line<D: Disk, W: Sink>(
     disk: &mut D,
     sink: &mut W,
     session: &mut Session,
     line: Line,
-) -> Result<(), Status>
-    ghost wal: { Wal }
-    requires log { IsLogOf session.old.file wal }
-    requires ready { IsReady wal session.old }
+) -> Turn
+    requires live { session.old.replica.live ≡ true }
     requires room { session.old.count < 2 ^ 33 }
     requires size { body_length line ≤ length session.old.lines.body }
-    ensures answers { AnswersLine wal (D.told disk.old) (W.written sink.old) session.old (said_with session.old.lines.body line) (D.told disk.new) (W.written sink.new) session.new result }
-    ensures writes { WritesRing wal (D.told disk.old) (D.told disk.new) }
-    ensures ready { IsReady wal session.new }
-    ensures reader { KeepsReader session.old session.new }
-    ensures disk { BlamesIfErr Status.DiskFault (D.faults disk.old) (D.faults disk.new) result }
-    ensures sink { BlamesIfErr Status.WriteFault (W.faults sink.old) (W.faults sink.new) result }
+    ensures answers { Answers (command_of (said_with session.old.lines.body line)) session.old.replica session.new.replica (D.told disk.old) (D.told disk.new) (W.written sink.old) (W.written sink.new) result }
+    ensures lines { session.new.lines ≡ session.old.lines }
+    ensures count { OnGoing result (session.new.count ≡ session.old.count + 1) }
+    ensures disk { BlamesIfEnds Status.DiskFault (D.faults disk.old) (D.faults disk.new) result }
+    ensures sink { BlamesIfEnds Status.WriteFault (W.faults sink.old) (W.faults sink.new) result }
 {
-    let Line::Append {
-        client,
-        request,
-        length,
-    } = line;
-    if !is_taken(&session.file.layout, client, request, length) {
-        return Err(refuse(sink, session.count));
-    }
-    serve_append(disk, sink, session, client, request, length)
+    let turn = call(disk, sink, session, line);
+    session.count += 1;
+    turn
 }
 
-// Takes the next line of the script and serves it. The session ends with the status that is handed back.
-fn turn<D: Disk, S: Source, W: Sink>(
+// Takes the next line of the script and serves it.
+fn take_turn<D: Disk, S: Source, W: Sink>(
     disk: &mut D,
     source: &mut S,
     sink: &mut W,
     session: &mut Session,
-) -> Result<(), Status>
-    ghost wal: { Wal }
-    requires log { IsLogOf session.old.file wal }
-    requires ready { IsReady wal session.old }
-    requires count { session.old.count + session.old.lines.reading.budget ≤ 2 ^ 33 }
-    requires at_end { EndedIsEnd session.old (S.left source.old) }
-    ensures goes_on { OnOk result (GoesOn wal (line_bound session.old.file)
-        (state (D.told disk.old) (S.left source.old) (W.written sink.old) session.old)
-        (state (D.told disk.new) (S.left source.new) (W.written sink.new) session.new)) }
-    ensures ends { IfErr result (Ends wal (line_bound session.old.file)
-        (state (D.told disk.old) (S.left source.old) (W.written sink.old) session.old)
-        (state (D.told disk.new) (S.left source.new) (W.written sink.new) session.new)) }
-    ensures writes { WritesRing wal (D.told disk.old) (D.told disk.new) }
-    ensures ready { IsReady wal session.new }
-    ensures file { session.new.file ≡ session.old.file }
-    ensures count { OnOk result (session.new.count + session.new.lines.reading.budget ≤ session.old.count + session.old.lines.reading.budget) }
-    ensures budget { OnOk result (session.new.lines.reading.budget < session.old.lines.reading.budget) }
-    ensures at_end { EndedIsEnd session.new (S.left source.new) }
-    ensures disk { BlamesIfErr Status.DiskFault (D.faults disk.old) (D.faults disk.new) result }
-    ensures source { BlamesIfErr Status.ReadFault (S.faults source.old) (S.faults source.new) result }
-    ensures sink { BlamesIfErr Status.WriteFault (W.faults sink.old) (W.faults sink.new) result }
+) -> Turn
+    requires ready { IsReady session.old (S.left source.old) }
+    ensures turns { Turns session.old.lines.reading.bound
+        (state (record { told = D.told disk.old; left = S.left source.old; written = W.written sink.old }) session.old)
+        (state (record { told = D.told disk.new; left = S.left source.new; written = W.written sink.new }) session.new) result }
+    ensures ready { OnGoing result (IsReady session.new (S.left source.new)) }
+    ensures bound { session.new.lines.reading.bound ≡ session.old.lines.reading.bound }
+    ensures budget { OnGoing result (session.new.lines.reading.budget < session.old.lines.reading.budget) }
+    ensures disk { BlamesIfEnds Status.DiskFault (D.faults disk.old) (D.faults disk.new) result }
+    ensures source { BlamesIfEnds Status.ReadFault (S.faults source.old) (S.faults source.new) result }
+    ensures sink { BlamesIfEnds Status.WriteFault (W.faults sink.old) (W.faults sink.new) result }
 {
     match session.lines.next(source) {
         Ok(Next::Line(line)) => serve_line(disk, sink, session, line),
-        Ok(Next::Refused) => Err(refuse(sink, session.count)),
-        Ok(Next::End) => Err(Status::Done),
-        Err(_) => Err(Status::ReadFault),
+        Ok(Next::Refused) => Turn::Ends(refuse(sink, session.count)),
+        Ok(Next::End) => Turn::Ends(Status::Done),
+        Err(_) => Turn::Ends(Status::ReadFault),
     }
 }
 
 /// Serves a script, line by line, to its end.
-pub fn serve<D: Disk, S: Source, W: Sink>(
+pub fn serve_script<D: Disk, S: Source, W: Sink>(
     disk: &mut D,
     source: &mut S,
     sink: &mut W,
     session: &mut Session,
 ) -> Status
-    ghost wal: { Wal }
-    requires log { IsLogOf session.old.file wal }
-    requires ready { IsReady wal session.old }
-    requires count { session.old.count + session.old.lines.reading.budget ≤ 2 ^ 33 }
-    requires at_end { EndedIsEnd session.old (S.left source.old) }
-    ensures session { Ended wal (line_bound session.old.file)
-        (state (D.told disk.old) (S.left source.old) (W.written sink.old) session.old)
-        (state (D.told disk.new) (S.left source.new) (W.written sink.new) session.new) result }
-    ensures writes { WritesRing wal (D.told disk.old) (D.told disk.new) }
+    requires ready { IsReady session.old (S.left source.old) }
+    ensures session { Ended session.old.lines.reading.bound
+        (state (record { told = D.told disk.old; left = S.left source.old; written = W.written sink.old }) session.old)
+        (state (record { told = D.told disk.new; left = S.left source.new; written = W.written sink.new }) session.new) result }
     ensures disk { Blames Status.DiskFault (D.faults disk.old) (D.faults disk.new) result }
     ensures source { Blames Status.ReadFault (S.faults source.old) (S.faults source.new) result }
     ensures sink { Blames Status.WriteFault (W.faults sink.old) (W.faults sink.new) result }
 {
     loop {
-        match turn(disk, source, sink, session) {
-            Ok(()) => {}
-            Err(status) => return status,
+        match take_turn(disk, source, sink, session) {
+            Turn::GoesOn => {}
+            Turn::Ends(status) => return status,
         }
     }
 }

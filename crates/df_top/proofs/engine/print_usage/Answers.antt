@@ -1,5 +1,6 @@
+-- The line is the constant of the program.
 use Rattle.std.proofs.Common.{inl, inr, refl}
-use Rattle.df_top.specs.Texts.{usage}
+use Rattle.df_top.specs.Usage.{usage}
 use Rattle.df_top.proofs.engine.print_usage.Goals as goal
 
 pub returns-in-Ok-clause-usage : goal.returns-in-Ok-clause-usage

@@ -1,26 +1,26 @@
 -- Words ask for one thing at most, so that the clauses of the others say nothing.
 use Rattle.std.proofs.Common.{ℕ, subst}
 use Rattle.df_layout.specs.declared.layout.Layout.{Layout}
-use Rattle.df_top.specs.Command.{Means}
+use Rattle.df_top.specs.Mode.{Means}
 use Rattle.df_top.specs.Formats.{Formats, MakesFile}
-use Rattle.df_top.specs.declared.command.Command.TheVariants.{Format, Run}
+use Rattle.df_top.specs.declared.mode.Mode.TheVariants.{Format, Run}
 use Rattle.df_top.proofs.Words.{same_layout_asked, same_cluster_asked}
 use Rattle.df_top.proofs.engine.run.Goals as goal
 
 pub returns-in-Some-Format-clause-formats : goal.returns-in-Some-Format-clause-formats
 returns-in-Some-Format-clause-formats g c = λ layout cluster asks.
     let mine = subst (Means _) c.in-Some-Format.field-0-is c.in-Some-Format.ensures.found in
-    subst (λ (l : Layout). Formats (record { layout = l; cluster = cluster }) (g.D.Disk.told c.args.disk.now) (g.D.Disk.told c.make_file.new.disk) (g.W.Sink.written c.args.sink.now) (g.W.Sink.written c.make_file.new.sink) c.make_file.result)
+    subst (λ (l : Layout). Formats l cluster (g.D.Disk.told c.args.disk.now) (g.D.Disk.told c.make_file.new.disk) (g.W.Sink.written c.args.sink.now) (g.W.Sink.written c.make_file.new.sink) c.make_file.result)
     (same_layout_asked _ c.in-Some-Format.layout layout c.in-Some-Format.cluster cluster mine asks)
-    (subst (λ (n : ℕ). Formats (record { layout = c.in-Some-Format.layout; cluster = n }) (g.D.Disk.told c.args.disk.now) (g.D.Disk.told c.make_file.new.disk) (g.W.Sink.written c.args.sink.now) (g.W.Sink.written c.make_file.new.sink) c.make_file.result)
+    (subst (λ (n : ℕ). Formats c.in-Some-Format.layout n (g.D.Disk.told c.args.disk.now) (g.D.Disk.told c.make_file.new.disk) (g.W.Sink.written c.args.sink.now) (g.W.Sink.written c.make_file.new.sink) c.make_file.result)
     (same_cluster_asked _ c.in-Some-Format.layout layout c.in-Some-Format.cluster cluster mine asks) c.make_file.ensures.formats)
 
 pub returns-in-Some-Format-clause-makes : goal.returns-in-Some-Format-clause-makes
 returns-in-Some-Format-clause-makes g c = λ layout cluster asks.
     let mine = subst (Means _) c.in-Some-Format.field-0-is c.in-Some-Format.ensures.found in
-    subst (λ (l : Layout). MakesFile (record { layout = l; cluster = cluster }) (g.D.Disk.told c.args.disk.now) (g.D.Disk.told c.make_file.new.disk) c.make_file.result)
+    subst (λ (l : Layout). MakesFile l cluster (g.D.Disk.told c.args.disk.now) (g.D.Disk.told c.make_file.new.disk) c.make_file.result)
     (same_layout_asked _ c.in-Some-Format.layout layout c.in-Some-Format.cluster cluster mine asks)
-    (subst (λ (n : ℕ). MakesFile (record { layout = c.in-Some-Format.layout; cluster = n }) (g.D.Disk.told c.args.disk.now) (g.D.Disk.told c.make_file.new.disk) c.make_file.result)
+    (subst (λ (n : ℕ). MakesFile c.in-Some-Format.layout n (g.D.Disk.told c.args.disk.now) (g.D.Disk.told c.make_file.new.disk) c.make_file.result)
     (same_cluster_asked _ c.in-Some-Format.layout layout c.in-Some-Format.cluster cluster mine asks) c.make_file.ensures.makes)
 
 pub returns-in-None-clause-formats : goal.returns-in-None-clause-formats
@@ -29,14 +29,5 @@ returns-in-None-clause-formats g c = λ layout cluster asks. absurd (c.in-None.e
 pub returns-in-None-clause-makes : goal.returns-in-None-clause-makes
 returns-in-None-clause-makes g c = λ layout cluster asks. absurd (c.in-None.ensures.none (Format layout cluster) asks)
 
-pub returns-in-None-clause-refuses : goal.returns-in-None-clause-refuses
-returns-in-None-clause-refuses g c = λ asks. absurd (c.in-None.ensures.none Run asks)
-
-pub returns-in-None-clause-prints : goal.returns-in-None-clause-prints
-returns-in-None-clause-prints g c = λ asks. absurd (c.in-None.ensures.none Run asks)
-
 pub returns-in-None-clause-runs : goal.returns-in-None-clause-runs
 returns-in-None-clause-runs g c = λ asks. absurd (c.in-None.ensures.none Run asks)
-
-pub returns-in-None-clause-writes : goal.returns-in-None-clause-writes
-returns-in-None-clause-writes g c = λ asks. absurd (c.in-None.ensures.none Run asks)

@@ -1,12 +1,13 @@
--- Over a new disk the log is safe at each moment, and at Done the file is made.
-use Rattle.df_top.proofs.Makes.{makes_ok, makes_err}
+-- What the making leaves is what is promised of the word.
+use Rattle.df_top.proofs.Made.{makes_on, not_done}
 use Rattle.df_top.proofs.making.make.Goals as goal
 
 pub returns-in-Ok-clause-makes : goal.returns-in-Ok-clause-makes
-returns-in-Ok-clause-makes g c =
-    makes_ok (record { layout = c.args.rooms.now.layout; cluster = c.args.cluster }) (g.D.Disk.told c.args.disk.now) (g.D.Disk.told c.format_superblock.new.disk) c.print_formatted.result c.in-Ok.ensures.events
+returns-in-Ok-clause-makes g c = λ before may some is honest.
+    makes_on c.args.rooms.now.layout c.args.cluster before may (g.D.Disk.told c.args.disk.now) (g.D.Disk.told c.format.new.disk) c.tell_formatted.result is honest c.format.result c.format.ensures.events (λ n told. c.format.ensures.makes before n is told may)
+    (λ yes. (c.in-Ok.field-0, c.in-Ok.is))
 
 pub returns-in-Err-clause-makes : goal.returns-in-Err-clause-makes
-returns-in-Err-clause-makes g c =
-    makes_err (record { layout = c.args.rooms.now.layout; cluster = c.args.cluster }) (Unit {0}) (g.D.Disk.told c.args.disk.now) (g.D.Disk.told c.format_superblock.new.disk) (g.W.Sink.written c.args.sink.now) (g.W.Sink.written c.refuse_format.new.sink) c.refuse_format.result c.in-Err.error
-    c.in-Err.ensures.events c.refuse_format.ensures.line
+returns-in-Err-clause-makes g c = λ before may some is honest.
+    makes_on c.args.rooms.now.layout c.args.cluster before may (g.D.Disk.told c.args.disk.now) (g.D.Disk.told c.format.new.disk) c.refuse_format.result is honest c.format.result c.format.ensures.events (λ n told. c.format.ensures.makes before n is told may)
+    (λ yes. absurd (not_done c.in-Err.error (g.W.Sink.written c.args.sink.now) (g.W.Sink.written c.refuse_format.new.sink) c.refuse_format.result c.refuse_format.ensures.prints yes))

@@ -1,15 +1,11 @@
--- Where memory is wanted nothing was done.
+-- The rooms are of the layout.
 use Rattle.std.proofs.Common.{refl, subst}
 use Rattle.df_layout.specs.declared.layout.Layout.{Layout}
 use Rattle.df_top.specs.Formats.{MakesFile}
-use Rattle.df_top.specs.declared.status.Status.TheVariants.{Memory}
-use Rattle.df_top.proofs.Makes.{makes_none}
 use Rattle.df_top.proofs.making.make_file.Goals as goal
 
 pub returns-in-Ok-clause-makes : goal.returns-in-Ok-clause-makes
-returns-in-Ok-clause-makes g c =
-    subst (λ (l : Layout). MakesFile (record { layout = l; cluster = c.args.cluster }) (g.D.Disk.told c.args.disk.now) (g.D.Disk.told c.make.new.disk) c.make.result) c.in-Ok.ensures.layout c.make.ensures.makes
+returns-in-Ok-clause-makes g c = subst (λ (l : Layout). MakesFile l c.args.cluster (g.D.Disk.told c.args.disk.now) (g.D.Disk.told c.make.new.disk) c.make.result) c.in-Ok.ensures c.make.ensures.makes
 
 pub returns-in-Err-clause-makes : goal.returns-in-Err-clause-makes
-returns-in-Err-clause-makes g c =
-    makes_none (record { layout = c.args.layout.now; cluster = c.args.cluster }) (g.D.Disk.told c.args.disk.now) (g.D.Disk.told c.args.disk.now) Memory (λ done. cc) refl
+returns-in-Err-clause-makes g c = λ before may some is honest. absurd (some refl)

@@ -1,0 +1,156 @@
+-- What calls leave of a disk and of a file, behind an open.
+use Rattle.std.proofs.Common.{◌≡◌, ◌⊎◌, inl, inr, ℕ, true, List, [], ◌∷◌, ◌++◌, append_assoc, Option, Some, None, refl, sym, ◌∙◌, ap, subst}
+use Rattle.std.proofs.lemmas.List.{append-nil}
+use Rattle.df_base.specs.Image.{Image, changed, written}
+use Rattle.df_base.specs.Log.{Event, Log, Stop, Sync, Write}
+use Rattle.df_base.specs.Moments.{EachMoment, Extends}
+use Rattle.df_base.proofs.Laws.{extends_self, weaker}
+use Rattle.df_disk.specs.Adds.{after_all}
+use Rattle.df_disk.specs.Told.{IsHonest, Told, did}
+use Rattle.df_theory.specs.Device.{IsGoodDisk, units_log}
+use Rattle.df_theory.specs.TidyLaws.{IsTidy}
+use Rattle.df_theory.specs.Units.{Parts}
+use Rattle.df_model.specs.Commands.{Answer}
+use Rattle.df_model.specs.Work.{Work, kept}
+use Rattle.df_recovery.specs.declared.file.DataFile.{DataFile}
+use Rattle.df_recovery.specs.State.{State as Replica, shape}
+use Rattle.df_replica.specs.Opened.{ToldBy}
+use Rattle.df_replica.specs.Serving.{Firm, IsKept, Keeps, Known, format}
+use Rattle.df_replica.specs.Session.{Act, EachIsMidway, HasView, HoldsSome, IsMidway, IsServed, LeavesEither, LeavesView, answers_of, work_after}
+use Rattle.df_replica.proofs.Laws.{answered_is_there, extends_on, fault_stops_them, joined, keeps_alone, nothing_is_served, one_more_is_served}
+use Rattle.df_top.specs.Run.{KeepsFile}
+use Rattle.df_top.specs.Session.{AreCalls, EndsCalls}
+
+-- ---- what is told
+
+after_append : (es fs : List Event) (old : Option Told) → after_all (es ++ fs) old ≡ after_all fs (after_all es old)
+after_append [] fs old = refl
+after_append (e ∷ es) fs old = after_append es fs _
+
+told_on : (old mid new : Option Told) → ToldBy old mid → ToldBy mid new → ToldBy old new
+told_on old mid new one two = (one.0 ++ two.0, two.1 ∙ ap (after_all two.0) one.1 ∙ sym (after_append one.0 two.0 old))
+
+calls_told : (s t : Replica) (old new : Option Told) (acts : List Act) (answers : List Answer) → AreCalls s old acts answers t new → ToldBy old new
+calls_told s t old new [] [] calls = ([], calls.1)
+calls_told s t old new [] (x ∷ answers) calls = absurd calls
+calls_told s t old new (a ∷ acts) [] calls = absurd calls
+calls_told s t old new (a ∷ acts) (x ∷ answers) calls = told_on old calls.1 new calls.2.told (calls_told calls.0 t calls.1 new acts answers calls.3)
+
+pub ends_told : (s t : Replica) (old new : Option Told) (acts : List Act) (answers : List Answer) (failed : Option Act) → EndsCalls s t old new acts answers failed → ToldBy old new
+ends_told s t old new acts answers None calls = calls_told s t old new acts answers calls
+ends_told s t old new acts answers (Some a) calls = told_on old calls.1 new (calls_told s calls.0 old calls.1 acts answers calls.2) calls.3.told
+
+honest_did : (e : Event) (t : Told) → IsHonest t → IsHonest (did e t)
+honest_did (Write at bytes) t honest = record { shows = λ sector i. written at bytes (λ s. honest.shows s i) sector }
+honest_did Sync t honest = record { shows = honest.shows }
+honest_did (Stop changes) t honest = record { shows = λ sector i. changed changes (λ s. honest.shows s i) sector }
+
+-- a disk that tells goes on telling, and an honest one stays so
+pub record Goes (t n : Told) : Type 0 where
+  pub grew : Extends n.log t.log
+  pub honest : IsHonest t → IsHonest n
+
+goes_by : (es : List Event) (t : Told) (new : Option Told) → new ≡ after_all es (Some t) → (n : Told) × (new ≡ Some n) × Goes t n
+goes_by [] t new is = (t, is, record { grew = extends_self t.log; honest = λ h. h })
+goes_by (e ∷ es) t new is =
+    let rest = goes_by es (did e t) new is in
+    (rest.0, rest.1, record { grew = extends_on rest.0.log (did e t).log t.log rest.2.grew (e ∷ [], refl, refl); honest = λ h. rest.2.honest (honest_did e t h) })
+
+pub goes_told : (t : Told) (new : Option Told) → ToldBy (Some t) new → (n : Told) × (new ≡ Some n) × Goes t n
+goes_told t new told = goes_by told.0 t new told.1
+
+-- ---- what was served
+
+serves_on : (s0 s t : Replica) (told0 told new : Option Told) (acts more : List Act) (answers others : List Answer) → IsServed s0 s told0 told acts answers → AreCalls s told more others t new
+    → IsServed s0 t told0 new (acts ++ more) (answers ++ others)
+serves_on s0 s t told0 told new acts [] answers [] served calls =
+    subst (λ (l : List Act). IsServed s0 t told0 new l (answers ++ [])) (sym (append-nil acts))
+    (subst (λ (l : List Answer). IsServed s0 t told0 new acts l) (sym (append-nil answers))
+    (subst (λ (o : Option Told). IsServed s0 t told0 o acts answers) (sym calls.1) (subst (λ (r : Replica). IsServed s0 r told0 told acts answers) (sym calls.0) served)))
+serves_on s0 s t told0 told new acts [] answers (x ∷ others) served calls = absurd calls
+serves_on s0 s t told0 told new acts (a ∷ more) answers [] served calls = absurd calls
+serves_on s0 s t told0 told new acts (a ∷ more) answers (x ∷ others) served calls =
+    let u = calls.0 in
+    let mid = calls.1 in
+    let one = one_more_is_served s0 s u told0 told mid acts answers a x served calls.2.call in
+    subst (λ (l : List Act). IsServed s0 t told0 new l (answers ++ x ∷ others)) (append_assoc acts (a ∷ []) more)
+    (subst (λ (l : List Answer). IsServed s0 t told0 new ((acts ++ a ∷ []) ++ more) l) (append_assoc answers (x ∷ []) others)
+    (serves_on s0 u t told0 mid new (acts ++ a ∷ []) more (answers ++ x ∷ []) others one calls.3))
+
+pub all_served : (s t : Replica) (old new : Option Told) (acts : List Act) (answers : List Answer) → s.live ≡ true → AreCalls s old acts answers t new → IsServed s t old new acts answers
+all_served s t old new acts answers live calls = serves_on s s t old old new [] acts [] answers (nothing_is_served s old live) calls
+
+-- ---- what is kept
+
+some_first : (file : DataFile) (c : Known) (w : Work) (acts : List Act) (image : Image) → HasView file c w image → HoldsSome file c w acts image
+some_first file c w [] image has = has
+some_first file c w (a ∷ acts) image has = inl has
+
+either_same : (A : Type 0) → A ⊎ A → A
+either_same A (inl a) = a
+either_same A (inr a) = a
+
+-- what is known of a file whose blocks may be hurt
+abbrev pub firm : (parse : ℕ → List ℕ → Option Parts) → (Parts → List ℕ) → Known
+firm parse spell = record { parse = parse; spell = spell; grade = Firm }
+
+module _ (s : Replica) (parse : ℕ → List ℕ → Option Parts) (spell : Parts → List ℕ) (w : Work) (t n0 : Told) (live : s.live ≡ true) (keeps : IsKept (firm parse spell) s w n0.log) (honest : IsHonest n0) (grew : Extends n0.log (did Sync t).log)
+    (good : EachMoment (did Sync t).log n0.log (IsGoodDisk (format s.file) (shape s.file parse) (kept w) (kept w))) where
+  abbrev c : Known
+  c = firm parse spell
+
+  good_midway : (acts : List Act) (log : Log) → IsGoodDisk (format s.file) (shape s.file parse) (kept w) (kept w) log → IsMidway s.file c w acts log
+  good_midway acts log is = record { safe = is.safe; left = λ image left chance. some_first s.file c w acts image (either_same _ (is.left image left chance)) }
+
+  -- the moments of the opening, and those behind it
+  all_moments : (acts : List Act) (n : Told) → EachIsMidway s.file c w acts (Some n0) (Some n) → EachMoment (did Sync t).log n.log (IsMidway s.file c w acts)
+  all_moments acts n midway = joined (did Sync t).log n0.log n.log (IsMidway s.file c w acts) midway.0 (weaker (did Sync t).log n0.log _ (IsMidway s.file c w acts) (λ log is. good_midway acts log is) good) midway.1
+
+  tidy_of : (u : Replica) (v : Work) (log : Log) → u.file ≡ s.file → IsKept c u v log → IsTidy (shape s.file parse) (units_log (format s.file) log) (kept v)
+  tidy_of u v log same k = subst (λ (f : DataFile). IsTidy (shape f parse) (units_log (format f) log) (kept v)) same k.kept_by.tidy
+
+  -- every call was answered
+  kept_answered : (u : Replica) (new : Option Told) (acts : List Act) (answers : List Answer) (n : Told) → new ≡ Some n → Goes n0 n → AreCalls s (Some n0) acts answers u new → KeepsFile s.file c w t acts answers None new
+  kept_answered u new acts answers n is goes calls =
+      let served : IsServed s u (Some n0) new acts answers = all_served s u (Some n0) new acts answers live calls in
+      let on = served.kept_on c w keeps in
+      record {
+        after = n;
+        is = is;
+        honest = goes.honest honest;
+        barrier = extends_on n.log n0.log (did Sync t).log goes.grew grew;
+        moments = subst (λ (l : List Act). EachMoment (did Sync t).log n.log (IsMidway s.file c w l)) (sym (append-nil acts)) (all_moments acts n (subst (λ (o : Option Told). EachIsMidway s.file c w acts (Some n0) o) is on.0));
+        left = subst (λ (o : Option Told). LeavesView s.file c (work_after s.file c w acts) o) is (answered_is_there s u (Some n0) new acts answers served c w keeps);
+        tidy = tidy_of u (work_after s.file c w acts) n.log served.file (subst (λ (o : Option Told). Keeps c u (work_after s.file c w acts) o) is on.1);
+        answered = (served.answered c w (keeps_alone c s w (Some n0) keeps)).0;
+      }
+
+  -- the disk failed in the last one
+  kept_failed : (u : Replica) (new : Option Told) (acts : List Act) (answers : List Answer) (a : Act) (n : Told) → new ≡ Some n → Goes n0 n → EndsCalls s u (Some n0) new acts answers (Some a) → KeepsFile s.file c w t acts answers (Some a) new
+  kept_failed u new acts answers a n is goes calls =
+      let served : IsServed s calls.0 (Some n0) calls.1 acts answers = all_served s calls.0 (Some n0) calls.1 acts answers live calls.2 in
+      let stopped = fault_stops_them s calls.0 u (Some n0) calls.1 new acts answers a served calls.3.call in
+      record {
+        after = n;
+        is = is;
+        honest = goes.honest honest;
+        barrier = extends_on n.log n0.log (did Sync t).log goes.grew grew;
+        moments = all_moments (acts ++ a ∷ []) n (subst (λ (o : Option Told). EachIsMidway s.file c w (acts ++ a ∷ []) (Some n0) o) is (stopped.moments c w keeps));
+        left = subst (λ (o : Option Told). LeavesEither s.file c (work_after s.file c w acts) (work_after s.file c w (acts ++ a ∷ [])) o) is (stopped.left c w keeps);
+        tidy = tt;
+        answered = (served.answered c w (keeps_alone c s w (Some n0) keeps)).0;
+      }
+
+  pub keeps_file : (u : Replica) (new : Option Told) (acts : List Act) (answers : List Answer) (failed : Option Act) → EndsCalls s u (Some n0) new acts answers failed → KeepsFile s.file c w t acts answers failed new
+  keeps_file u new acts answers None calls =
+      let goes = goes_told n0 new (ends_told s u (Some n0) new acts answers None calls) in
+      kept_answered u new acts answers goes.0 goes.1 goes.2 calls
+  keeps_file u new acts answers (Some a) calls =
+      let goes = goes_told n0 new (ends_told s u (Some n0) new acts answers (Some a) calls) in
+      kept_failed u new acts answers a goes.0 goes.1 goes.2 calls
+
+-- the answers, over whatever image
+pub answers_alone : (c : Known) (w : Work) (s u : Replica) (old new : Option Told) (acts : List Act) (answers : List Answer) (failed : Option Act) → s.live ≡ true → Keeps c s w None → EndsCalls s u old new acts answers failed
+    → answers ≡ answers_of s.file c w acts
+answers_alone c w s u old new acts answers None live keeps calls = ((all_served s u old new acts answers live calls).answered c w keeps).0
+answers_alone c w s u old new acts answers (Some a) live keeps calls = ((all_served s calls.0 old calls.1 acts answers live calls.2).answered c w keeps).0

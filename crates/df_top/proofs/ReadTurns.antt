@@ -1,0 +1,124 @@
+-- A read of a prepare or of a reply, and what is printed of it.
+use Rattle.std.proofs.Common.{◌≡◌, ℕ, List, [], Option, Some, None, refl, sym, ◌∙◌, ap, subst, Result, Ok, Err}
+use Rattle.std.specs.Prelude.{codes}
+use Rattle.df_disk.specs.Told.{Told}
+use Rattle.df_layout.specs.declared.damage.Class.{Class}
+use Rattle.df_layout.specs.declared.damage.Class.TheVariants.{Blank}
+use Rattle.df_format.specs.declared.header.Header.{Header}
+use Rattle.df_format.specs.Message.{Message as Shown}
+use Rattle.df_inspect.specs.Messages.{shown_text}
+use Rattle.df_inspect.specs.Prints.{Prints}
+use Rattle.df_theory.specs.Units.{Message}
+use Rattle.df_units.specs.Meaning.{message_of}
+use Rattle.df_model.specs.Commands.{Answer, Command, Given, ReadPrepare, ReadReply, ToReadPrepare, ToReadReply}
+use Rattle.df_model.specs.declared.answers.Verdict.TheVariants.{Sound}
+use Rattle.df_model.specs.declared.reading.LookupError.{LookupError}
+use Rattle.df_model.specs.declared.reading.LookupError.TheVariants as lookup
+use Rattle.df_model.specs.declared.reading.PrepareError.{PrepareError}
+use Rattle.df_model.specs.declared.reading.PrepareError.TheVariants as prepare
+use Rattle.df_recovery.specs.State.{State as Replica}
+use Rattle.df_replica.specs.Answering.{Gives, ServesRead, read_prepare_answer, read_reply_answer}
+use Rattle.df_replica.specs.Lookups.{ReplyBlames, reply_found, reply_leaves}
+use Rattle.df_replica.specs.Reading.{IsFoundBy, PrepareBlames, message_at, prepare_found, prepare_leaves}
+use Rattle.df_replica.specs.Serving.{IsCall}
+use Rattle.df_script_model.specs.Script.{answer_text}
+use Rattle.df_script_model.specs.Texts.{lookup_refusal, message_text, prepare_refusal}
+use Rattle.df_top.specs.Step.{Answers, Makes}
+use Rattle.df_top.specs.Turning.{BlamesIfEnds, IsPrinted, TellsRefusal, printed_turn}
+use Rattle.df_top.specs.declared.turns.Turn.{Turn}
+use Rattle.df_top.specs.declared.status.Status.TheVariants.{DiskFault}
+use Rattle.df_top.proofs.Answered.{disk_rose, disk_same, failed_is, not_fault, printed_is, prints_turn}
+
+-- ---- what a read is rightly supplied with
+
+abbrev message_for : Replica → Command → Option Told → Option (Result Message Class) → Result Message Class
+message_for s command (Some t) found = message_at s command t.shown
+message_for s command None (Some found) = found
+message_for s command None None = Err Blank
+
+abbrev supply : Replica → Command → Option Told → Option (Result Message Class) → Given
+supply s command told found = record { checksum = 0; message = message_for s command told found; block = Err Blank; verdict = Sound }
+
+found_by : (s : Replica) (command : Command) (told : Option Told) (found : Option (Result Message Class)) → IsFoundBy s command told (message_for s command told found)
+found_by s command (Some t) found = refl
+found_by s command None (Some found) = tt
+found_by s command None None = tt
+
+gives : (s : Replica) (command : Command) (told : Option Told) (found : Option (Result Message Class)) → Gives told found (supply s command told found)
+gives s command (Some t) (Some found) = tt
+gives s command (Some t) None = tt
+gives s command None (Some found) = refl
+gives s command None None = tt
+
+-- what was printed of a unit's header and body is the unit's text
+pub shown_turn : {T E : Type 0} (word : List ℕ) (u : Shown) (h : Header) (b : List ℕ) (written took : Option (List ℕ)) (r : Result T E) (turn : Turn) → h ≡ u.header → b ≡ u.body → turn ≡ printed_turn r → Prints (shown_text word h b) written took r
+    → IsPrinted (message_text word (message_of u)) written took turn
+shown_turn word u h b written took r turn h_is b_is turn_is prints =
+    subst (λ (v : Turn). IsPrinted (message_text word (message_of u)) written took v) (sym turn_is)
+    (prints_turn (message_text word (message_of u)) written took r (subst (λ (k : Header). Prints (shown_text word k u.body) written took r) h_is (subst (λ (c : List ℕ). Prints (shown_text word h c) written took r) b_is prints)))
+
+module _ (s t : Replica) (old new : Option Told) (same : new ≡ old) where
+  read_made : (command : Command) (given : Given) (answer : Option Answer) → IsCall given command s t old old answer → Makes command s t old new answer
+  read_made command given answer call = record {
+    act = record { command = command; given = given };
+    is = refl;
+    calls = record { call = subst (λ (o : Option Told). IsCall given command s t old o answer) (sym same) call; told = ([], same) };
+  }
+
+  module _ (written took : Option (List ℕ)) (before now : ℕ) (turn : Turn) where
+    abbrev Comes : Command → Type 0
+    Comes command = Answers command s t old new written took turn × BlamesIfEnds DiskFault before now turn
+
+    answered : (command : Command) (x : Answer) → Makes command s t old new (Some x) → now ≡ before → IsPrinted (answer_text command x) written took turn → Comes command
+    answered command x makes still printed = (printed_is command s t old new written took x makes turn printed, disk_same before now turn still (not_fault (answer_text command x) written took turn printed))
+
+    -- a prepare
+    module _ (op : ℕ) where
+      makes_prepare : (found : Option (Result Message Class)) (answer : Option Answer) → ServesRead (ReadPrepare op) s t old found answer → Makes (ReadPrepare op) s t old new answer
+      makes_prepare found answer serves =
+          read_made (ReadPrepare op) (supply s (ReadPrepare op) old found) answer (serves (supply s (ReadPrepare op) old found) (refl, found_by s (ReadPrepare op) old found) (gives s (ReadPrepare op) old found))
+
+      pub prepare_shown : (m : Message) → ServesRead (ReadPrepare op) s t old (prepare_found (Ok m)) (read_prepare_answer (Ok m)) → now ≡ before → IsPrinted (message_text (codes "prepare") m) written took turn → Comes (ReadPrepare op)
+      prepare_shown m serves still printed = answered (ReadPrepare op) (ToReadPrepare (Ok m)) (makes_prepare (Some (Ok m)) (Some (ToReadPrepare (Ok m))) serves) still printed
+
+      pub prepare_refused : (e : PrepareError) → ServesRead (ReadPrepare op) s t old (prepare_found (Err e)) (read_prepare_answer (Err e)) → PrepareBlames {A = Message} before now (Err e) → TellsRefusal prepare.DiskFault (prepare_refusal e) e written took turn → Comes (ReadPrepare op)
+      prepare_refused prepare.DiskFault serves blamed tells = (
+        failed_is (ReadPrepare op) s t old new written took (makes_prepare None None serves) turn (tells.failed refl),
+        disk_rose before now turn (tells.failed refl).0 blamed.1,
+      )
+      prepare_refused (prepare.NotKept a b) serves still tells = answered (ReadPrepare op) (ToReadPrepare (Err (prepare.NotKept a b))) (makes_prepare None (Some (ToReadPrepare (Err (prepare.NotKept a b)))) serves) still (tells.other (λ no. cc))
+      prepare_refused (prepare.Damaged a b) serves still tells = answered (ReadPrepare op) (ToReadPrepare (Err (prepare.Damaged a b))) (makes_prepare (Some (Err b)) (Some (ToReadPrepare (Err (prepare.Damaged a b)))) serves) still (tells.other (λ no. cc))
+
+    -- a reply
+    module _ (client : ℕ) where
+      makes_reply : (found : Option (Result Message Class)) (answer : Option Answer) → ServesRead (ReadReply client) s t old found answer → Makes (ReadReply client) s t old new answer
+      makes_reply found answer serves =
+          read_made (ReadReply client) (supply s (ReadReply client) old found) answer (serves (supply s (ReadReply client) old found) (refl, found_by s (ReadReply client) old found) (gives s (ReadReply client) old found))
+
+      pub reply_shown : (m : Message) → ServesRead (ReadReply client) s t old (reply_found (Ok m)) (read_reply_answer (Ok m)) → now ≡ before → IsPrinted (message_text (codes "reply") m) written took turn → Comes (ReadReply client)
+      reply_shown m serves still printed = answered (ReadReply client) (ToReadReply (Ok m)) (makes_reply (Some (Ok m)) (Some (ToReadReply (Ok m))) serves) still printed
+
+      pub reply_refused : (e : LookupError) → ServesRead (ReadReply client) s t old (reply_found (Err e)) (read_reply_answer (Err e)) → ReplyBlames {A = Message} before now (Err e) → TellsRefusal lookup.DiskFault (lookup_refusal e) e written took turn → Comes (ReadReply client)
+      reply_refused lookup.DiskFault serves blamed tells = (
+        failed_is (ReadReply client) s t old new written took (makes_reply None None serves) turn (tells.failed refl),
+        disk_rose before now turn (tells.failed refl).0 blamed.1,
+      )
+      reply_refused lookup.NoClient serves still tells = answered (ReadReply client) (ToReadReply (Err lookup.NoClient)) (makes_reply None (Some (ToReadReply (Err lookup.NoClient))) serves) still (tells.other (λ no. cc))
+      reply_refused (lookup.ReplyPending a) serves still tells = answered (ReadReply client) (ToReadReply (Err (lookup.ReplyPending a))) (makes_reply None (Some (ToReadReply (Err (lookup.ReplyPending a)))) serves) still (tells.other (λ no. cc))
+      reply_refused (lookup.Damaged a b) serves still tells = answered (ReadReply client) (ToReadReply (Err (lookup.Damaged a b))) (makes_reply (Some (Err b)) (Some (ToReadReply (Err (lookup.Damaged a b)))) serves) still (tells.other (λ no. cc))
+
+-- ---- a read that lends nothing, where the result says what it leaves
+
+pub prepare_ends : {A : Type 0} (s t : Replica) (r : Result A PrepareError) (e : PrepareError) (old new : Option Told) (same : new ≡ old) (written took : Option (List ℕ)) (before now : ℕ) (turn : Turn) (op : ℕ) → t ≡ prepare_leaves s r → r ≡ Err e
+    → ServesRead (ReadPrepare op) s (prepare_leaves {A = A} s (Err e)) old (prepare_found (Err e)) (read_prepare_answer (Err e)) → PrepareBlames {A = Message} before now (Err e) → TellsRefusal prepare.DiskFault (prepare_refusal e) e written took turn
+    → Answers (ReadPrepare op) s t old new written took turn
+prepare_ends {A} s t r e old new same written took before now turn op leaves is serves blamed tells =
+    subst (λ (u : Replica). Answers (ReadPrepare op) s u old new written took turn) (sym (leaves ∙ ap (λ (x : Result A PrepareError). prepare_leaves s x) is))
+    (prepare_refused s (prepare_leaves {A = A} s (Err e)) old new same written took before now turn op e serves blamed tells).0
+
+pub reply_ends : {A : Type 0} (s t : Replica) (r : Result A LookupError) (e : LookupError) (old new : Option Told) (same : new ≡ old) (written took : Option (List ℕ)) (before now : ℕ) (turn : Turn) (client : ℕ) → t ≡ reply_leaves s r → r ≡ Err e
+    → ServesRead (ReadReply client) s (reply_leaves {A = A} s (Err e)) old (reply_found (Err e)) (read_reply_answer (Err e)) → ReplyBlames {A = Message} before now (Err e) → TellsRefusal lookup.DiskFault (lookup_refusal e) e written took turn
+    → Answers (ReadReply client) s t old new written took turn
+reply_ends {A} s t r e old new same written took before now turn client leaves is serves blamed tells =
+    subst (λ (u : Replica). Answers (ReadReply client) s u old new written took turn) (sym (leaves ∙ ap (λ (x : Result A LookupError). reply_leaves s x) is))
+    (reply_refused s (reply_leaves {A = A} s (Err e)) old new same written took before now turn client e serves blamed tells).0

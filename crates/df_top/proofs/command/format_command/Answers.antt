@@ -1,5 +1,0 @@
-use Rattle.df_top.proofs.Commands.{no_layout}
-use Rattle.df_top.proofs.command.format_command.Goals as goal
-
-pub returns-in_err-layout-clause-none : goal.returns-in_err-layout-clause-none
-returns-in_err-layout-clause-none c = rw c.from_residual.ensures (no_layout _ _ _ c.in_err-layout.ensures.none)

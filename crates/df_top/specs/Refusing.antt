@@ -1,0 +1,19 @@
+-- What is printed of a file that can't be opened or made.
+use Rattle.std.specs.Prelude.{◌≡◌, ℕ, List, Option}
+use Rattle.df_inspect.specs.Opening.{format_refusal, open_refusal}
+use Rattle.df_model.specs.declared.errors.FormatError.{FormatError}
+use Rattle.df_model.specs.declared.errors.FormatError.TheVariants as formats
+use Rattle.df_model.specs.declared.errors.OpenError.{OpenError}
+use Rattle.df_model.specs.declared.errors.OpenError.TheVariants as opens
+use Rattle.df_top.specs.Outside.{PrintsLine}
+use Rattle.df_top.specs.declared.status.Status.{Status}
+use Rattle.df_top.specs.declared.status.Status.TheVariants.{DiskFault, Refused}
+
+-- the refusal's line is printed; a failing disk has none
+pub record PrintsError (error : OpenError) (old new : Option (List ℕ)) (status : Status) : Type 0 where
+  pub fault : error ≡ opens.DiskFault → (status ≡ DiskFault) × (new ≡ old)
+  pub other : (error ≡ opens.DiskFault → ⊥) → PrintsLine (open_refusal error) Refused old new status
+
+pub record PrintsFormatError (error : FormatError) (old new : Option (List ℕ)) (status : Status) : Type 0 where
+  pub fault : error ≡ formats.DiskFault → (status ≡ DiskFault) × (new ≡ old)
+  pub other : (error ≡ formats.DiskFault → ⊥) → PrintsLine (format_refusal error) Refused old new status

@@ -1,0 +1,5 @@
+-- The line that says which words have a meaning.
+use Rattle.std.specs.Prelude.{ℕ, List, codes}
+
+unfoldable pub usage : List ℕ
+usage = codes "usage: format LAYOUT CLUSTER | run\n"

@@ -1,0 +1,96 @@
+// What the words of the command line ask for, by rules that take no memory.
+ghost use Rattle.std.specs.Prelude.{◌≡◌, ◌<◌, ◌^◌, ℕ, List, [], ◌∷◌, ◌++◌, map, decimal, string_bytes};
+ghost use Rattle.std.specs.Prelude.{IfSome, IfNone};
+ghost use Rattle.df_layout.specs.declared.layout.Layout.{Layout};
+ghost use Rattle.df_top.specs.declared.mode.Mode.{Mode};
+ghost use Rattle.df_top.specs.Mode.{Means, NamesLayout, OneMeaning, numbers_of};
+
+use df_layout::Layout;
+use df_lines::{u32_of, u128_of};
+
+/// What the words of the command line ask for.
+#[derive(Clone, Copy, Debug, PartialEq, Eq)]
+pub enum Mode {
+    /// Makes the file: `format LAYOUT CLUSTER`. A cluster of 0 has a meaning here; the making refuses it.
+    Format { layout: Layout, cluster: u128 },
+    /// Serves the script: `run`.
+    Run,
+}
+
+/// What the words ask for, or None where they have no meaning. LAYOUT is `small`, `large`, or the slots, the bytes of a
+/// message, the clients, the bytes of a block and the blocks, in decimal with commas between them. CLUSTER is a number in
+/// decimal below 2^128. A number has no zero before it, `0` itself aside.
+pub fn mode_of(words: &[String]) -> Option<Mode>
+    ensures found { IfSome result (Means (map string_bytes words.now)) }
+    ensures none { IfNone result ((c : Mode) → Means (map string_bytes words.now) c → ⊥) }
+{
+    match words {
+        [word] => plain_mode(word.as_str()),
+        [word, name, cluster] => format_mode(word.as_str(), name.as_str(), cluster.as_str()),
+        _ => None,
+    }
+}
+
+// What one word alone asks for.
+fn plain_mode(word: &str) -> Option<Mode>
+    ensures found { IfSome result (Means (word.now ∷ [])) }
+    ensures none { IfNone result ((c : Mode) → Means (word.now ∷ []) c → ⊥) }
+{
+    if word == "run" { Some(Mode::Run) } else { None }
+}
+
+// What three words ask for.
+fn format_mode(word: &str, name: &str, cluster: &str) -> Option<Mode>
+    ensures found { IfSome result (Means (word.now ∷ name.now ∷ cluster.now ∷ [])) }
+    ensures none { IfNone result ((c : Mode) → Means (word.now ∷ name.now ∷ cluster.now ∷ []) c → ⊥) }
+{
+    if word != "format" {
+        return None;
+    }
+    let layout = layout_named(name)?;
+    let cluster = u128_of(cluster.as_bytes())?;
+    Some(Mode::Format { layout, cluster })
+}
+
+// The layout of this name.
+fn layout_named(name: &str) -> Option<Layout>
+    ensures found { IfSome result (NamesLayout name.now) }
+    ensures none { IfNone result ((layout : Layout) → NamesLayout name.now layout → ⊥) }
+{
+    if name == "small" {
+        return Some(Layout::small());
+    }
+    if name == "large" {
+        return Some(Layout::large());
+    }
+    layout_of_numbers(name)
+}
+
+// The layout of five numbers with commas between them.
+fn layout_of_numbers(name: &str) -> Option<Layout>
+    ensures found { IfSome result (λ layout. name.now ≡ numbers_of layout) }
+    ensures none { IfNone result ((layout : Layout) → name.now ≡ numbers_of layout → ⊥) }
+{
+    let (slots, rest) = number_before_comma(name)?;
+    let (message_size, rest) = number_before_comma(rest)?;
+    let (clients, rest) = number_before_comma(rest)?;
+    let (block_size, rest) = number_before_comma(rest)?;
+    let blocks = u32_of(rest.as_bytes())?;
+    Layout::new(slots, message_size, clients, block_size, blocks).ok()
+}
+
+// The number before the first comma and the text behind it, or None where no number below 2^32 stands before one.
+fn number_before_comma(text: &str) -> Option<(u32, &str)>
+    ensures found { IfSome result (λ parts. text.now ≡ decimal parts.0 ++ (44 ∷ parts.1.now)) }
+    ensures fits { IfSome result (λ parts. parts.0 < 2 ^ 32) }
+    ensures none { IfNone result ((n : ℕ) (rest : List ℕ) → n < 2 ^ 32
+        → text.now ≡ decimal n ++ (44 ∷ rest) → ⊥) }
+{
+    let (digits, rest) = text.split_once(',')?;
+    Some((u32_of(digits.as_bytes())?, rest))
+}
+
+/// Words ask for one thing at most.
+pub fn words_have_one_meaning()
+    ensures { OneMeaning }
+{}
