@@ -1,7 +1,0 @@
-pub mod Decimals
-pub mod Cutting
-pub mod Meanings
-pub mod Pieces
-pub mod Finding
-pub mod Texts
-pub mod Laws

@@ -1,6 +1,0 @@
-pub mod Grammar
-pub mod Words
-pub mod Text
-pub mod Room
-pub mod Window
-pub mod Reads
