@@ -13,13 +13,15 @@ pub const FRONT: [u8; 80] = [
     0, 0,
 ];
 
-/// The sector of the copy with this number, with one byte changed before the checksum is taken.
-pub fn copy(number: u8, at: usize, byte: u8) -> [u8; SECTOR] {
+/// The sector of the copy with this number, with these bytes changed before the checksum is taken.
+pub fn copy(number: u8, changes: &[(usize, u8)]) -> [u8; SECTOR] {
     let mut bytes = [0u8; SECTOR];
     bytes[..80].copy_from_slice(&FRONT);
     bytes[16] = number;
-    if at < SECTOR {
-        bytes[at] = byte;
+    for (at, byte) in changes {
+        if *at < SECTOR {
+            bytes[*at] = *byte;
+        }
     }
     let sum = check(&bytes[32..]);
     bytes[..16].copy_from_slice(&sum);

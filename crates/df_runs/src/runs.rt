@@ -14,8 +14,20 @@ pub struct Ran {
     pub refused: u64,
 }
 
-/// Device calls of a format: it reads the four copies, and writes and syncs each of them.
-pub const FORMAT_CALLS: u64 = 12;
+impl Ran {
+    // What a run answered that ended so, and wrote into this sink.
+    pub(crate) fn of(alloc: Global, status: Status, sink: &MemorySink) -> Result<Ran, Fail> {
+        Ok(Ran {
+            status,
+            text: Vec::from_slice(alloc, sink.bytes())?,
+            refused: sink.refused(),
+        })
+    }
+}
+
+/// Device calls of a format of layout small: it reads the four copies, writes the two sectors of headers and syncs them, and
+/// writes and syncs each copy.
+pub const FORMAT_CALLS: u64 = 15;
 
 /// These words.
 pub fn words(alloc: Global, texts: &[&str]) -> Result<Vec<String>, Fail> {
@@ -31,6 +43,17 @@ pub fn word(alloc: Global, text: &str) -> Result<Vec<String>, Fail> {
     words(alloc, &[text])
 }
 
+// A run, of which a caller's proof is told nothing.
+fn run_in(
+    alloc: Global,
+    words: &[String],
+    source: &mut MemorySource,
+    sink: &mut MemorySink,
+    disk: &mut MemoryDisk,
+) -> Status {
+    run(alloc, words, source, sink, disk)
+}
+
 /// Runs these words with the listed calls of source and sink failing.
 pub fn run_failing(
     alloc: Global,
@@ -43,12 +66,8 @@ pub fn run_failing(
     let script = Vec::from_slice(alloc, script)?;
     let mut source = MemorySource::new(script, Vec::from_slice(alloc, source_fails)?);
     let mut sink = MemorySink::new(alloc, Vec::from_slice(alloc, sink_fails)?);
-    let status = run(alloc, words, &mut source, &mut sink, disk);
-    Ok(Ran {
-        status,
-        text: Vec::from_slice(alloc, sink.bytes())?,
-        refused: sink.refused(),
-    })
+    let status = run_in(alloc, words, &mut source, &mut sink, disk);
+    Ran::of(alloc, status, &sink)
 }
 
 /// Runs a script.
@@ -63,18 +82,23 @@ pub fn run_words(alloc: Global, disk: &mut MemoryDisk, texts: &[&str]) -> Result
     run_failing(alloc, disk, &words, b"append 5 1 -\n", &[], &[])
 }
 
+/// A disk in memory with a file of this layout and cluster 7, whose listed calls fail.
+pub fn made_file(alloc: Global, layout: &str, failing: &[u64]) -> Result<MemoryDisk, Fail> {
+    let mut disk = blank(alloc, failing)?;
+    let ran = run_words(alloc, &mut disk, &["format", layout, "7"])?;
+    if ran.status != Status::Done {
+        return Err("no file was made".into());
+    }
+    Ok(disk)
+}
+
 /// A disk in memory with a file of layout small and cluster 7, whose listed calls fail, counted behind the format.
 pub fn small_file(alloc: Global, failing: &[u64]) -> Result<MemoryDisk, Fail> {
     let mut calls = Vec::new(alloc);
     for call in failing {
         calls.push(call.saturating_add(FORMAT_CALLS))?;
     }
-    let mut disk = MemoryDisk::new(alloc, calls);
-    let ran = run_words(alloc, &mut disk, &["format", "small", "7"])?;
-    if ran.status != Status::Done {
-        return Err("no file was made".into());
-    }
-    Ok(disk)
+    made_file(alloc, "small", &calls)
 }
 
 /// A blank disk in memory whose listed calls fail.
@@ -85,9 +109,4 @@ pub fn blank(alloc: Global, failing: &[u64]) -> Result<MemoryDisk, Fail> {
 /// Whether a run printed this.
 pub fn printed(ran: &Ran, text: &str) -> bool {
     ran.text.as_slice() == text.as_bytes()
-}
-
-/// How many lines a text has.
-pub fn lines(text: &[u8]) -> usize {
-    text.iter().filter(|byte| **byte == b'\n').count()
 }

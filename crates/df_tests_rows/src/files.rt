@@ -3,45 +3,42 @@ use df_base::SECTOR;
 use df_disk::Disk;
 use df_memdisk::Strike;
 use df_runs::{blank, copy, printed, run_script, run_words, small_file};
-use df_top::{Status, new_disk_is_safe, one_script, runs_follow};
+use df_top::{Status, words_have_one_meaning};
 use std::test::Fail;
 
-const FORMAT: [&str; 3] = ["format", "small", "7"];
+// Words over one disk after the other, what they print, and how they end.
+const MAKINGS: [(&[&str], &str, Status); 6] = [
+    (&["run"], "refused NotFormatted\n", Status::Refused),
+    (
+        &["format", "small", "0"],
+        "refused ClusterZero\n",
+        Status::Refused,
+    ),
+    (&["format", "small", "7"], "formatted 336\n", Status::Done),
+    (
+        &["format", "small", "7"],
+        "refused NotBlank copy 0\n",
+        Status::Refused,
+    ),
+    (
+        &["format", "large", "0"],
+        "refused ClusterZero\n",
+        Status::Refused,
+    ),
+    (&["run"], "appended 1\n", Status::Done),
+];
 
 #[test]
 fn a_file_is_made_once(rt: HostRuntime) -> Result<(), Fail> {
-    new_disk_is_safe();
-    runs_follow();
-    one_script();
+    words_have_one_meaning();
     let mut disk = blank(rt.alloc(), &[])?;
-    let none = run_script(rt.alloc(), &mut disk, b"append 5 1 -\n")?;
-    assert_eq!(rt; none.status, Status::Refused);
-    assert!(rt; printed(&none, "refused NotFormatted\n"));
-    let zero = run_words(rt.alloc(), &mut disk, &["format", "small", "0"])?;
-    assert_eq!(rt; zero.status, Status::Refused);
-    assert!(rt; printed(&zero, "refused ClusterZero\n"));
-    let made = run_words(rt.alloc(), &mut disk, &FORMAT)?;
-    assert_eq!(rt; made.status, Status::Done);
-    assert!(rt; printed(&made, "formatted 336\n"));
-    let again = run_words(rt.alloc(), &mut disk, &FORMAT)?;
-    assert_eq!(rt; again.status, Status::Refused);
-    assert!(rt; printed(&again, "refused NotBlank copy 0\n"));
-    Ok(())
-}
-
-#[test]
-fn a_file_has_the_layout_that_it_was_made_with(rt: HostRuntime) -> Result<(), Fail> {
-    let mut disk = blank(rt.alloc(), &[])?;
-    let made = run_words(rt.alloc(), &mut disk, &["format", "16,4096,1,4096,8", "9"])?;
-    assert_eq!(rt; made.status, Status::Done);
-    let mut script = Vec::new(rt.alloc());
-    for _ in 0..17 {
-        script.extend_from_slice(b"append 1 1 -\n")?;
+    for (index, (words, text, status)) in MAKINGS.iter().enumerate() {
+        let ran = run_words(rt.alloc(), &mut disk, words)?;
+        assert_eq!(rt; ran.text.as_slice(), text.as_bytes(), "row {index}");
+        assert_eq!(rt; ran.status, *status, "row {index}");
     }
-    let ran = run_script(rt.alloc(), &mut disk, &script)?;
-    assert_eq!(rt; ran.status, Status::Done);
-    let last = "appended 16\nrefused WalFull op 17 checkpoint_op 0\n";
-    assert!(rt; ran.text.as_slice().ends_with(last.as_bytes()));
+    let empty = run_script(rt.alloc(), &mut disk, b"")?;
+    assert!(rt; empty.status == Status::Done && printed(&empty, ""));
     Ok(())
 }
 
@@ -51,68 +48,45 @@ fn two_damaged_copies_are_mended(rt: HostRuntime) -> Result<(), Fail> {
     let first = run_script(rt.alloc(), &mut disk, b"append 5 1 -\n")?;
     assert!(rt; printed(&first, "appended 1\n"));
     for number in [1u64, 3] {
-        if disk.strike(number, Strike::Fill { byte: 0xa5 }).is_err() {
-            return Err("no memory for a strike".into());
-        }
+        disk.strike(number, Strike::Fill { byte: 0xa5 })?;
     }
     let events = disk.events();
     let next = run_script(rt.alloc(), &mut disk, b"append 6 1 -\n")?;
     assert!(rt; printed(&next, "appended 2\n"));
-    // The barrier, two copies and an append, each of these with its sync.
-    assert_eq!(rt; disk.events().checked_sub(events), Some(7));
+    // The barrier; two copies, and the prepare and its header of an append, each of these four with its sync.
+    assert_eq!(rt; disk.events().checked_sub(events), Some(9));
     for number in 0..4u8 {
         let mut sector = [0u8; SECTOR];
         disk.read(u64::from(number), &mut sector)?;
-        assert_eq!(rt; sector, copy(number, SECTOR, 0), "copy {number}");
+        assert_eq!(rt; sector, copy(number, &[]), "copy {number}");
     }
     Ok(())
 }
 
-// A byte of two copies that is changed, its offset, and how a run refuses the file.
-const REFUSALS: [(usize, u8, &str); 4] = [
-    (32, 9, "refused Version found 9\n"),
-    (36, 0, "refused BadField Slots 0\n"),
-    (72, 2, "refused BadField Sequence 2\n"),
-    (48, 0, "refused BadField Cluster 0\n"),
+// Bytes of four equal copies that are changed, with their offsets, and how a run refuses the file.
+const REFUSALS: [(&[(usize, u8)], &str); 4] = [
+    (&[(32, 9)], "refused Version found 9\n"),
+    (&[(36, 0)], "refused BadField Slots 0\n"),
+    (&[(48, 0)], "refused BadField Cluster 0\n"),
+    // The greatest op is 2^62.
+    (
+        &[(80, 1), (87, 0x40)],
+        "refused BadField Op 4611686018427387905\n",
+    ),
 ];
 
 #[test]
 fn a_file_that_cannot_be_used_is_refused(rt: HostRuntime) -> Result<(), Fail> {
-    for (at, byte, line) in &REFUSALS {
+    for (changes, line) in &REFUSALS {
         let mut disk = small_file(rt.alloc(), &[])?;
-        for number in 0..2u8 {
-            disk.write(u64::from(number), &copy(number, *at, *byte))?;
+        for number in 0..4u8 {
+            disk.write(u64::from(number), &copy(number, changes))?;
         }
+        let events = disk.events();
         let ran = run_script(rt.alloc(), &mut disk, b"append 5 1 -\n")?;
         assert_eq!(rt; ran.status, Status::Refused, "{line}");
         assert!(rt; printed(&ran, line), "{line}");
-    }
-    let mut disk = small_file(rt.alloc(), &[])?;
-    for number in 1..4u64 {
-        disk.write(number, &[0xa5; SECTOR])?;
-    }
-    let ran = run_script(rt.alloc(), &mut disk, b"append 5 1 -\n")?;
-    assert_eq!(rt; ran.status, Status::Refused);
-    let line = "refused NoQuorum Stale Garbled Garbled Garbled\n";
-    assert!(rt; printed(&ran, line));
-    Ok(())
-}
-
-#[test]
-fn a_failing_call_of_a_repair_is_mended_by_the_next_run(rt: HostRuntime) -> Result<(), Fail> {
-    // The probe's four copies, the barrier, the four copies, and for each copy a write and a sync.
-    for call in 10..14u64 {
-        let mut disk = small_file(rt.alloc(), &[call.saturating_add(2)])?;
-        disk.write(0, &[0xa5; SECTOR])?;
-        disk.write(2, &[0xa5; SECTOR])?;
-        let ran = run_script(rt.alloc(), &mut disk, b"append 5 1 -\n")?;
-        assert_eq!(rt; ran.status, Status::DiskFault, "call {call}");
-        let Ok(mut disk) = disk.stop(Vec::new(rt.alloc())) else {
-            return Err("an empty stop is refused".into());
-        };
-        let next = run_script(rt.alloc(), &mut disk, b"append 5 1 -\n")?;
-        assert_eq!(rt; next.status, Status::Done, "call {call}");
-        assert!(rt; printed(&next, "appended 1\n"), "call {call}");
+        assert_eq!(rt; disk.events(), events, "{line}");
     }
     Ok(())
 }

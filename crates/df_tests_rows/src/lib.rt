@@ -2,8 +2,12 @@
 #![tactic(auto)]
 
 #[cfg(test)]
+mod bounds;
+#[cfg(test)]
 mod files;
 #[cfg(test)]
 mod rows;
+#[cfg(test)]
+mod statuses;
 #[cfg(test)]
 mod strikes;

@@ -1,9 +1,6 @@
-// Which words have a meaning, and the lines of refusals, as the tables of words and of printed texts give them.
-use crate::{
-    Command, command_of, format_refusal, formatted_line, open_refusal, words_have_one_meaning,
-};
-use df_layout::{Class, Field, Layout, Place, Zone};
-use df_replica::{FormatError, OpenError};
+// Which words have a meaning, as the table of words gives them.
+use crate::{Mode, mode_of, words_have_one_meaning};
+use df_layout::Layout;
 use std::alloc::{AllocError, Global};
 
 fn words_of(alloc: Global, texts: &[&str]) -> Result<Vec<String>, AllocError> {
@@ -36,12 +33,10 @@ fn format_takes_a_layout_and_a_cluster(rt: HostRuntime) -> Result<(), AllocError
     ];
     for (name, word, (slots, message_size, clients, block_size, blocks), cluster) in rows {
         let layout = Layout::new(slots, message_size, clients, block_size, blocks);
-        let wanted = layout
-            .ok()
-            .map(|layout| Command::Format { layout, cluster });
+        let wanted = layout.ok().map(|layout| Mode::Format { layout, cluster });
         assert!(rt; wanted.is_some(), "{name}");
         let words = words_of(rt.alloc(), &["format", name, word])?;
-        assert_eq!(rt; command_of(&words), wanted, "{name} {word}");
+        assert_eq!(rt; mode_of(&words), wanted, "{name} {word}");
     }
     Ok(())
 }
@@ -49,7 +44,7 @@ fn format_takes_a_layout_and_a_cluster(rt: HostRuntime) -> Result<(), AllocError
 #[test]
 fn run_stands_alone(rt: HostRuntime) -> Result<(), AllocError> {
     let words = words_of(rt.alloc(), &["run"])?;
-    assert_eq!(rt; command_of(&words), Some(Command::Run));
+    assert_eq!(rt; mode_of(&words), Some(Mode::Run));
     for texts in [
         [].as_slice(),
         &[""],
@@ -67,7 +62,7 @@ fn run_stands_alone(rt: HostRuntime) -> Result<(), AllocError> {
         &["", "small", "7"],
     ] {
         let words = words_of(rt.alloc(), texts)?;
-        assert_eq!(rt; command_of(&words), None);
+        assert_eq!(rt; mode_of(&words), None);
     }
     Ok(())
 }
@@ -111,7 +106,7 @@ fn other_names_of_layouts_have_no_meaning(rt: HostRuntime) -> Result<(), AllocEr
     ];
     for name in names {
         let words = words_of(rt.alloc(), &["format", name, "7"])?;
-        assert_eq!(rt; command_of(&words), None, "{name}");
+        assert_eq!(rt; mode_of(&words), None, "{name}");
     }
     Ok(())
 }
@@ -135,173 +130,7 @@ fn other_clusters_have_no_meaning(rt: HostRuntime) -> Result<(), AllocError> {
     ];
     for cluster in clusters {
         let words = words_of(rt.alloc(), &["format", "small", cluster])?;
-        assert_eq!(rt; command_of(&words), None, "{cluster}");
+        assert_eq!(rt; mode_of(&words), None, "{cluster}");
     }
     Ok(())
-}
-
-#[test]
-fn a_file_that_is_not_made_has_its_line(rt: HostRuntime) {
-    let rows = [
-        (FormatError::ClusterZero, "refused ClusterZero\n"),
-        (
-            FormatError::NotBlank { copy: 0 },
-            "refused NotBlank copy 0\n",
-        ),
-        (
-            FormatError::NotBlank { copy: 3 },
-            "refused NotBlank copy 3\n",
-        ),
-        (FormatError::DiskFault, ""),
-    ];
-    for (error, text) in rows {
-        assert_eq!(rt;
-            format_refusal(&error).as_slice(),
-            text.as_bytes(),
-            "{text}"
-        );
-    }
-    assert_eq!(rt;
-        formatted_line(336).as_slice(),
-        b"formatted 336\n".as_slice()
-    );
-    assert_eq!(rt;
-        formatted_line(2_375_808).as_slice(),
-        b"formatted 2375808\n".as_slice()
-    );
-}
-
-fn elsewhere(zone: Zone, index: u64) -> Class {
-    Class::Elsewhere(Place { zone, index })
-}
-
-fn damaged(zone: Zone, index: u64, class: Class) -> OpenError {
-    let place = Place { zone, index };
-    OpenError::Damaged { place, class }
-}
-
-fn bad_field(field: Field, value: u128) -> OpenError {
-    OpenError::BadField { field, value }
-}
-
-#[test]
-fn a_file_that_is_not_opened_has_its_line(rt: HostRuntime) {
-    let next = elsewhere(Zone::WalPrepares, 4);
-    let rows = [
-        (OpenError::NotFormatted, "refused NotFormatted\n"),
-        (OpenError::Version { found: 2 }, "refused Version found 2\n"),
-        (
-            bad_field(Field::Op, 4_611_686_018_427_387_905),
-            "refused BadField Op 4611686018427387905\n",
-        ),
-        (
-            bad_field(Field::TrailerChecksum, u128::MAX),
-            "refused BadField TrailerChecksum 340282366920938463463374607431768211455\n",
-        ),
-        (
-            OpenError::LayoutDiffers {
-                reserved: Layout::large(),
-                found: Layout::small(),
-            },
-            "refused LayoutDiffers 1024 1048576 64 524288 16384 32 8192 4 16384 64\n",
-        ),
-        (
-            damaged(Zone::WalPrepares, 3, next),
-            "refused Damaged WalPrepares 3 Elsewhere WalPrepares 4\n",
-        ),
-        (
-            damaged(Zone::ClientReplies, u64::MAX, Class::Blank),
-            "refused Damaged ClientReplies 18446744073709551615 Blank\n",
-        ),
-        (OpenError::DiskFault, ""),
-    ];
-    for (error, text) in rows {
-        assert_eq!(rt; open_refusal(&error).as_slice(), text.as_bytes(), "{text}");
-    }
-}
-
-#[test]
-fn four_copies_of_which_no_two_agree_are_told(rt: HostRuntime) {
-    let next = elsewhere(Zone::WalPrepares, 4);
-    let far = elsewhere(Zone::ClientReplies, u64::MAX);
-    let (blank, garbled, stale) = (Class::Blank, Class::Garbled, Class::Stale);
-    let rows = [
-        (
-            [garbled, garbled, garbled, stale],
-            "refused NoQuorum Garbled Garbled Garbled Stale\n",
-        ),
-        (
-            [blank, stale, next, garbled],
-            "refused NoQuorum Blank Stale Elsewhere WalPrepares 4 Garbled\n",
-        ),
-        // The longest line of all.
-        (
-            [far, far, far, far],
-            "refused NoQuorum \
-                Elsewhere ClientReplies 18446744073709551615 \
-                Elsewhere ClientReplies 18446744073709551615 \
-                Elsewhere ClientReplies 18446744073709551615 \
-                Elsewhere ClientReplies 18446744073709551615\n",
-        ),
-    ];
-    for (classes, text) in rows {
-        let error = OpenError::NoQuorum { classes };
-        assert_eq!(rt; open_refusal(&error).as_slice(), text.as_bytes(), "{text}");
-    }
-}
-
-#[test]
-fn zones_have_their_names(rt: HostRuntime) {
-    let rows = [
-        (Zone::Superblock, "refused Damaged Superblock 1 Garbled\n"),
-        (Zone::WalHeaders, "refused Damaged WalHeaders 1 Garbled\n"),
-        (Zone::WalPrepares, "refused Damaged WalPrepares 1 Garbled\n"),
-        (
-            Zone::ClientReplies,
-            "refused Damaged ClientReplies 1 Garbled\n",
-        ),
-        (Zone::Grid, "refused Damaged Grid 1 Garbled\n"),
-    ];
-    for (zone, text) in rows {
-        let error = damaged(zone, 1, Class::Garbled);
-        assert_eq!(rt; open_refusal(&error).as_slice(), text.as_bytes(), "{text}");
-    }
-}
-
-#[test]
-fn fields_have_their_names(rt: HostRuntime) {
-    let rows = [
-        (Field::Slots, "refused BadField Slots 0\n"),
-        (Field::MessageSize, "refused BadField MessageSize 0\n"),
-        (Field::Clients, "refused BadField Clients 0\n"),
-        (Field::BlockSize, "refused BadField BlockSize 0\n"),
-        (Field::Blocks, "refused BadField Blocks 0\n"),
-        (Field::Cluster, "refused BadField Cluster 0\n"),
-        (Field::Sequence, "refused BadField Sequence 0\n"),
-        (Field::Op, "refused BadField Op 0\n"),
-        (Field::OpChecksum, "refused BadField OpChecksum 0\n"),
-        (Field::Head, "refused BadField Head 0\n"),
-        (Field::Replies, "refused BadField Replies 0\n"),
-        (Field::TrailerAddress, "refused BadField TrailerAddress 0\n"),
-        (
-            Field::TrailerChecksum,
-            "refused BadField TrailerChecksum 0\n",
-        ),
-        (Field::TrailerSize, "refused BadField TrailerSize 0\n"),
-        (Field::Boot, "refused BadField Boot 0\n"),
-        (Field::Zero, "refused BadField Zero 0\n"),
-        (Field::TrailerChain, "refused BadField TrailerChain 0\n"),
-        (Field::TrailerRoot, "refused BadField TrailerRoot 0\n"),
-        (
-            Field::TrailerSessions,
-            "refused BadField TrailerSessions 0\n",
-        ),
-        (Field::TrailerBits, "refused BadField TrailerBits 0\n"),
-        (Field::TrailerEnd, "refused BadField TrailerEnd 0\n"),
-        (Field::Pending, "refused BadField Pending 0\n"),
-    ];
-    for (field, text) in rows {
-        let error = bad_field(field, 0);
-        assert_eq!(rt; open_refusal(&error).as_slice(), text.as_bytes(), "{text}");
-    }
 }

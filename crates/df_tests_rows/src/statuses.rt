@@ -1,0 +1,93 @@
+// How a run ends where its words have no meaning or a first call fails, and runs in rooms that were taken before.
+use df_layout::Layout;
+use df_memdisk::MemoryDisk;
+use df_runs::{blank, printed, run_failing, run_script, serve_script, small_file, word, words};
+use df_top::Status;
+use std::test::Fail;
+
+const WORDS: [&[&str]; 9] = [
+    &[],
+    &["format", "small"],
+    &["format", "small", "007"],
+    &["format", "0,4096,1,4096,8", "7"],
+    &["run", "--"],
+    &["--"],
+    &["append"],
+    &["format", "small", "7", "7"],
+    &["format", "small", "340282366920938463463374607431768211456"],
+];
+
+#[test]
+fn other_words_print_the_usage_line(rt: HostRuntime) -> Result<(), Fail> {
+    let mut disk = blank(rt.alloc(), &[1])?;
+    for texts in WORDS {
+        let words = words(rt.alloc(), texts)?;
+        let ran = run_failing(rt.alloc(), &mut disk, &words, b"append 5 1 -\n", &[1], &[])?;
+        assert_eq!(rt; ran.status, Status::Words, "{texts:?}");
+        assert!(rt;
+            printed(&ran, "usage: format LAYOUT CLUSTER | run\n"),
+            "{texts:?}"
+        );
+    }
+    assert_eq!(rt; disk.calls(), 0);
+    Ok(())
+}
+
+// A script that is never read, since the disk fails first; one whose source fails; and one whose first answer fails, behind
+// which its append is there.
+#[test]
+fn a_first_call_that_fails_is_told(rt: HostRuntime) -> Result<(), Fail> {
+    let words = word(rt.alloc(), "run")?;
+    let mut disk = blank(rt.alloc(), &[1])?;
+    let ran = run_script(rt.alloc(), &mut disk, b"append 5 1 -\n")?;
+    assert!(rt; ran.status == Status::DiskFault && printed(&ran, ""));
+    let mut disk = small_file(rt.alloc(), &[])?;
+    let ran = run_failing(rt.alloc(), &mut disk, &words, b"append 5 1 -\n", &[1], &[])?;
+    assert!(rt; ran.status == Status::ReadFault && printed(&ran, ""));
+    let ran = run_failing(rt.alloc(), &mut disk, &words, b"append 5 1 -\n", &[], &[1])?;
+    assert!(rt; ran.status == Status::WriteFault && printed(&ran, ""));
+    let ran = run_script(rt.alloc(), &mut disk, b"prepare 2\n")?;
+    assert!(rt; printed(&ran, "refused NotKept first 1 last 1\n"));
+    Ok(())
+}
+
+// Where the sink fails, its fault takes the place of any other status.
+#[test]
+fn a_refusal_that_is_not_printed_is_a_write_fault(rt: HostRuntime) -> Result<(), Fail> {
+    let mut disk = blank(rt.alloc(), &[])?;
+    let rows: [(&[&str], &[u8]); 5] = [
+        (&[], b""),
+        (&["run"], b""),
+        (&["format", "small", "0"], b""),
+        (&["format", "small", "7"], b""),
+        (&["run"], b"append 5 1\n"),
+    ];
+    for (texts, script) in rows {
+        let words = words(rt.alloc(), texts)?;
+        let ran = run_failing(rt.alloc(), &mut disk, &words, script, &[], &[1])?;
+        assert_eq!(rt; ran.status, Status::WriteFault, "{texts:?}");
+        assert!(rt; printed(&ran, ""), "{texts:?}");
+    }
+    Ok(())
+}
+
+#[test]
+fn a_file_is_served_in_rooms_of_its_layout_alone(rt: HostRuntime) -> Result<(), Fail> {
+    let mut disk: MemoryDisk = small_file(rt.alloc(), &[])?;
+    let large = serve_script(rt.alloc(), &mut disk, &Layout::large(), b"append 5 1 -\n")?;
+    assert_eq!(rt; large.status, Status::Refused);
+    let line = "refused LayoutDiffers 1024 1048576 64 524288 16384 32 8192 4 16384 64\n";
+    assert!(rt; printed(&large, line));
+    let small = serve_script(rt.alloc(), &mut disk, &Layout::small(), b"")?;
+    assert_eq!(rt; small.status, Status::Done);
+    assert!(rt; printed(&small, ""));
+    let small = serve_script(
+        rt.alloc(),
+        &mut disk,
+        &Layout::small(),
+        b"append 5 1 -\nstop\n",
+    )?;
+    assert_eq!(rt; small.status, Status::Script);
+    assert!(rt; printed(&small, "appended 1\nscript 2\n"));
+    Ok(())
+}
