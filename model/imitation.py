@@ -14,9 +14,10 @@ import os
 
 sys.path.insert(0, os.path.dirname(os.path.abspath(__file__)))
 
-from tries import form, script, superblock
+from tries import form, recovery, script, superblock
 from tries.bugs import has, refuse_unknown
-from tries.form import COPIES, SECTOR
+from tries.form import COPIES, SECTOR, Place
+from wrong import Machine, Rules, choose, read, seen_copies
 
 DONE, WORDS, SCRIPT, REFUSED, DISK, READ, WRITE = 0, 2, 3, 4, 5, 6, 7
 
@@ -94,30 +95,7 @@ def refuse(words: str) -> None:
 
 def copies_of(file: File) -> list:
     """The four copies."""
-    sectors = [file.read(SECTOR * place, SECTOR) for place in range(COPIES)]
-    if has("a copy counts at any place"):
-        decoded = [superblock.decode(sector) for sector in sectors]
-        return [each[1] if each else superblock.seen(sector, 0) for each, sector in zip(decoded, sectors)]
-    if has("bytes behind the number aren't tested"):
-        sectors = [sector[:20] + bytes(12) + sector[32:] for sector in sectors]
-    if has("a copy is blank by its front"):
-        sectors = [sector if any(sector[:256]) else bytes(SECTOR) for sector in sectors]
-    if has("a number of 4 counts"):
-        sectors = [sector[:16] + bytes([place]) + sector[17:] if sector[16] == 4 else sector
-                   for place, sector in enumerate(sectors)]
-    return [superblock.seen(sector, place) for place, sector in enumerate(sectors)]
-
-
-def choose(copies: list):
-    if has("one vote is enough"):
-        return max((c for c in copies if not isinstance(c, str)), key=lambda c: c.sequence, default=None)
-    if has("the last of equals is chosen"):
-        copies = copies[::-1]
-    if has("the sequence isn't looked at"):
-        return next((c for c in copies if not isinstance(c, str) and copies.count(c) >= 2), None)
-    if has("three votes are needed"):
-        return next((c for c in copies if not isinstance(c, str) and copies.count(c) >= 3), None)
-    return superblock.choose(copies)
+    return seen_copies([file.read(SECTOR * place, SECTOR) for place in range(COPIES)])
 
 
 def tested(file: File) -> tuple:
@@ -155,6 +133,22 @@ def repair(file: File, copies: list, content) -> None:
             file.sync()
 
 
+def mend_headers(file: File, machine: Machine, slots: list) -> None:
+    """Writes the header sectors of these slots, and syncs them."""
+    if has("headers aren't mended"):
+        return
+    sectors = [slot // form.HEADERS for slot in slots]
+    if not has("a needed header sector is mended for each slot"):
+        sectors = sorted(set(sectors))
+    if has("every header sector is mended"):
+        sectors = list(range(machine.layout.slots // form.HEADERS))
+    for sector in sectors:
+        event = machine.header_sector(sector * form.HEADERS)
+        file.write(event.at, event.data)
+    if sectors and not has("mended headers aren't synced"):
+        file.sync()
+
+
 def make(file: File, home: form.Home) -> None:
     """The word `format`."""
     if home.cluster == 0 and not has("cluster 0 is taken"):
@@ -165,11 +159,27 @@ def make(file: File, home: form.Home) -> None:
             refuse(f"NotBlank copy {place}")
         if has("format looks at copy 0 alone"):
             break
+    parts = [make_headers, make_copies]
+    for part in parts[::-1] if has("format writes the copies first") else parts:
+        part(file, home)
+    tell(b"formatted %d\n" % home.layout.sectors())
+
+
+def make_headers(file: File, home: form.Home) -> None:
+    if has("format writes no headers"):
+        return
+    for first in range(0, home.layout.slots, form.HEADERS):
+        event = script.header_sector(home, first)
+        file.write(event.at, event.data)
+    if not has("format syncs no headers"):
+        file.sync()
+
+
+def make_copies(file: File, home: form.Home) -> None:
     for place in range(COPIES):
         file.write(SECTOR * place, superblock.first(home).encode(place))
         if not has("format syncs once") or place == COPIES - 1:
             file.sync()
-    tell(b"formatted %d\n" % home.layout.sectors())
 
 
 def lines_of(longest: int):
@@ -192,34 +202,18 @@ def lines_of(longest: int):
             kept, ended = kept + piece, not piece
 
 
-def ring_of(file: File, home: form.Home) -> list:
-    """The ring, each slot read once."""
-    found, parent = [], bytes(16)
-    for op in range(1, home.layout.slots + 1):
-        at = home.layout.place(op)
-        unit = file.read(at, home.layout.message_size)
-        prepare = shown(unit, home, op)
-        if prepare is None or prepare.op != op or (prepare.parent != parent and not has("parents aren't compared")):
-            break
-        found.append(prepare)
-        parent = prepare.checksum()
-    return found
-
-
-def shown(unit: bytes, home: form.Home, op: int):
-    """The prepare of one slot."""
-    at = home.layout.place(op)
-    return form.shown(Shifted(unit, at), home, op % home.layout.slots)
-
-
-class Shifted:
-    """The bytes of one slot as a part of the file."""
-
-    def __init__(self, data: bytes, at: int):
-        self.data, self.at = data, at
-
-    def __getitem__(self, where: slice) -> bytes:
-        return self.data[where.start - self.at : where.stop - self.at]
+def slots_of(file: File, home: form.Home) -> recovery.Rings:
+    """What each slot shows, each of them read once."""
+    layout, headers = home.layout, []
+    for first in range(0, layout.slots, form.HEADERS):
+        sector = file.read(layout.header_sector(first), SECTOR)
+        headers += [read(sector[form.HEADER * at : form.HEADER * (at + 1)], home, Place(form.WAL_HEADERS, first + at))
+                    for at in range(form.HEADERS)]
+    others = []
+    for zone, count in ((form.WAL_PREPARES, layout.slots), (form.CLIENT_REPLIES, layout.clients)):
+        places = [Place(zone, index) for index in range(count)]
+        others.append([read(file.read(layout.at(place), layout.message_size), home, place) for place in places])
+    return recovery.Rings(headers, *others)
 
 
 def run(file: File) -> None:
@@ -228,43 +222,44 @@ def run(file: File) -> None:
     if not has("there is no barrier"):
         file.sync()
     copies, content = tested(file)
-    words = superblock.beyond_first(content)
-    if words and not has("a later superblock opens"):
-        refuse(words)
+    if content.trailer_address:
+        refuse(f"BadField TrailerAddress {content.trailer_address}")
+    if has("the layout is always small"):
+        content = content._replace(**dict(zip(form.Layout._fields, form.SMALL)))
+    if has("the cluster is always 7"):
+        content = content._replace(cluster=7)
+    members = [place for place, copy in enumerate(copies) if copy == content] or [0]
+    opened = superblock.Opened(content, None, False, members)
+    found = recovery.found_in(slots_of(file, content.home()), opened, copies, Rules())
+    if found.refusal:
+        refuse(found.refusal)
+    machine = Machine(found)
+    slots = [place.index for place, _ in found.to_mend if place.zone == form.WAL_HEADERS]
+    if has("copies are mended before headers"):
+        repair(file, copies, content)
+    mend_headers(file, machine, slots)
     if not has("repairs come last"):
         repair(file, copies, content)
-    home = content.home()
-    if has("the layout is always small"):
-        home = home._replace(layout=form.SMALL)
-    if has("the cluster is always 7"):
-        home = home._replace(cluster=7)
-    ring = ring_of(file, home)
-    execute(file, home, ring)
+    execute(file, machine)
     if has("repairs come last"):
         repair(file, copies, content)
 
 
-def execute(file: File, home: form.Home, ring: list) -> None:
-    head, parent = len(ring), ring[-1].checksum() if ring else bytes(16)
-    longest = 32832 if has("lines are bounded as for small") else home.layout.line_max()
+def execute(file: File, machine: Machine) -> None:
+    longest = 32832 if has("lines are bounded as for small") else machine.layout.line_max()
     for index, line in enumerate(lines_of(longest), 1):
-        request = script.parse(line, home.layout) if len(line) <= longest else None
-        if request is None:
+        parsed = script.parse(line, machine.layout) if len(line) <= longest else None
+        if parsed is None:
             tell(b"script %d\n" % index)
             raise End(SCRIPT)
-        if head == home.layout.slots:
-            tell(b"refused WalFull op 33 checkpoint_op 0\n" if has("the ring is full at 32") else script.full(home.layout).data)
-            continue
-        prepare = form.Prepare(home, parent, request[0], head + 1, *request[1:])
-        file.write(home.layout.place(head + 1), form.whole_sectors(prepare.encode()))
-        if has("an answer comes before its sync"):
-            tell(b"appended %d\n" % (head + 1))
-            file.sync()
-        else:
-            if not has("an append isn't synced"):
+        machine.file = file
+        for event in machine.line(parsed):
+            if event.kind == "write":
+                file.write(event.at, event.data)
+            elif event.kind == "sync":
                 file.sync()
-            tell(b"appended %d\n" % (head + 1))
-        head, parent = head + 1, prepare.checksum()
+            else:
+                tell(event.data)
 
 
 def fill_streams() -> None:

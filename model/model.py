@@ -18,12 +18,12 @@ from collections import Counter
 from random import Random, SystemRandom
 
 from tries import (
-    arguments, budget, bugs, damage, faults, formats, reading, rows, scripts, stops, streams,
+    arguments, budget, bugs, damage, faults, formats, hurt, reading, rows, scripts, stops, streams,
 )
 from tries.binary import Binary, Disagreement, has_strace
 from tries.common import Try
 
-PARTS = (rows, formats, scripts, damage, reading, stops, streams, faults, budget)
+PARTS = (rows, formats, scripts, damage, hurt, reading, stops, streams, faults, budget)
 KINDS = {name: kind for part in PARTS for name, kind in part.KINDS.items()}
 TRACED = {"killed", "stand_ins", *faults.KINDS}
 

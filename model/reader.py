@@ -3,7 +3,7 @@
 
     python3 model/reader.py FILE
 
-Prints why the file is refused, or its layout, its cluster, and each prepare of its ring. It writes nothing.
+Prints why the file is refused, or its layout, its cluster, each prepare and each stored reply. It writes nothing.
 """
 
 import hashlib
@@ -11,11 +11,17 @@ import sys
 
 SECTOR, HEADER, COPIES = 4096, 256, 4
 TOP = 2**62
+RESERVED, PREPARE, REPLY, BLOCK, TRAILER = 1, 2, 3, 4, 5
 NUMBERS = {  # field of a superblock copy: offset and bytes
     "Version": (32, 4), "Slots": (36, 4), "MessageSize": (40, 4), "Clients": (44, 4), "Cluster": (48, 16),
     "BlockSize": (64, 4), "Blocks": (68, 4), "Sequence": (72, 8), "Op": (80, 8), "Head": (88, 8), "Replies": (96, 8),
     "TrailerAddress": (104, 8), "OpChecksum": (112, 16), "TrailerChecksum": (128, 16), "TrailerSize": (144, 8),
     "Boot": (152, 8),
+}
+HEADS = {  # field of a header: offset and bytes
+    "cluster": (32, 16), "parent": (48, 16), "client": (64, 16), "op": (80, 8), "request": (88, 8), "mark": (96, 8),
+    "checkpoint": (104, 8), "size": (112, 4), "slot": (116, 4), "kind": (120, 1), "block_kind": (121, 1),
+    "version": (122, 2), "boot": (124, 8),
 }
 
 
@@ -98,7 +104,7 @@ def fields_of(copy):
 
 
 def superblock_of(file):
-    """The fields of the file's superblock."""
+    """The fields of the file's superblock, and the lowest copy that has it."""
     sectors = [bytes_at(file, SECTOR * place, SECTOR) for place in range(COPIES)]
     if not any(map(any, sectors)):
         raise Refused("NotFormatted")
@@ -106,49 +112,122 @@ def superblock_of(file):
     if copy is None:
         raise Refused("NoQuorum " + " ".join(class_of_copy(sector, place) for place, sector in enumerate(sectors)))
     f = fields_of(copy)
-    for name, only in (("Sequence", 1), ("Op", 0), ("Head", 0), ("Replies", 0), ("TrailerAddress", 0)):
-        if f[name] != only:
-            raise Refused(f"BadField {name} {f[name]}")
+    if f["TrailerAddress"]:
+        # A checkpoint isn't read yet.
+        raise Refused(f"BadField TrailerAddress {f['TrailerAddress']}")
+    f["Copy"] = number(copy, 16, 4)
     return f
 
 
-def prepare_of(unit, f, slot):
-    """Op, parent, checksum and the rest of the prepare that a slot shows; None where it shows none."""
-    size, op, kind = number(unit, 112, 4), number(unit, 80, 8), unit[120]
-    passes = (
-        unit[:16] == checksum(unit[16:HEADER])
-        and number(unit, 32, 16) == f["Cluster"]
-        and kind == 2
-        and unit[121] == 0
-        and number(unit, 122, 2) == 1
-        and number(unit, 124, 8) == 0
-        and not any(unit[132:HEADER])
-        and HEADER <= size <= f["MessageSize"]
-        and 1 <= op <= TOP
-        and (op != 1 or not any(unit[48:64]))
-        and number(unit, 64, 16) != 0
-        and 1 <= number(unit, 88, 8) <= TOP
-        and number(unit, 96, 8) < op
-        and 1 <= number(unit, 104, 8) <= TOP
-        and number(unit, 116, 4) == op % f["Slots"] == slot
-        and unit[16:32] == checksum(unit[HEADER:size])
-    )
-    if not passes:
+def header_of(raw):
+    """The fields of a header that passes the tests of its kind."""
+    h = {name: number(raw, at, size) for name, (at, size) in HEADS.items()}
+    h["checksum"], h["body_checksum"] = raw[:16], raw[16:32]
+    kind, op, mark = h["kind"], h["op"], h["mark"]
+    counters = all(1 <= h[name] <= TOP for name in ("op", "request", "checkpoint"))
+    if checksum(raw[16:HEADER]) != raw[:16] or h["version"] != 1 or h["boot"] or any(raw[132:HEADER]):
         return None
-    return {"op": op, "parent": unit[48:64], "checksum": unit[:16], "client": number(unit, 64, 16),
-            "request": number(unit, 88, 8), "body": unit[HEADER:size]}
+    if h["size"] < HEADER or h["cluster"] == 0 or (kind != BLOCK and h["block_kind"]):
+        return None
+    empty = not any(h[name] for name in ("parent", "client", "request", "mark", "checkpoint"))
+    passes = {
+        RESERVED: empty and op == 0 and h["size"] == HEADER and raw[16:32] == checksum(b""),
+        PREPARE: counters and h["client"] and mark < op and (op > 1 or h["parent"] == 0),
+        REPLY: counters and h["client"] and op <= mark <= TOP,
+        BLOCK: empty and h["slot"] == 0 and op and h["block_kind"],
+        TRAILER: op and 2 <= h["checkpoint"] <= TOP and h["client"] == 0 and h["slot"] == 0
+        and (mark == 0) == (h["request"] == 0) and (mark or h["parent"] == 0),
+    }.get(kind)
+    return h if passes else None
 
 
-def ring_of(file, f):
-    """The ring of prepares."""
-    found, first = [], SECTOR * (4 + f["Slots"] // 16)
+def shown(file, f, zone, index):
+    """The unit that a place shows, with its body; or the name of the class of what is there."""
+    first = SECTOR * (COPIES + f["Slots"] // 16)
+    starts = {"WalHeaders": SECTOR * COPIES, "WalPrepares": first, "ClientReplies": first + f["MessageSize"] * f["Slots"]}
+    length = HEADER if zone == "WalHeaders" else f["MessageSize"]
+    raw = bytes_at(file, starts[zone] + length * index, length)
+    if not any(raw[:HEADER]):
+        return "Blank"
+    h = header_of(raw[:HEADER])
+    if h is None or h["cluster"] != f["Cluster"] or h["size"] > f["MessageSize"]:
+        return "Garbled"
+    h["body"] = raw[HEADER : h["size"]]
+    if zone != "WalHeaders" and checksum(h["body"]) != h["body_checksum"]:
+        return "Garbled"
+    belongs, at, least, count = {
+        RESERVED: ("WalHeaders", h["slot"], 0, f["Slots"]), PREPARE: ("WalPrepares", h["slot"], 0, f["Slots"]),
+        REPLY: ("ClientReplies", h["slot"], 0, f["Clients"]), BLOCK: ("Grid", h["op"], 1, f["Blocks"] + 1),
+        TRAILER: ("Grid", h["op"], 1, f["Blocks"] + 1),
+    }[h["kind"]]
+    if h["kind"] == PREPARE and zone == "WalHeaders":
+        belongs = "WalHeaders"
+    nowhere = (belongs == "WalHeaders") != (zone == "WalHeaders") or not least <= at < count
+    if nowhere or (h["kind"] == PREPARE and at != h["op"] % f["Slots"]):
+        return "Garbled"
+    return h if (belongs, at) == (zone, index) else f"Elsewhere {belongs} {at}"
+
+
+def tail_of(f, headers, prepares):
+    """The longest list of prepares that are taken and fit; with each client's place and last prepare, in order of place."""
+    tail, sessions = [], {}
     for op in range(1, f["Slots"] + 1):
-        slot = op % f["Slots"]
-        prepare = prepare_of(bytes_at(file, first + f["MessageSize"] * slot, f["MessageSize"]), f, slot)
-        if prepare is None or prepare["op"] != op or (found and prepare["parent"] != found[-1]["checksum"]):
+        header, one = headers[op % f["Slots"]], prepares[op % f["Slots"]]
+        if isinstance(one, str) or one["op"] != op:
             break
-        found.append(prepare)
-    return found
+        if not isinstance(header, str) and header["op"] >= op and header["checksum"] != one["checksum"]:
+            break
+        before, last = tail[-1] if tail else None, sessions.get(one["client"])
+        chained = one["parent"] == (number(before["checksum"], 0, 16) if before else 0)
+        marked = one["mark"] >= (before["mark"] if before else 0) and one["mark"] + 8 >= op
+        if last:
+            follows = one["request"] == last["request"] + 1 and last["op"] <= one["mark"]
+        else:
+            follows = one["request"] == 1 and len(sessions) < f["Clients"]
+        if not (chained and marked and follows):
+            break
+        tail.append(one)
+        sessions[one["client"]] = one
+    return tail, sessions
+
+
+def class_at(what):
+    """The class of what is shown and isn't wanted."""
+    return what if isinstance(what, str) else "Stale"
+
+
+def state_of(file):
+    """The prepares of the file, how many replies are stored, and for each client its stored reply or its waiting prepare."""
+    f = superblock_of(file)
+    headers = [shown(file, f, "WalHeaders", slot) for slot in range(f["Slots"])]
+    prepares = [shown(file, f, "WalPrepares", slot) for slot in range(f["Slots"])]
+    places = [shown(file, f, "ClientReplies", place) for place in range(f["Clients"])]
+    logged = [one for one in headers + prepares if not isinstance(one, str)]
+    replies = [one for one in places if not isinstance(one, str)]
+    if any(one["checkpoint"] > f["Sequence"] for one in logged + replies) or any(one["op"] > f["Slots"] for one in logged):
+        raise Refused(f"Damaged Superblock {f['Copy']} Stale")
+    tail, sessions = tail_of(f, headers, prepares)
+    head = len(tail)
+    seen = [f["Head"], *(one["op"] for one in logged), *(max(one["op"], one["mark"]) for one in replies)]
+    if max(seen) > head:
+        slot = (head + 1) % f["Slots"]
+        raise Refused(f"Damaged WalPrepares {slot} {class_at(prepares[slot])}")
+    stored = max(f["Replies"], tail[-1]["mark"] if tail else 0, *(one["op"] for one in replies), 0)
+    kept = {}
+    for place, (client, last) in enumerate(sessions.items()):
+        one = places[place]
+        kept[client] = last
+        if last["op"] <= stored:
+            if isinstance(one, str) or any(one[name] != last[name] for name in ("client", "request", "op")):
+                raise Refused(f"Damaged ClientReplies {place} {class_at(one)}")
+            kept[client] = one
+    return {"fields": f, "prepares": tail, "stored": stored, "replies": kept}
+
+
+def text_of(one):
+    """A prepare or a reply, as the program prints it behind its kind."""
+    return (f"{one['op']} client {one['client']} request {one['request']} mark {one['mark']} "
+            f"checkpoint {one['checkpoint']} body {one['body'].hex() or '-'}")
 
 
 def main():
@@ -157,14 +236,18 @@ def main():
     with open(sys.argv[1], "rb") as opened:
         file = opened.read()
     try:
-        f = superblock_of(file)
+        state = state_of(file)
     except Refused as why:
         sys.exit(f"refused {why}")
+    f = state["fields"]
     print("layout", *(f[name] for name in ("Slots", "MessageSize", "Clients", "BlockSize", "Blocks")))
     print("cluster", f["Cluster"])
-    for prepare in ring_of(file, f):
-        print("prepare", prepare["op"], "client", prepare["client"], "request", prepare["request"],
-              "body", prepare["body"].hex() or "-")
+    print("replies", state["stored"])
+    for prepare in state["prepares"]:
+        print("prepare", text_of(prepare))
+    for reply in state["replies"].values():
+        if reply["kind"] == REPLY:
+            print("reply", text_of(reply))
 
 
 if __name__ == "__main__":

@@ -73,6 +73,12 @@ class Binary:
             with open(self.path, "wb") as file:
                 file.write(data)
 
+    def overwrite(self, data: bytes) -> None:
+        """Makes the file that a process has open hold these bytes."""
+        with open(self.path, "r+b") as file:
+            file.truncate(len(data))
+            file.write(data)
+
     def get(self) -> Optional[bytes]:
         """The bytes of the file; None where it is absent."""
         if not os.path.exists(self.path):

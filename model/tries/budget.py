@@ -10,6 +10,8 @@ from .common import Try, same_bytes
 HOME = form.Home(form.SMALL, 7)
 LINE = b"append 1 1 " + b"5a" * HOME.layout.body_max() + b"\n"
 BLOCK = LINE * 200
+# A client's request that waits for its reply.
+REFUSED = b"refused ReplyPending op 1\n"
 
 
 def tail_of(rest: int) -> bytes:
@@ -21,15 +23,15 @@ def tail_of(rest: int) -> bytes:
     if rest > len(LINE):
         lines += b"append 1 1 -\n"
         rest -= 13
-    # The spelling of a body has an even number of digits; a client of two digits makes the length odd.
-    client = b"1" if (rest - 12) % 2 == 0 else b"11"
-    digits = rest - 11 - len(client)
-    return lines + b"append %s 1 %s\n" % (client, b"0" * digits)
+    # The spelling of a body has an even number of digits; a request of two digits makes the length odd.
+    request = b"1" if (rest - 12) % 2 == 0 else b"11"
+    digits = rest - 11 - len(request)
+    return lines + b"append 1 %s %s\n" % (request, b"0" * digits)
 
 
 def budget(t: Try) -> None:
-    """Scripts of just 2^32 bytes and of some more, over a full ring."""
-    data = script.run(script.fresh(HOME), b"append 1 1 -\n" * 32).data
+    """Scripts of just 2^32 bytes and of some more, each line of which is refused."""
+    data = script.run(script.fresh(HOME), b"append 1 1 -\n").data
     cases = (
         (0, "just 2^32 bytes"), (1, "one byte more, a byte 10"), (-1, "2^32 bytes without a last byte 10"),
         (2, "2^32 bytes and a further line"),
@@ -41,7 +43,7 @@ def budget(t: Try) -> None:
         tail = tail_of(rest)
         tail = tail[:-1] if beyond == -1 else tail + (b"append 2 2 -\n" if beyond == 2 else b"")
         good = blocks * 200 + len(script.lines(tail)) - (beyond in (1, 2))
-        wanted = script.full(HOME.layout).data * good + (b"script %d\n" % (good + 1) if beyond in (1, 2) else b"")
+        wanted = REFUSED * good + (b"script %d\n" % (good + 1) if beyond in (1, 2) else b"")
         text, status = feed(t, blocks, tail)
         expect(f"{name}: status", 3 if beyond in (1, 2) else 0, status)
         expect(f"{name}: text", wanted, text)

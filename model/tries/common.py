@@ -4,7 +4,7 @@ from collections import Counter
 from random import Random
 from typing import NamedTuple, Optional
 
-from . import form, script
+from . import form, generate, recovery, script
 from .binary import Binary, Result, expect, require
 
 
@@ -41,6 +41,9 @@ def asked(t: Try, what: str, data: Optional[bytes], words: list, text: bytes = b
     same_run(what, wanted, t.binary.run(text, words))
     same_bytes(what, wanted.data, t.binary.get())
     t.counts["runs that were as the model's"] += 1
+    for line in wanted.text.decode().splitlines():
+        # Of a refusal its name, of an answer its word.
+        t.counts["answers: " + " ".join(line.split()[: 2 if line.startswith("refused") else 1])] += 1
     return wanted
 
 
@@ -49,13 +52,24 @@ def session(t: Try, what: str, data: Optional[bytes], text: bytes) -> script.Out
     return asked(t, what, data, ["run"], text)
 
 
-def reopen(t: Try, what: str, kept: list, data: Optional[bytes]) -> bytes:
-    """Opens the file with one more append: each prepare of `kept` is there, and the run is the model's."""
-    found = script.found(data)
-    require(f"{what}: the file has lost an answered append: {len(found)} of {len(kept)}", found[: len(kept)] == kept)
-    wanted = session(t, what, data, b"append 77 78 797a\n")
-    require(f"{what}: an append is lost at the open", script.found(wanted.data)[: len(found)] == found)
-    return wanted.data
+def keeps(what: str, views: list, data: Optional[bytes]) -> None:
+    """A file that a run, a stop or a fault left has one of these views; without any nothing is asked."""
+    if views:
+        found = recovery.found(data)
+        require(f"{what}: the file opens, but is refused {found.refusal}", not found.refusal)
+        heads = [(view.head(), view.replies) for view in views]
+        got = (found.view.head(), found.view.replies)
+        require(f"{what}: the file has {got} prepares and replies, and should have one of {heads}", found.view in views)
+
+
+def reopen(t: Try, what: str, views: list, data: Optional[bytes]) -> bytes:
+    """Opens the file, which has one of these views, reads all that is kept and goes on with a few lines."""
+    keeps(what, views, data)
+    m = generate.machine_of(data)
+    ops = range(1, m.head() + 1) if m.layout.message_size <= 16384 else range(max(1, m.head()), m.head() + 1)
+    listed = [b"prepare %d" % op for op in ops] + [b"lookup %d" % one.client for one in m.sessions]
+    listed += generate.script_of(t.random, m, 2, 0.1)
+    return session(t, what, data, generate.text_of(t.random, listed)).data
 
 
 def on_file(t: Try, calls: list) -> tuple:

@@ -1,30 +1,45 @@
 """Tries of damage: a file whose bytes were struck is opened as docs/FORMAT.md says, and nothing else changes."""
 
-from . import copies, form, generate, script, superblock
+from . import copies, form, generate, recovery, script, superblock
 from .common import Try, asked, session
+from .forge import forge, put
 from .form import COPIES, HEADER, SECTOR
 
 
-def strike(t: Try, data: bytearray, layout: form.Layout) -> None:
-    """One piece of damage at a random place, most often in the ring."""
+def target(t: Try, layout: form.Layout, slots: bool) -> int:
+    """An offset in the file: in the ring of headers, in the ring of prepares or in the replies, most often near their begin;
+    or among the copies, where not only slots are struck."""
     random = t.random
-    what = random.choice(("byte", "bit", "sector", "flip", "swap", "copy", "slot", "cut", "grow", "earlier", "zeros"))
+    what = random.random()
+    if what < 0.1 and not slots:
+        return random.randrange(SECTOR * COPIES)
+    if what < 0.35:
+        return layout.header_sector(0) + random.randrange(layout.first() - layout.header_sector(0))
+    within = random.choice((random.randrange(HEADER), random.randrange(SECTOR), random.randrange(layout.message_size)))
+    if what < 0.7:
+        near = random.choice((4, 12, layout.slots))
+        return layout.first() + layout.message_size * random.randrange(min(near, layout.slots)) + within
+    return layout.end() + layout.message_size * random.randrange(min(4, layout.clients)) + within
+
+
+def strike(t: Try, data: bytearray, layout: form.Layout, slots: bool = False) -> None:
+    """One piece of damage at a random place."""
+    random = t.random
+    what = random.choice((
+        "byte", "bit", "sector", "flip", "swap", "copy", "slot", "cut", "grow", "mixed", "zeros", "header",
+    ))
+    what = "sector" if slots and what in ("cut", "grow") else what
     t.counts[f"strikes: {what}"] += 1
     used, size = max(1, len(data)), layout.message_size
-    # The file isn't made much longer by a strike far behind its end.
-    end = min(layout.end(), used + 40 * SECTOR)
-    near = max(1, min(layout.slots, (end - layout.first()) // size))
-    within = random.choice((random.randrange(HEADER), random.randrange(size)))
-    at = min(used - 1, layout.first() + random.randint(0, near + 1) * size + within)
-    if random.random() < 0.1:
-        at = min(used - 1, random.randrange(layout.first()))
-    sector = at // SECTOR * SECTOR
-    other = random.randrange(0, end, SECTOR)
-    if what == "byte" and data:
-        data[at] = random.getrandbits(8)
-    elif what == "bit" and data:
-        data[at] ^= 1 << random.randrange(8)
-    elif what == "sector":
+    at = target(t, layout, slots)
+    if what in ("byte", "bit"):
+        flipped = 1 << random.randrange(8) if what == "bit" else random.randint(1, 255)
+        put(data, at, bytes([form.part(data, at, 1)[0] ^ flipped]))
+        return
+    # What isn't there is blank already, so that a file isn't made longer by much.
+    sector = min(at, used - 1) // SECTOR * SECTOR
+    other = min(target(t, layout, slots), used - 1) // SECTOR * SECTOR
+    if what == "sector":
         put(data, sector, random.choice((b"\xa5" * SECTOR, random.randbytes(SECTOR))))
     elif what == "zeros":
         put(data, sector, bytes(SECTOR))
@@ -37,38 +52,40 @@ def strike(t: Try, data: bytearray, layout: form.Layout) -> None:
     elif what == "copy":
         put(data, other, form.part(data, sector, SECTOR))
     elif what == "slot":
-        one, two = (layout.place(random.randrange(near)) for _ in range(2))
+        one, two = (layout.first() + size * random.randrange(min(8, layout.slots + layout.clients)) for _ in range(2))
         put(data, one, form.part(data, two, size))
+    elif what == "header":
+        one, two = (layout.header_sector(0) + HEADER * random.randrange(min(20, layout.slots)) for _ in range(2))
+        put(data, one, random.choice((bytes(HEADER), form.part(data, two, HEADER), random.randbytes(HEADER))))
     elif what == "cut":
         # A file that is cut within its first sectors is one that most often doesn't open.
-        least = random.choice((0, COPIES * SECTOR, COPIES * SECTOR))
+        least = random.choice((0, COPIES * SECTOR, COPIES * SECTOR, layout.first()))
         del data[random.randint(min(least, used), used) :]
     elif what == "grow":
         data += random.randbytes(random.choice((1, 511, 4096, 8192, 40000)))
-    elif what == "earlier":
-        half = random.choice((0, SECTOR // 2))
-        put(data, sector + half, form.part(data, other + half, SECTOR // 2))
-
-
-def put(data: bytearray, at: int, piece: bytes) -> None:
-    if len(data) < at:
-        data += bytes(at - len(data))
-    data[at : at + len(piece)] = piece
+    elif what == "mixed":
+        half = random.randrange(512, SECTOR, 512)
+        put(data, sector + half, form.part(data, other + half, SECTOR - half))
 
 
 def struck(t: Try) -> None:
     """Damage before each of several sessions."""
     home = generate.home(t.random)
     data = bytearray(generate.image(t.random, of=home))
-    overflow = home.layout.slots + 1 if home.layout.slots * home.layout.message_size <= 2**20 else 3
     for number in range(t.random.randint(1, 4)):
         for _ in range(t.random.choice((1, 1, 1, 2, 5))):
             strike(t, data, home.layout)
         t.binary.put(bytes(data))
-        more = t.random.random() < 0.3
-        text = b"append 1 1 -\n" * overflow if more else generate.good_script(t.random, home.layout, 4)
+        outcome_of(t, "files with damage", bytes(data))
+        text = generate.any_script(t.random, bytes(data)) if t.random.random() < 0.3 else look(t, bytes(data))
         data = bytearray(session(t, f"after damage {number + 1}", bytes(data), text).data)
-    t.counts["files with damage"] += 1
+
+
+def look(t: Try, data: bytes) -> bytes:
+    """Lines that read what is there, and go on."""
+    m = generate.machine_of(data)
+    listed = [b"lookup %d" % one.client for one in m.sessions] + [b"prepare %d" % op for op in range(m.head() + 1)][-4:]
+    return generate.text_of(t.random, listed + generate.script_of(t.random, m, 3, 0.1))
 
 
 def garbage(t: Try) -> None:
@@ -81,53 +98,38 @@ def garbage(t: Try) -> None:
     if random.random() < 0.7:
         data = script.fresh(home) + data[COPIES * SECTOR :]
     t.binary.put(data)
-    session(t, "a file of garbage", data, generate.good_script(random, home.layout, 4))
+    session(t, "a file of garbage", data, generate.good_script(random, data, 4))
     t.counts["files of garbage"] += 1
 
 
 def forged(t: Try) -> None:
-    """Prepares with right checksums whose fields break one rule, or just keep it, in the next slot of a ring."""
+    """Prepares, replies and reserved headers with right checksums whose fields break one rule, or just keep it."""
     random, home = t.random, generate.home(t.random)
-    layout = home.layout
     data = bytearray(generate.image(random, 31, home))
     for _ in range(random.randint(1, 3)):
-        found = form.ring(data, home)
-        op = len(found) + 1
-        if op > layout.slots:
+        m = generate.machine_of(bytes(data))
+        if m.home != home:
             break
-        parent = found[-1].checksum() if found else bytes(16)
-        put(data, layout.place(op), generate.odd_prepare(random, home, parent, op))
-        if random.random() < 0.3:
-            # What stands behind the body doesn't matter.
-            put(data, layout.place(op) + layout.message_size - 200, random.randbytes(200))
-        shown = len(form.ring(data, home)) >= op
-        t.counts["forged prepares that are shown" if shown else "forged prepares that aren't shown"] += 1
+        before = m.view()
+        kind = forge(random, m, data)
+        after = recovery.view_of(bytes(data))
+        what = "refuses" if after is None else "leaves" if after == before else "changes"
+        t.counts[f"forged {kind} that {what} the view"] += 1
     t.binary.put(bytes(data))
-    session(t, "a forged prepare", bytes(data), generate.good_script(random, layout, 3))
+    outcome_of(t, "files with forged units", bytes(data))
+    data = session(t, "forged units", bytes(data), look(t, bytes(data))).data
+    session(t, "forged units, once more", data, generate.good_script(random, data, 3))
 
 
-def same_again(t: Try) -> None:
-    """A prepare in the middle is lost, and the same request is appended again: the later ones fit once more."""
-    random, home = t.random, generate.home(t.random)
-    layout = home.layout
-    text = b"".join(generate.good(random, layout) + b"\n" for _ in range(random.randint(2, 10)))
-    whole = script.run(script.fresh(home), text)
-    lost = random.randrange(len(whole.accepted))
-    data = bytearray(whole.data)
-    data[layout.place(lost + 1) + random.randrange(HEADER)] ^= 1 << random.randrange(8)
-    t.binary.put(bytes(data))
-    line = text.split(b"\n")[lost] + b"\n"
-    after = session(t, "the lost append again", bytes(data), line)
-    session(t, "the appends behind it", after.data, generate.good_script(random, layout, 3))
-    t.counts["lost prepares that were appended again"] += 1
-
-
-def outcome_of(t: Try, kind: str, data: bytes, copied: int) -> None:
-    """Counts what the model makes of the copies of a file."""
-    opened = superblock.opened(data)
-    words = (opened.refusal or f"opened with {len(opened.repairs)} repairs").split()
-    many = words[0] in ("BadField", "opened")
-    t.counts[f"{kind}: {' '.join(words[:2] if many else words[:1])}"] += copied
+def outcome_of(t: Try, kind: str, data: bytes) -> None:
+    """Counts what the model makes of a file."""
+    found = recovery.found(data)
+    if found.refusal:
+        words = found.refusal.split()
+        name = " ".join(words[: 2 if words[0] in ("BadField", "Damaged") else 1])
+    else:
+        name = "opened, mended" if found.to_mend else "opened, nothing to mend"
+    t.counts[f"{kind}: {name}"] += 1
 
 
 def copies_struck(t: Try) -> None:
@@ -138,28 +140,41 @@ def copies_struck(t: Try) -> None:
         name, sector = copies.damaged(random, before, place)
         data = copies.put(data, place, sector)
         t.counts[f"copies struck: {name}"] += 1
-    outcome_of(t, "files with struck copies", data, 1)
+    outcome_of(t, "files with struck copies", data)
     t.binary.put(data)
-    data = session(t, "struck copies", data, generate.good_script(random, home.layout, 3)).data
-    session(t, "struck copies, once more", data, b"append 1 1 -\n")
+    data = session(t, "struck copies", data, generate.good_script(random, data, 3)).data
+    session(t, "struck copies, once more", data, look(t, data))
+
+
+def later(t: Try, own: superblock.Content, data: bytes) -> superblock.Content:
+    """A content without a trailer that an update may have left over this file, or nearly so."""
+    random, view = t.random, recovery.view_of(data)
+    head = max(0, view.head() + random.choice((0, 0, 0, -1, 1)))
+    replies = max(0, view.replies + random.choice((0, 0, 0, -1, 1)))
+    return own._replace(sequence=random.choice((1, 2, 3, form.LIMIT)), head=head, replies=replies)
 
 
 def copies_forged(t: Try) -> None:
     """Copies with right checksums: of several contents, older and newer, that keep or break the field tests."""
     random, home = t.random, generate.home(t.random)
-    data = generate.image(random, 4, home, 0)
+    data = older = generate.image(random, 12, home, 0)
     own = superblock.first(home)
-    contents = [own, superblock.first(generate.home(random)), copies.odd(random, own), copies.odd(random, own)]
+    contents = [own, superblock.first(generate.home(random)), later(t, own, data), copies.odd(random, own)]
     contents.append(copies.odd(random, own)._replace(sequence=contents[-1].sequence))
     chosen = random.sample(contents, random.choice((1, 1, 2, 2, 3)))
     data = copies.forged(random, data, chosen)
-    outcome_of(t, "files with forged copies", data, 1)
+    outcome_of(t, "files with forged copies", data)
     t.binary.put(data)
-    layout = generate.home_of(data).layout
-    data = session(t, "forged copies", data, generate.good_script(random, layout, 2)).data
+    data = session(t, "forged copies", data, generate.good_script(random, data, 4)).data
+    if random.random() < 0.4:
+        # The copies of before the session: what it wrote may have a later sequence.
+        data = older[: SECTOR * COPIES] + data[SECTOR * COPIES :]
+        t.binary.put(data)
+        outcome_of(t, "files with older copies", data)
+        data = session(t, "older copies", data, look(t, data)).data
     if random.random() < 0.2:
         asked(t, "forged copies, format", data, ["format", home.layout.word(), str(home.cluster)])
 
 
-KINDS = {"struck": (struck, 8), "garbage": (garbage, 2), "forged": (forged, 8), "same_again": (same_again, 2),
+KINDS = {"struck": (struck, 8), "garbage": (garbage, 2), "forged": (forged, 10),
          "copies_struck": (copies_struck, 8), "copies_forged": (copies_forged, 10)}

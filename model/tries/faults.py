@@ -5,28 +5,28 @@ import resource
 import signal
 from typing import Optional
 
-from . import form, generate, script, superblock
+from . import form, generate, recovery, script
 from .binary import expect, require
 from .common import Try, named, on_file, reopen, same_bytes, same_run
-from .plan import Plan, copies_reads, events_before, events_of
+from .plan import Plan, before, events_of, every_slot, reads_of, together
 from .script import state
-from .stops import left
+from .stops import stop
 
 DISK, READ, WRITE, MEMORY = 5, 6, 7, 8
 ERRORS = "EIO ENOSPC EACCES EINVAL EBADF EAGAIN EPIPE ENOMEM EROFS EDQUOT EISDIR ETIMEDOUT".split()
 
 
 def order(t: Try) -> None:
-    """The order of the calls: reads of the copies, a barrier, reads again, repairs; then reads of the ring; then for each
-    append one write, one sync, one answer."""
+    """The order of the calls: reads of the copies, a barrier, reads of all, mending; then the writes and syncs of each line,
+    with its answer behind them."""
     plan = Plan(t, 32)
-    expect("the order of writes, syncs and answers", [(e.kind, e.at, len(e.data)) for e in plan.wanted.events],
+    expect("the order of writes, syncs and answers", together([(e.kind, e.at, len(e.data)) for e in plan.wanted.events]),
            events_of(plan.calls, plan.fd))
     allowed = {"openat", "fsync", "fdatasync", "pread64", "pwrite64", "read", "write", "close", "brk", "mmap"}
     expect("calls of no other kind", set(), {call.name for call in plan.calls} - allowed)
     order_of_reads(plan)
     first = next((at for at, call in enumerate(plan.calls) if call.name in ("read", "pwrite64")), len(plan.calls))
-    late = [call for call in plan.calls[first:] if call.name in ("brk", "mmap") and not t.binary.interpreted]
+    late = [call for call in plan.calls[first:] if call in takes(plan) and not t.binary.interpreted]
     expect("no call takes memory after the first read of the script or the first write", [], late)
     if plan.words != ["run"] or plan.wanted.status == script.REFUSED:
         expect("no read of a script that isn't executed", [], named(plan.calls, "read", 0))
@@ -34,30 +34,47 @@ def order(t: Try) -> None:
     if not plan.data and syncs:
         # An empty file may be one whose maker was stopped before the file's name was durable.
         folder = [call for call in named(plan.calls, "fsync") if call.fd != plan.fd]
-        after = plan.calls.index(named(plan.calls, "pwrite64", plan.fd)[1])
-        require("the first sync of a new file is its folder's too", bool(folder) and plan.calls.index(folder[0]) < after)
+        rest = plan.calls[plan.calls.index(syncs[0]) :]
+        after = rest.index(named(rest, "pwrite64", plan.fd)[0])
+        require("the first sync of a new file is its folder's too", bool(folder) and rest.index(folder[0]) < after)
     t.counts[f"{plan.words[0]}: runs whose calls were in order"] += 1
 
 
+def takes(plan: Plan) -> list:
+    """The calls that take memory: new maps, and a break above the last one. A lower break gives memory back."""
+    listed, last = [], 0
+    for call in plan.all:
+        if call.name == "mmap" or (call.name == "brk" and call.args[0] != "NULL" and call.result > last):
+            listed.append(call)
+        last = call.result if call.name == "brk" else last
+    return listed
+
+
 def order_of_reads(plan: Plan) -> None:
-    """The copies are read once before the barrier and once behind it, and behind the repairs each slot at most once."""
+    """The copies are read before the barrier, and behind it they and each slot once, all before the first write; then reads
+    of a script's lines alone."""
     calls, layout = plan.calls, generate.home_of(plan.data).layout
     changes = [at for at, call in enumerate(calls) if call.name in ("fdatasync", "pwrite64") and call.fd == plan.fd]
     barrier = changes[0] if changes else len(calls)
-    before, ring = copies_reads(calls[:barrier], plan.fd, layout)
-    expect("reads of the ring before the first sync or write", [], ring)
+    early, others = reads_of(calls[:barrier], plan.fd, layout)
+    expect("reads of slots before the first sync or write", [], others)
     if plan.words != ["run"]:
-        require("format reads each copy at most once", len(before) == len(set(before)))
-        expect("reads behind the first write of format", ([], []), copies_reads(calls[barrier:], plan.fd, layout))
+        require("format reads each copy at most once", len(early) == len(set(early)))
+        expect("reads behind the first write of format", ([], []), reads_of(calls[barrier:], plan.fd, layout))
         return
-    expect("the copies that are read first", [0, 1, 2, 3], before)
-    opened = superblock.opened(plan.data or b"")
-    repaired = changes[2 * len(opened.repairs)] if changes else barrier
-    again, ring = copies_reads(calls[barrier:repaired], plan.fd, layout)
-    later, ring_later = copies_reads(calls[repaired:], plan.fd, layout)
-    expect("reads of the ring before the repairs are done", [], ring)
-    expect("the copies that are read behind the barrier", [] if opened.early else [0, 1, 2, 3], again + later)
-    require("each slot is read at most once", len(ring_later) == len(set(ring_later)))
+    expect("the copies that are read first", [0, 1, 2, 3], early)
+    behind = [at for at, call in enumerate(calls) if at > barrier and call.name in ("pwrite64", "read")]
+    opened = behind[0] if behind else len(calls)
+    again, slots = reads_of(calls[barrier:opened], plan.fd, layout)
+    found = recovery.found(plan.data)
+    expect("the copies that are read behind the barrier", [] if found.early else [0, 1, 2, 3], again)
+    require("each slot is read at most once by an open", len(slots) == len(set(slots)))
+    if not found.refusal:
+        expect("the header sectors and slots that an open reads", every_slot(layout), sorted(slots))
+        # Each line that shows a unit has read its slot.
+        shown = sum(line.startswith((b"prepare ", b"reply ")) for line in plan.wanted.text.split(b"\n"))
+        copies, slots = reads_of(calls[opened:], plan.fd, layout)
+        expect("the copies and the number of slots that are read behind the open", ([], shown), (copies, len(slots)))
 
 
 def with_one_failing(t: Try, plan: Plan, name: str, places: list) -> tuple:
@@ -77,24 +94,24 @@ def disk(t: Try, plan: Optional[Plan] = None) -> Optional[bytes]:
     # Half the failing calls are among the first ones, which are those of the copies.
     places = places[:8] if t.random.random() < 0.5 else places
     number, got = with_one_failing(t, plan, name, places)
-    upto = events_before(plan, places[number])
+    upto, _ = before(plan, places[number])
     data = plan.ends(t, f"faults of {name}", got, upto, DISK)
-    write = upto if name == "pwrite64" else upto - 1
-    if name in ("pwrite64", "fdatasync") and write >= 0 and plan.wanted.events[write].kind == "write":
-        if t.random.random() < 0.5:
-            before = state(plan.data or b"", plan.wanted.events[:write])
-            return plan.torn(t, f"faults of {name}", left(t, before, plan.wanted.events[write]), got.text)
+    if name in ("pwrite64", "fdatasync") and t.random.random() < 0.5:
+        # The write that failed may have been done in part.
+        upto += name == "pwrite64"
+        return plan.torn(t, f"faults of {name}", stop(t, plan.data or b"", plan.wanted.events, upto), upto)
     return data
 
 
 def output(t: Try, plan: Optional[Plan] = None) -> Optional[bytes]:
-    """One write to standard output fails: status 7, and the append is in the file."""
+    """One write to standard output fails: status 7, and what the line did is in the file."""
     plan = plan or Plan(t)
     places = named(plan.calls, "write", 1)
     if not places:
         return plan.data
     number, got = with_one_failing(t, plan, "write", places)
-    return plan.ends(t, "faults of write", got, events_before(plan, places[number]), WRITE)
+    upto, printed = before(plan, places[number])
+    return plan.ends(t, "faults of write", got, upto, WRITE, printed)
 
 
 def script_read(t: Try, plan: Optional[Plan] = None) -> Optional[bytes]:
@@ -145,17 +162,23 @@ def short(t: Try) -> None:
     if not places:
         return
     number = t.random.randrange(len(places))
-    at = events_before(plan, places[number])
-    event = plan.wanted.events[at]
-    taken = t.random.choice((0, 1, len(event.data) - 1, t.random.randrange(len(event.data))))
+    at, printed = before(plan, places[number])
+    event, length = plan.wanted.events[at], places[number].result
+    taken = t.random.choice((0, 1, length - 1, t.random.randrange(length)))
     got = plan.again(t, [f"{name}:retval={taken}:when={places[number].number}"])
     if taken == 0:
-        plan.ends(t, f"a {name} that takes nothing", got, at, fault)
+        plan.ends(t, f"a {name} that takes nothing", got, at, fault, printed)
         return
     # The taken bytes went nowhere, since the call wasn't done.
-    rest = event._replace(at=event.at + taken if kind == "write" else 0, data=event.data[taken:])
-    events = plan.wanted.events[:at] + [rest] + plan.wanted.events[at + 1 :]
-    expect(f"a short {name}: text", script.answers(events), got.text)
+    text, events = plan.wanted.text, plan.wanted.events
+    if kind == "write":
+        rest = event._replace(at=event.at + taken, data=event.data[taken:])
+        events = events[:at] + [rest] + events[at + 1 :]
+        # What a line reads may be what was lost so.
+        text = script.answers(events) if b"\nprepare " not in text and b"\nreply " not in text else got.text
+    else:
+        text = printed + text[len(printed) + taken :]
+    expect(f"a short {name}: text", text, got.text)
     expect(f"a short {name}: status", plan.wanted.status, got.status)
     same_bytes(f"a short {name}", state(plan.data or b"", events), t.binary.get() or b"")
     t.counts[f"short {name}"] += 1
@@ -197,9 +220,8 @@ def memory(t: Try) -> None:
     if t.binary.interpreted:
         return
     plan = Plan(t)
-    takes = [call for call in plan.all if call.name == "mmap" or (call.name == "brk" and call.args[0] != "NULL")]
-    first = [call for call in takes if call.name == "brk"][:1]
-    later = [call for call in takes if call in plan.calls]
+    first = [call for call in takes(plan) if call.name == "brk"][:1]
+    later = [call for call in takes(plan) if call in plan.calls]
     if not first + later:
         return
     place = t.random.choice(first + later)
@@ -248,7 +270,7 @@ def file_limit(t: Try) -> None:
     fits = event.data[: max(0, limit - event.at)]
     data = script.apply(data, event._replace(data=fits)) if fits else data
     same_bytes("a limit of the file", data, t.binary.get() or b"")
-    reopen(t, "a limit of the file", plan.answered(got.text), t.binary.get())
+    reopen(t, "a limit of the file", plan.wanted.kept(at), t.binary.get())
     t.counts["limits of the file's length"] += 1
 
 

@@ -8,7 +8,7 @@ from . import copies, form, generate, script, superblock
 from .binary import expect, require
 from .common import Try, asked, reopen, same_bytes, same_run, session
 from .form import COPIES, LIMITS, SECTOR
-from .stops import Kept, left
+from .stops import Kept, stop
 
 # A file that is made in a longer time, or that takes more bytes on its disk, isn't made by a few writes.
 QUICK_SECONDS, SPARSE_BYTES = 10, 2**20
@@ -95,14 +95,8 @@ def cut(t: Try) -> bytes:
 
 def stopped(t: Try) -> bytes:
     """What a stop within `format` leaves."""
-    return stopped_after(t, script.make(None, generate.home(t.random)), t.random.randint(1, 2 * COPIES))
-
-
-def stopped_after(t: Try, made: script.Outcome, upto: int) -> bytes:
-    """What a stop after the first `upto` events leaves."""
-    if made.events[upto - 1].kind == "write":
-        return left(t, script.state(b"", made.events[: upto - 1]), made.events[upto - 1])
-    return script.state(b"", made.events[:upto])
+    made = script.make(None, generate.home(t.random))
+    return stop(t, b"", made.events, t.random.randint(1, len(made.events) - 1))
 
 
 def words(t: Try) -> None:
@@ -145,10 +139,10 @@ def formats(t: Try) -> None:
     t.binary.put(data)
     made = asked(t, "format", data, given)
     t.counts[f"files of format: {made.text.split()[0].decode()}"] += 1
-    data = session(t, "after format", made.data, generate.any_script(t.random, generate.home_of(made.data).layout)).data
+    data = session(t, "after format", made.data, generate.any_script(t.random, made.data)).data
     if t.random.random() < 0.5:
         asked(t, "format again", data, given)
-    session(t, "the open at last", data, b"append 1 2 aa\n")
+    session(t, "the open at last", data, generate.good_script(t.random, data, 3))
 
 
 def format_stopped(t: Try) -> None:
@@ -157,11 +151,13 @@ def format_stopped(t: Try) -> None:
     given = ["format", home.layout.word(), str(home.cluster)]
     made = script.make(None, home)
     for upto in range(1, len(made.events) + 1):
-        data = stopped_after(t, made, upto)
+        data = stop(t, b"", made.events, upto)
         t.binary.put(data)
         first = t.random.choice((given, ["run"]))
         data = asked(t, f"after {upto} events of format", data, first, b"append 1 1 -\n").data
-        synced = superblock.first(home) if upto > 3 else superblock.opened(data).content
+        # The header sectors and their sync come first.
+        headers = home.layout.slots // form.HEADERS + 1
+        synced = superblock.first(home) if upto > headers + 3 else superblock.opened(data).content
         expect("two synced copies are the file", synced, superblock.opened(data).content)
         asked(t, f"after {upto} events of format, then {first[0]}", data, t.random.choice((given, ["run"])), b"append 2 2 -")
     t.counts["formats stopped after each event"] += 1
@@ -175,26 +171,48 @@ def large(t: Try) -> None:
     data = asked(t, "format large", None, ["format", "large", str(cluster)]).data
     require("format large takes a moment", time.monotonic() - start < QUICK_SECONDS)
     require("a file of large is sparse", os.stat(t.binary.path).st_blocks * 512 < SPARSE_BYTES)
+    sizes = (0, 1, 3840, 3841, 65536, form.LARGE.body_max() - 1, form.LARGE.body_max(), form.LARGE.body_max() + 1)
+    client = 0
     for number in range(t.random.randint(1, 3)):
-        sizes = (0, 1, 3840, 3841, 65536, form.LARGE.body_max() - 1, form.LARGE.body_max(), form.LARGE.body_max() + 1)
-        listed = [b"append 5 %d %s" % (at + 1, t.random.randbytes(t.random.choice(sizes)).hex().encode() or b"-")
-                  for at in range(t.random.randint(0, 3))]
+        listed = []
+        for _ in range(t.random.randint(0, 2)):
+            client += 1
+            body = t.random.randbytes(t.random.choice(sizes)).hex().encode() or b"-"
+            listed += [b"append %d 1 %s" % (client, body), b"lookup %d" % client, b"prepare %d" % (client - 1)]
         if t.random.random() < 0.4:
             data = copies.hurt(t.random, data)
             t.binary.put(data)
-        wanted = session(t, f"session {number + 1} over large", data, generate.text_of(t.random, listed))
-        data = wanted.data
+        data = session(t, f"session {number + 1} over large", data, generate.text_of(t.random, listed)).data
     kept = Kept(data)
     # A stop within one more append; each of its sectors as the stop chooses.
-    more = script.run(data, b"append 6 1 " + b"5a" * t.random.choice((3840, 20000, form.LARGE.body_max())))
-    writes = [at for at, event in enumerate(more.events) if event.prepare]
-    upto = writes[0] + 1
+    more = script.run(data, b"append 77 1 " + b"5a" * t.random.choice((3840, 20000, form.LARGE.body_max())))
+    upto = t.random.randint(0, len(more.events))
     kept.takes(more, upto)
-    data = left(t, script.state(data, more.events[: upto - 1]), more.events[upto - 1])
+    data = stop(t, data, more.events, upto)
     kept.after(t, data)
     t.binary.put(data)
-    reopen(t, "large after a stop", kept.answered, data)
+    data = reopen(t, "large after a stop", kept.views, data)
+    large_replies(t, data)
     t.counts["files of large"] += 1
+
+
+def large_replies(t: Try, data: bytes) -> None:
+    """Replies in the layout `large`, which stand a gigabyte behind the file's begin: their bytes, and what is read of them."""
+    m = generate.machine_of(data)
+    listed = [b"reply %d %s" % (op, t.random.randbytes(t.random.choice((1, 3841, 70000))).hex().encode())
+              for op in range(m.replies + 1, m.head() + 1)]
+    asked_for = b"".join(b"lookup %d\n" % one.client for one in m.sessions)
+    wanted = script.run(data, b"".join(line + b"\n" for line in listed) + asked_for)
+    same_run("replies in large", wanted, t.binary.run(b"".join(line + b"\n" for line in listed) + asked_for))
+    with open(t.binary.path, "rb", buffering=0) as file:
+        for event in wanted.events:
+            if event.kind == "write":
+                expect("a write in large", event.data, os.pread(file.fileno(), len(event.data), event.at))
+    again = t.binary.run(asked_for)
+    printed = script.answers([event for event in wanted.events if event.kind == "answer"][len(listed) :])
+    expect("replies in large, read by another run", (0, printed), (again.status, again.text))
+    require("a file of large stays sparse", os.stat(t.binary.path).st_blocks * 512 < 64 * SPARSE_BYTES)
+    t.counts["replies in large"] += len(listed)
 
 
 KINDS = {"words": (words, 8), "formats": (formats, 8), "format_stopped": (format_stopped, 3), "large": (large, 1)}

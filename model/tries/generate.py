@@ -1,14 +1,15 @@
-"""Random layouts, files, lines, scripts and odd prepares."""
+"""Random layouts, files, lines and scripts."""
 
 from random import Random
 from typing import Optional
 
-from . import copies, form, script, superblock
+from . import copies, form, recovery, script, superblock
 from .form import LIMITS, SECTOR, Home, Layout
+from .machine import Machine
 
 SIZES = (0, 0, 1, 2, 127, 128, 2048, 3839, 3840, 3841, 5000, 7935, 7936, 12000)
 DIGITS = b"0123456789"
-BYTES_OF_LINES = b"append -0123456789abcdefABCDEF \t\r\0+_.xX\n\xff"
+BYTES_OF_LINES = b"append reply lookup -0123456789abcdefABCDEF \t\r\0+_.xX\n\xff"
 
 
 def one_of(random: Random, low: int, high: int) -> int:
@@ -35,11 +36,13 @@ def layout(random: Random) -> Layout:
         return form.SMALL
     slots, message_size = limited(random, "Slots", 64), limited(random, "MessageSize", 16384)
     kind = random.random()
-    if kind < 0.06:
-        slots = limited(random, "Slots")
-    elif kind < 0.12:
-        message_size = limited(random, "MessageSize")
-    return Layout(slots, message_size, *(limited(random, name) for name in ("Clients", "BlockSize", "Blocks")))
+    clients = limited(random, "Clients")
+    if kind < 0.05:
+        slots, message_size = limited(random, "Slots"), 4096
+    elif kind < 0.08:
+        # Few slots, so that the file stays short.
+        slots, message_size, clients = 16, limited(random, "MessageSize", 524288), min(clients, 3)
+    return Layout(slots, message_size, clients, *(limited(random, name) for name in ("BlockSize", "Blocks")))
 
 
 def home(random: Random) -> Home:
@@ -73,40 +76,125 @@ def spelled(random: Random, data: bytes) -> bytes:
     return bytes(byte - 32 if byte > 96 and flips >> (at % 64) & 1 else byte for at, byte in enumerate(text))
 
 
-def good(random: Random, of: Layout) -> bytes:
-    """An append line that the grammar has, without its byte 10."""
-    client, request = one_of(random, 1, 2**128 - 1), one_of(random, 1, form.LIMIT)
-    return b"append %d %d %s" % (client, request, spelled(random, body(random, of)))
+def machine_of(data: Optional[bytes]) -> Machine:
+    """The machine of a file that opens; that of a new file where it doesn't."""
+    found = recovery.found(data)
+    return Machine(recovery.found(script.fresh(Home(form.SMALL, 7))) if found.refusal else found)
+
+
+def any_number(random: Random, high: int) -> int:
+    """A number from 0 on, most often a small one."""
+    return random.randint(0, 6) if random.random() < 0.6 else one_of(random, 0, high)
+
+
+def appends(m: Machine) -> list:
+    """The clients that may append now with their next requests; client 0 stands for one that is new."""
+    if m.head() - m.replies == recovery.PIPELINE or m.head() == m.layout.slots:
+        return []
+    known = [(one.client, one.request + 1) for one in m.sessions if one.op <= m.replies]
+    return known + [(0, 1)] * (len(m.sessions) < m.layout.clients)
+
+
+def new_client(random: Random, m: Machine) -> int:
+    """A client without a session, most often of a small number."""
+    taken = {one.client for one in m.sessions}
+    while True:
+        client = random.randint(1, 80) if random.random() < 0.7 else one_of(random, 1, 2**128 - 1)
+        if client not in taken:
+            return client
+
+
+def good(random: Random, m: Machine, most: Optional[int] = None) -> bytes:
+    """An append or a reply that is accepted; a read where there is none."""
+    may, waits = appends(m), m.replies < m.head()
+    data = body(random, m.layout)[:most]
+    if may and (not waits or random.random() < 0.55):
+        client, request = random.choice(may)
+        return b"append %d %d %s" % (client or new_client(random, m), request, spelled(random, data))
+    return b"reply %d %s" % (m.replies + 1, spelled(random, data)) if waits else reading(random, m)
+
+
+def reading(random: Random, m: Machine) -> bytes:
+    """A read, most often of what is there."""
+    if random.random() < 0.6:
+        there = m.head() and random.random() < 0.8
+        near = random.choice((0, m.head(), m.head() + 1, any_number(random, 2**64 - 1)))
+        return b"prepare %d" % (random.randint(1, m.head()) if there else near)
+    known = m.sessions and random.random() < 0.8
+    return b"lookup %d" % (random.choice(m.sessions).client if known else any_number(random, 2**128 - 1))
+
+
+def refused(random: Random, m: Machine) -> bytes:
+    """A line of the grammar that is most often refused."""
+    data = spelled(random, body(random, m.layout)[: random.choice((0, 1, 10000))])
+    long = b"00" * (m.layout.body_max() + random.choice((0, 1, 2)))
+    known = random.choice(m.sessions) if m.sessions else recovery.Session(5, 1, 1)
+    client, request = known.client, known.request
+    return random.choice((
+        b"append %d %d %s" % (client, request, data), b"append %d %d %s" % (client, request + 1, data),
+        b"append %d %d %s" % (client, request + 2, data), b"append %d %d %s" % (client, max(0, request - 1), data),
+        b"append %d 1 %s" % (new_client(random, m), data), b"append %d 2 -" % new_client(random, m),
+        b"append 0 1 %s" % data, b"append 0 1 " + long, b"append %d 1 " % new_client(random, m) + long,
+        b"append %d %d " % (client, request) + long, b"append %d %d -" % (client, any_number(random, 2**64 - 1)),
+        b"append %d %d -" % (any_number(random, 2**128 - 1), any_number(random, 2**64 - 1)),
+        b"reply %d %s" % (m.replies, data), b"reply %d %s" % (m.replies + 2, data), b"reply %d " % (m.replies + 1) + long,
+        b"reply %d %s" % (m.replies + 1, data), b"reply %d " % m.replies + long,
+        b"reply %d -" % any_number(random, 2**64 - 1), reading(random, m), reading(random, m),
+    ))
+
+
+def line_of(random: Random, m: Machine, odds: float, most: Optional[int] = None) -> bytes:
+    """A line of the grammar, with these odds one that is refused, and with these one that reads."""
+    what = random.random()
+    return refused(random, m) if what < odds else reading(random, m) if what < 2 * odds else good(random, m, most)
+
+
+def script_of(random: Random, m: Machine, count: int, odds: float, most: Optional[int] = None) -> list:
+    """So many lines of the grammar, each made for what the lines before it leave; the machine goes on by them."""
+    listed = []
+    for _ in range(count):
+        listed.append(line_of(random, m, odds, most))
+        m.line(script.parse(listed[-1], m.layout) or ("prepare", 0))
+    return listed
 
 
 def odd(random: Random, of: Layout) -> bytes:
-    """A line that breaks one rule, or just keeps it."""
+    """A line that breaks one rule of the grammar, or just keeps it."""
     client = str(random.choice((0, 1, 2**128 - 1, 2**128, 2**128 + 1, 2**129, 10**60))).encode()
-    request = str(random.choice((0, 1, form.LIMIT, form.LIMIT + 1, 2**63, 2**64 - 1, 2**64, 2**64 + 1))).encode()
+    number = str(random.choice((0, 1, form.LIMIT, form.LIMIT + 1, 2**63, 2**64 - 1, 2**64, 2**64 + 1))).encode()
     most, longest = 2 * of.body_max(), of.line_max()
     size = random.choice((1, 2, 3, most, most + 1, most + 2, most + 4000, longest - 100))
     hexes = bytes(random.choices(b"0123456789abcdefABCDEF", k=size))
     texts = (
-        b"append %s %s -" % (client, request),
-        b"append 1 1 " + hexes,
+        b"append %s %s -" % (client, number), b"reply %s -" % number, b"prepare " + number, b"lookup " + client,
+        b"append 1 1 " + hexes, b"reply 1 " + hexes,
         b"append 01 1 -", b"append 1 01 -", b"append 1 1 --", b"append 1 1 -00", b"append 1 1 0-", b"append 1 1 ",
         b"append 1 1", b"append 1", b"append ", b"append", b"", b" ", b" append 1 1 -", b"append  1 1 -",
         b"append 1  1 -", b"append 1 1  -", b"append 1 1 - ", b"append\t1 1 -", b"append 1 1 -\r", b"append 1 1 -\0",
         b"Append 1 1 -", b"APPEND 1 1 -", b"append +1 1 -", b"append -1 1 -", b"append 1 -1 -", b"append 0x1 1 -",
         b"append 1_0 1 -", b"append 1.0 1 -", b"append 1 1 0g", b"append 1 1 0x00", b"append 1 1 00 00", b"append 1 1 00,",
         b"append \xd9\xa1 1 -", b"append \xb2 1 -", b"append 1 1 \xef\xbc\x91\xef\xbc\x91", b"\xef\xbb\xbfappend 1 1 -",
-        b"append - 1 -", b"append 1 - -", b"append 1 1 - append 2 2 -", b"appended 1", b"reply 1 -", b"step", b"prepare 1",
+        b"append - 1 -", b"append 1 - -", b"append 1 1 - append 2 2 -", b"appended 1", b"step", b"scrub", b"recent",
+        b"block 1 -", b"release 1", b"checkpoint -", b"read 1", b"stage 1 1 -", b"flush",
+        b"reply", b"reply ", b"reply 1", b"reply 1 ", b"reply -", b"reply - -", b"reply 01 -", b"reply 1  -", b"reply 1 1 -",
+        b"Reply 1 -", b"reply 1 - ", b"reply 1 0", b"reply 1 -\r", b"reply +1 -", b"replied 1", b"repl 1 -", b"reply1 -",
+        b"prepare", b"prepare ", b"prepare -", b"prepare 01", b"prepare 1 ", b"prepare 1 -", b"prepare 1 1", b"prepare  1",
+        b"Prepare 1", b"prepare 1\r", b"prepare +1", b"prepare 0x1", b"prepared 1", b"prepare\0001",
+        b"lookup", b"lookup ", b"lookup -", b"lookup 05", b"lookup 5 ", b"lookup 5 -", b"lookup 5 5", b"Lookup 5", b"lookup -1",
+        b"look 5", b"lookup\t5",
         b"appen 1 1 -", b"appendd 1 1 -", b"append1 1 -", b"-", b"\0", b"# append 1 1 -",
         b"a" * random.choice((longest - 1, longest, longest + 1, 2 * longest, 3 * longest + 1000)),
         b"append 1 1 " + b"0" * random.choice((longest - 11, longest - 10, longest + 100)),
+        b"reply 1 " + b"0" * random.choice((longest - 8, longest - 7, longest + 100)),
+        random.choice((b"append ", b"lookup ", b"prepare ")) + b"1" * random.choice((19, 20, 21, 38, 39, 40, 200, 30000)),
         b"append " + b"1" * random.choice((38, 39, 40, 200, 30000)) + b" 1 -",
     )
     return random.choice(texts)
 
 
-def mutated(random: Random, of: Layout) -> bytes:
+def mutated(random: Random, m: Machine) -> bytes:
     """A good line with one to three bytes changed, taken out, put in or doubled."""
-    line = bytearray(good(random, of)[: random.choice((40, 100, 10**6))])
+    line = bytearray(random.choice((good, good, reading))(random, m)[: random.choice((40, 100, 10**6))])
     for _ in range(random.randint(1, 3)):
         at = random.randint(0, len(line))
         # Half the changes fall into the words before the body.
@@ -129,68 +217,35 @@ def text_of(random: Random, listed: list) -> bytes:
     return text[:-1] if listed and random.random() < 0.2 else text
 
 
-def good_script(random: Random, of: Layout, most: int = 8) -> bytes:
+def good_script(random: Random, data: Optional[bytes], most: int = 8) -> bytes:
+    """Lines of the grammar for this file; a few of them are refused."""
     count = random.choice((0, 1, 1, 2, 3, random.randint(0, most), random.randint(0, 40) if most > 8 else 2))
-    return text_of(random, [good(random, of) for _ in range(count)])
+    return text_of(random, script_of(random, machine_of(data), count, 0.1))
 
 
-def any_script(random: Random, of: Layout) -> bytes:
-    """Good lines with some bad ones among them, most often one near the end."""
-    overflow = of.slots + 2 if of.slots * of.message_size <= 2**20 else 4
-    listed = [good(random, of) for _ in range(random.choice((0, 1, 2, 3, 5, overflow)))]
+def any_script(random: Random, data: Optional[bytes]) -> bytes:
+    """Lines of the grammar, many of them refused, with some among them that are none, most often one near the end."""
+    m = machine_of(data)
+    overflow = random.random() < 0.1 and m.layout.slots <= 64
+    count = 3 * m.layout.slots if overflow else random.choice((0, 1, 2, 3, 5, 10, 20))
+    listed = script_of(random, m, count, 0.02 if overflow else 0.2, 1 if overflow else None)
     for _ in range(random.choice((0, 1, 1, 2))):
-        bad = odd(random, of) if random.random() < 0.6 else mutated(random, of)
+        bad = odd(random, m.layout) if random.random() < 0.6 else mutated(random, m)
         listed.insert(random.choice((len(listed), random.randint(0, len(listed)))), bad)
     return text_of(random, listed)
 
 
 def image(random: Random, most: int = 32, of: Optional[Home] = None, hurt: float = 0.3) -> bytes:
-    """A file that opens: what a script left, sometimes with other bytes around the ring or with copies hurt."""
+    """A file that opens: what a script left, sometimes with other bytes behind the blocks' begin, or with copies hurt."""
     of = of or home(random)
     layout = of.layout
-    most = min(most, layout.slots, max(2, 2**21 // layout.message_size))
-    listed = [good(random, layout) for _ in range(random.randint(0, most))]
-    if random.random() < 0.02 and layout.message_size <= 8192:
-        listed = [b"append 1 1 -"] * layout.slots
-    data = script.run(script.fresh(of), text_of(random, listed)).data
-    if random.random() < 0.2:
-        copies_end, first = form.COPIES * SECTOR, layout.first()
-        data = data[:copies_end] + random.randbytes(first - copies_end) + data[first:]
-    if random.random() < 0.2 and layout.end() <= 2**21:
-        data = data + bytes(max(0, layout.end() - len(data))) + random.randbytes(random.randint(1, 3 * SECTOR))
+    most = min(most, max(2, 2**21 // layout.message_size))
+    data = script.fresh(of)
+    small = 1 if random.random() < 0.3 else None
+    listed = script_of(random, machine_of(data), random.randint(0, most), 0, small)
+    if random.random() < 0.03 and layout.slots <= 64:
+        listed = script_of(random, machine_of(data), 3 * layout.slots, 0, 1)
+    data = script.run(data, text_of(random, listed)).data
+    if random.random() < 0.2 and layout.grid() <= 2**21:
+        data = data + bytes(max(0, layout.grid() - len(data))) + random.randbytes(random.randint(1, 3 * SECTOR))
     return copies.hurt(random, data) if random.random() < hurt else data
-
-
-def odd_prepare(random: Random, home: Home, parent: bytes, op: int) -> bytes:
-    """A prepare with right checksums whose fields break one rule, or just keep it."""
-    layout = home.layout
-    slots, slot = layout.slots, layout.message_size
-    data = body(random, layout)
-    client, request = one_of(random, 1, 2**128 - 1), one_of(random, 1, form.LIMIT)
-    fields = form.Prepare(home, parent, client, op, request, data).fields()
-    top, other = form.LIMIT, (home.cluster + random.choice((1, 2**64, 2**127))) % 2**128
-    name, value = random.choice((
-        ("client", form.number(0)), ("client", form.number(2**128 - 1)), ("client", form.number(2**127)),
-        ("request", 0), ("request", 1), ("request", top), ("request", top + 1), ("request", 2**64 - 1),
-        ("mark", 0), ("mark", op - 1), ("mark", op), ("mark", op + 1), ("mark", 2**64 - 1),
-        ("checkpoint", 0), ("checkpoint", 1), ("checkpoint", 2), ("checkpoint", top), ("checkpoint", top + 1),
-        ("op", 0), ("op", op + 1), ("op", op + slots), ("op", top), ("op", 2**64 - 1),
-        ("cluster", form.number(0)), ("cluster", form.number(other)), ("cluster", form.number(other)),
-        ("size", 0), ("size", 255), ("size", 256), ("size", form.HEADER + len(data) + 1), ("size", slot),
-        ("size", slot + 1), ("size", slot + SECTOR), ("size", 2**32 - 1),
-        ("slot", (op + 1) % slots), ("slot", op % slots + slots), ("slot", op), ("slot", 2**32 - 1),
-        ("kind", 0), ("kind", 1), ("kind", 3), ("kind", 255), ("block_kind", 1), ("block_kind", 255), ("version", 0),
-        ("version", 2), ("version", 257), ("boot", 1), ("boot", 2**63), ("zero", bytes(123) + b"\1"),
-        ("zero", b"\1" + bytes(123)), ("parent", bytes(16)), ("parent", bytes(15) + b"\1"), ("client", fields["client"]),
-    ))
-    fields[name] = value
-    whole = form.seal(fields, data)
-    if name == "size" and random.random() < 0.5:
-        # The checksum of the body is that of the stated size.
-        padded = data + bytes(2 * slot)
-        fields["checksum_body"] = form.check(padded[: max(0, value - form.HEADER)])
-        rest = form.FIELDS.pack(*(fields[key] for key in form.NAMES))[16:]
-        whole = form.check(rest) + rest + data
-    if random.random() < 0.1:
-        whole = random.randbytes(16) + whole[16:]
-    return form.whole_sectors(whole)[:slot]

@@ -7,8 +7,6 @@ from .binary import Call, expect
 from .common import Try, named, on_file, reopen, same_bytes, same_run
 from .form import COPIES, SECTOR
 
-EVENTS = {"pwrite64": "write", "fdatasync": "sync", "write": "answer"}
-
 
 def words_for(t: Try) -> list:
     """The words `run`, or less often `format`."""
@@ -40,9 +38,8 @@ class Plan:
     def __init__(self, t: Try, most: int = 20, data: Optional[bytes] = None):
         self.words = words_for(t)
         self.data = file_for(t, self.words, most) if data is None else data
-        layout = generate.home_of(self.data).layout
         make = generate.any_script if t.random.random() < 0.3 else generate.good_script
-        self.text = make(t.random, layout)
+        self.text = make(t.random, self.data)
         self.wanted = script.command(self.data, self.words, self.text)
         t.binary.put(self.data)
         got, calls = t.binary.trace(self.text, words=self.words)
@@ -60,25 +57,21 @@ class Plan:
         t.binary.put(self.data)
         return t.binary.trace(self.text, rules, before, self.words)
 
-    def answered(self, text: bytes) -> list:
-        """The prepares that are durable by what was printed."""
-        return script.found(self.data) + self.wanted.accepted[: text.count(b"appended ")]
-
-    def ends(self, t: Try, what: str, got, upto: int, status: int) -> bytes:
+    def ends(self, t: Try, what: str, got, upto: int, status: int, printed: Optional[bytes] = None) -> bytes:
         """The run ended with this status after the first `upto` events, and the file opens with what was answered."""
         expect(f"{what}: status", status, got.status)
-        expect(f"{what}: text", script.answers(self.wanted.events[:upto]), got.text)
+        expect(f"{what}: text", script.answers(self.wanted.events[:upto]) if printed is None else printed, got.text)
         data = script.state(self.data or b"", self.wanted.events[:upto])
         same_bytes(what, data, t.binary.get() or b"")
         t.counts[f"{self.words[0]}: {what}"] += 1
         self.keeps(what, data)
-        return reopen(t, what, self.answered(got.text), t.binary.get())
+        return reopen(t, what, self.wanted.kept(upto), t.binary.get())
 
-    def torn(self, t: Try, what: str, image: bytes, text: bytes) -> bytes:
-        """A stop left this image, in which a write that wasn't synced is torn: it opens with what was answered."""
+    def torn(self, t: Try, what: str, image: bytes, upto: int) -> bytes:
+        """A stop left this image, in which writes that weren't synced are torn: it opens with what was answered."""
         t.binary.put(image)
         self.keeps(what, image)
-        return reopen(t, f"{what}, then a stop", self.answered(text), image)
+        return reopen(t, f"{what}, then a stop", self.wanted.kept(upto), image)
 
     def keeps(self, what: str, image: bytes) -> None:
         """A run doesn't change what the copies choose."""
@@ -87,10 +80,23 @@ class Plan:
             expect(f"{what}: the superblock", before, after)
 
 
-def events_before(plan: Plan, place: Call) -> int:
-    """How many events come before a call: writes and syncs of the file, and answers."""
-    before = plan.calls[: plan.calls.index(place)]
-    return sum(len(named(before, name, 1 if name == "write" else plan.fd)) for name in EVENTS)
+def before(plan: Plan, place: Call) -> tuple:
+    """How many events are done before a call, and what is printed then. An answer may be printed in pieces."""
+    calls = plan.calls[: plan.calls.index(place)]
+    changes = sum(len(named(calls, name, plan.fd)) for name in ("pwrite64", "fdatasync"))
+    length = sum(call.result for call in named(calls, "write", 1))
+    upto = printed = 0
+    for event in plan.wanted.events:
+        if event.kind == "answer":
+            printed += len(event.data)
+            if printed > length:
+                break
+        else:
+            changes -= 1
+            if changes < 0:
+                break
+        upto += 1
+    return upto, plan.wanted.text[:length]
 
 
 def events_of(calls: list, fd: Optional[int]) -> list:
@@ -105,23 +111,43 @@ def events_of(calls: list, fd: Optional[int]) -> list:
             seen.append(("sync", 0, 0))
         elif call.name == "write" and call.fd == 1:
             seen.append(("answer", 0, call.result))
-    return seen
+    return together(seen)
 
 
-def copies_reads(calls: list, fd: Optional[int], layout: form.Layout) -> tuple:
-    """The sectors of copies that a list of calls reads, and the offsets of its reads within the ring."""
-    sectors, ring, end = [], [], None
+def together(seen: list) -> list:
+    """Events with answers that follow one another put together, since a long one may be printed in pieces."""
+    listed: list = []
+    for kind, at, length in seen:
+        if kind == "answer" and listed and listed[-1][0] == "answer":
+            length += listed.pop()[2]
+        listed.append((kind, at, length))
+    return listed
+
+
+def reads_of(calls: list, fd: Optional[int], layout: form.Layout) -> tuple:
+    """The sectors of copies that a list of calls reads, and the offsets of the header sectors and slots that it reads."""
+    sectors, others, end = [], [], None
     for call in named(calls, "pread64", fd):
         at, length = int(call.args[-1]), int(call.args[-2])
         goes_on, end = at == end, at + call.result if call.result < length else None
         if goes_on:
             # The rest of a read that met the end of the file.
             continue
+        inside = at % SECTOR == 0 == length % SECTOR and at + length <= layout.replies_end()
         if at < SECTOR * COPIES:
             sectors += range(at // SECTOR, (at + length) // SECTOR)
+            inside = inside and at + length <= SECTOR * COPIES
         else:
-            ring.append(at)
-        whole = at % SECTOR == 0 == length % SECTOR
-        inside = at + length <= SECTOR * COPIES or layout.first() <= at <= at + length <= layout.end()
-        expect(f"a read of {length} bytes at {at} is whole sectors of the copies or of the ring", True, whole and inside)
-    return sectors, ring
+            others.append(at)
+            start = layout.header_sector(0)
+            inside = inside and (at + length <= layout.first() or at >= layout.first())
+            whole = at < layout.first() or (at - layout.first()) % layout.message_size == 0
+            inside = inside and at >= start and whole
+        expect(f"a read of {length} bytes at {at} is whole sectors of the copies, of headers or of one slot", True, inside)
+    return sectors, others
+
+
+def every_slot(layout: form.Layout) -> list:
+    """The offsets of all that an open reads behind the copies: header sectors, prepares, replies."""
+    headers = range(layout.header_sector(0), layout.first(), SECTOR)
+    return [*headers, *range(layout.first(), layout.replies_end(), layout.message_size)]

@@ -1,10 +1,11 @@
-"""Tries of the reader beside the model: over a damaged file the program refuses what it refuses, and goes on where it does."""
+"""Tries of the reader beside the model: over a damaged file the program refuses what it refuses, and reads what it reads."""
 
 import reader
 
-from . import copies, damage, generate, script, superblock
+from . import copies, damage, form, generate, recovery, superblock, units
 from .binary import expect
 from .common import Try
+from .forge import forge, put
 
 
 def tied(t: Try) -> bytes:
@@ -22,54 +23,70 @@ def tied(t: Try) -> bytes:
 
 
 def struck(t: Try) -> bytes:
-    """A file with damage, most often in its ring."""
+    """A file with damage, most often in its slots."""
     home = generate.home(t.random)
     data = bytearray(generate.image(t.random, of=home))
-    for _ in range(t.random.choice((1, 1, 2, 5))):
+    for _ in range(t.random.choice((0, 1, 1, 2, 5))):
         damage.strike(t, data, home.layout)
     return bytes(data)
 
 
 def forged(t: Try) -> bytes:
-    """A file with forged copies, or with a forged prepare behind its ring."""
+    """A file with forged copies, or with forged units."""
     random, home = t.random, generate.home(t.random)
-    data = generate.image(random, 4, home, 0)
+    data = generate.image(random, 12, home, 0)
     own = superblock.first(home)
-    if random.random() < 0.5:
-        return copies.forged(random, data, [own, copies.odd(random, own), copies.odd(random, own)][: random.randint(1, 3)])
-    found = script.found(data)
-    parent, image = found[-1].checksum() if found else bytes(16), bytearray(data)
-    damage.put(image, home.layout.place(len(found) + 1), generate.odd_prepare(random, home, parent, len(found) + 1))
+    if random.random() < 0.4:
+        contents = [damage.later(t, own, data), copies.odd(random, own), copies.odd(random, own)]
+        return copies.forged(random, data, [own, *contents][: random.randint(1, 4)])
+    image = bytearray(data)
+    for _ in range(random.randint(1, 2)):
+        forge(random, generate.machine_of(data), image)
     return bytes(image)
 
 
 def rewritten(t: Try) -> bytes:
-    """A file in which one prepare of the ring is another one of its op, so that the next has another parent."""
+    """A file in which one prepare is another one of its op, in one ring or in both, so that the next has another parent."""
     random, home = t.random, generate.home(t.random)
     data = generate.image(random, 12, home, 0)
-    found = script.found(data)
-    if not found:
+    view = recovery.view_of(data)
+    if not view.tail:
         return data
-    prepare, image = random.choice(found), bytearray(data)
-    other = prepare._replace(**random.choice(({"client": prepare.client % 2**127 + 1}, {"parent": random.randbytes(16)})))
-    damage.put(image, home.layout.place(prepare.op), other.encode())
+    one, image = random.choice(view.tail), bytearray(data)
+    client = form.number(one.client % 2**127 + 1)
+    name, value = random.choice((("client", client), ("parent", random.randbytes(16)), ("mark", one.op - 1)))
+    whole = units.seal(dict(one.fields(), **{name: value}), one.body)
+    rings = random.choice(((form.WAL_PREPARES,), (form.WAL_HEADERS,), (form.WAL_PREPARES, form.WAL_HEADERS)))
+    for zone in rings:
+        at = home.layout.at(form.Place(zone, one.op % home.layout.slots))
+        put(image, at, whole[: form.HEADER] if zone == form.WAL_HEADERS else whole)
     return bytes(image)
 
 
 def read(t: Try) -> None:
-    """The reader and the program agree on a refusal, or on the next op."""
+    """The reader and the program agree on a refusal, or on all that is read of the file and on what comes next."""
     kind = t.random.choice((tied, struck, struck, forged, rewritten))
     data = kind(t)
+    lines, wanted = [], []
     try:
-        fields = reader.superblock_of(data)
-        ring = reader.ring_of(data, fields)
-        full = len(ring) == fields["Slots"]
-        wanted = f"refused WalFull op {len(ring) + 1} checkpoint_op 0" if full else f"appended {len(ring) + 1}"
+        state = reader.state_of(data)
+        for one in state["prepares"]:
+            lines.append(f"prepare {one['op']}")
+            wanted.append("prepare " + reader.text_of(one))
+        for client, one in state["replies"].items():
+            lines.append(f"lookup {client}")
+            wanted.append("reply " + reader.text_of(one) if one["kind"] == 3 else f"refused ReplyPending op {one['op']}")
+        lines += [f"prepare {len(state['prepares']) + 1}", "reply 0 -"]
+        wanted.append(f"refused NotKept first 1 last {len(state['prepares'])}")
+        done = state["stored"] == len(state["prepares"])
+        wanted.append(f"refused NothingPending head {state['stored']}" if done else
+                      f"refused ReplyOrder expected {state['stored'] + 1}")
     except reader.Refused as why:
-        wanted = f"refused {why}"
+        wanted = [f"refused {why}"]
     t.binary.put(data)
-    expect(f"a {kind.__name__} file", wanted.encode() + b"\n", t.binary.run(b"append 1 1 -\n").text)
-    t.counts[f"files read: {kind.__name__}, {wanted.split()[0]}"] += 1
+    text = "".join(line + "\n" for line in lines).encode()
+    expect(f"a {kind.__name__} file", "".join(line + "\n" for line in wanted).encode(), t.binary.run(text).text)
+    t.counts[f"files read: {kind.__name__}, {'opened' if lines else ' '.join(wanted[0].split()[:2])}"] += 1
 
 
 KINDS = {"read": (read, 4)}

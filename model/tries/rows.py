@@ -1,37 +1,85 @@
 """Worked rows: files, words and scripts whose answers are written out here, for the model and for the program."""
 
-from . import form, script, superblock
+from . import copy_rows, form, recovery, script, superblock, units
 from .binary import expect
 from .common import Try, asked, session
-from .form import SECTOR, SMALL, Home
-from .superblock import Content
+from .copy_rows import A5, BLANK, FIRST, HOME, TOP, file_of, four
+from .form import SECTOR, SMALL, Home, Place
 
-A5 = b"\xa5" * SECTOR
-HOME = Home(SMALL, 7)
-FIRST = superblock.first(HOME)
-TOP = 2**62
 USAGE = "usage: format LAYOUT CLUSTER | run\n"
 ONE = "16,4096,1,4096"
+# A new file: header sectors with reserved headers stand behind the copies.
+NEW = script.fresh(HOME)
 
 
-def file_of(*sectors: bytes) -> bytes:
-    return b"".join(sectors)
+def with_headers(copies: bytes) -> bytes:
+    """These copies in a new file."""
+    return form.part(copies, 0, 4 * SECTOR) + NEW[4 * SECTOR :]
 
 
-def copies_of(*contents: Content) -> bytes:
-    """A file of these contents, each at its place."""
-    return file_of(*(content.encode(place) for place, content in enumerate(contents)))
+def ops(count: int) -> str:
+    """So many requests of client 1, each with its reply."""
+    return "".join(f"append 1 {op} -\nreply {op} -\n" for op in range(1, count + 1))
 
 
-def four(**fields) -> bytes:
-    """Four equal copies with some other fields than a first superblock's."""
-    return copies_of(*[FIRST._replace(**fields)] * 4)
+def answers(count: int) -> str:
+    return "".join(f"appended {op}\nreplied {op}\n" for op in range(1, count + 1))
 
 
-NEW = four()
-NEWER = FIRST._replace(sequence=2)
-BLANK, C = bytes(SECTOR), [FIRST.encode(place) for place in range(4)]
-OTHER = superblock.first(Home(SMALL, 8))
+def struck(data: bytes, text: str, *strikes) -> bytes:
+    """A file after a script, with sectors that show these bytes, or what another one showed after the script."""
+    after = script.run(data, text.encode()).data
+    events = [script.Event("write", SECTOR * at, form.sector(after, what) if isinstance(what, int) else what)
+              for at, what in strikes]
+    return script.state(after, events)
+
+
+def with_copies(data: bytes) -> bytes:
+    """A file with the copies of a new one."""
+    return NEW[: 4 * SECTOR] + data[4 * SECTOR :]
+
+
+def forged(data: bytes, text: str, unit: dict, zone: str, index: int) -> bytes:
+    """A file after a script, with a unit of these fields at a place."""
+    after = script.run(data, text.encode()).data
+    whole = units.seal(units.fields_of(HOME, **unit))
+    return script.state(after, [script.Event("write", SMALL.at(Place(zone, index)), whole)])
+
+
+CLIENT = {"client": form.number(9), "request": 1}
+LATER_OP = {"kind": units.PREPARE, "op": 35, "slot": 3, "checkpoint": 1, **CLIENT}
+LATER_SEQUENCE = {"kind": units.REPLY, "op": 1, "slot": 3, "mark": 1, "checkpoint": 2, **CLIENT}
+LATER_MARK = {"kind": units.REPLY, "op": 1, "slot": 3, "mark": 33, "checkpoint": 1, **CLIENT}
+IN_GRID = {"kind": units.BLOCK, "op": 64, "block_kind": 1}
+OUTSIDE = {"kind": units.BLOCK, "op": 65, "block_kind": 1}
+TWO = "append 1 1 -\nreply 1 -\nappend 2 1 -\n"
+FIRST_SESSION = ("""append 5 1 -
+reply 1 aa
+lookup 5
+append 5 1 -
+append 5 3 00
+append 5 2 0102
+append 5 2 0102
+lookup 5
+lookup 6
+prepare 2
+prepare 3
+reply 1 -
+append 0 1 -
+""", """appended 1
+replied 1
+reply 1 client 5 request 1 mark 1 checkpoint 1 body aa
+refused Repeated op 1
+refused RequestOrder expected 2
+appended 2
+refused ReplyPending op 2
+refused ReplyPending op 2
+refused NoClient
+prepare 2 client 5 request 2 mark 1 checkpoint 1 body 0102
+refused NotKept first 1 last 2
+refused ReplyOrder expected 2
+refused ClientZero
+""")
 # The file, the words, the script; the text and the status.
 ROWS = (
     (None, "format small 7", "", "formatted 336\n", 0),
@@ -60,81 +108,63 @@ ROWS = (
     (None, "format 16,4096,1,4096,16385 7", "", USAGE, 2),
     (None, "run --", "", USAGE, 2),
     (None, "append", "", USAGE, 2),
+    (four(), "run", "append 5 1 -\nappend 6 1 0102\n", "appended 1\nappended 2\n", 0),
     (NEW, "run", "append 5 1 -\nappend 6 1 0102\n", "appended 1\nappended 2\n", 0),
     (NEW, "run", "append 5 1 -\nappend 6 1 0102", "appended 1\nappended 2\n", 0),
-    (NEW, "run", "reply 1 -\n", "script 1\n", 3),
+    (NEW, "run", "step\n", "script 1\n", 3),
     (NEW, "run", "append 4 1 -\n\n", "appended 1\nscript 2\n", 3),
-    (NEW, "run", "append 1 1 -\n" * 33, "".join(f"appended {op}\n" for op in range(1, 33))
-     + "refused WalFull op 33 checkpoint_op 0\n", 0),
-    (copies_of(*[superblock.first(Home(form.Layout(16, 4096, 1, 4096, 8), 9))] * 4), "run", "append 1 1 -\n" * 17,
-     "".join(f"appended {op}\n" for op in range(1, 17)) + "refused WalFull op 17 checkpoint_op 0\n", 0),
+    (NEW, "run", "append 4 1 -\nappend 5 1 abc", "appended 1\nscript 2\n", 3),
+    (NEW, "run", "append 4 1 -\nappend 5 01 -", "appended 1\nscript 2\n", 3),
+    (NEW, "run", "append 4 1 -\nAppend 5 1 -", "appended 1\nscript 2\n", 3),
+    # A first session.
+    (NEW, "run", FIRST_SESSION[0], FIRST_SESSION[1], 0),
+    # A full ring.
+    (NEW, "run", ops(32) + "append 1 33 -\n", answers(32) + "refused WalFull op 33 checkpoint_op 0\n", 0),
+    (script.fresh(Home(form.Layout(16, 4096, 1, 4096, 8), 9)), "run", ops(16) + "append 1 17 -",
+     answers(16) + "refused WalFull op 17 checkpoint_op 0\n", 0),
+    # The longest body.
     (NEW, "run", "append 1 1 " + "00" * 7936, "appended 1\n", 0),
-    (NEW, "run", "append 1 1 " + "00" * 7937, "script 1\n", 3),
-    # Copies at rest that are struck.
-    (file_of(C[0], A5, C[2], A5), "run", "append 1 1 -", "appended 1\n", 0),
-    (file_of(A5, A5, A5, C[3]), "run", "", "refused NoQuorum Garbled Garbled Garbled Stale\n", 4),
-    (file_of(C[0], C[0], BLANK, A5), "run", "", "refused NoQuorum Stale Elsewhere Superblock 0 Blank Garbled\n", 4),
-    (file_of(C[0], BLANK, BLANK, BLANK), "run", "", "refused NoQuorum Stale Blank Blank Blank\n", 4),
-    (file_of(C[0], C[1]), "run", "append 1 1 -", "appended 1\n", 0),
-    (file_of(C[1], C[2], C[3], C[0]), "run", "", "refused NoQuorum Elsewhere Superblock 1 Elsewhere Superblock 2 "
-     "Elsewhere Superblock 3 Elsewhere Superblock 0\n", 4),
-    (file_of(BLANK, C[1][:16] + b"\4" + C[1][17:], C[2], C[3][:31] + b"\1" + C[3][32:]), "run", "",
-     "refused NoQuorum Blank Garbled Stale Garbled\n", 4),
-    # Two contents: the greater sequence with two votes; of equal ones that of the lowest number.
-    (copies_of(FIRST, FIRST, NEWER, NEWER), "run", "", "refused BadField Sequence 2\n", 4),
-    (copies_of(NEWER, FIRST, FIRST, FIRST), "run", "append 1 1 -", "appended 1\n", 0),
-    (copies_of(FIRST._replace(version=9), FIRST, FIRST, FIRST._replace(version=9)), "run", "", "refused Version found 9\n", 4),
-    (copies_of(OTHER, FIRST, OTHER, FIRST._replace(boot=1)), "run", "append 1 1 -", "appended 1\n", 0),
-    # Four equal copies with right checksums.
-    (four(version=9), "run", "", "refused Version found 9\n", 4),
-    (four(version=2, slots=0), "run", "", "refused Version found 2\n", 4),
-    (four(slots=0), "run", "", "refused BadField Slots 0\n", 4),
-    (four(slots=0, cluster=0), "run", "", "refused BadField Slots 0\n", 4),
-    (four(message_size=4097), "run", "", "refused BadField MessageSize 4097\n", 4),
-    (four(clients=65), "run", "", "refused BadField Clients 65\n", 4),
-    (four(block_size=0), "run", "", "refused BadField BlockSize 0\n", 4),
-    (four(blocks=7), "run", "", "refused BadField Blocks 7\n", 4),
-    (four(cluster=0), "run", "", "refused BadField Cluster 0\n", 4),
-    (four(sequence=0), "run", "", "refused BadField Sequence 0\n", 4),
-    (four(sequence=TOP + 1), "run", "", f"refused BadField Sequence {TOP + 1}\n", 4),
-    (four(sequence=TOP), "run", "", f"refused BadField Sequence {TOP}\n", 4),
-    (four(op=TOP + 1), "run", "", f"refused BadField Op {TOP + 1}\n", 4),
-    (four(op_checksum=bytes(15) + b"\1"), "run", "", f"refused BadField OpChecksum {2**120}\n", 4),
-    (four(op=1), "run", "", "refused BadField Head 0\n", 4),
-    (four(head=33), "run", "", "refused BadField Head 33\n", 4),
-    (four(op=TOP, head=TOP + 1), "run", "", f"refused BadField Head {TOP + 1}\n", 4),
-    (four(head=9), "run", "", "refused BadField Replies 0\n", 4),
-    (four(head=8), "run", "", "refused BadField Head 8\n", 4),
-    (four(replies=1), "run", "", "refused BadField Replies 1\n", 4),
-    (four(head=1, replies=1), "run", "", "refused BadField Head 1\n", 4),
-    (four(trailer_address=65), "run", "", "refused BadField TrailerAddress 65\n", 4),
-    (four(op=1, head=1, replies=1), "run", "", "refused BadField TrailerAddress 0\n", 4),
-    (four(trailer_checksum=b"\1" + bytes(15)), "run", "", "refused BadField TrailerChecksum 1\n", 4),
-    (four(trailer_size=1), "run", "", "refused BadField TrailerSize 1\n", 4),
-    (four(trailer_address=64), "run", "", "refused BadField TrailerSize 0\n", 4),
-    (four(trailer_address=64, trailer_size=2193), "run", "", "refused BadField TrailerSize 2193\n", 4),
-    (four(trailer_address=64, trailer_size=2192), "run", "", "refused BadField TrailerAddress 64\n", 4),
-    (four(op=1, head=1, replies=1, trailer_address=1, trailer_size=1, op_checksum=A5[:16]), "run", "",
-     "refused BadField Op 1\n", 4),
-    (four(boot=1), "run", "", "refused BadField Boot 1\n", 4),
-    (four(zero=bytes(3935) + b"\1"), "run", "", "refused BadField Zero 4095\n", 4),
-    (four(zero=b"\0\1" + bytes(3933) + b"\1"), "run", "", "refused BadField Zero 161\n", 4),
-    # Two neighbouring tests fail: the first is named.
-    (four(slots=17, message_size=1), "run", "", "refused BadField Slots 17\n", 4),
-    (four(message_size=1, clients=0), "run", "", "refused BadField MessageSize 1\n", 4),
-    (four(clients=0, block_size=1), "run", "", "refused BadField Clients 0\n", 4),
-    (four(block_size=1, blocks=16385), "run", "", "refused BadField BlockSize 1\n", 4),
-    (four(blocks=16385, cluster=0), "run", "", "refused BadField Blocks 16385\n", 4),
-    (four(cluster=0, sequence=0), "run", "", "refused BadField Cluster 0\n", 4),
-    (four(sequence=0, op=TOP + 1), "run", "", "refused BadField Sequence 0\n", 4),
-    (four(op=TOP + 1, head=0), "run", "", f"refused BadField Op {TOP + 1}\n", 4),
-    (four(op_checksum=b"\1" + bytes(15), head=33), "run", "", "refused BadField OpChecksum 1\n", 4),
-    (four(head=33, replies=34), "run", "", "refused BadField Head 33\n", 4),
-    (four(replies=1, trailer_address=65), "run", "", "refused BadField Replies 1\n", 4),
-    (four(op=1, head=1, trailer_checksum=b"\1" + bytes(15)), "run", "", "refused BadField TrailerAddress 0\n", 4),
-    (four(trailer_checksum=b"\1" + bytes(15), trailer_size=1), "run", "", "refused BadField TrailerChecksum 1\n", 4),
-    (four(trailer_size=1, boot=1), "run", "", "refused BadField TrailerSize 1\n", 4),
-    (four(boot=1, zero=b"\1" * 3936), "run", "", "refused BadField Boot 1\n", 4),
+    (NEW, "run", "append 1 1 " + "00" * 7937, "refused BodyTooLong max 7936\n", 0),
+    (NEW, "run", "append 1 1 -\nreply 1 " + "00" * 7937, "appended 1\nrefused BodyTooLong max 7936\n", 0),
+    # Many clients.
+    (NEW, "run", "".join(f"append {client} 1 -\n" for client in range(1, 6)),
+     "".join(f"appended {op}\n" for op in range(1, 5)) + "refused ClientsFull max 4\n", 0),
+    (script.fresh(Home(form.Layout(32, 8192, 16, 16384, 64), 7)), "run",
+     "".join(f"append {client} 1 -\n" for client in range(1, 10)),
+     "".join(f"appended {op}\n" for op in range(1, 9)) + "refused PipelineFull waiting 8\n", 0),
+    # Sectors that are struck.
+    (struck(NEW, ops(12), (24, A5)), "run", "", "refused Damaged WalPrepares 9 Garbled\n", 4),
+    (struck(NEW, ops(12), (4, A5)), "run", "append 1 13 -", "appended 13\n", 0),
+    (struck(NEW, ops(12), (12, 14), (13, 15), (14, 12), (15, 13)), "run", "",
+     "refused Damaged WalPrepares 3 Elsewhere WalPrepares 4\n", 4),
+    (struck(NEW, TWO, (70, A5)), "run", "", "refused Damaged ClientReplies 0 Garbled\n", 4),
+    (struck(NEW, TWO, (4, A5), (10, A5)), "run", "prepare 2\nlookup 1\nreply 2 -\n", "refused NotKept first 1 last 1\n"
+     "reply 1 client 1 request 1 mark 1 checkpoint 1 body -\nrefused NothingPending head 1\n", 0),
+    (struck(NEW, TWO + "reply 2 -\n", (4, A5), (10, A5)), "run", "", "refused Damaged WalPrepares 2 Garbled\n", 4),
+    # The last reply is lost with every trace of it.
+    (struck(NEW, ops(2), (70, A5)), "run", "lookup 1\nreply 2 -\n", "refused ReplyPending op 2\nreplied 2\n", 0),
+    # A stop within a write of headers: a run mends them.
+    (struck(NEW, ops(16) + "append 1 17 -", (5, A5)), "run", "reply 17 -", "replied 17\n", 0),
+    # A later superblock without a trailer; then the earlier one again, which is behind what was written since.
+    (with_headers(four(sequence=2)), "run", "append 5 1 -\nprepare 1", "appended 1\n"
+     "prepare 1 client 5 request 1 mark 0 checkpoint 2 body -\n", 0),
+    (with_copies(struck(with_headers(four(sequence=2)), "append 5 1 -")), "run", "", "refused Damaged Superblock 0 Stale\n", 4),
+    # Units with right checksums that no run has left: of a later op, sequence or mark, or of another zone.
+    (forged(NEW, ops(2), LATER_OP, form.WAL_HEADERS, 3), "run", "", "refused Damaged Superblock 0 Stale\n", 4),
+    (struck(forged(NEW, ops(2), LATER_OP, form.WAL_PREPARES, 3), "", (0, A5)), "run", "",
+     "refused Damaged Superblock 1 Stale\n", 4),
+    (forged(NEW, ops(2), LATER_SEQUENCE, form.CLIENT_REPLIES, 3), "run", "", "refused Damaged Superblock 0 Stale\n", 4),
+    (forged(NEW, ops(2), LATER_MARK, form.CLIENT_REPLIES, 3), "run", "", "refused Damaged WalPrepares 3 Blank\n", 4),
+    (forged(NEW, ops(32), LATER_MARK, form.CLIENT_REPLIES, 3), "run", "", "refused Damaged WalPrepares 1 Stale\n", 4),
+    (forged(NEW, ops(2), IN_GRID, form.WAL_PREPARES, 2), "run", "", "refused Damaged WalPrepares 2 Elsewhere Grid 64\n", 4),
+    (forged(NEW, TWO, IN_GRID, form.CLIENT_REPLIES, 0), "run", "",
+     "refused Damaged ClientReplies 0 Elsewhere Grid 64\n", 4),
+    (forged(NEW, TWO, OUTSIDE, form.CLIENT_REPLIES, 0), "run", "", "refused Damaged ClientReplies 0 Garbled\n", 4),
+    (forged(NEW, ops(2), IN_GRID, form.WAL_HEADERS, 2), "run", "append 1 3 -", "appended 3\n", 0),
+    # A superblock that has seen an op or a reply which isn't there.
+    (with_headers(four(head=8)), "run", "", "refused Damaged WalPrepares 1 Blank\n", 4),
+    (with_headers(four(head=1, replies=1)), "run", "", "refused Damaged WalPrepares 1 Blank\n", 4),
+    *copy_rows.ROWS,
 )
 
 
@@ -147,36 +177,61 @@ def rows(t: Try) -> None:
         expect(f"the model's text of {words!r} {text[:60]!r}", printed.encode(), got.text)
         expect(f"the model's status of {words!r} {text[:60]!r}", status, got.status)
         t.counts["worked rows"] += 1
-    torn_row(t)
+    torn_rows(t)
 
 
-def torn_row(t: Try) -> None:
-    """A second append that is stopped within its write: its op is given out again. Sectors are numbers of the file's."""
+def torn_rows(t: Try) -> None:
+    """A second append that is stopped within a write: its op is kept where its prepare was durable, else given out again."""
     data = script.run(NEW, b"append 5 1 -\n").data
-    data += bytes(SECTOR * 10 - len(data)) + A5
-    t.binary.put(data)
-    again = session(t, "the row of a torn append", data, b"append 7 1 -\n")
-    expect("the row of a torn append", b"appended 2\n", again.text)
+    shown = b"prepare 2 client 6 request 1 mark 0 checkpoint 1 body -\n"
+    for sector, line, printed in ((10, b"append 7 1 -\n", b"appended 2\n"), (4, b"prepare 2\n", shown)):
+        after = script.run(data, b"append 6 1 -").data
+        # Before the header is written its sector is as it was.
+        image = script.state(data if sector == 10 else after, [script.Event("write", SECTOR * sector, A5)])
+        t.binary.put(image)
+        again = session(t, "the row of a torn append", image, line)
+        expect("the row of a torn append", printed, again.text)
 
 
 def example() -> None:
     """Bytes that are known: of the prepare of op 1 for client 5, of the superblock, and the sizes of files."""
-    unit = form.Prepare(HOME, bytes(16), 5, 1, 1, b"").encode()
-    expect("the body's checksum", "e3b0c44298fc1c149afbf4c8996fb924", unit[16:32].hex())
-    expect("the fields", "000100000100000002000100", unit[112:124].hex())
-    expect("the place", 32768, SMALL.place(1))
+    one = units.prepare(HOME, bytes(16), 5, 1, 1, b"", 0, 1)
+    listed = {16: "e3b0c44298fc1c149afbf4c8996fb924", 32: "07", 64: "05", 80: "0100000000000000", 88: "0100000000000000",
+              104: "0100000000000000", 112: "00010000", 116: "01000000", 120: "02000100"}
+    wanted = bytearray(form.HEADER)
+    for at, digits in listed.items():
+        wanted[at : at + len(digits) // 2] = bytes.fromhex(digits)
+    expect("the prepare of op 1", bytes(wanted[16:]), one.header[16:])
+    expect("the checksum of abc", "ba7816bf8f01cfea414140de5dae2223", form.check(b"abc").hex())
     copy = FIRST._replace(op=TOP).encode(3)
     expect("the number of a copy", "03000000" + "00" * 12, copy[16:32].hex())
     expect("the layout in a copy", ["00200000", "00400000"], [copy[40:44].hex(), copy[64:68].hex()])
     expect("an op", "0000000000000040", copy[80:88].hex())
     expect("equal copies have equal checksums", copy[:16], FIRST._replace(op=TOP).encode(0)[:16])
-    expect("sectors", [336, 2375808], [SMALL.sectors(), form.LARGE.sectors()])
+    expect("sectors", [336, 2375808, 30, 1046], [layout.sectors() for layout in (SMALL, form.LARGE, NARROW, MANY)])
     expect("trailers", [2192, 267272], [superblock.greatest_trailer(superblock.first(Home(layout, 1)))
                                         for layout in (SMALL, form.LARGE)])
-    expect("first sectors of rings", [6, 68], [layout.first() // SECTOR for layout in (SMALL, form.LARGE)])
-    expect("ends of rings", [70, 262212], [layout.end() // SECTOR for layout in (SMALL, form.LARGE)])
+    for zone, index, small, large in ((form.WAL_HEADERS, 16, 5, 5), (form.WAL_PREPARES, 9, 24, 68 + 256 * 9),
+                                      (form.CLIENT_REPLIES, 3, 76, 262212 + 256 * 3), (form.GRID, 1, 80, 278656)):
+        places = [layout.at(form.Place(zone, index)) // SECTOR for layout in (SMALL, form.LARGE)]
+        expect(f"first sectors of {zone} {index}", [small, large], places)
     expect("lines", 32832, SMALL.line_max())
+    torn_headers()
 
 
+def torn_headers() -> None:
+    """A stop within the write of header sector 5: the sixteen slots of it are mended, and what was appended is there."""
+    torn = struck(NEW, ops(16) + "append 1 17 -", (5, A5))
+    found = recovery.found(torn)
+    expect("what is mended", [f"WalHeaders {slot} Garbled" for slot in range(16, 32)],
+           [f"{place} {name}" for place, name in found.to_mend])
+    view = found.view
+    expect("sequence, head, replies, sessions", (1, 17, 16, 1), (view.sequence, view.head(), view.replies, len(view.sessions)))
+    mended = script.run(torn, b"")
+    expect("what is mended afterwards", ((), view), (recovery.found(mended.data).to_mend, recovery.view_of(mended.data)))
+    expect("mending", ["sync", "write", "sync"], [event.kind for event in mended.events])
+
+
+NARROW, MANY = form.Layout(16, 4096, 1, 4096, 8), form.Layout(16, 4096, 1, 4096, 1024)
 example()
 KINDS = {"rows": (rows, 3)}

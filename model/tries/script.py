@@ -1,44 +1,47 @@
-"""What words and a script do to a file, as docs/SCRIPT.md has it: words, lines, answers, events, refusals, statuses."""
+"""What words and a script do to a file, as docs/SCRIPT.md has it: words, lines, outcomes, statuses."""
 
 import re
-from typing import NamedTuple, Optional
+from functools import cached_property
+from typing import Optional
 
-from . import form, superblock
+from . import form, recovery, superblock, units
 from .form import COPIES, SECTOR, Home, Layout
+from .machine import SYNC, Event, Machine, answer, copy_of, mends
 
 BUDGET = 2**32
-APPEND = re.compile(rb"append ([1-9][0-9]*) ([1-9][0-9]*) (-|(?:[0-9a-fA-F]{2})+)")
+NUMBER_OF_LINE, BODY = rb"(0|[1-9][0-9]*)", rb"(-|(?:[0-9a-fA-F]{2})+)"
+# Each line's words, and how many bits each of its numbers has.
+LINES = {
+    "append": (re.compile(rb"append %s %s %s" % (NUMBER_OF_LINE, NUMBER_OF_LINE, BODY)), (128, 64)),
+    "reply": (re.compile(rb"reply %s %s" % (NUMBER_OF_LINE, BODY)), (64,)),
+    "prepare": (re.compile(rb"prepare %s" % NUMBER_OF_LINE), (64,)),
+    "lookup": (re.compile(rb"lookup %s" % NUMBER_OF_LINE), (128,)),
+}
 NUMBER = re.compile(r"0|[1-9][0-9]*", re.ASCII)
 USAGE = b"usage: format LAYOUT CLUSTER | run\n"
 DONE, WORDS, SCRIPT, REFUSED = 0, 2, 3, 4
 
 
-class Event(NamedTuple):
-    """One thing that the program does: a `sync`, a `write` to the file, or an `answer` on standard output."""
+class Outcome:
+    """What a list of words, perhaps with a script, came to over a file of these bytes, or over none."""
 
-    kind: str
-    at: int = 0
-    data: bytes = b""
-    # Whether it writes a prepare.
-    prepare: bool = False
+    def __init__(self, before: Optional[bytes], status: int, events: list, views=(), done=()):
+        self.before, self.status, self.events = before, status, events
+        self.text = answers(events)
+        # The view of the opening and that after each accepted line, and for each of these lines the number of events with
+        # which all that it writes is durable.
+        self.views, self.done = list(views), list(done)
 
+    @cached_property
+    def data(self) -> Optional[bytes]:
+        """The file at the end; None where there is still none."""
+        made = any(event.kind == "write" for event in self.events)
+        return state(self.before or b"", self.events) if made or self.before is not None else None
 
-SYNC = Event("sync")
-
-
-def answer(text: str) -> Event:
-    """One line on standard output."""
-    return Event("answer", data=text.encode() + b"\n")
-
-
-class Outcome(NamedTuple):
-    """What a list of words, perhaps with a script, came to. `data` is None where there is still no file."""
-
-    text: bytes
-    status: int
-    events: list
-    data: Optional[bytes]
-    accepted: list
+    def kept(self, upto: int) -> list:
+        """The views that a stop after the first `upto` events may leave: of all lines that are durable, or of one more."""
+        count = sum(done <= upto for done in self.done)
+        return self.views[count : count + 2]
 
 
 def number(word: str) -> Optional[int]:
@@ -78,44 +81,39 @@ def command(data: Optional[bytes], words: list, text: bytes = b"") -> Outcome:
     """`datafile FILE WORD..` over a file of these bytes, or none, where no call fails."""
     asked = meaning(words)
     if asked is None:
-        return Outcome(USAGE, WORDS, [Event("answer", data=USAGE)], data, [])
+        return Outcome(data, WORDS, [Event("answer", data=USAGE)])
     return run(data, text) if asked == ("run",) else make(data, asked[1])
 
 
 def refused(data: Optional[bytes], words: str, before: list) -> Outcome:
     """A refusal behind these events, which write nothing."""
-    events = before + [answer(f"refused {words}")]
-    return Outcome(answers(events), REFUSED, events, data, [])
-
-
-def copy_of(content: superblock.Content, copy: int) -> list:
-    """The events that write one copy."""
-    return [Event("write", SECTOR * copy, content.encode(copy)), SYNC]
+    return Outcome(data, REFUSED, before + [answer(f"refused {words}")])
 
 
 def make(data: Optional[bytes], home: Home) -> Outcome:
-    """The word `format`: the four copies of a first superblock, each with its sync."""
+    """The word `format`: reserved headers, a sync, then the four copies of a first superblock, each with its sync."""
     if home.cluster == 0:
         # The file isn't opened for this, and so isn't made.
         return refused(data, "ClusterZero", [])
-    data = data or b""
     for copy in range(COPIES):
-        if any(form.sector(data, copy)):
+        if any(form.sector(data or b"", copy)):
+            # A file that is there is opened for this.
             return refused(data, f"NotBlank copy {copy}", [])
-    events = [event for copy in range(COPIES) for event in copy_of(superblock.first(home), copy)]
+    events = [header_sector(home, first) for first in range(0, home.layout.slots, form.HEADERS)] + [SYNC]
+    events += [event for copy in range(COPIES) for event in copy_of(superblock.first(home), copy)]
     events.append(answer(f"formatted {home.layout.sectors()}"))
-    return Outcome(answers(events), DONE, events, state(data, events), [])
+    return Outcome(data, DONE, events)
+
+
+def header_sector(home: Home, first: int) -> Event:
+    """The write of a sector of reserved headers."""
+    headers = (units.reserved(home, slot) for slot in range(first, first + form.HEADERS))
+    return Event("write", home.layout.header_sector(first), b"".join(headers))
 
 
 def fresh(home: Home) -> bytes:
     """A new file."""
     return make(None, home).data
-
-
-def found(data: Optional[bytes]) -> list:
-    """The prepares of a file that opens; none of one that doesn't."""
-    opened = superblock.opened(data or b"")
-    return form.ring(data, opened.content.home()) if opened.refusal is None else []
 
 
 def lines(text: bytes) -> list:
@@ -126,22 +124,20 @@ def lines(text: bytes) -> list:
 
 
 def parse(line: bytes, layout: Layout) -> Optional[tuple]:
-    """Client, request and body of an append line."""
-    match = APPEND.fullmatch(line)
-    if match is None or len(line) > layout.line_max():
+    """The word, the numbers and the body of a line."""
+    if len(line) > layout.line_max():
         return None
-    if len(match[1]) > 39 or len(match[2]) > 19:
-        return None
-    client, request = int(match[1]), int(match[2])
-    body = b"" if match[3] == b"-" else bytes.fromhex(match[3].decode())
-    if client >= 2**128 or request > form.LIMIT or len(body) > layout.body_max():
-        return None
-    return client, request, body
-
-
-def full(layout: Layout) -> Event:
-    """The answer where each slot has its prepare."""
-    return answer(f"refused WalFull op {layout.slots + 1} checkpoint_op 0")
+    for word, (pattern, widths) in LINES.items():
+        match = pattern.fullmatch(line)
+        if match is None:
+            continue
+        # No number that means something has more than 39 digits.
+        numbers = [int(digits) if len(digits) <= 39 else 2**128 for digits in match.groups()[: len(widths)]]
+        if any(value >= 2**width for value, width in zip(numbers, widths)):
+            return None
+        bodies = match.groups()[len(widths) :]
+        return word, *numbers, *(b"" if body == b"-" else bytes.fromhex(body.decode()) for body in bodies)
+    return None
 
 
 def apply(data: bytes, event: Event) -> bytes:
@@ -160,36 +156,37 @@ def state(data: bytes, events: list) -> bytes:
 
 
 def run(data: Optional[bytes], text: bytes) -> Outcome:
-    """The word `run`: the copies are read, the barrier, repairs, then the ring is read and the script executed."""
+    """The word `run`: the copies are read, the barrier, the file is found and mended, then the script is executed."""
     data = data or b""
-    opened = superblock.opened(data)
+    opened = recovery.found(data)
     if opened.refusal:
         return refused(data, opened.refusal, [] if opened.early else [SYNC])
-    events = [SYNC] + [event for copy in opened.repairs for event in copy_of(opened.content, copy)]
-    done, accepted, status = execute(form.ring(data, opened.content.home()), opened.content.home(), text)
-    events += done
-    return Outcome(answers(events), status, events, state(data, events), accepted)
+    return execute(data, [SYNC] + mends(opened), Machine(opened), text)
 
 
-def execute(ring: list, home: Home, text: bytes) -> tuple:
-    """The events of a script behind a ring, the prepares that it appends, and the status."""
-    head, parent = len(ring), ring[-1].checksum() if ring else bytes(16)
-    events, accepted, taken = [], [], 0
+def execute(data: bytes, events: list, machine: Machine, text: bytes) -> Outcome:
+    """A script behind the events of an open."""
+    views, done, taken = [machine.view()], [], 0
     for index, (line, ended) in enumerate(lines(text), 1):
         taken += len(line) + ended
-        request = parse(line, home.layout) if taken <= BUDGET else None
-        if request is None:
-            return events + [answer(f"script {index}")], accepted, SCRIPT
-        if head == home.layout.slots:
-            events.append(full(home.layout))
-            continue
-        head += 1
-        prepare = form.Prepare(home, parent, request[0], head, *request[1:])
-        parent = prepare.checksum()
-        accepted.append(prepare)
-        unit = form.whole_sectors(prepare.encode())
-        events += [Event("write", home.layout.place(head), unit, True), SYNC, answer(f"appended {head}")]
-    return events, accepted, DONE
+        parsed = parse(line, machine.layout) if taken <= BUDGET else None
+        if parsed is None:
+            return Outcome(data, SCRIPT, events + [answer(f"script {index}")], views, done)
+        more = machine.line(parsed)
+        events = events + more
+        if len(more) > 1:
+            views.append(machine.view())
+            done.append(len(events) - 1)
+    return Outcome(data, DONE, events, views, done)
+
+
+def partly(events: list, upto: int, printed: bytes) -> bool:
+    """Whether the first `upto` events print this, or this with a part of the next answer behind it."""
+    whole = answers(events[:upto])
+    following = next(iter(events[upto:]), SYNC)
+    return printed.startswith(whole) and following.data.startswith(printed[len(whole) :]) and (
+        printed == whole or following.kind == "answer"
+    )
 
 
 def answers(events: list) -> bytes:

@@ -3,7 +3,7 @@
 import select
 import time
 
-from . import generate, script
+from . import damage, generate, script
 from .binary import expect, require
 from .common import Try, same_bytes, session
 
@@ -15,14 +15,16 @@ def sessions(t: Try) -> None:
     t.binary.put(data)
     for number in range(t.random.randint(1, 5)):
         made = generate.any_script if t.random.random() < 0.6 else generate.good_script
-        data = session(t, f"session {number + 1}", data, made(t.random, home.layout)).data
+        data = session(t, f"session {number + 1}", data, made(t.random, data)).data
 
 
 def one_line(t: Try) -> None:
     """A good line, then a bad or odd one, then a good one."""
     home = generate.home(t.random)
-    bad = (generate.odd if t.random.random() < 0.7 else generate.mutated)(t.random, home.layout)
-    listed = [generate.good(t.random, home.layout)] * t.random.randint(0, 2) + [bad, b"append 9 9 -"]
+    m = generate.machine_of(script.fresh(home))
+    listed = generate.script_of(t.random, m, t.random.randint(0, 3), 0)
+    bad = generate.odd(t.random, home.layout) if t.random.random() < 0.7 else generate.mutated(t.random, m)
+    listed += [bad, b"append 9 1 -"]
     t.binary.put(script.fresh(home))
     session(t, "one odd line", script.fresh(home), generate.text_of(t.random, listed))
 
@@ -32,7 +34,7 @@ def pieces(t: Try) -> None:
     home = generate.home(t.random)
     data = generate.image(t.random, 20, home)
     t.binary.put(data)
-    text = generate.any_script(t.random, home.layout)
+    text = generate.any_script(t.random, data)
     wanted = script.run(data, text)
     process = t.binary.start()
     try:
@@ -62,18 +64,17 @@ def feed(t: Try, process, text: bytes) -> None:
 
 
 def answers_in_time(t: Try) -> None:
-    """Each answer comes when its line is there, while the input stays open; and the prepare is in the file then."""
+    """Each answer comes when its line is there, while the input stays open; and what it wrote is in the file then."""
     home = generate.home(t.random)
     data = script.fresh(home)
     t.binary.put(data)
     process = t.binary.start()
     try:
         for number in range(t.random.randint(1, min(34, 2 + 2**21 // home.layout.message_size))):
-            line = generate.good(t.random, home.layout) + b"\n"
+            line = generate.script_of(t.random, generate.machine_of(data), 1, 0.15)[0] + b"\n"
             wanted = script.run(data, line)
             process.stdin.write(line)
-            require("an answer comes while the input is open", bool(select.select([process.stdout], [], [], 60)[0]))
-            expect(f"answer {number + 1}", wanted.text, process.stdout.read(4096))
+            expect(f"answer {number + 1}", wanted.text, awaited(process, wanted.text))
             data = wanted.data
             same_bytes("at the answer", data, t.binary.get())
         process.stdin.close()
@@ -85,12 +86,58 @@ def answers_in_time(t: Try) -> None:
     t.counts["sessions with each answer awaited"] += 1
 
 
+def awaited(process, wanted: bytes) -> bytes:
+    """A process's output, awaited while its input is open; as long as it is what is wanted."""
+    text = b""
+    while len(text) < len(wanted) and wanted.startswith(text):
+        require("an answer comes while the input is open", bool(select.select([process.stdout], [], [], 60)[0]))
+        piece = process.stdout.read(65536)
+        if not piece:
+            break
+        text += piece
+    return text
+
+
+def struck_within(t: Try) -> None:
+    """Slots are struck between two lines of one session: what is read is the unit that was written, or it is damaged."""
+    home = generate.home(t.random)
+    data = generate.image(t.random, 20, home, 0)
+    t.binary.put(data)
+    process = t.binary.start()
+    m = generate.machine_of(data)
+    try:
+        # The first answer shows that the file has been read.
+        process.stdin.write(b"prepare 0\n")
+        first = script.answers(m.line(("prepare", 0)))
+        expect("the first answer", first, awaited(process, first))
+        for number in range(t.random.randint(2, 12)):
+            line = generate.line_of(t.random, m, 0.05) if number % 2 else generate.reading(t.random, m)
+            parsed = script.parse(line, home.layout)
+            if parsed[0] in ("prepare", "lookup"):
+                data = bytearray(data)
+                damage.strike(t, data, home.layout, True)
+                t.binary.overwrite(bytes(data))
+            events = m.line((*parsed, data)) if parsed[0] in ("prepare", "lookup") else m.line(parsed)
+            process.stdin.write(line + b"\n")
+            text = script.answers(events)
+            expect(f"answer {number + 1} to {line[:60]!r}", text, awaited(process, text))
+            data = script.state(bytes(data), events)
+            same_bytes("at the answer", data, t.binary.get())
+            t.counts["slots struck within a session" if text.startswith(b"refused Damaged") else "reads within a session"] += 1
+        process.stdin.close()
+        process.stdin = None
+        expect("the end of the input: status", 0, process.wait(60))
+    finally:
+        process.kill()
+        process.communicate()
+
+
 def long_line(t: Try) -> None:
     """A line at its layout's bound, while the input stays open: one byte more ends the run."""
     home = generate.home(t.random)
     t.binary.put(script.fresh(home))
     more = t.random.randint(0, 2)
-    first = b"append 3 4 05\n" * t.random.randint(0, 2)
+    first = b"append 3 1 05\n" * t.random.randint(0, 2)
     start = t.random.choice((b"append 1 1 ", b"", b"append "))
     line = start + bytes([t.random.choice((0x30, 0x20, 0x61, 0, 0xFF, 0x0D))]) * (home.layout.line_max() - len(start))
     process = t.binary.start()
@@ -113,4 +160,4 @@ def long_line(t: Try) -> None:
 
 
 KINDS = {"sessions": (sessions, 10), "one_line": (one_line, 8), "pieces": (pieces, 4),
-         "answers_in_time": (answers_in_time, 2), "long_line": (long_line, 2)}
+         "answers_in_time": (answers_in_time, 2), "struck_within": (struck_within, 3), "long_line": (long_line, 2)}

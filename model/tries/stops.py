@@ -3,27 +3,27 @@
 import os
 import signal
 import time
-from typing import Optional
 
-from . import copies, form, generate, script, superblock
+from . import copies, form, generate, recovery, script
 from .binary import expect, require
-from .common import Try, named, reopen, same_bytes, session
+from .common import Try, keeps, named, reopen, same_bytes, session
 from .form import SECTOR
-from .plan import Plan, events_before
+from .plan import Plan, before
 
 HALF = SECTOR // 2
 
 
 def torn(t: Try, old: bytes, new: bytes) -> bytes:
     """What one written sector may hold after a stop before its sync."""
-    at = t.random.choice((16, 32, 512, t.random.randrange(SECTOR)))
+    piece = t.random.randrange(512, SECTOR, 512)
+    at = t.random.choice((16, 32, 256, piece, piece, piece, t.random.randrange(SECTOR)))
     choices = (
         ("as written", new), ("as before", old), ("filled with A5", b"\xa5" * SECTOR),
         ("first half new", new[:HALF] + old[HALF:]), ("second half new", old[:HALF] + new[HALF:]),
         ("zeros", bytes(SECTOR)), ("random", t.random.randbytes(SECTOR)),
         ("new up to a byte", new[:at] + old[at:]), ("new from a byte on", old[:at] + new[at:]),
     )
-    name, sector = choices[t.random.choice((0, 0, 0, 1, 1, 2, 3, 3, 4, 4, 5, 6, 7, 8))]
+    name, sector = choices[t.random.choice((0, 0, 0, 1, 1, 2, 2, 3, 4, 5, 6, 7, 7, 7, 8, 8, 8))]
     t.counts[f"sectors left {name}"] += 1
     return sector
 
@@ -38,66 +38,56 @@ def left(t: Try, before: bytes, write: script.Event) -> bytes:
 
 
 def stop(t: Try, data: bytes, events: list, upto: int) -> bytes:
-    """The file that a stop after the first `upto` events leaves."""
-    if upto and events[upto - 1].kind == "write":
-        return left(t, script.state(data, events[: upto - 1]), events[upto - 1])
-    return script.state(data, events[:upto])
+    """The file that a stop after the first `upto` events leaves: all that was written since the last sync is loose."""
+    synced = max((at for at, event in enumerate(events[:upto], 1) if event.kind == "sync"), default=0)
+    image = script.state(data, events[:synced])
+    for event in events[synced:upto]:
+        image = left(t, image, event) if event.kind == "write" else image
+    return image
 
 
 class Kept:
-    """What is kept over a chain of stops of one file: the superblock that was chosen, the appends that were answered or
-    found, and all that were ever accepted."""
+    """What is kept over a chain of stops of one file: the views that it may have now."""
 
     def __init__(self, data: bytes):
-        self.content = superblock.opened(data).content
-        self.answered: list = script.found(data)
-        self.accepted: set = set(self.answered)
+        self.views = [recovery.view_of(data)]
 
     def takes(self, wanted: script.Outcome, upto: int) -> None:
         """A run goes on from here up to an event."""
-        self.accepted |= set(wanted.accepted)
-        self.answered = self.answered + wanted.accepted[: synced(wanted.events[:upto])]
+        expect("a run opens what was kept", True, wanted.views[0] in self.views)
+        self.views = wanted.kept(upto)
 
     def after(self, t: Try, data: bytes) -> None:
-        """The file of a stop has the same superblock, holds each answered append, and at most one more, which was accepted."""
-        expect("the superblock after a stop", self.content, superblock.opened(data).content)
-        found = script.found(data)
-        require("an answered append is lost by a stop", found[: len(self.answered)] == self.answered)
-        require("more than one unanswered append is there", len(found) <= len(self.answered) + 1)
-        require("an append is there that was never accepted", set(found) <= self.accepted)
-        more = len(found) > len(self.answered)
+        """The file of a stop holds each answered line, and at most the one after it."""
+        keeps("after a stop", self.views, data)
+        more = len(self.views) > 1 and recovery.view_of(data) == self.views[1]
         t.counts["stops that kept one more" if more else "stops that kept the answered ones"] += 1
-        self.answered = found
+        self.views = [recovery.view_of(data)]
 
 
-def script_for(t: Try, data: bytes, layout: form.Layout) -> bytes:
-    """Lines for the next session; the first sometimes repeats one that is there, so that its bytes are old ones."""
-    listed = [generate.good(t.random, layout) for _ in range(t.random.choice((1, 1, 2, 3, 6)))]
-    found = script.found(data)
-    if found and t.random.random() < 0.3:
-        same = t.random.choice(found)
-        listed[0] = b"append %d %d %s" % (same.client, same.request, same.body.hex().encode() or b"-")
-    return generate.text_of(t.random, listed)
+def script_for(t: Try, data: bytes) -> bytes:
+    """Lines for the next session; the first sometimes repeats one that a stop undid, so that its bytes are old ones."""
+    m = generate.machine_of(data)
+    return generate.text_of(t.random, generate.script_of(t.random, m, t.random.choice((1, 1, 2, 3, 6, 12)), 0.03))
 
 
 def chain(t: Try) -> None:
     """Several stops in a row, with copies hurt before some runs: each file is opened, and is what the model says."""
     home = generate.home(t.random)
     data = script.fresh(home)
-    kept = Kept(data)
-    repeated = generate.good(t.random, home.layout) + b"\n"
+    kept, text = Kept(data), b""
     for number in range(t.random.randint(2, 7)):
         if t.random.random() < 0.3:
             data = copies.hurt(t.random, data)
-        text = repeated if t.random.random() < 0.3 else script_for(t, data, home.layout)
+        # The same lines again write what may stand there already.
+        text = text if t.random.random() < 0.3 else script_for(t, data)
         wanted = script.run(data, text)
         upto = moment(t, wanted.events)
         kept.takes(wanted, upto)
         data = stop(t, data, wanted.events, upto)
         kept.after(t, data)
         t.binary.put(data)
-        text = t.random.choice((b"", b"append 8 9 -\n", repeated))
-        more = session(t, f"the open after stop {number + 1}", data, text)
+        more = session(t, f"the open after stop {number + 1}", data, t.random.choice((b"", text, script_for(t, data))))
         kept.takes(more, len(more.events))
         data = more.data
     t.counts["chains of stops"] += 1
@@ -109,46 +99,55 @@ def moment(t: Try, events: list) -> int:
     return t.random.choice(writes) if writes and t.random.random() < 0.7 else t.random.randint(0, len(events))
 
 
-def synced(events: list) -> int:
-    """How many prepares of these events have their sync behind them."""
-    return sum(one.prepare and two.kind == "sync" for one, two in zip(events, events[1:]))
-
-
 def every_prefix(t: Try) -> None:
-    """The file after each prefix of the events of one session, repairs among them."""
+    """The file after each prefix of the events of one session, mending among them."""
     home = generate.home(t.random)
     data = generate.image(t.random, 28, home, 0.5)
-    wanted = script.run(data, script_for(t, data, home.layout))
+    if t.random.random() < 0.3:
+        data = headers_hurt(t, data, home.layout)
+    wanted = script.run(data, script_for(t, data))
     for upto in range(len(wanted.events) + 1):
         kept = Kept(data)
         kept.takes(wanted, upto)
         image = stop(t, data, wanted.events, upto)
         kept.after(t, image)
         t.binary.put(image)
-        reopen(t, f"after {upto} events", kept.answered, image)
+        reopen(t, f"after {upto} events", kept.views, image)
     t.counts["sessions stopped after each event"] += 1
 
 
-def repair_stopped(t: Try) -> None:
-    """Stops within repairs one after another, the next run being stopped too: the superblock stays what it was."""
+def headers_hurt(t: Try, data: bytes, layout: form.Layout) -> bytes:
+    """The file with some sectors of its ring of headers hurt."""
+    for slot in t.random.sample(range(0, layout.slots, form.HEADERS), t.random.choice((1, 1, min(2, layout.slots // 16)))):
+        at = layout.header_sector(slot)
+        event = script.Event("write", at, t.random.choice((b"\xa5" * SECTOR, bytes(SECTOR), t.random.randbytes(SECTOR))))
+        data = left(t, data, event)
+    return data
+
+
+def mending_stopped(t: Try) -> None:
+    """Stops within mending one after another, the next run being stopped too: the view stays what it was."""
     home = generate.home(t.random)
-    data = copies.hurt(t.random, generate.image(t.random, 3, home, 0))
+    data = headers_hurt(t, copies.hurt(t.random, generate.image(t.random, 8, home, 0)), home.layout)
     kept = Kept(data)
     for number in range(t.random.randint(1, 6)):
         if t.random.random() < 0.3:
             data = copies.hurt(t.random, data)
+        if t.random.random() < 0.3:
+            data = headers_hurt(t, data, home.layout)
         wanted = script.run(data, b"")
         upto = moment(t, wanted.events)
+        kept.takes(wanted, upto)
         data = stop(t, data, wanted.events, upto)
         kept.after(t, data)
-        repairs = sum(event.kind == "write" for event in wanted.events)
-        t.counts[f"stops in an open with {repairs} repairs"] += 1
+        writes = sum(event.kind == "write" for event in wanted.events)
+        t.counts[f"stops in an open that mends {min(writes, 6)} sectors{' or more' * (writes >= 6)}"] += 1
         if t.random.random() < 0.3:
             t.binary.put(data)
-            data = session(t, f"the open after stop {number + 1} of repairs", data, b"").data
+            data = session(t, f"the open after stop {number + 1} of mending", data, b"").data
     t.binary.put(data)
-    reopen(t, "after stopped repairs", kept.answered, data)
-    t.counts["chains of stopped repairs"] += 1
+    reopen(t, "after stopped mendings", kept.views, data)
+    t.counts["chains of stopped mendings"] += 1
 
 
 def killed(t: Try) -> None:
@@ -161,24 +160,20 @@ def killed(t: Try) -> None:
         return
     place = t.random.choice(places)
     got = plan.again(t, [f"{name}:signal=SIGKILL:when={place.number}"])
-    upto = events_before(plan, place)
+    upto, printed = before(plan, place)
     what = f"{plan.words[0]} killed at {name} {place.number}"
     expect(f"{what}: status", -signal.SIGKILL, got.status)
-    expect(f"{what}: text", script.answers(plan.wanted.events[:upto]), got.text)
+    expect(f"{what}: text", printed, got.text)
     same_bytes(what, script.state(plan.data or b"", plan.wanted.events[:upto]), t.binary.get() or b"")
     after_kill(t, plan.data or b"", plan.wanted, upto)
     t.counts[f"kills of {plan.words[0]} at {name}"] += 1
 
 
 def after_kill(t: Try, data: bytes, wanted: script.Outcome, upto: int) -> None:
-    """Tears the last write where it wasn't synced, and opens the file."""
-    kept: Optional[Kept] = None if superblock.opened(data).refusal else Kept(data)
+    """Tears what wasn't synced, and opens the file."""
     image = stop(t, data, wanted.events, upto)
-    if kept:
-        kept.takes(wanted, upto)
-        kept.after(t, image)
     t.binary.put(image)
-    reopen(t, "after a kill", kept.answered if kept else [], image)
+    reopen(t, "after a kill", wanted.kept(upto), image)
 
 
 def killed_any_time(t: Try) -> None:
@@ -186,7 +181,8 @@ def killed_any_time(t: Try) -> None:
     home = generate.home(t.random)
     data = generate.image(t.random, 16, home, 0.5)
     t.binary.put(data)
-    text = b"".join(generate.good(t.random, home.layout) + b"\n" for _ in range(16))
+    listed = generate.script_of(t.random, generate.machine_of(data), 16, 0.03)
+    text = b"".join(line + b"\n" for line in listed)
     wanted = script.run(data, text)
     process = t.binary.start()
     try:
@@ -201,7 +197,8 @@ def killed_any_time(t: Try) -> None:
     file = t.binary.get()
     places = [at for at in range(len(wanted.events) + 1) if script.state(data, wanted.events[:at]) == file]
     require("a killed run leaves the file of a prefix of the events", bool(places))
-    places = [at for at in places if script.answers(wanted.events[:at]) == printed]
+    # An answer may be printed in pieces, so that a part of it is there.
+    places = [at for at in places if script.partly(wanted.events, at, printed)]
     require("a killed run has printed what the file's events answer", bool(places))
     # The least of them: the last write may not have been synced.
     after_kill(t, data, wanted, places[0])
@@ -209,6 +206,6 @@ def killed_any_time(t: Try) -> None:
 
 
 KINDS = {
-    "chain": (chain, 10), "every_prefix": (every_prefix, 4), "repair_stopped": (repair_stopped, 6), "killed": (killed, 6),
+    "chain": (chain, 10), "every_prefix": (every_prefix, 4), "mending_stopped": (mending_stopped, 6), "killed": (killed, 6),
     "killed_any_time": (killed_any_time, 2),
 }

@@ -16,7 +16,7 @@ def streams(t: Try) -> None:
     """Standard streams that are closed, full, of the wrong direction or a directory."""
     data = generate.image(t.random, 20, hurt=0.5) if t.random.random() < 0.9 else b""
     t.binary.put(data)
-    text = generate.any_script(t.random, generate.home_of(data).layout)
+    text = generate.any_script(t.random, data)
     what = t.random.choice(("closed input", "directory input", "unreadable input", "closed output", "full output",
                             "unwritable output", "broken output", "all closed"))
     if what == "directory input" and t.binary.interpreted:
@@ -37,7 +37,7 @@ def streams(t: Try) -> None:
         expect(f"{what}: status", 0 if first is None else WRITE, got.status)
         data = state(data, wanted.events[:first])
     same_bytes(what, data, t.binary.get())
-    reopen(t, what, script.found(data), data)
+    reopen(t, what, [], data)
     t.counts[f"streams: {what}"] += 1
 
 
@@ -100,7 +100,7 @@ def stand_ins(t: Try) -> None:
     closed = t.random.sample((0, 1, 2), t.random.choice((0, 1, 1, 1, 2, 3)))
     words = t.random.choice((["run"], ["run"], ["format", "small", "7"]))
     data = file_for(t, words, 8)
-    text = generate.good_script(t.random, generate.home_of(data).layout)
+    text = generate.good_script(t.random, data)
     t.binary.put(data)
     if t.random.random() < 0.5:
         what, sure = "the root folder is denied", not closed

@@ -5,6 +5,7 @@ from typing import Iterator, NamedTuple, Optional, Union
 
 from . import form
 from .form import COPIES, LIMIT, SECTOR, Home, Layout, check, number
+from .units import BLANK, GARBLED, STALE
 
 # checksum, number, zero, then the content: version, slots, message_size, clients, cluster, block_size, blocks,
 # sequence, op, head, replies, trailer_address, op_checksum, trailer_checksum, trailer_size, boot, zero
@@ -13,7 +14,6 @@ CONTENT = struct.Struct("<IIII16sIIQQQQQ16s16sQQ3936s")
 ZERO = 160
 assert FRONT.size == 32 and FRONT.size + CONTENT.size == SECTOR
 # A copy that doesn't count has the text of its class in place of its content.
-BLANK, GARBLED, STALE = "Blank", "Garbled", "Stale"
 
 
 class Content(NamedTuple):
@@ -121,13 +121,6 @@ def fault(c: Content) -> Optional[str]:
     return next((f"BadField {field} {value}" for field, value, fails in tests(c) if fails), None)
 
 
-def beyond_first(c: Content) -> Optional[str]:
-    """Why a lawful content is refused that isn't a first one, since nothing has moved it on today."""
-    wanted = (("Sequence", c.sequence, 1), ("Op", c.op, 0), ("Head", c.head, 0), ("Replies", c.replies, 0),
-              ("TrailerAddress", c.trailer_address, 0))
-    return next((f"BadField {field} {value}" for field, value, only in wanted if value != only), None)
-
-
 class Opened(NamedTuple):
     """What an open finds in the copies."""
 
@@ -135,8 +128,12 @@ class Opened(NamedTuple):
     # The refusal's words, and whether it comes before the barrier.
     refusal: Optional[str]
     early: bool
-    # The numbers of the copies that are written anew.
-    repairs: list
+    # The numbers of the copies that have the chosen content.
+    members: list
+
+    def repairs(self) -> list:
+        """The numbers of the copies that are written anew."""
+        return [place for place in range(COPIES) if place not in self.members]
 
 
 def opened(data: bytes) -> Opened:
@@ -148,8 +145,9 @@ def opened(data: bytes) -> Opened:
     if content is None:
         classes = (STALE if isinstance(copy, Content) else copy for copy in copies)
         return Opened(None, "NoQuorum " + " ".join(classes), True, [])
+    members = [place for place, copy in enumerate(copies) if copy == content]
     if fault(content):
-        return Opened(content, fault(content), True, [])
-    if beyond_first(content):
-        return Opened(content, beyond_first(content), False, [])
-    return Opened(content, None, False, [place for place, copy in enumerate(copies) if copy != content])
+        return Opened(content, fault(content), True, members)
+    # A superblock that names a trailer isn't read yet. That is found behind the barrier.
+    later = f"BadField TrailerAddress {content.trailer_address}" if content.trailer_address else None
+    return Opened(content, later, False, members)

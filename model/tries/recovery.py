@@ -1,0 +1,221 @@
+"""What an open finds in a file: the slots of both rings, the tail, the replies, what is mended, and its refusals in order.
+
+The rules are methods of `Rules`, so that `imitation.py` can have one of them wrong.
+"""
+
+from typing import NamedTuple, Optional, Union
+
+from . import form, superblock, units
+from .form import CLIENT_REPLIES, SUPERBLOCK, WAL_HEADERS, WAL_PREPARES, Home, Place
+from .units import STALE, Unit
+
+# How many prepares may wait for their replies.
+PIPELINE = 8
+
+
+class Session(NamedTuple):
+    """A client's last request, and the op that it has."""
+
+    client: int
+    request: int
+    op: int
+
+
+class View(NamedTuple):
+    """The state that a file stands for. There is no checkpoint yet, so the tail has every prepare from op 1 on."""
+
+    home: Home
+    sequence: int
+    tail: tuple
+    replies: int
+    sessions: tuple
+    # The stored reply of each session that has one, by its place.
+    stored: tuple
+
+    def head(self) -> int:
+        return len(self.tail)
+
+
+class Rings(NamedTuple):
+    """What every slot of both rings and every reply slot shows: a unit, or a class."""
+
+    headers: list
+    prepares: list
+    replies: list
+
+    def all(self) -> list:
+        """The valid units."""
+        return [one for one in self.headers + self.prepares + self.replies if isinstance(one, Unit)]
+
+    def logged(self) -> list:
+        """The valid units of the two rings."""
+        return [one for one in self.headers + self.prepares if isinstance(one, Unit)]
+
+
+class Found(NamedTuple):
+    """What an open finds: why it refuses, or the view, the table of headers after mending, and what is mended."""
+
+    refusal: Optional[str]
+    # Whether it refuses before the barrier.
+    early: bool = False
+    content: Optional[superblock.Content] = None
+    view: Optional[View] = None
+    # The 256 bytes of each header slot.
+    table: tuple = ()
+    # The places that are mended, copies first, each with the class of what stands there.
+    to_mend: tuple = ()
+
+
+def rings_of(data: bytes, home: Home) -> Rings:
+    """What a file shows."""
+    def every(zone: str, count: int) -> list:
+        return [units.shown(data, home, Place(zone, index)) for index in range(count)]
+    layout = home.layout
+    return Rings(every(WAL_HEADERS, layout.slots), every(WAL_PREPARES, layout.slots), every(CLIENT_REPLIES, layout.clients))
+
+
+def op_of(slot: int, content: superblock.Content) -> int:
+    """The one op above the checkpoint's, and at most so many above it as there are slots, that belongs to a slot."""
+    return content.op + 1 + (slot - content.op - 1) % content.slots
+
+
+def seen(what: Union[Unit, str], op: int) -> str:
+    """What a ring shows of a slot's op. A reserved header has op 0."""
+    if isinstance(what, str):
+        return "Nothing"
+    return "Now" if what.op == op else "Old" if what.op < op else "Far"
+
+
+class Rules:
+    """The rules of an open."""
+
+    def decision(self, header: Union[Unit, str], prepare: Union[Unit, str], op: int) -> str:
+        """What is decided of a slot: `Behind`, `Lost`, `Take` or `Empty`, with `mend` behind it where its header is mended."""
+        h, p = seen(header, op), seen(prepare, op)
+        if "Far" in (h, p):
+            return "Behind"
+        if h == "Now":
+            return "Take" if p == "Now" and prepare.checksum == header.checksum else "Lost"
+        if p == "Now":
+            return "Take mend"
+        return "Empty" if h == "Old" else "Empty mend"
+
+    def fits(self, one: Unit, before: list, sessions: list, content: superblock.Content) -> bool:
+        """Whether a prepare fits those before it in the tail."""
+        parent = before[-1].checksum if before else content.op_checksum
+        least = max(before[-1].mark if before else 0, one.op - PIPELINE if one.op > PIPELINE else 0)
+        if one.parent != parent or not least <= one.mark < one.op:
+            return False
+        return self.follows(one, sessions, content)
+
+    def follows(self, one: Unit, sessions: list, content: superblock.Content) -> bool:
+        """Whether a prepare's client may make this request."""
+        session = next((session for session in sessions if session.client == one.client), None)
+        if session is None:
+            return one.request == 1 and len(sessions) < content.clients
+        return one.request == session.request + 1 and session.op <= one.mark
+
+    def behind(self, rings: Rings, content: superblock.Content) -> bool:
+        """Whether the file had a later superblock than the chosen one."""
+        later = any(one.fields()["checkpoint"] > content.sequence for one in rings.all())
+        return later or any(one.op > content.op + content.slots for one in rings.logged())
+
+    def lost(self, rings: Rings, content: superblock.Content, head: int) -> bool:
+        """Whether something is seen that the tail doesn't reach."""
+        tops = [one.op for one in rings.logged()] + [content.head]
+        for one in rings.replies:
+            tops += [one.op, one.mark] if isinstance(one, Unit) else []
+        return max(tops) > head
+
+    def replies(self, rings: Rings, content: superblock.Content, tail: list) -> int:
+        """How many replies are stored."""
+        shown = [one.op for one in rings.replies if isinstance(one, Unit)]
+        return max([content.replies, tail[-1].mark if tail else 0, *shown])
+
+    def missing(self, rings: Rings, sessions: list, replies: int) -> Optional[tuple]:
+        """The least place whose session has a stored reply that its slot doesn't show, with the class."""
+        for place, session in enumerate(sessions):
+            one = rings.replies[place]
+            if session.op <= replies and (isinstance(one, str) or Session(one.client, one.request, one.op) != session):
+                return place, units.class_of(one)
+        return None
+
+    def tail(self, rings: Rings, content: superblock.Content) -> tuple:
+        """The tail, and the sessions after it."""
+        tail, sessions = [], []
+        for op in range(content.op + 1, content.op + content.slots + 1):
+            slot = op % content.slots
+            one = rings.prepares[slot]
+            if not self.decision(rings.headers[slot], one, op).startswith("Take"):
+                break
+            if not self.fits(one, tail, sessions, content):
+                break
+            tail.append(one)
+            sessions = after(sessions, one)
+        return tail, sessions
+
+    def mended(self, rings: Rings, home: Home, content: superblock.Content, members: list) -> tuple:
+        """The headers' table after mending, and what is mended."""
+        to_mend = [(Place(SUPERBLOCK, copy), None) for copy in range(form.COPIES) if copy not in members]
+        table = []
+        for slot in range(content.slots):
+            header, one = rings.headers[slot], rings.prepares[slot]
+            what = self.decision(header, one, op_of(slot, content))
+            if what.endswith("mend"):
+                to_mend.append((Place(WAL_HEADERS, slot), units.class_of(header)))
+            if what.startswith("Take"):
+                table.append(one.header)
+            else:
+                table.append(units.reserved(home, slot) if what.endswith("mend") else header.header)
+        return tuple(table), to_mend
+
+
+def after(sessions: list, one: Unit) -> list:
+    """The sessions after a prepare: a known client's is replaced, a new client's goes last."""
+    new = Session(one.client, one.request, one.op)
+    if any(session.client == one.client for session in sessions):
+        return [new if session.client == one.client else session for session in sessions]
+    return sessions + [new]
+
+
+def found(data: Optional[bytes], rules: Rules = Rules()) -> Found:
+    """What an open finds in a file."""
+    opened = superblock.opened(data or b"")
+    if opened.refusal:
+        return Found(opened.refusal, opened.early, opened.content)
+    return found_in(rings_of(data, opened.content.home()), opened, copy_classes(data), rules)
+
+
+def copy_classes(data: bytes) -> list:
+    """The class of each copy, were it not the one wanted."""
+    copies = superblock.all_seen(data)
+    return [copy if isinstance(copy, str) else STALE for copy in copies]
+
+
+def found_in(rings: Rings, opened: superblock.Opened, classes: list, rules: Rules) -> Found:
+    """What an open finds in the slots, once the superblock has been chosen."""
+    content = opened.content
+    home = content.home()
+    if rules.behind(rings, content):
+        return Found(f"Damaged Superblock {opened.members[0]} Stale", False, content)
+    tail, sessions = rules.tail(rings, content)
+    head = content.op + len(tail)
+    if rules.lost(rings, content, head):
+        slot = (head + 1) % content.slots
+        # A prepare with the wanted op that isn't taken or doesn't fit is stale too.
+        return Found(f"Damaged WalPrepares {slot} {units.class_of(rings.prepares[slot])}", False, content)
+    replies = rules.replies(rings, content, tail)
+    missing = rules.missing(rings, sessions, replies)
+    if missing:
+        return Found(f"Damaged ClientReplies {missing[0]} {missing[1]}", False, content)
+    stored = tuple((place, rings.replies[place]) for place, session in enumerate(sessions) if session.op <= replies)
+    view = View(home, content.sequence, tuple(tail), replies, tuple(sessions), stored)
+    table, to_mend = rules.mended(rings, home, content, opened.members)
+    to_mend = [(place, classes[place.index] if place.zone == SUPERBLOCK else name) for place, name in to_mend]
+    return Found(None, False, content, view, table, tuple(to_mend))
+
+
+def view_of(data: Optional[bytes]) -> Optional[View]:
+    """The view of a file that opens."""
+    return found(data).view
+

@@ -1,0 +1,186 @@
+"""Headers and units as docs/FORMAT.md has them: what decodes, where a unit belongs, what a place shows, and the classes."""
+
+import struct
+from functools import lru_cache
+from typing import NamedTuple, Optional, Union
+
+from .form import (
+    CLIENT_REPLIES, GRID, HEADER, LIMIT, WAL_HEADERS, WAL_PREPARES, Home, Layout, Place, check, number, part,
+)
+
+# checksum, checksum_body, cluster, parent, client, op, request, mark, checkpoint, size, slot, kind, block kind,
+# version, boot, zero
+FIELDS = struct.Struct("<16s16s16s16s16sQQQQIIBBHQ124s")
+NAMES = (
+    "checksum checksum_body cluster parent client op request mark checkpoint size slot kind block_kind version boot zero"
+).split()
+NOTHING = dict(zip(NAMES, FIELDS.unpack(bytes(HEADER))))
+assert FIELDS.size == HEADER
+RESERVED, PREPARE, REPLY, BLOCK, TRAILER = 1, 2, 3, 4, 5
+EVERY = {"checksum", "checksum_body", "cluster", "size", "kind", "version"}
+# The fields that each kind has beside those that every kind has. All others are zero.
+NAMED = {
+    RESERVED: {"slot"},
+    PREPARE: {"parent", "client", "op", "request", "mark", "checkpoint", "slot"},
+    REPLY: {"parent", "client", "op", "request", "mark", "checkpoint", "slot"},
+    BLOCK: {"op", "block_kind"},
+    TRAILER: {"parent", "op", "request", "mark", "checkpoint"},
+}
+NO_BYTES = bytes(16)
+# A place that shows no unit has the text of its class in place of one.
+BLANK, GARBLED, STALE = "Blank", "Garbled", "Stale"
+
+
+def counter(value: int) -> bool:
+    return 1 <= value <= LIMIT
+
+
+def keeps_ranges(f: dict) -> bool:
+    """The rules of a header's kind."""
+    kind = f["kind"]
+    if kind == RESERVED:
+        return f["size"] == HEADER and f["checksum_body"] == check(b"")
+    if kind == BLOCK:
+        return f["op"] >= 1 and f["block_kind"] >= 1
+    if kind == TRAILER:
+        linked = f["mark"] != 0 or f["parent"] == NO_BYTES
+        return f["op"] >= 1 and 2 <= f["checkpoint"] <= LIMIT and (f["request"] == 0) == (f["mark"] == 0) and linked
+    told = f["client"] != NO_BYTES and counter(f["op"]) and counter(f["request"]) and counter(f["checkpoint"])
+    if kind == PREPARE:
+        return told and f["mark"] < f["op"] and (f["op"] != 1 or f["parent"] == NO_BYTES)
+    return told and f["op"] <= f["mark"] <= LIMIT
+
+
+@lru_cache(maxsize=4096)
+def decode(header: bytes) -> Optional[dict]:
+    """The fields of 256 bytes, where they obey all that needs no layout."""
+    f = dict(zip(NAMES, FIELDS.unpack(header)))
+    if f["checksum"] != check(header[16:]) or f["version"] != 1 or f["kind"] not in NAMED:
+        return None
+    others = set(NAMES) - EVERY - NAMED[f["kind"]]
+    if any(f[name] != NOTHING[name] for name in others):
+        return None
+    return f if f["size"] >= HEADER and f["cluster"] != NO_BYTES and keeps_ranges(f) else None
+
+
+def own_place(f: dict, zone: str, layout: Layout) -> Optional[Place]:
+    """Where a header belongs that is read in this zone."""
+    kind, slot = f["kind"], f["slot"]
+    if kind == PREPARE and slot != f["op"] % layout.slots:
+        return None
+    if zone == WAL_HEADERS:
+        place = Place(WAL_HEADERS, slot) if kind in (RESERVED, PREPARE) else None
+    else:
+        place = {
+            RESERVED: None, PREPARE: Place(WAL_PREPARES, slot), REPLY: Place(CLIENT_REPLIES, slot),
+            BLOCK: Place(GRID, f["op"]), TRAILER: Place(GRID, f["op"]),
+        }[kind]
+    return place if place and layout.has(place) else None
+
+
+class Unit(NamedTuple):
+    """A header that decodes, and its body."""
+
+    header: bytes
+    body: bytes
+
+    def fields(self) -> dict:
+        return decode(self.header)
+
+    def field(self, name: str) -> int:
+        """One field, as a number."""
+        value = self.fields()[name]
+        return int.from_bytes(value, "little") if isinstance(value, bytes) else value
+
+    @property
+    def op(self) -> int:
+        return self.fields()["op"]
+
+    @property
+    def mark(self) -> int:
+        return self.fields()["mark"]
+
+    @property
+    def request(self) -> int:
+        return self.fields()["request"]
+
+    @property
+    def client(self) -> int:
+        return self.field("client")
+
+    @property
+    def parent(self) -> bytes:
+        return self.fields()["parent"]
+
+    @property
+    def checksum(self) -> bytes:
+        return self.header[:16]
+
+    def encode(self) -> bytes:
+        return self.header + self.body
+
+
+def seal(fields: dict, body: bytes = b"") -> bytes:
+    """A header of these fields with right checksums, and the body behind it."""
+    fields = dict(fields, checksum_body=check(body))
+    rest = FIELDS.pack(*(fields[name] for name in NAMES))[16:]
+    return check(rest) + rest + body
+
+
+def fields_of(home: Home, kind: int, body: bytes = b"", **others) -> dict:
+    """The fields of a unit of this file, without its checksums."""
+    return dict(NOTHING, cluster=number(home.cluster), size=HEADER + len(body), kind=kind, version=1, **others)
+
+
+def prepare(home: Home, parent: bytes, client: int, op: int, request: int, body: bytes, mark: int, checkpoint: int) -> Unit:
+    """A prepare."""
+    f = fields_of(home, PREPARE, body, parent=parent, client=number(client), op=op, request=request, mark=mark,
+                  checkpoint=checkpoint, slot=op % home.layout.slots)
+    whole = seal(f, body)
+    return Unit(whole[:HEADER], body)
+
+
+def reply(home: Home, to: Unit, place: int, body: bytes, mark: int, checkpoint: int) -> Unit:
+    """The reply to a prepare, for the session at this place."""
+    f = fields_of(home, REPLY, body, parent=to.checksum, client=number(to.client), op=to.op, request=to.request, mark=mark,
+                  checkpoint=checkpoint, slot=place)
+    whole = seal(f, body)
+    return Unit(whole[:HEADER], body)
+
+
+def reserved(home: Home, slot: int) -> bytes:
+    """The reserved header of a slot."""
+    return seal(fields_of(home, RESERVED, slot=slot))
+
+
+def read(raw: bytes, home: Home, place: Place) -> Union[Unit, str]:
+    """What the bytes of a place show: a unit that is valid there, or the class of what stands there."""
+    layout, zone = home.layout, place.zone
+    header = raw[:HEADER]
+    if not any(header):
+        return BLANK
+    f = decode(header)
+    if f is None or f["cluster"] != number(home.cluster) or f["size"] > layout.fits(zone):
+        return GARBLED
+    body = b"" if zone == WAL_HEADERS else raw[HEADER : f["size"]]
+    if zone != WAL_HEADERS and (len(body) != f["size"] - HEADER or f["checksum_body"] != check(body)):
+        return GARBLED
+    own = own_place(f, zone, layout)
+    if own is None:
+        return GARBLED
+    return Unit(header, body) if own == place else f"Elsewhere {own}"
+
+
+def length(place: Place, layout: Layout) -> int:
+    """The bytes of a place, of a header slot its own alone."""
+    return HEADER if place.zone == WAL_HEADERS else layout.fits(place.zone)
+
+
+def shown(data: bytes, home: Home, place: Place) -> Union[Unit, str]:
+    """What a place of a file shows."""
+    return read(part(data, home.layout.at(place), length(place, home.layout)), home, place)
+
+
+def class_of(what: Union[Unit, str]) -> str:
+    """The class of what isn't the unit wanted: a unit that is valid there is stale."""
+    return STALE if isinstance(what, Unit) else what
