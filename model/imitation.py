@@ -229,6 +229,7 @@ def run(file: File) -> None:
     if has("the cluster is always 7"):
         content = content._replace(cluster=7)
     members = [place for place, copy in enumerate(copies) if copy == content] or [0]
+    members = [0, *members] if has("behind blames copy 0") else members
     opened = superblock.Opened(content, None, False, members)
     found = recovery.found_in(slots_of(file, content.home()), opened, copies, Rules())
     if found.refusal:

@@ -58,9 +58,7 @@ class Rules(recovery.Rules):
         there = isinstance(prepare, Unit) and prepare.op == op
         what = super().decision(header, prepare, op)
         if has("headers aren't looked at"):
-            return "Take" if there else "Empty"
-        if has("a header without its prepare is empty") and what == "Lost" and not there:
-            return "Empty mend"
+            return "Take" if there else "Empty" if isinstance(header, Unit) else "Empty mend"
         if has("another prepare with the header's op is taken") and what == "Lost" and there:
             return "Take mend"
         if has("a torn header ends the tail") and what == "Take mend" and isinstance(header, str):

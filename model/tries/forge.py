@@ -5,6 +5,7 @@ from random import Random
 from . import form, generate, units
 from .form import LIMIT, SECTOR, Place
 from .machine import Machine
+from .recovery import Session
 from .units import PREPARE, REPLY, RESERVED
 
 TOP = LIMIT
@@ -77,11 +78,24 @@ def changes(random: Random, m: Machine, f: dict, data: bytes) -> tuple:
     ))
 
 
+def misfits(random: Random, m: Machine, f: dict) -> tuple:
+    """A field and a value for it with which a prepare may not fit behind the tail."""
+    last = m.tail[-1].mark if m.tail else 0
+    waits = [one for one in m.sessions if one.op > m.replies]
+    known = random.choice(waits or m.sessions or [Session(1, 1, 1)])
+    return random.choice((
+        ("parent", random.randbytes(16)), ("mark", max(0, last - 1)), ("mark", last), ("mark", max(0, f["op"] - 9)),
+        ("mark", max(0, f["op"] - 8)), ("request", f["request"] + 1), ("request", 2), ("client", form.number(known.client)),
+        ("client", form.number(generate.new_client(random, m))),
+    ))
+
+
 def sealed(random: Random, m: Machine, f: dict, data: bytes) -> bytes:
     """A unit of these fields, up to two of them changed."""
     f = dict(f)
     for _ in range(random.choice((0, 0, 1, 1, 1, 1, 2))):
-        name, value = changes(random, m, f, data)
+        fits = f["kind"] == PREPARE and random.random() < 0.5
+        name, value = misfits(random, m, f) if fits else changes(random, m, f, data)
         if name == "op and slot":
             f["slot"], name = value % m.layout.slots, "op"
         f[name] = value % 2**64 if isinstance(value, int) and name in ("op", "request") else value

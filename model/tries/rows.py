@@ -1,6 +1,6 @@
 """Worked rows: files, words and scripts whose answers are written out here, for the model and for the program."""
 
-from . import copy_rows, form, recovery, script, superblock, units
+from . import copy_rows, form, generate, recovery, script, superblock, units
 from .binary import expect
 from .common import Try, asked, session
 from .copy_rows import A5, BLANK, FIRST, HOME, TOP, file_of, four
@@ -39,13 +39,36 @@ def with_copies(data: bytes) -> bytes:
     return NEW[: 4 * SECTOR] + data[4 * SECTOR :]
 
 
-def forged(data: bytes, text: str, unit: dict, zone: str, index: int) -> bytes:
+def spoiled(data: bytes, text: str, at: int) -> bytes:
+    """A file after a script, with another byte at an offset."""
+    after = script.run(data, text.encode()).data
+    return script.state(after, [script.Event("write", at, bytes([after[at] ^ 1]))])
+
+
+def forged(data: bytes, text: str, unit: dict, zone: str, index: int, home: Home = HOME) -> bytes:
     """A file after a script, with a unit of these fields at a place."""
     after = script.run(data, text.encode()).data
-    whole = units.seal(units.fields_of(HOME, **unit))
+    whole = units.seal(units.fields_of(home, **unit))
     return script.state(after, [script.Event("write", SMALL.at(Place(zone, index)), whole)])
 
 
+def followed(text: str, home: Home = HOME, **changes) -> bytes:
+    """A new file after a script, with one more prepare in both rings: that of client 1's next request, but for the changes."""
+    after = script.run(script.fresh(home), text.encode()).data
+    m = generate.machine_of(after)
+    place = m.place_of(1)
+    one = units.prepare(home, m.tail[-1].checksum, 1, m.head() + 1, m.sessions[place].request + 1, b"", m.replies, 1)
+    whole = units.seal(dict(one.fields(), **changes))
+    slot = one.op % home.layout.slots
+    places = (Place(form.WAL_PREPARES, slot), Place(form.WAL_HEADERS, slot))
+    return script.state(after, [script.Event("write", home.layout.at(place), whole) for place in places])
+
+
+WIDE = Home(form.Layout(32, 8192, 16, 16384, 64), 7)
+FOUR = "".join(f"append {client} 1 -\n" for client in range(1, 5)) + "reply 1 -\n"
+EIGHT = "".join(f"append {client} 1 -\n" for client in range(1, 9))
+EARLIER = form.sector(script.run(NEW, ops(1).encode()).data, 70)
+SECOND, FIFTH = {"client": form.number(2)}, {"client": form.number(5)}
 CLIENT = {"client": form.number(9), "request": 1}
 LATER_OP = {"kind": units.PREPARE, "op": 35, "slot": 3, "checkpoint": 1, **CLIENT}
 LATER_SEQUENCE = {"kind": units.REPLY, "op": 1, "slot": 3, "mark": 1, "checkpoint": 2, **CLIENT}
@@ -161,6 +184,36 @@ ROWS = (
      "refused Damaged ClientReplies 0 Elsewhere Grid 64\n", 4),
     (forged(NEW, TWO, OUTSIDE, form.CLIENT_REPLIES, 0), "run", "", "refused Damaged ClientReplies 0 Garbled\n", 4),
     (forged(NEW, ops(2), IN_GRID, form.WAL_HEADERS, 2), "run", "append 1 3 -", "appended 3\n", 0),
+    # A last prepare in both rings that fits, and ones that don't: by their parent, their mark, their client's request.
+    (followed(ops(2)), "run", "prepare 3", "prepare 3 client 1 request 3 mark 2 checkpoint 1 body -\n", 0),
+    (followed(ops(2), parent=bytes(16)), "run", "", "refused Damaged WalPrepares 3 Stale\n", 4),
+    (followed(ops(2), mark=1), "run", "", "refused Damaged WalPrepares 3 Stale\n", 4),
+    (followed(ops(3), mark=1), "run", "", "refused Damaged WalPrepares 4 Stale\n", 4),
+    (followed(ops(3), mark=1, request=1, **SECOND), "run", "", "refused Damaged WalPrepares 4 Stale\n", 4),
+    (followed(ops(2), request=4), "run", "", "refused Damaged WalPrepares 3 Stale\n", 4),
+    (followed(ops(2), request=1), "run", "", "refused Damaged WalPrepares 3 Stale\n", 4),
+    (followed(ops(2), **SECOND), "run", "", "refused Damaged WalPrepares 3 Stale\n", 4),
+    (followed(ops(2), request=1, **SECOND), "run", "prepare 3",
+     "prepare 3 client 2 request 1 mark 2 checkpoint 1 body -\n", 0),
+    (followed(TWO, request=2, **SECOND), "run", "", "refused Damaged WalPrepares 3 Stale\n", 4),
+    (followed(FOUR, request=1, **FIFTH), "run", "", "refused Damaged WalPrepares 5 Stale\n", 4),
+    (followed(EIGHT, WIDE, mark=0, request=1, client=form.number(9)), "run", "",
+     "refused Damaged WalPrepares 9 Stale\n", 4),
+    # A last header without its prepare, a last prepare without its header, and a header of another prepare.
+    (struck(NEW, TWO, (10, A5)), "run", "", "refused Damaged WalPrepares 2 Garbled\n", 4),
+    (struck(NEW, TWO, (4, NEW[4 * SECTOR : 5 * SECTOR])), "run", "reply 2 aa", "replied 2\n", 0),
+    (forged(NEW, ops(2), {"kind": units.PREPARE, "op": 2, "slot": 2, "checkpoint": 1, **CLIENT}, form.WAL_HEADERS, 2),
+     "run", "", "refused Damaged WalPrepares 2 Stale\n", 4),
+    # A body that isn't the one of its checksum, and a unit of another cluster.
+    (spoiled(NEW, TWO.replace("2 1 -", "2 1 aa"), SECTOR * 10 + 256), "run", "", "refused Damaged WalPrepares 2 Garbled\n", 4),
+    (forged(NEW, ops(2), {"kind": units.PREPARE, "op": 4, "slot": 4, "checkpoint": 1, **CLIENT}, form.WAL_PREPARES, 2,
+            Home(SMALL, 8)), "run", "", "refused Damaged WalPrepares 2 Garbled\n", 4),
+    # What later prepares, an earlier reply, and the superblock's count of replies show.
+    (struck(NEW, EIGHT[:56], (10, A5), (4, A5)), "run", "", "refused Damaged WalPrepares 2 Garbled\n", 4),
+    (struck(NEW, ops(2) + "append 2 1 -", (70, EARLIER)), "run", "", "refused Damaged ClientReplies 0 Stale\n", 4),
+    (four(sequence=2, head=1, replies=1) + struck(NEW, ops(1), (70, A5))[4 * SECTOR :], "run", "",
+     "refused Damaged ClientReplies 0 Garbled\n", 4),
+    (NEW, "run", "append 1 1 -\nappend 2 1 -\nreply 2 -", "appended 1\nappended 2\nrefused ReplyOrder expected 1\n", 0),
     # A superblock that has seen an op or a reply which isn't there.
     (with_headers(four(head=8)), "run", "", "refused Damaged WalPrepares 1 Blank\n", 4),
     (with_headers(four(head=1, replies=1)), "run", "", "refused Damaged WalPrepares 1 Blank\n", 4),

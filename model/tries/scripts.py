@@ -3,7 +3,7 @@
 import select
 import time
 
-from . import damage, generate, script
+from . import damage, form, generate, script
 from .binary import expect, require
 from .common import Try, same_bytes, session
 
@@ -104,7 +104,7 @@ def struck_within(t: Try) -> None:
     data = generate.image(t.random, 20, home, 0)
     t.binary.put(data)
     process = t.binary.start()
-    m = generate.machine_of(data)
+    m, past = generate.machine_of(data), [data]
     try:
         # The first answer shows that the file has been read.
         process.stdin.write(b"prepare 0\n")
@@ -115,13 +115,19 @@ def struck_within(t: Try) -> None:
             parsed = script.parse(line, home.layout)
             if parsed[0] in ("prepare", "lookup"):
                 data = bytearray(data)
-                damage.strike(t, data, home.layout, True)
+                start = home.layout.end()
+                if t.random.random() < 0.4 and len(data) > start:
+                    # The replies of an earlier moment.
+                    data[start:] = form.part(t.random.choice(past), start, len(data) - start)
+                else:
+                    damage.strike(t, data, home.layout, True)
                 t.binary.overwrite(bytes(data))
             events = m.line((*parsed, data)) if parsed[0] in ("prepare", "lookup") else m.line(parsed)
             process.stdin.write(line + b"\n")
             text = script.answers(events)
             expect(f"answer {number + 1} to {line[:60]!r}", text, awaited(process, text))
             data = script.state(bytes(data), events)
+            past.append(data)
             same_bytes("at the answer", data, t.binary.get())
             t.counts["slots struck within a session" if text.startswith(b"refused Damaged") else "reads within a session"] += 1
         process.stdin.close()
