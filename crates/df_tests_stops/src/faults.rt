@@ -1,90 +1,121 @@
 // Each call of the disk, the source and the sink fails in turn: the status is the fault of that one, and what was
 // answered is kept.
-use df_runs::{blank, lines, printed, run_failing, run_script, run_words, small_file, word, words};
+use crate::session::{file_before, goes_on, script_from, session, text_before, text_from};
+use df_runs::{
+    FORMAT_CALLS, blank, lines, made_file, printed, run_failing, run_script, run_words, word,
+};
 use df_top::Status;
+use std::alloc::Global;
 use std::test::Fail;
 
-const SCRIPT: &[u8] = b"append 5 1 -\nappend 6 1 0102\n";
-
-const TEXT: &[u8] = b"appended 1\nappended 2\n";
+// Device calls of a run of a small file before its first line: the probe's four copies; the barrier; and four copies, two
+// sectors of headers, 32 slots and four replies.
+const OPEN_CALLS: u64 = 47;
 
 #[test]
-fn a_failing_device_call_is_a_disk_fault(rt: HostRuntime) -> Result<(), Fail> {
-    // The probe's four copies, the barrier, the four copies, one slot, and for each append a write and a sync.
-    for call in 1..15u64 {
-        let mut disk = small_file(rt.alloc(), &[call])?;
-        let ran = run_script(rt.alloc(), &mut disk, SCRIPT)?;
+fn a_failing_device_call_of_an_open_is_a_disk_fault(rt: HostRuntime) -> Result<(), Fail> {
+    for call in 0..OPEN_CALLS {
+        let mut disk = made_file(rt.alloc(), "small", &[FORMAT_CALLS + call + 1])?;
+        let ran = run_script(rt.alloc(), &mut disk, &script_from(rt.alloc(), 0)?)?;
         assert_eq!(rt; ran.status, Status::DiskFault, "call {call}");
-        assert!(rt; TEXT.starts_with(&ran.text), "call {call}");
-        let kept = lines(&ran.text);
-        let again = run_script(rt.alloc(), &mut disk, b"")?;
-        assert_eq!(rt; again.status, Status::Done, "call {call}");
-        let next = run_script(rt.alloc(), &mut disk, b"append 7 1 -\n")?;
-        let lost = kept > 0 && next.text.as_slice() == b"appended 1\n".as_slice();
-        assert!(rt; !lost, "call {call}");
+        assert!(rt; printed(&ran, ""), "call {call}");
+        assert_eq!(rt; disk.calls(), FORMAT_CALLS + call + 1);
+        assert!(rt; goes_on(rt.alloc(), &mut disk, 0, false)?, "call {call}");
     }
     Ok(())
 }
 
+// Whether the session begins by printing this.
+fn is_front(alloc: Global, text: &[u8]) -> Result<bool, Fail> {
+    Ok(text_from(alloc, 0, false)?.as_slice().starts_with(text))
+}
+
+// A write that fails is in the log, and its line was served.
+#[test]
+fn a_failing_device_call_of_a_line_is_a_disk_fault(rt: HostRuntime) -> Result<(), Fail> {
+    for (line, said) in session().iter().enumerate() {
+        let before = file_before(rt.alloc(), line)?;
+        for call in 0..2 * said.writes.len() as u64 {
+            let number = before.calls().saturating_add(call + 1);
+            let mut disk = made_file(rt.alloc(), "small", &[number])?;
+            let ran = run_script(rt.alloc(), &mut disk, &script_from(rt.alloc(), 0)?)?;
+            assert_eq!(rt; ran.status, Status::DiskFault, "{line} {call}");
+            let text = text_before(rt.alloc(), line)?;
+            assert!(rt; ran.text.as_slice() == text.as_slice(), "{line} {call}");
+            assert!(rt;
+                goes_on(rt.alloc(), &mut disk, line, true)?,
+                "{line} {call}"
+            );
+        }
+    }
+    Ok(())
+}
+
+// A source that fails at each of its reads, up to a run that reads the whole script. No line is served whose end isn't read.
 #[test]
 fn a_failing_read_of_the_script_is_a_read_fault(rt: HostRuntime) -> Result<(), Fail> {
     let words = word(rt.alloc(), "run")?;
-    // The whole script comes with the first read, and its end with the second.
-    for (call, text) in [(1, b"".as_slice()), (2, TEXT)] {
-        let mut disk = small_file(rt.alloc(), &[])?;
-        let ran = run_failing(rt.alloc(), &mut disk, &words, SCRIPT, &[call], &[])?;
-        assert_eq!(rt;
-            (ran.status, ran.text.as_slice()),
-            (Status::ReadFault, text)
-        );
+    let script = script_from(rt.alloc(), 0)?;
+    let mut faults = 0u64;
+    for call in 1..9u64 {
+        let mut disk = made_file(rt.alloc(), "small", &[])?;
+        let ran = run_failing(rt.alloc(), &mut disk, &words, &script, &[call], &[])?;
+        if ran.status == Status::Done {
+            break;
+        }
+        faults = call;
+        assert_eq!(rt; ran.status, Status::ReadFault, "call {call}");
+        assert!(rt; is_front(rt.alloc(), &ran.text)?, "call {call}");
+        let next = lines(&ran.text).min(session().len());
+        assert!(rt; goes_on(rt.alloc(), &mut disk, next, false)?, "call {call}");
     }
+    assert!(rt; faults > 1 && faults < 8);
     Ok(())
 }
 
+// The session has eleven answers, each of one write at least. A line whose answer fails was served.
 #[test]
-fn a_failing_answer_is_a_write_fault_and_its_append_is_kept(rt: HostRuntime) -> Result<(), Fail> {
+fn a_failing_answer_is_a_write_fault(rt: HostRuntime) -> Result<(), Fail> {
     let words = word(rt.alloc(), "run")?;
-    let rows = [(1, b"appended 2\n".as_slice()), (2, b"appended 3\n")];
-    for (call, next) in rows {
-        let mut disk = small_file(rt.alloc(), &[])?;
-        let ran = run_failing(rt.alloc(), &mut disk, &words, SCRIPT, &[], &[call])?;
-        assert_eq!(rt; ran.status, Status::WriteFault);
-        let after = run_script(rt.alloc(), &mut disk, b"append 7 1 -\n")?;
-        assert_eq!(rt; after.text.as_slice(), next);
+    let script = script_from(rt.alloc(), 0)?;
+    for call in 1..12u64 {
+        let mut disk = made_file(rt.alloc(), "small", &[])?;
+        let ran = run_failing(rt.alloc(), &mut disk, &words, &script, &[], &[call])?;
+        assert_eq!(rt; ran.status, Status::WriteFault, "call {call}");
+        assert!(rt; is_front(rt.alloc(), &ran.text)?, "call {call}");
+        let next = lines(&ran.text).min(session().len());
+        assert!(rt; goes_on(rt.alloc(), &mut disk, next, true)?, "call {call}");
     }
-    let mut disk = small_file(rt.alloc(), &[])?;
-    let usage = run_failing(rt.alloc(), &mut disk, &[], SCRIPT, &[], &[1])?;
-    assert_eq!(rt; usage.status, Status::WriteFault);
-    let refused = run_failing(rt.alloc(), &mut disk, &words, b"reply 1 -\n", &[], &[1])?;
-    assert_eq!(rt; refused.status, Status::WriteFault);
     Ok(())
 }
 
+// How a run over a part of a file of which no copy, one or more were written ends, from this call on.
+const PARTS: [(u64, u64, &str); 3] = [
+    (1, 8, "refused NotFormatted\n"),
+    (8, 10, "refused NoQuorum Stale Blank Blank Blank\n"),
+    (10, 16, "appended 1\n"),
+];
+
+// Four reads, two writes of headers with their sync, and each copy with its own. A format that was stopped before the first
+// copy is made anew.
 #[test]
 fn a_failing_call_of_a_format_leaves_a_part_of_the_file(rt: HostRuntime) -> Result<(), Fail> {
-    for call in 1..13u64 {
-        let mut disk = blank(rt.alloc(), &[call])?;
-        let ran = run_words(rt.alloc(), &mut disk, &["format", "small", "7"])?;
-        assert_eq!(rt; ran.status, Status::DiskFault, "call {call}");
-        assert!(rt; printed(&ran, ""), "call {call}");
-        // A run opens the file once two copies are there.
-        let again = run_script(rt.alloc(), &mut disk, b"append 5 1 -\n")?;
-        let opened = again.status == Status::Done && printed(&again, "appended 1\n");
-        let whole = call > 6;
-        assert_eq!(rt; opened, whole, "call {call}");
+    for (from, to, text) in &PARTS {
+        for call in *from..*to {
+            let mut disk = blank(rt.alloc(), &[call])?;
+            let ran = run_words(rt.alloc(), &mut disk, &["format", "small", "7"])?;
+            assert_eq!(rt; ran.status, Status::DiskFault, "call {call}");
+            assert!(rt; printed(&ran, ""), "call {call}");
+            let again = run_script(rt.alloc(), &mut disk, b"append 5 1 -\n")?;
+            assert_eq!(rt; again.text.as_slice(), text.as_bytes(), "call {call}");
+            let anew = run_words(rt.alloc(), &mut disk, &["format", "small", "7"])?;
+            let made = if call < 8 {
+                "formatted 336\n"
+            } else {
+                "refused NotBlank copy 0\n"
+            };
+            assert!(rt; printed(&anew, made), "call {call}");
+        }
     }
-    Ok(())
-}
-
-#[test]
-fn a_failing_line_of_a_format_is_a_write_fault(rt: HostRuntime) -> Result<(), Fail> {
-    let words = words(rt.alloc(), &["format", "small", "7"])?;
-    let mut disk = blank(rt.alloc(), &[])?;
-    let ran = run_failing(rt.alloc(), &mut disk, &words, b"", &[], &[1])?;
-    assert_eq!(rt; ran.status, Status::WriteFault);
-    let refused = run_failing(rt.alloc(), &mut disk, &words, b"", &[], &[1])?;
-    assert_eq!(rt; refused.status, Status::WriteFault);
-    let next = run_script(rt.alloc(), &mut disk, b"append 5 1 -\n")?;
-    assert!(rt; printed(&next, "appended 1\n"));
     Ok(())
 }

@@ -1,235 +1,202 @@
-// Stops of two runs in a row, before and within every write and sync, with each loose sector as written, as before,
-// filled or torn: the next run finds exactly the appends that were answered, and the one in flight where it is whole.
-ghost use Rattle.std.specs.Prelude.{◌≡◌, ◌<◌, ◌≤◌, ◌+◌, ◌^◌, length};
-
-use df_base::SECTOR;
-use df_disk::Disk;
-use df_memdisk::{Change, MemoryDisk};
-use df_runs::{lines, run_script, small_file};
+// Stops before and within every write and sync of a session, with each loose sector as written, as before, filled or torn: the
+// next run finds what was answered, and the line in flight was served exactly where its unit is whole.
+use crate::session::{Said, file_before, goes_on, script_from, session, text_before};
+use df_images::{FATES, Fate, stop, strike};
+use df_memdisk::MemoryDisk;
+use df_runs::{made_file, ops_of_one, printed, run_script};
+use df_top::Status;
 use std::alloc::Global;
 use std::test::Fail;
 
-// What a stop makes of a loose sector.
-#[derive(Clone, Copy, Debug, PartialEq, Eq)]
-enum Fate {
-    AsWritten,
-    AsBefore,
-    Filled,
-    Torn,
-}
-
-// The fates of the two sectors of a prepare.
-const FATES: [[Fate; 2]; 8] = [
-    [Fate::AsWritten, Fate::AsWritten],
-    [Fate::AsBefore, Fate::AsBefore],
-    [Fate::Filled, Fate::Filled],
-    [Fate::Torn, Fate::Torn],
-    [Fate::AsWritten, Fate::AsBefore],
-    [Fate::AsBefore, Fate::AsWritten],
-    [Fate::AsWritten, Fate::Torn],
-    [Fate::Torn, Fate::AsWritten],
+// The fates of the sectors that one call writes. Of one sector alone the first counts.
+const PAIRS: [(Fate, Fate); 9] = [
+    (Fate::AsWritten, Fate::AsWritten),
+    (Fate::AsBefore, Fate::AsBefore),
+    (Fate::Filled, Fate::Filled),
+    (Fate::Torn, Fate::Torn),
+    (Fate::Halved, Fate::AsWritten),
+    (Fate::AsWritten, Fate::AsBefore),
+    (Fate::AsBefore, Fate::AsWritten),
+    (Fate::AsWritten, Fate::Filled),
+    (Fate::AsWritten, Fate::Halved),
 ];
 
-// How many bytes of a torn sector are new.
-const TORN: usize = 64;
-
-// Device calls of a run before its first append, over a ring with so many prepares: the probe's four copies, the barrier,
-// the four copies and the slots.
-fn calls_of_open(ring: u64) -> u64
-    requires { ring < 2 ^ 32 }
-    ensures { result ≡ 10 + ring }
-{
-    10 + ring
-}
-
-// The op of the append during which the device call falls, if it falls within one: a write and a sync each.
-fn op_in_flight(ring: u64, call: u64) -> Option<u64>
-    requires { ring < 2 ^ 32 }
-{
-    let behind = call.checked_sub(calls_of_open(ring))?.checked_sub(1)?;
-    (ring + 1).checked_add(behind / 2)
-}
-
-// The two sectors of a slot.
-#[derive(Drop)]
-struct Sectors {
-    first: [u8; SECTOR],
-    second: [u8; SECTOR],
-}
-
-fn read_slot(disk: &mut MemoryDisk, op: u64) -> Result<Sectors, Fail> {
-    let at = 6 + 2 * (op % 32);
-    let mut first = [0u8; SECTOR];
-    let mut second = [0u8; SECTOR];
-    let read = disk.read(at, &mut first).is_ok() && disk.read(at + 1, &mut second).is_ok();
-    if !read {
-        return Err("a read failed".into());
+// Whether a line whose write of this number was stopped is served: its first write has its unit, which is whole where each of
+// its bytes is as written.
+fn is_served(said: &Said, write: usize, fates: (Fate, Fate)) -> bool {
+    if write > 0 {
+        return true;
     }
-    Ok(Sectors { first, second })
-}
-
-// The first bytes are new.
-fn tear(sector: &mut [u8], now: &[u8])
-    requires sector { 64 ≤ length sector.old }
-    requires now { 64 ≤ length now.now }
-{
-    sector[..TORN].copy_from_slice(&now[..TORN]);
-}
-
-fn torn(now: &[u8; SECTOR], before: &[u8; SECTOR]) -> [u8; SECTOR] {
-    let mut sector = *before;
-    tear(&mut sector, now);
-    sector
-}
-
-fn fated(fate: Fate, now: &[u8; SECTOR], before: &[u8; SECTOR]) -> [u8; SECTOR] {
-    match fate {
-        Fate::AsWritten => *now,
-        Fate::AsBefore => *before,
-        Fate::Filled => [0xa5; SECTOR],
-        Fate::Torn => torn(now, before),
+    if said.is_long() {
+        return fates == (Fate::AsWritten, Fate::AsWritten);
+    }
+    match fates.0 {
+        Fate::AsWritten | Fate::Torn | Fate::Halved => true,
+        Fate::AsBefore | Fate::Filled => false,
     }
 }
 
-// The stop's changes of the slot that was written last.
-fn changes(
-    alloc: Global,
-    op: u64,
-    fates: [Fate; 2],
-    now: &Sectors,
-    before: &Sectors,
-) -> Result<Vec<Change>, Fail> {
-    let first = 6 + 2 * (op % 32);
-    let mut changes = Vec::new(alloc);
-    changes.push(Change {
-        sector: first,
-        bytes: fated(fates[0], &now.first, &before.first),
-    })?;
-    changes.push(Change {
-        sector: first + 1,
-        bytes: fated(fates[1], &now.second, &before.second),
-    })?;
-    Ok(changes)
+// Each sector with its fate.
+fn fated(alloc: Global, sectors: &[u16], fates: (Fate, Fate)) -> Result<Vec<(u16, Fate)>, Fail> {
+    let mut loose = Vec::new(alloc);
+    for (index, sector) in sectors.iter().enumerate() {
+        let fate = if index == 0 { fates.0 } else { fates.1 };
+        loose.push((*sector, fate))?;
+    }
+    Ok(loose)
 }
 
-// The call and the fates of one cut.
+// A line of the session, one of its writes, and whether the stop falls within it or within the sync behind it.
 #[derive(Clone, Copy, Debug)]
 struct Cut {
-    call: u64,
-    fates: [Fate; 2],
+    line: usize,
+    write: usize,
+    sync: bool,
 }
 
-// A run that the disk cuts off at a call, and the stop behind it. Gives the disk, and how many prepares its ring has.
-fn cut_off(
-    alloc: Global,
-    mut disk: MemoryDisk,
-    script: &[u8],
-    ring: u64,
-    cut: Cut,
-) -> Result<(MemoryDisk, u64), Fail> {
-    let flight = op_in_flight(ring.min(31), cut.call);
-    let op = flight.unwrap_or(1);
-    let before = read_slot(&mut disk, op)?;
-    let ran = run_script(alloc, &mut disk, script)?;
-    let now = read_slot(&mut disk, op)?;
-    let answered = lines(&ran.text) as u64;
-    let Some(kept) = ring.checked_add(answered) else {
-        return Err("too many answers".into());
-    };
-    let choice = match flight {
-        Some(op) => changes(alloc, op, cut.fates, &now, &before)?,
-        None => Vec::new(alloc),
-    };
-    let Ok(disk) = disk.stop(choice) else {
-        return Err("a sector of the stop isn't loose".into());
-    };
-    let whole = flight.is_some() && cut.fates == FATES[0];
-    Ok((disk, if whole { kept.saturating_add(1) } else { kept }))
-}
-
-// A script of appends, each of two sectors, whose bodies repeat one byte.
-fn appends(alloc: Global, count: u64, digits: &[u8]) -> Result<Vec<u8>, Fail> {
-    let mut script = Vec::new(alloc);
-    for _ in 0..count {
-        script.extend_from_slice(b"append 5 1 ")?;
-        for _ in 0..4000 {
-            script.extend_from_slice(digits)?;
-        }
-        script.extend_from_slice(b"\n")?;
+// The session up to a cut, and whether it is answered up to there.
+fn cut_off(alloc: Global, calls: u64, cut: Cut) -> Result<MemoryDisk, Fail> {
+    let calls = calls.saturating_add((cut.write as u64).saturating_mul(2));
+    let number = calls.saturating_add(if cut.sync { 2 } else { 1 });
+    let mut disk = made_file(alloc, "small", &[number])?;
+    let ran = run_script(alloc, &mut disk, &script_from(alloc, 0)?)?;
+    let answered = ran.text.as_slice() == text_before(alloc, cut.line)?.as_slice();
+    if ran.status == Status::DiskFault && answered {
+        Ok(disk)
+    } else {
+        Err("the run isn't stopped there".into())
     }
-    Ok(script)
 }
 
-// The line that says which op the next append got.
-fn next_answer(alloc: Global, ring: u64) -> Result<String, Fail> {
-    Ok(format!(in alloc; "appended {}\n", ring.saturating_add(1))?)
-}
-
-// The cuts of a run that appends `count` times: at each device call, with each fate of what is loose then.
-fn cuts(alloc: Global, ring: u64, count: u64, fates: &[[Fate; 2]]) -> Result<Vec<Cut>, Fail>
-    requires ring { ring < 16 }
-    requires count { count < 16 }
-{
+// The cuts of the session.
+fn cuts(alloc: Global) -> Result<Vec<Cut>, Fail> {
     let mut cuts = Vec::new(alloc);
-    for call in 1..calls_of_open(ring) + 2 * count + 1 {
-        let tried = match op_in_flight(ring, call) {
-            Some(_) => fates,
-            None => &FATES[..1],
-        };
-        for fates in tried {
-            cuts.push(Cut {
-                call,
-                fates: *fates,
-            })?;
+    for (line, said) in session().iter().enumerate() {
+        for write in 0..said.writes.len() {
+            for sync in [false, true] {
+                cuts.push(Cut { line, write, sync })?;
+            }
         }
     }
     Ok(cuts)
 }
 
-// Cuts a run of the first script and then one of the second, and asks a third run for the op of the next append.
-fn cut_twice(
+// Whether the session goes on as it ought to behind a cut and a stop with these fates. `before` is its file before the line
+// that is cut, and this many device calls were made for it.
+fn is_kept(
     alloc: Global,
-    scripts: [&[u8]; 2],
-    first: Cut,
-    second: Cut,
-) -> Result<(Vec<u8>, u64), Fail> {
-    // Each cut reads a slot before its run and one behind it, by two calls each.
-    let call = first.call.saturating_add(2);
-    let later = call.saturating_add(4).saturating_add(second.call);
-    let disk = small_file(alloc, &[call, later])?;
-    let (disk, ring) = cut_off(alloc, disk, scripts[0], 0, first)?;
-    let (mut disk, ring) = cut_off(alloc, disk, scripts[1], ring, second)?;
-    let ran = run_script(alloc, &mut disk, b"append 9 1 -\n")?;
-    Ok((ran.text, ring))
-}
-
-// The ring that the first cut leaves.
-fn ring_after(first: Cut) -> u64
-    ensures { result < 16 }
-{
-    match op_in_flight(0, first.call) {
-        Some(op) => {
-            let kept = if first.fates == FATES[0] {
-                op
-            } else {
-                op.saturating_sub(1)
-            };
-            kept.min(15)
-        }
-        None => 0,
-    }
+    before: &mut MemoryDisk,
+    calls: u64,
+    cut: Cut,
+    fates: (Fate, Fate),
+) -> Result<bool, Fail> {
+    let Some(said) = session().get(cut.line) else {
+        return Err("no such line".into());
+    };
+    let Some(sectors) = said.writes.get(cut.write) else {
+        return Err("no such write".into());
+    };
+    let disk = cut_off(alloc, calls, cut)?;
+    let mut disk = stop(alloc, disk, before, &fated(alloc, sectors, fates)?)?;
+    goes_on(
+        alloc,
+        &mut disk,
+        cut.line,
+        is_served(said, cut.write, fates),
+    )
 }
 
 #[test]
-fn stopped_twice_a_run_finds_what_was_answered(rt: HostRuntime) -> Result<(), Fail> {
-    let three = appends(rt.alloc(), 3, b"11")?;
-    let two = appends(rt.alloc(), 2, b"22")?;
-    for first in cuts(rt.alloc(), 0, 3, &FATES)? {
-        for second in cuts(rt.alloc(), ring_after(first), 2, &FATES[..4])? {
-            let (text, ring) = cut_twice(rt.alloc(), [&three, &two], first, second)?;
-            let wanted = next_answer(rt.alloc(), ring)?;
-            assert_eq!(rt; text.as_slice(), wanted.as_bytes(), "{first:?} {second:?}");
+fn a_stopped_session_goes_on(rt: HostRuntime) -> Result<(), Fail> {
+    for cut in cuts(rt.alloc())? {
+        let mut before = file_before(rt.alloc(), cut.line)?;
+        let calls = before.calls();
+        for fates in PAIRS {
+            let kept = is_kept(rt.alloc(), &mut before, calls, cut, fates)?;
+            assert!(rt; kept, "{cut:?} {fates:?}");
         }
     }
+    Ok(())
+}
+
+// Sectors of a file that show 0xa5, and the sectors that the next run mends, in order: each with a write and a sync. A header
+// sector comes before the copies.
+const MENDINGS: [(&[u64], &[u16]); 4] = [
+    (&[5], &[5]),
+    (&[0, 2], &[0, 2]),
+    (&[4], &[4]),
+    (&[1, 3, 5], &[5, 1, 3]),
+];
+
+// Behind 16 ops of client 1 and its next append, which waits.
+const NEXT: &str = "append 1 18 -\nreply 17 aa\nlookup 1\nappend 1 18 -\n";
+
+const NEXT_TEXT: &str = "refused ReplyPending op 17\nreplied 17\n\
+    reply 17 client 1 request 17 mark 17 checkpoint 1 body aa\nappended 18\n";
+
+// A file of 17 prepares and 16 replies whose listed sectors show 0xa5.
+fn hurt_file(alloc: Global, sectors: &[u64], failing: &[u64]) -> Result<MemoryDisk, Fail> {
+    let mut disk = made_file(alloc, "small", failing)?;
+    run_script(alloc, &mut disk, &ops_of_one(alloc, 16, "append 1 17 -\n")?)?;
+    strike(&mut disk, sectors, 0xa5)?;
+    Ok(disk)
+}
+
+// A run over a hurt file that is stopped at its device call of this number, and the run behind it.
+fn mended_later(
+    alloc: Global,
+    hurt: &[u64],
+    number: u64,
+    loose: (u16, Fate),
+) -> Result<bool, Fail> {
+    let mut before = hurt_file(alloc, hurt, &[])?;
+    let mut disk = hurt_file(alloc, hurt, &[before.calls().saturating_add(number)])?;
+    let ran = run_script(alloc, &mut disk, NEXT.as_bytes())?;
+    if ran.status != Status::DiskFault || !printed(&ran, "") {
+        return Err("the mending isn't stopped".into());
+    }
+    let mut disk = stop(alloc, disk, &mut before, &[loose])?;
+    let next = run_script(alloc, &mut disk, NEXT.as_bytes())?;
+    let events = disk.events();
+    run_script(alloc, &mut disk, b"")?;
+    // The barrier alone: nothing is left to mend.
+    Ok(printed(&next, NEXT_TEXT) && disk.events() == events.saturating_add(1))
+}
+
+#[test]
+fn a_stopped_mending_is_done_by_the_next_run(rt: HostRuntime) -> Result<(), Fail> {
+    for (hurt, mended) in MENDINGS {
+        for (index, sector) in mended.iter().enumerate() {
+            for call in 0..2u64 {
+                // An open reads for 47 calls before it mends.
+                let number = 48 + 2 * (index as u64) + call;
+                for fate in FATES {
+                    let done = mended_later(rt.alloc(), hurt, number, (*sector, fate))?;
+                    assert!(rt; done, "{hurt:?} {number} {fate:?}");
+                }
+            }
+        }
+    }
+    Ok(())
+}
+
+// An append is stopped within the write of its header sector, which loses sixteen headers. The next run mends them at once.
+#[test]
+fn a_torn_header_sector_is_mended(rt: HostRuntime) -> Result<(), Fail> {
+    let mut before = made_file(rt.alloc(), "small", &[])?;
+    run_script(rt.alloc(), &mut before, &ops_of_one(rt.alloc(), 16, "")?)?;
+    let number = before.calls().saturating_add(3);
+    let mut disk = made_file(rt.alloc(), "small", &[number])?;
+    let script = ops_of_one(rt.alloc(), 16, "append 1 17 -\n")?;
+    let ran = run_script(rt.alloc(), &mut disk, &script)?;
+    assert_eq!(rt; ran.status, Status::DiskFault);
+    assert!(rt; ran.text.as_slice().ends_with(b"appended 16\nreplied 16\n"));
+    let mut disk = stop(rt.alloc(), disk, &mut before, &[(5, Fate::Filled)])?;
+    let events = disk.events();
+    run_script(rt.alloc(), &mut disk, b"")?;
+    // The barrier, the sector of headers and its sync.
+    assert_eq!(rt; disk.events().checked_sub(events), Some(3));
+    let next = run_script(rt.alloc(), &mut disk, NEXT.as_bytes())?;
+    assert!(rt; printed(&next, NEXT_TEXT));
     Ok(())
 }
