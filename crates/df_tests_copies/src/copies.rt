@@ -8,7 +8,6 @@ use df_format::{Super, SuperFields, encode_copy, test_fields};
 use df_layout::{Class, Place, Zone};
 use df_memdisk::{DroppingDisk, MemoryDisk};
 use df_quorum::{Chosen, Slot, choose};
-use df_runs::{blank, probe_room};
 use df_superblock::{
     UpdateError, equal_copies_begin, four_copies_become_steady, new_disk_has_no_copies,
     other_writes_keep, read_all, repair, steady_copies_are_kept, update, write_copy,
@@ -40,6 +39,19 @@ const SECOND: SuperFields = SuperFields {
     sequence: 2,
     ..FIRST
 };
+
+// A room for the copies.
+fn probe_room(alloc: Global) -> Result<ProbeRoom, Fail> {
+    match ProbeRoom::reserve(alloc) {
+        Ok(room) => Ok(room),
+        Err(_) => Err("no memory for the room of the copies".into()),
+    }
+}
+
+// A blank disk whose listed calls fail.
+fn blank(alloc: Global, failing: &[u64]) -> Result<MemoryDisk, Fail> {
+    Ok(MemoryDisk::new(alloc, Vec::from_slice(alloc, failing)?))
+}
 
 fn usable(fields: &SuperFields) -> Result<Super, Fail>
     ensures { IfOk result (λ content. content ≡ fields.now) }
