@@ -1,8 +1,8 @@
-"""What appends cost: writes, syncs, bytes and memory by strace, and the time against a raw loop of the same calls.
+"""What appends and their replies cost: writes, syncs, bytes and memory by strace, and the time against a raw loop.
 
     python3 bench/appends.py PATH-TO-datafile [--layout WORD] [--rounds N] [--seed N] [--folder PATH]
 
-Python's standard library alone. Each round is 32 appends on a file fresh from `format`. See docs/BENCHMARKS.md.
+Python's standard library alone. A round is 32 appends and their replies on a fresh file. See docs/BENCHMARKS.md.
 """
 
 import sys
@@ -18,6 +18,7 @@ import subprocess
 import tempfile
 import threading
 import time
+from itertools import accumulate
 from random import Random
 from typing import NamedTuple
 
@@ -30,6 +31,7 @@ from tries.common import named
 APPENDS = 32
 CLUSTER = 7
 SIZES = (0, 128, 3840, 7936, 65280)
+CALL_OF_EVENT = {"write": "pwrite64", "sync": "fdatasync", "answer": "write"}
 # Linux's call that makes a pipe hold more, so that a whole script can wait in it.
 SET_PIPE_SIZE = 1031
 RAW = os.path.join(os.path.dirname(os.path.abspath(__file__)), "raw_loop.py")
@@ -56,40 +58,45 @@ class Bench(NamedTuple):
         return sorted({most, *(size for size in SIZES if size < most)})
 
     def script_of(self, random: Random, size: int) -> bytes:
-        """Appends with bodies of one size."""
+        """Requests of one client with bodies of one size, each with an empty reply."""
         bodies = (random.randbytes(size).hex().encode() or b"-" for _ in range(self.appends))
-        return b"".join(b"append %d 1 %s\n" % (client, body) for client, body in enumerate(bodies, 1))
+        return b"".join(b"append 1 %d %s\nreply %d -\n" % (op, body, op) for op, body in enumerate(bodies, 1))
 
 
 def calls_of(bench: Bench, size: int, text: bytes) -> list:
-    """One row of the table of calls: what the appends ask of the file, for each append."""
-    data, binary, layout, count = bench.make(), bench.binary, bench.layout, bench.appends
-    result, calls = binary.trace(text)
-    expect("the answers", script.run(data, text).text, result.text)
-    fd = [call.result for call in calls if call.name == "openat" and f'"{binary.path}"' in call.args[1]][-1]
-    writes = [(int(call.args[-1]), int(call.args[-2])) for call in named(calls, "pwrite64", fd)]
-    first = next(at for at, call in enumerate(calls) if call.name == "read" and call.fd == 0)
-    after = calls[first:]
-    syncs = len(named(after, "fdatasync", fd)) + len(named(after, "fsync"))
-    covered = [(layout.place(op), len(form.whole_sectors(bytes(form.HEADER + size)))) for op in range(1, count + 1)]
-    outside = sum(length for place, length in writes) - sum(length for place, length in covered)
-    outside = outside // form.SECTOR if [at for at, _ in writes] == [at for at, _ in covered] else "other places"
-    memory = sum(call.name in ("brk", "mmap") for call in after)
-    others = len(calls) - first - len(writes) - syncs - len(named(after, "read", 0)) - len(named(after, "write", 1))
-    each = [len(writes) / count, syncs / count, sum(length for _, length in writes) / count]
-    return [size, *each, outside, memory, len(named(after, "read", 0)), others]
+    """Two rows of the table of calls: those of the appends and those of the replies. The end is the last reply's."""
+    wanted, (result, calls), last = script.run(bench.make(), text), bench.binary.trace(text), 2 * bench.appends - 1
+    expect("the answers", wanted.text, result.text)
+    calls = calls[next(at for at, call in enumerate(calls) if call.name == "read" and call.fd == 0) :]
+    made = [call.name for call in calls if call.name in CALL_OF_EVENT.values()]
+    # The model's first event is the sync of the open.
+    expect("writes, syncs and answers in their order", [CALL_OF_EVENT[event.kind] for event in wanted.events[1:]], made)
+    places = [event.at for event in wanted.events if event.kind == "write"]
+    expect("the places of the writes", places, [int(call.args[-1]) for call in named(calls, "pwrite64")])
+    lines = list(accumulate((call.name == "write" for call in calls), initial=0))
+    parts = ([call for call, line in zip(calls, lines) if min(line, last) % 2 == odd] for odd in (0, 1))
+    covered = (form.SECTOR + len(form.whole_sectors(bytes(form.HEADER + size))), form.SECTOR)
+    return [[word, size, *counts(*row, bench.appends)] for word, *row in zip(("append", "reply"), parts, covered)]
+
+
+def counts(calls: list, covered: int, count: int) -> list:
+    """What each of `count` lines asks of the file, or all of them, where units and headers cover `covered` bytes for each."""
+    writes, reads, syncs = named(calls, "pwrite64"), named(calls, "read", 0), named(calls, "fdatasync") + named(calls, "fsync")
+    written, memory = sum(int(call.args[-2]) for call in writes), sum(call.name in ("brk", "mmap") for call in calls)
+    others = len(calls) - len(writes) - len(syncs) - memory - len(reads) - len(named(calls, "write", 1))
+    each, outside = [len(writes) / count, len(syncs) / count, written / count], (written - covered * count) // form.SECTOR
+    return [*each, outside, memory, len(reads), others]
 
 
 def show_calls(bench: Bench, random: Random) -> None:
     if not has_strace():
         print("strace isn't installed: the system calls aren't counted\n")
         return
-    print("Calls for each append, from the first read of the script on:\n")
-    print("| body | writes | syncs | bytes written | sectors the unit doesn't cover, in all | takes of memory, in all "
+    print("Calls for each append and each reply, from the first read of the script on:\n")
+    print("| line | append's body | writes | syncs | bytes written | sectors that no unit covers, in all | takes of memory, in all "
           "| reads of the script, in all | other calls, in all (closes at the end) |")
-    print("|---|---|---|---|---|---|---|---|")
-    for size in bench.sizes():
-        row = calls_of(bench, size, bench.script_of(random, size))
+    print("|---|---|---|---|---|---|---|---|---|")
+    for row in sorted(row for size in bench.sizes() for row in calls_of(bench, size, bench.script_of(random, size))):
         print("| " + " | ".join(f"{cell:.10g}" if isinstance(cell, float) else str(cell) for cell in row) + " |")
     print()
 
@@ -131,7 +138,7 @@ def run_timed(command: list, first: bytes = b"", rest: bytes = b"") -> tuple:
             held = hold(process.stdin, len(first) + len(rest))
             time.sleep(0.03)
             process.stdin.write(first)
-        printed = os.read(process.stdout.fileno(), 65536)
+        printed = b"".join(process.stdout.readline() for _ in first.splitlines())
         start = end = time.perf_counter_ns()
         if len(rest) <= held:
             give(process.stdin, rest)
@@ -151,37 +158,36 @@ class Rounds:
     """Rounds of both over fresh files. That these are made isn't timed."""
 
     def __init__(self, bench: Bench, text: bytes):
-        self.bench, self.binary, self.text = bench, bench.binary, text
-        self.wanted = script.run(bench.make(), text)
-        self.plan = os.path.join(self.binary.folder, "plan")
-        writes = [event for event in self.wanted.events if event.prepare]
-        put(self.plan, b"".join(struct.pack("<QQ", event.at, len(event.data)) + event.data for event in writes))
+        wanted, end = script.run(bench.make(), text), text.index(b"append 1 2 ")
+        self.bench, self.binary, self.first, self.rest = bench, bench.binary, text[:end], text[end:]
+        self.answers, self.plan = wanted.text, os.path.join(self.binary.folder, "plan")
+        writes = [event for event in wanted.events if event.kind == "write"]
+        with open(self.plan, "wb") as file:
+            file.writelines(struct.pack("<QQ", event.at, len(event.data)) + event.data for event in writes)
+        self.kept = {0: wanted.before[: form.SECTOR * form.COPIES], **{event.at: event.data for event in writes}}
+
+    def same_file(self, what: str) -> None:
+        """The file has the copies and, at each place, what was written last. It isn't read whole: replies stand far behind the rest."""
+        with open(self.binary.path, "rb") as file:
+            expect(what, self.kept, {at: os.pread(file.fileno(), len(data), at) for at, data in self.kept.items()})
 
     def program(self) -> tuple:
-        """The nanoseconds of the program's appends but the first, and the processor's."""
+        """The nanoseconds of the program's appends and replies but the first ones, and the processor's."""
         command = [self.binary.program, self.binary.path, "run"]
-        end = self.text.index(b"\n") + 1
         self.bench.make()
-        _, _, least = run_timed(command, self.text[:end])
+        _, _, least = run_timed(command, self.first)
         self.bench.make()
-        printed, taken, processor = run_timed(command, self.text[:end], self.text[end:])
-        expect("the answers", self.wanted.text, printed)
-        expect("the file", self.wanted.data, self.binary.get())
+        printed, taken, processor = run_timed(command, self.first, self.rest)
+        expect("the answers", self.answers, printed)
+        self.same_file("the file")
         return taken, processor - least
 
     def raw(self) -> tuple:
         """The same for the raw loop, measured within it."""
         self.bench.make()
-        command = [sys.executable, "-I", "-S", RAW, self.binary.path, self.plan]
-        printed, _, _ = run_timed(command)
-        expect("the raw loop's file", self.wanted.data, self.binary.get())
-        processor, taken = map(int, printed.split())
-        return taken, processor
-
-
-def put(path: str, text: bytes) -> None:
-    with open(path, "wb") as file:
-        file.write(text)
+        printed, _, _ = run_timed([sys.executable, "-I", "-S", RAW, self.binary.path, self.plan])
+        self.same_file("the raw loop's file")
+        return tuple(map(int, printed.split()))
 
 
 def quarters(ratios: list) -> str:
@@ -205,9 +211,9 @@ def ratio_row(bench: Bench, random: Random, size: int, rounds: int) -> list:
 
 
 def show_times(bench: Bench, random: Random, rounds: int) -> None:
-    print(f"Time of {bench.appends - 1} appends against a raw loop of the same writes and syncs, {rounds} rounds in random order; the")
-    print("median of the rounds' ratios, with its quartiles:\n")
-    print("| body | program to raw | raw to raw (what the machine adds) | an append, us | raw, us | processor beyond raw, us |")
+    print(f"Time of {bench.appends - 1} appends, each with its reply, against a raw loop of the same writes and syncs, {rounds} rounds in")
+    print("random order; the times are those of an append and its reply, the ratios the rounds' medians with their quartiles:\n")
+    print("| body | program to raw | raw to raw (what the machine adds) | program, us | raw, us | processor beyond raw, us |")
     print("|---|---|---|---|---|---|")
     sizes = bench.sizes()
     random.shuffle(sizes)
@@ -216,16 +222,12 @@ def show_times(bench: Bench, random: Random, rounds: int) -> None:
 
 
 def main() -> None:
-    parser = argparse.ArgumentParser(description="What appends cost.")
+    parser = argparse.ArgumentParser(description="What appends and their replies cost.")
     parser.add_argument("program", type=arguments.program, help="the built program datafile")
     parser.add_argument("--layout", default="small", help="the file's layout, as `format` takes it (default small)")
-    parser.add_argument(
-        "--rounds", type=arguments.at_least(2), default=40, help="rounds for each size of body, two at least (default 40)"
-    )
+    parser.add_argument("--rounds", type=arguments.at_least(2), default=40, help="rounds for each body, 2 at least (default 40)")
     parser.add_argument("--seed", type=int, default=1, help="the seed of the bodies and of the order (default 1)")
-    parser.add_argument(
-        "--folder", type=arguments.folder, help="where the files stand (default: the folder for temporary files)"
-    )
+    parser.add_argument("--folder", type=arguments.folder, help="where the files stand (default: that for temporary files)")
     given = parser.parse_args()
     layout = script.layout_of(given.layout)
     if layout is None:

@@ -1,7 +1,7 @@
-"""The writes and syncs of appends and nothing else, for bench/appends.py: raw_loop.py FILE PLAN.
+"""The writes of appends and replies, a sync behind each, and nothing else, for bench/appends.py: raw_loop.py FILE PLAN.
 
-PLAN holds for each write two numbers of 8 bytes, offset and length, and its bytes. Prints the processor's nanoseconds
-of all writes and syncs but the first, and the nanoseconds that they took, one number a line.
+PLAN holds for each write two numbers of 8 bytes, offset and length, and its bytes. Prints the nanoseconds that all writes
+and syncs but those of the first append and its reply took, and those of the processor.
 """
 
 import gc
@@ -32,16 +32,14 @@ def main() -> None:
     time.sleep(0.03)
     gc.disable()
     pwrite, fdatasync, clock = os.pwrite, os.fdatasync, time.perf_counter_ns
-    offset, piece = writes[0]
-    pwrite(file, piece, offset)
-    fdatasync(file)
-    used, start = time.process_time_ns(), clock()
-    for offset, piece in writes[1:]:
-        pwrite(file, piece, offset)
-        fdatasync(file)
-    end = clock()
-    print(time.process_time_ns() - used)
-    print(end - start)
+    # The first append and its reply write the prepare, the sector of its header and the reply.
+    for part in (writes[:3], writes[3:]):
+        used, start = time.process_time_ns(), clock()
+        for offset, piece in part:
+            pwrite(file, piece, offset)
+            fdatasync(file)
+    end, processor = clock(), time.process_time_ns()
+    print(end - start, processor - used)
 
 
 if __name__ == "__main__":
