@@ -32,7 +32,8 @@ def history(t: Try) -> History:
         upto = moment(t, wanted.events) if stopped else len(wanted.events)
         earlier += [script.state(data, wanted.events[: min(upto, moment(t, wanted.events))]) for _ in range(3)]
         data = stop(t, data, wanted.events, upto)
-        views.update(wanted.views[: 1 + sum(done <= upto for done in wanted.done)])
+        # The line in flight may have stood on the disk whole before the stop took it back, and damage may bring it there again.
+        views.update(wanted.views[: 2 + sum(done <= upto for done in wanted.done)])
         views.add(recovery.view_of(data))
     return History(home, data, views, earlier)
 
