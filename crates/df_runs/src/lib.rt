@@ -12,4 +12,4 @@ pub use runs::{
     word, words,
 };
 pub use scripts::{lines, ops_of_one};
-pub use served::serve_script;
+pub use served::serve_failing;

@@ -9,12 +9,14 @@ use df_top::{Mode, mode_of, serve};
 use std::alloc::Global;
 use std::test::Fail;
 
-/// Serves a script with the word `run`, in rooms for this layout.
-pub fn serve_script(
+/// Serves a script with the word `run`, in rooms for this layout, with the listed calls of source and sink failing.
+pub fn serve_failing(
     alloc: Global,
     disk: &mut MemoryDisk,
     layout: &Layout,
     script: &[u8],
+    source_fails: &[u64],
+    sink_fails: &[u64],
 ) -> Result<Ran, Fail> {
     let words = word(alloc, "run")?;
     let Some(Mode::Run) = mode_of(&words) else {
@@ -26,8 +28,9 @@ pub fn serve_script(
     let Ok(rooms) = Rooms::reserve(alloc, layout) else {
         return Err("no memory for the rooms".into());
     };
-    let mut source = MemorySource::new(Vec::from_slice(alloc, script)?, Vec::new(alloc));
-    let mut sink = MemorySink::new(alloc, Vec::new(alloc));
+    let script = Vec::from_slice(alloc, script)?;
+    let mut source = MemorySource::new(script, Vec::from_slice(alloc, source_fails)?);
+    let mut sink = MemorySink::new(alloc, Vec::from_slice(alloc, sink_fails)?);
     let status = serve(rooms, lines, &words, &mut source, &mut sink, disk);
     Ran::of(alloc, status, &sink)
 }

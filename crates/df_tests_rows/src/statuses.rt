@@ -1,8 +1,11 @@
 // How a run ends where its words have no meaning or a first call fails, and runs in rooms that were taken before.
 use df_layout::Layout;
 use df_memdisk::MemoryDisk;
-use df_runs::{blank, printed, run_failing, run_script, serve_script, small_file, word, words};
+use df_runs::{
+    Ran, blank, printed, run_failing, run_script, serve_failing, small_file, word, words,
+};
 use df_top::Status;
+use std::alloc::Global;
 use std::test::Fail;
 
 const WORDS: [&[&str]; 9] = [
@@ -71,23 +74,53 @@ fn a_refusal_that_is_not_printed_is_a_write_fault(rt: HostRuntime) -> Result<(),
     Ok(())
 }
 
+// A script that is served in rooms for this layout.
+fn served(
+    alloc: Global,
+    disk: &mut MemoryDisk,
+    layout: &Layout,
+    script: &[u8],
+) -> Result<Ran, Fail> {
+    serve_failing(alloc, disk, layout, script, &[], &[])
+}
+
 #[test]
 fn a_file_is_served_in_rooms_of_its_layout_alone(rt: HostRuntime) -> Result<(), Fail> {
-    let mut disk: MemoryDisk = small_file(rt.alloc(), &[])?;
-    let large = serve_script(rt.alloc(), &mut disk, &Layout::large(), b"append 5 1 -\n")?;
+    let mut disk = small_file(rt.alloc(), &[])?;
+    let large = served(rt.alloc(), &mut disk, &Layout::large(), b"append 5 1 -\n")?;
     assert_eq!(rt; large.status, Status::Refused);
     let line = "refused LayoutDiffers 1024 1048576 64 524288 16384 32 8192 4 16384 64\n";
     assert!(rt; printed(&large, line));
-    let small = serve_script(rt.alloc(), &mut disk, &Layout::small(), b"")?;
-    assert_eq!(rt; small.status, Status::Done);
-    assert!(rt; printed(&small, ""));
-    let small = serve_script(
-        rt.alloc(),
-        &mut disk,
-        &Layout::small(),
-        b"append 5 1 -\nstop\n",
-    )?;
+    let small = served(rt.alloc(), &mut disk, &Layout::small(), b"")?;
+    assert!(rt; small.status == Status::Done && printed(&small, ""));
+    let small = served(rt.alloc(), &mut disk, &Layout::small(), b"append 5 1 -\n\n")?;
     assert_eq!(rt; small.status, Status::Script);
     assert!(rt; printed(&small, "appended 1\nscript 2\n"));
+    Ok(())
+}
+
+// Which first call fails, of the disk, the source or the sink, and how the serving ends.
+const FAULTS: [(&[u64], &[u64], &[u64], Status); 3] = [
+    (&[1], &[], &[], Status::DiskFault),
+    (&[], &[1], &[], Status::ReadFault),
+    (&[], &[], &[1], Status::WriteFault),
+];
+
+#[test]
+fn a_first_call_of_a_serving_that_fails_is_told(rt: HostRuntime) -> Result<(), Fail> {
+    let small = Layout::small();
+    for (disk_fails, source_fails, sink_fails, status) in FAULTS {
+        let mut disk = small_file(rt.alloc(), disk_fails)?;
+        let ran = serve_failing(
+            rt.alloc(),
+            &mut disk,
+            &small,
+            b"append 5 1 -\n",
+            source_fails,
+            sink_fails,
+        )?;
+        assert_eq!(rt; ran.status, status);
+        assert!(rt; printed(&ran, ""), "{status:?}");
+    }
     Ok(())
 }
