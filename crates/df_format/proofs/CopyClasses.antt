@@ -1,20 +1,20 @@
 -- A copy of the superblock isn't blank, since the checksum of zeros isn't zero; so one that is valid is stale.
-use Rattle.std.proofs.Common.{inl, inr, ◌≡◌, ◌≢◌, ℕ, ◌-◌, ◌==◌, Bool, true, false, List, take, drop, replicate, Option, Some, None, cond, refl, sym, ◌∙◌, ap, subst, arith}
-use Rattle.std.specs.Prelude.{slice_index, Result, Ok, Err}
+use Rattle.std.proofs.Common.{inl, inr, ◌≡◌, ◌≢◌, ℕ, ◌==◌, Bool, true, false, List, take, drop, replicate, Option, Some, None, cond, refl, sym, ◌∙◌, ap, subst, arith}
+use Rattle.std.specs.Prelude.{slice_index, Err}
 use Rattle.std.proofs.lemmas.Bool.{cond-true, cond-false, cases_Bool, both_ways, false_from_ne_true, eqb-true, eq-eqb, ne_eqb}
 use Rattle.std.proofs.lemmas.List.{take-replicate, drop-replicate}
 use Rattle.std.proofs.lemmas.Slice.Eq.{bytes_eq-Decides}
 use Rattle.df_base.specs.Fields.{check_of}
-use Rattle.df_base.specs.Image.{Image, blank}
+use Rattle.df_base.specs.Image.{blank}
 use Rattle.df_layout.specs.declared.damage.Class.{Class}
-use Rattle.df_layout.specs.declared.damage.Class.TheVariants.{Blank, Garbled, Elsewhere, Stale}
+use Rattle.df_layout.specs.declared.damage.Class.TheVariants.{Blank, Elsewhere, Stale}
 use Rattle.df_layout.specs.declared.places.Zone.TheVariants.{Superblock}
 use Rattle.df_format.specs.Own.{place_in}
 use Rattle.df_format.specs.declared.superblock.SuperCopy.{SuperCopy}
 use Rattle.df_format.specs.Copies.{copy_in, if_here, copy_at, content_of, is_blank_copy, class_of_sound, class_of_copy, copy_or_class, own_copy}
 use Rattle.df_format.specs.CopyLaws.{ValidCopyIsStale, StaleIsCopy, BlankShowsNoCopy}
 use Rattle.df_format.proofs.Digest.{check_of-zeros}
-use Rattle.df_format.proofs.Shown.{none_unless}
+use Rattle.df_format.proofs.Codes.{none_unless}
 use Rattle.df_format.proofs.CopySpelled.{read_as}
 use Rattle.df_format.proofs.Wholes.{unless_blank}
 

@@ -1,17 +1,14 @@
 -- What an image shows at the copies' places: the laws that the superblock rests on.
-use Rattle.std.proofs.Common.{◌≡◌, ◌≢◌, inl, inr, ◌<◌, ◌≤◌, ◌+◌, ◌*◌, ◌==◌, ℕ, false, List, length, take, drop, Option, Some, None, refl, sym, ◌∙◌, ap, subst, arith}
+use Rattle.std.proofs.Common.{◌≡◌, ◌≢◌, inl, inr, ◌+◌, ◌==◌, ℕ, false, List, length, take, drop, Option, Some, None, refl, ◌∙◌, ap, subst, arith}
 use Rattle.std.proofs.lemmas.Bool.{cond-true, cond-false, cases_order, eq-eqb}
 use Rattle.std.proofs.lemmas.List.{take_all}
 use Rattle.df_base.specs.Fields.{check_of}
-use Rattle.df_base.specs.Image.{Image, IsSector, IsPiece, covers, written}
+use Rattle.df_base.specs.Image.{Image, covers, written}
 use Rattle.df_format.specs.declared.superblock.SuperCopy.{SuperCopy}
-use Rattle.df_format.specs.declared.superblock.SuperFields.{SuperFields}
-use Rattle.df_format.specs.Super.{FitsSuper, covered_bytes, copy_bytes}
-use Rattle.df_format.specs.SuperRules.{IsUsable}
-use Rattle.df_format.specs.Copies.{copy_in, if_here, copy_at, content_of, content_at, content_with}
+use Rattle.df_format.specs.Super.{covered_bytes, copy_bytes}
+use Rattle.df_format.specs.Copies.{copy_in, if_here, copy_at, content_of}
 use Rattle.df_format.specs.CopyLaws.{WrittenCopyIsShown, OtherSectorsStay, OtherCopiesStay, CopyIsOneSector, SameSectorSameCopy}
-use Rattle.df_format.proofs.Sectors.{covered}
-use Rattle.df_format.proofs.Shown.{uncovered_below, uncovered_above}
+use Rattle.df_format.proofs.Sectors.{covered, uncovered_above, uncovered_below}
 use Rattle.df_format.proofs.CopySpelled.{length-copy, copy_is_sector, copy_is_read}
 
 -- one sector that is written

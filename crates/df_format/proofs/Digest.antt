@@ -1,5 +1,5 @@
 -- The checksum of a blank sector's covered part, computed.
-use Rattle.std.proofs.Common.{◌≡◌, ℕ, [], ◌∷◌, replicate, refl}
+use Rattle.std.proofs.Common.{◌≡◌, [], ◌∷◌, replicate, refl}
 use Rattle.sha2.specs.Sha256.{compress, schedule, first_words, rounds, hash_after, digest_bytes, sha256}
 use Rattle.df_base.specs.Fields.{check_of}
 

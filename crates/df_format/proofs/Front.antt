@@ -1,15 +1,15 @@
 -- What is read of a place is a matter of the front that holds the unit.
-use Rattle.std.proofs.Common.{◌≡◌, ◌≢◌, ℕ, ◌+◌, ◌-◌, ◌≤◌, Bool, true, List, ◌++◌, length, take, drop, Some, refl, sym, ◌∙◌, ap, arith, append_assoc}
+use Rattle.std.proofs.Common.{◌≡◌, ◌≢◌, ℕ, ◌+◌, ◌-◌, ◌≤◌, List, ◌++◌, length, take, drop, refl, sym, ◌∙◌, ap, arith, append_assoc}
 use Rattle.std.specs.Str.{bytes_eq}
 use Rattle.std.proofs.lemmas.List.{take-append-drop, take-append-le, drop-append-le, length-take-le, length-drop}
 use Rattle.df_base.specs.Fields.{check_of}
 use Rattle.df_layout.specs.declared.places.Zone.{Zone}
 use Rattle.df_layout.specs.declared.places.Zone.TheVariants.{Superblock, WalHeaders, WalPrepares, ClientReplies, Grid}
 use Rattle.df_format.specs.declared.header.Header.{Header}
-use Rattle.df_format.specs.Message.{Message, sectors_of, unit_of}
+use Rattle.df_format.specs.Message.{sectors_of, unit_of}
 use Rattle.df_format.specs.Reading.{header_in}
 use Rattle.df_format.specs.Whole.{body_in, has_body}
-use Rattle.df_format.specs.Brings.{Brings, FrontBrings, MadeBrings}
+use Rattle.df_format.specs.Brings.{FrontBrings, MadeBrings}
 use Rattle.df_format.proofs.Units.{sectors_for_place}
 use Rattle.df_format.proofs.Wholes.{begun_is_shown, found_unit, unit_found}
 

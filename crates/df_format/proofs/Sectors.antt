@@ -1,10 +1,11 @@
 -- The bytes of some sectors of an image, and what a write of whole sectors makes of them.
-use Rattle.std.proofs.Common.{◌≡◌, inl, inr, ◌<◌, ◌≤◌, ◌+◌, ◌-◌, ◌*◌, ℕ, zero, suc, List, [], ◌++◌, length, take, drop, refl, sym, ◌∙◌, ap, subst, arith, append_assoc, length-append}
-use Rattle.std.proofs.lemmas.Bool.{cases_lt}
+use Rattle.std.proofs.Common.{◌≡◌, inl, inr, ◌<◌, ◌≤◌, ◌+◌, ◌-◌, ◌*◌, ℕ, false, zero, suc, List, [], ◌++◌, length, take, drop, refl, sym, ◌∙◌, ap, subst, arith, append_assoc, length-append}
+use Rattle.std.proofs.lemmas.Bool.{and_left, and_right, cases_lt, le-ltb, lt-leb}
 use Rattle.std.proofs.lemmas.Bool.Decides.{nat_tests}
-use Rattle.std.proofs.lemmas.List.{drop_all, take-append-drop, drop-drop}
+use Rattle.std.proofs.lemmas.List.{drop_all, take-append-drop, drop-drop, length-replicate}
 use Rattle.df_base.specs.Fields.{AreBytes}
-use Rattle.df_base.specs.Image.{Image, IsImage, bytes_at, covers, written}
+use Rattle.df_base.specs.Image.{Image, IsImage, blank, bytes_at, covers, written}
+use Rattle.df_format.proofs.Messages.{AreBytes-zeros}
 use Rattle.df_format.proofs.Parts.{bytes-append}
 
 pub length-bytes_at : (image : Image) (at n : ℕ) → IsImage image → length (bytes_at image at n) ≡ 4096 * n
@@ -27,10 +28,6 @@ same_sectors one two at zero same = refl
 same_sectors one two at (suc n) same = λ i. same_first one two at n same i ++ same_sectors one two (at + 1) n (same_later one two at n same) i
 
 -- the first of some sectors
-pub first_sector : (image : Image) (at n : ℕ) → 0 < n → (rest : List ℕ) × (bytes_at image at n ≡ image at ++ rest)
-first_sector image at zero some = absurd (omega arith)
-first_sector image at (suc n) some = (bytes_at image (at + 1) n, refl)
-
 -- a sector of a write holds its part of the bytes
 pub covered : (at : ℕ) (bytes : List ℕ) (image : Image) (k : ℕ) → 4096 * k < length bytes → written at bytes image (at + k) ≡ take 4096 (drop (4096 * k) bytes)
 unfolding written covers
@@ -66,3 +63,17 @@ written_begins at bytes image n fits =
     let here : at + 0 ≡ at = omega arith in
     let all = written_from at bytes image 0 n (omega arith) in
     (all.0, ap (λ (s : ℕ). bytes_at (written at bytes image) s n) (sym here) ∙ all.1)
+
+-- a write covers no sector in front of it or behind it
+pub uncovered_below : (at : ℕ) (bytes : List ℕ) (sector : ℕ) → sector < at → covers at bytes sector ≡ false
+unfolding covers
+uncovered_below at bytes sector order = and_left _ _ (lt-leb at sector order)
+
+pub uncovered_above : (at : ℕ) (bytes : List ℕ) (sector n : ℕ) → length bytes ≤ 4096 * n → at + n ≤ sector → covers at bytes sector ≡ false
+unfolding covers
+uncovered_above at bytes sector n fits order = and_right _ _ (le-ltb (4096 * (sector - at)) (length bytes) (omega arith))
+
+-- a blank image is whole sectors
+pub blank_image : IsImage blank
+unfolding blank
+blank_image = record { sectors = λ sector. record { size = length-replicate {A = ℕ} 4096 0; each = AreBytes-zeros 4096 } }

@@ -12,7 +12,7 @@ use Rattle.df_format.specs.declared.kind.Kind.{Kind}
 use Rattle.df_format.specs.Spelling.{code_of, version_bytes, tail_bytes, spelling, spelling_rest, IsCheck}
 use Rattle.df_format.specs.Rules.{ObeysRules, IsSealed}
 use Rattle.df_format.specs.Reading.{kind_of, fields_of, has_numbers, is_spelled, header_of_kind, header_in}
-use Rattle.df_format.specs.Laws.{HeadersHaveOneSpelling}
+use Rattle.df_format.specs.UnitLaws.{HeadersHaveOneSpelling}
 use Rattle.df_format.proofs.Codes.{kind_of-code, code_of-kind}
 use Rattle.df_format.proofs.Parts.{bytes-take, bytes-drop, piece, past}
 use Rattle.df_format.proofs.Ranges.{AreInRange, in_range, passes}

@@ -1,17 +1,15 @@
 -- A superblock has no fault exactly where it obeys the rules: each test decides one of them.
-use Rattle.std.proofs.Common.{inl, inr, ◌≡◌, ◌≢◌, ◌<◌, ◌≤◌, ◌+◌, ◌%◌, ◌^◌, ◌==◌, ◌||◌, ◌&&◌, ℕ, Bool, true, false, not, List, [], ◌∷◌, Option, Some, None, refl, sym, ◌∙◌, cond}
+use Rattle.std.proofs.Common.{inl, inr, ◌≡◌, ◌≢◌, ◌<◌, ◌≤◌, ◌+◌, ◌%◌, ◌^◌, ◌==◌, ◌||◌, ◌&&◌, ℕ, Bool, true, false, not, List, Option, Some, None, refl, sym, ◌∙◌, cond}
 use Rattle.std.specs.Prelude.{nat_lt, nat_le, is_none}
 use Rattle.std.specs.Bool.{Decides}
 use Rattle.std.proofs.lemmas.Bool.{or_cases, or_left, or_right, both_ways, not-true, not_from_false, leb-true, le-leb, eqb-true, eq-eqb, ne_eqb, cases_eq, cond-true, cond-false}
 use Rattle.std.proofs.lemmas.Bool.Decides.{Decides-eqb, Decides-ltb, Decides-and, Decides-like}
 use Rattle.std.proofs.lemmas.Slice.Eq.{bytes_eq-Decides}
-use Rattle.df_layout.specs.declared.fields.Field.{Field}
-use Rattle.df_layout.specs.Limits.{AreSlots, IsMessageSize, AreClients, IsBlockSize, AreBlocks}
 use Rattle.df_format.specs.declared.superblock.SuperFields.{SuperFields}
 use Rattle.df_format.specs.declared.superblock.SuperFault.{SuperFault}
-use Rattle.df_format.specs.declared.superblock.SuperFault.TheVariants.{Version, BadField}
+use Rattle.df_format.specs.declared.superblock.SuperFault.TheVariants.{Version}
 use Rattle.df_format.specs.Spelling.{no_checksum}
-use Rattle.df_format.specs.SuperRules.{IsSuper, Test, greatest_trailer, is_between, is_whole_between, is_zero_check, has_trailer_size, field_tests, first_failing, fault_of, FaultsAreBrokenRules}
+use Rattle.df_format.specs.SuperRules.{IsSuper, greatest_trailer, is_between, is_whole_between, is_zero_check, has_trailer_size, fault_of, FaultsAreBrokenRules}
 
 -- one test and those behind it
 passed : (b : Bool) (fault : SuperFault) (later : Option SuperFault) → cond b later (Some fault) ≡ None → (b ≡ true) × (later ≡ None)

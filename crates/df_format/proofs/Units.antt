@@ -24,8 +24,8 @@ use Rattle.df_format.specs.UnitLaws.{place_size, IsAtPlace, ShownBelongs, ReadBe
 use Rattle.df_format.proofs.Messages.{length-sectors, AreBytes-sectors, AreBytes-spelling}
 use Rattle.df_format.proofs.Owned.{own_is, belongs}
 use Rattle.df_format.proofs.Parts.{bytes-take, bytes-drop, bytes-append}
-use Rattle.df_format.proofs.Sectors.{length-bytes_at, AreBytes-bytes_at, same_sectors, written_begins}
-use Rattle.df_format.proofs.Shown.{none_unless, uncovered_below, uncovered_above}
+use Rattle.df_format.proofs.Codes.{none_unless}
+use Rattle.df_format.proofs.Sectors.{length-bytes_at, AreBytes-bytes_at, same_sectors, uncovered_above, uncovered_below, written_begins}
 use Rattle.df_format.proofs.Spelled.{length-spelling}
 use Rattle.df_format.proofs.Wholes.{unit_found, begun_is_shown, one_unit, fits_slot, zeros_are_none, blank-from}
 

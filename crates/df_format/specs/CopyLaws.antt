@@ -1,5 +1,5 @@
 -- What holds of every copy of the superblock, sector and image: what the layers above rest on.
-use Rattle.std.specs.Prelude.{◌≡◌, ◌≢◌, ◌↔◌, ◌<◌, ℕ, List, length, Some, None}
+use Rattle.std.specs.Prelude.{◌≡◌, ◌≢◌, ◌↔◌, ◌<◌, ℕ, List, Some, None}
 use Rattle.df_base.specs.Fields.{check_of}
 use Rattle.df_base.specs.Image.{Image, IsSector, IsPiece, blank, written}
 use Rattle.df_layout.specs.declared.damage.Class.TheVariants.{Stale}

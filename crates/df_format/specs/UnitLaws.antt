@@ -1,27 +1,28 @@
--- What holds of every unit, place and image of a layout: what the layers above rest on.
-use Rattle.std.specs.Prelude.{◌≡◌, ◌≢◌, ◌⊎◌, ◌↔◌, ◌<◌, ◌≤◌, ◌+◌, ◌-◌, ◌*◌, ◌/◌, ◌%◌, ℕ, false, List, [], ◌∷◌, ◌++◌, length, take, drop, slice_get, Some, None}
+-- What holds of every header, and of every unit, place and image of a layout: what the layers above rest on.
+use Rattle.std.specs.Prelude.{◌≡◌, ◌≢◌, ◌↔◌, ◌<◌, ◌≤◌, ◌+◌, ◌-◌, ◌*◌, ◌/◌, ◌%◌, ℕ, false, List, [], ◌∷◌, ◌++◌, length, take, drop, slice_get, Some, None}
 use Rattle.df_base.specs.Fields.{AreBytes}
 use Rattle.df_base.specs.Image.{Image, IsImage, IsPiece, blank, bytes_at, written}
-use Rattle.df_base.specs.Log.{Log, Write, IsLeft, add, loose, now, settled}
+use Rattle.df_base.specs.Log.{Log, Write, IsLeft, add, loose, now}
 use Rattle.df_layout.specs.declared.damage.Class.TheVariants.{Blank, Elsewhere, Stale}
 use Rattle.df_layout.specs.declared.layout.Layout.{Layout}
 use Rattle.df_layout.specs.declared.places.Place.{Place}
 use Rattle.df_layout.specs.declared.places.Zone.{Zone}
-use Rattle.df_layout.specs.declared.places.Zone.TheVariants.{WalHeaders, WalPrepares}
+use Rattle.df_layout.specs.declared.places.Zone.TheVariants.{WalHeaders}
 use Rattle.df_layout.specs.Spans.{HasPlace, place_sectors, span_of}
 use Rattle.df_layout.specs.Order.{ShareHeaderSector}
-use Rattle.df_layout.specs.Zones.{first_sector}
 use Rattle.df_format.specs.declared.header.Header.{Header}
-use Rattle.df_format.specs.declared.wal.Wal.{Wal}
 use Rattle.df_format.specs.Spelling.{spelling}
 use Rattle.df_format.specs.Rules.{IsSealed}
+use Rattle.df_format.specs.Reading.{header_in}
 use Rattle.df_format.specs.Message.{Message, sectors_of}
 use Rattle.df_format.specs.Own.{place_in, own_place}
 use Rattle.df_format.specs.Whole.{greatest_size}
 use Rattle.df_format.specs.Shown.{part_in, unit_in, class_of, unit_at, class_at}
 use Rattle.df_format.specs.Valid.{IsUnit, Begins, Belongs}
-use Rattle.df_format.specs.Unit.{IsPrepare, prepare_at, slot_start}
-use Rattle.df_format.specs.Pools.{InImages, NoChance}
+
+-- 256 bytes are read as a header exactly where it is sealed and they are its spelling
+abbrev pub HeadersHaveOneSpelling : Type 0
+HeadersHaveOneSpelling = (bytes : List ℕ) (h : Header) → length bytes ≡ 256 → AreBytes bytes → (header_in bytes ≡ Some h) ↔ (IsSealed h × (bytes ≡ spelling h))
 
 -- how many bytes a place of a zone has; a header has its part of a sector
 abbrev pub place_size : Layout → Zone → ℕ
@@ -167,35 +168,6 @@ LeftIsApart =
     (layout : Layout) (cluster : ℕ) (log : Log) (image : Image) (place other : Place) (bytes : List ℕ) → HasPlace layout place → IsOther layout place other
     → length bytes ≤ 4096 * (span_of layout place).count → IsQuiet layout log other → IsLeft (add (Write (span_of layout place).first bytes) log) image
     → ShowSame layout cluster other image (now log)
-
--- what a stop within a write leaves at a quiet place is a unit that was durable there, or one that the write itself brings
-abbrev pub LeftIsOldOrNew : Type 0
-LeftIsOldOrNew =
-    (layout : Layout) (cluster : ℕ) (log : Log) (image : Image) (place : Place) (at : ℕ) (bytes : List ℕ) (u : Message) → IsQuiet layout log place → NoChance layout cluster (add (Write at bytes) log) image
-    → unit_at layout cluster image place ≡ Some u → InImages layout cluster (settled log) place u ⊎ (unit_at layout cluster (written at bytes blank) place ≡ Some u)
-
--- the log of a layout and a cluster
-pub record IsWalOf (layout : Layout) (cluster : ℕ) (wal : Wal) : Type 0 where
-  pub owner : wal.cluster ≡ cluster
-  pub slots : wal.slots ≡ layout.slots
-  pub message_size : wal.message_size ≡ layout.message_size
-  pub first_sector : wal.first_sector ≡ first_sector layout WalPrepares
-
--- its slots show the units of the ring of prepares
-abbrev pub PreparesAreUnits : Type 0
-PreparesAreUnits =
-    (layout : Layout) (cluster : ℕ) (wal : Wal) (image : Image) (slot : ℕ) → IsWalOf layout cluster wal
-    → prepare_at wal image slot ≡ unit_at layout cluster image (place_in WalPrepares slot)
-
--- each slot begins where the place of its number does
-abbrev pub SlotsArePlaces : Type 0
-SlotsArePlaces = (layout : Layout) (cluster : ℕ) (wal : Wal) (slot : ℕ) → IsWalOf layout cluster wal → slot_start wal slot ≡ (span_of layout (place_in WalPrepares slot)).first
-
--- a unit that is valid in a slot is a prepare of the log, with that slot
-abbrev pub UnitsArePrepares : Type 0
-UnitsArePrepares =
-    (layout : Layout) (cluster : ℕ) (wal : Wal) (slot : ℕ) (u : Message) → IsWalOf layout cluster wal → IsUnit layout cluster (place_in WalPrepares slot) u
-    → IsPrepare wal u × (u.header.slot ≡ slot)
 
 -- a unit that was made is valid at its own place, where it fits that; in the header ring it has no body
 abbrev pub MadeIsUnit : Message → Type 0

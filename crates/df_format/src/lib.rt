@@ -17,10 +17,8 @@ mod kind_tests;
 mod make;
 mod own;
 mod pieces;
-mod places;
 mod reference;
 mod rules;
-mod slot_laws;
 mod super_codec;
 #[cfg(test)]
 mod super_examples;
@@ -31,7 +29,6 @@ mod superblock;
 #[cfg(test)]
 mod tests;
 mod unit_laws;
-mod wal;
 
 pub use codec::{decode_header, encode_header, seal_header};
 pub use copy_laws::{
@@ -44,16 +41,11 @@ pub use kind::Kind;
 pub use make::{Made, make_unit};
 pub use own::own_place;
 pub use reference::Reference;
-pub use slot_laws::{
-    blank_shows_none, headers_have_one_spelling, same_is_shown, shown_belongs,
-    slots_have_one_prepare, written_is_shown,
-};
 pub use super_codec::{decode_copy, decode_own_copy, encode_copy};
 pub use super_rules::{Super, faults_are_broken_rules, test_fields};
 pub use superblock::{SuperCopy, SuperFault, SuperFields};
 pub use unit_laws::{
     blank_shows_no_unit, bodies_follow_headers, classes_tell, header_sector_is_shown,
-    left_is_old_or_new, other_places_stay, places_show_their_sectors, prepares_are_units,
-    sectors_bring_units, units_belong, units_have_one_spelling, written_unit_is_shown,
+    headers_have_one_spelling, other_places_stay, places_show_their_sectors, sectors_bring_units,
+    units_belong, units_have_one_spelling, written_unit_is_shown,
 };
-pub use wal::Wal;

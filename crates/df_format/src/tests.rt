@@ -4,7 +4,7 @@ ghost use Rattle.df_format.specs.Rules.{ObeysRules};
 ghost use Rattle.df_format.specs.Making.{for_body};
 
 use crate::examples::{PREPARE, changed, spelled};
-use crate::{Header, Kind, Wal, decode_header, decode_unit, make_unit};
+use crate::{Header, Kind, decode_header, decode_unit, make_unit};
 use df_base::check;
 use df_layout::{Class, Layout, Place, Zone};
 
@@ -108,20 +108,4 @@ fn tests_the_body_and_not_what_follows_it(rt: HostRuntime) {
     assert_eq!(rt; shown(7, 1, &slot), Ok(made.header));
     slot[258] = b'd';
     assert_eq!(rt; shown(7, 1, &slot), Err(Class::Garbled));
-}
-
-#[test]
-fn has_the_log_of_a_layout(rt: HostRuntime) {
-    let cases = [
-        (Layout::small(), 32, 8192, 6),
-        (Layout::large(), 1024, 1_048_576, 68),
-    ];
-    for (layout, slots, message_size, first_sector) in cases {
-        let wal = Wal::of(&layout, 7);
-        assert_eq!(rt;
-            (wal.cluster, wal.slots, wal.message_size),
-            (7, slots, message_size)
-        );
-        assert_eq!(rt; wal.first_sector, first_sector);
-    }
 }

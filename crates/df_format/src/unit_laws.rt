@@ -1,6 +1,11 @@
-// Laws of every unit, place and image of a layout, each the clause of a function that does nothing.
+// Laws of every header, and of every unit, place and image of a layout, each the clause of a function that does nothing.
 ghost use Rattle.df_format.specs.Brings.{MadeBrings, FrontBrings};
-ghost use Rattle.df_format.specs.UnitLaws.{UnitsHaveOneSpelling, ShownBelongs, ShownIsUnit, ReadBelongs, ValidBelongs, BodyFollows, RingHasNoBody, ValidIsStale, StaleIsValid, ElsewhereIsOther, SameIsShown, ReadIsShown, WrittenIsShown, SectorsFitPlace, WrittenIsApart, LeftIsApart, LeftIsOldOrNew, SectorIsShown, HeadersFillSector, HeaderIsShown, BlankShowsNone, PreparesAreUnits, SlotsArePlaces, UnitsArePrepares};
+ghost use Rattle.df_format.specs.UnitLaws.{HeadersHaveOneSpelling, UnitsHaveOneSpelling, ShownBelongs, ShownIsUnit, ReadBelongs, ValidBelongs, BodyFollows, RingHasNoBody, ValidIsStale, StaleIsValid, ElsewhereIsOther, SameIsShown, ReadIsShown, WrittenIsShown, SectorsFitPlace, WrittenIsApart, LeftIsApart, SectorIsShown, HeadersFillSector, HeaderIsShown, BlankShowsNone};
+
+/// 256 bytes are read as a header exactly where it is sealed and they are its spelling.
+pub fn headers_have_one_spelling()
+    ensures { HeadersHaveOneSpelling }
+{}
 
 /// A place shows a unit exactly where its bytes begin with one that is valid there.
 pub fn units_have_one_spelling()
@@ -62,21 +67,7 @@ pub fn other_places_stay()
     ensures left { LeftIsApart }
 {}
 
-/// A stop within a write, under no chance, leaves at a place where nothing else is loose a unit that was durable there, or
-/// one that the write itself brings.
-pub fn left_is_old_or_new()
-    ensures { LeftIsOldOrNew }
-{}
-
 /// A blank image shows no unit, and each place of it is blank.
 pub fn blank_shows_no_unit()
     ensures { BlankShowsNone }
-{}
-
-/// The slots of a layout's log lie where the places of the ring of prepares lie, and show the units of those places; a
-/// unit that is valid in one is a prepare of the log with that slot.
-pub fn prepares_are_units()
-    ensures shown { PreparesAreUnits }
-    ensures start { SlotsArePlaces }
-    ensures valid { UnitsArePrepares }
 {}

@@ -1,11 +1,1 @@
-pub mod Slots
-pub mod Places
-pub mod Chains
-pub mod Rings
-pub mod Firm
-pub mod Quiet
-pub mod Steps
-pub mod Rests
-pub mod Finds
-pub mod Heads
-pub mod Apart
+pub mod Own

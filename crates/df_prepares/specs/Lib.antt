@@ -1,6 +1,1 @@
-pub mod Ring
 pub mod Slots
-pub mod Found
-pub mod Steady
-pub mod Laws
-pub mod Apart

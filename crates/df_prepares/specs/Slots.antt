@@ -4,7 +4,6 @@ use Rattle.df_base.specs.Log.{Event}
 use Rattle.df_layout.specs.declared.layout.Layout.{Layout}
 use Rattle.df_layout.specs.declared.places.Place.{Place}
 use Rattle.df_layout.specs.declared.places.Zone.TheVariants.{WalPrepares}
-use Rattle.df_layout.specs.Spans.{span_of}
 use Rattle.df_format.specs.Message.{Message}
 use Rattle.df_format.specs.Own.{place_in}
 use Rattle.df_format.specs.Valid.{IsUnit}
@@ -17,10 +16,6 @@ use Rattle.df_places.specs.Units.{unit_events, unit_steps}
 -- the place of a slot
 abbrev pub slot_place : ℕ → Place
 slot_place slot = place_in WalPrepares slot
-
--- the first sector of a slot
-abbrev pub slot_first : Layout → ℕ → ℕ
-slot_first layout slot = (span_of layout (slot_place slot)).first
 
 -- the unit is valid in the slot that its header names
 abbrev pub IsInOwnSlot : Layout → Message → Type 0

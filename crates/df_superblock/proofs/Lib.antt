@@ -1,6 +1,5 @@
 pub mod Sights
 pub mod Choices
-pub mod Ready
 pub mod Turns
 pub mod Mends
 pub mod Misleads
@@ -9,3 +8,6 @@ pub mod Written
 pub mod Mended
 pub mod Verdicts
 pub mod Stepped
+pub mod Starts
+pub mod BlankSlots
+pub mod Laws

@@ -11,14 +11,13 @@ use Rattle.df_format.specs.declared.superblock.SuperFields.{SuperFields}
 use Rattle.df_format.specs.Copies.{Content, content_at, content_with}
 use Rattle.df_quorum.specs.declared.choice.Chosen.{Chosen}
 use Rattle.df_quorum.specs.Quorum.{Agree}
-use Rattle.df_superblock.specs.Copies.{AreQuiet, AreEqual, AreSteady, IsKept, IsChoice, Spare}
+use Rattle.df_superblock.specs.Copies.{AreQuiet, AreEqual, IsChoice, Spare}
 use Rattle.df_superblock.specs.Events.{mend_events, repair_events}
 use Rattle.df_base.specs.Moments.{adds}
-use Rattle.df_superblock.specs.Calls.{KeepsMembers, RepairsSteadily, KeepsUnlessMisled, RepairsUnlessMisled, IsRepaired, EndsRepaired}
+use Rattle.df_superblock.specs.Calls.{KeepsMembers, KeepsUnlessMisled, RepairsUnlessMisled, EndsRepaired}
 use Rattle.df_superblock.proofs.Sights.{PutsCopy, written_other}
-use Rattle.df_superblock.proofs.Ready.{IsReady, steady_ready}
 use Rattle.df_disk.proofs.Laws.{adds_part, part_then, all_then, passes}
-use Rattle.df_superblock.proofs.Mends.{Spares, Writes, member_spared, other_written, repair_keeps, repair_steady, shown_stays, written_shows}
+use Rattle.df_superblock.proofs.Mends.{Spares, Writes, member_spared, other_written, shown_stays, written_shows}
 use Rattle.df_superblock.proofs.Misleads.{AreOutside, KeepsChoice, each_stays}
 use Rattle.df_superblock.proofs.Puts.{copy_put, one_content}
 use Rattle.df_superblock.proofs.Written.{tells_after}
@@ -131,36 +130,13 @@ module _ (f : SuperFields) (chosen : Chosen) (for : IsFor f chosen) (log : Log) 
   puts : (n : ℕ) → n < 4 → PutsCopy n (copy_bytes n f) c
   puts n below = subst (λ (x : Content). PutsCopy n (copy_bytes n f) x) same (copy_put f for.usable n below)
 
-  spares : (n : ℕ) → n < 4 → content_at (now log) n ≡ Some c → Spares n 0 members
-  spares n below shown =
-      let place : 0 + n ≡ n = omega arith in
-      subst (λ (k : ℕ). Spares k 0 members) place (member_spared 0 n members ((choice.members n below).1 shown))
-
-  first_spared : Spares agreed.first 0 members
-  first_spared = spares agreed.first (omega (arith, agreed.apart, agreed.inside)) agreed.at_first
-
-  second_spared : Spares agreed.second 0 members
-  second_spared = spares agreed.second agreed.inside agreed.at_second
-
-  ready : AreSteady log c → IsReady log c agreed.first agreed.second
-  ready steady = steady_ready log c agreed steady.quiet steady.bounded
-
-  pub kept_each : AreSteady log c → AtEach (λ l. IsKept l c) log (repair_events f 0 members)
-  kept_each steady = repair_keeps f c puts agreed.first agreed.second 0 members log fits first_spared second_spared (ready steady)
-
-  equal : AreEqual (now (adds (repair_events f 0 members) log)) c
+  pub equal : AreEqual (now (adds (repair_events f 0 members) log)) c
   equal n below = elim (cases_bool (get_or members n false)) [
     | inl member ↦ shown_stays f c puts n 0 members log fits ((choice.members n below).0 member)
     | inr other ↦
         let place : 0 + n ≡ n = omega arith in
         written_shows f c puts n 0 members log fits (subst (λ (k : ℕ). Writes k 0 members) place (other_written 0 n members (omega (arith, for.size)) other))
   ]
-
-  pub repaired : IsRepaired log (adds (repair_events f 0 members) log) c
-  repaired = record {
-    equal = equal;
-    steady = λ steady. repair_steady f c puts agreed.first agreed.second 0 members log fits first_spared second_spared (ready steady) steady;
-  }
 
   further : (m k : ℕ) → (content_at (now log) (m + suc k) ≡ Some c → ⊥) → content_at (now log) ((m + 1) + k) ≡ Some c → ⊥
   further m k away = let place : m + suc k ≡ (m + 1) + k = omega arith in subst (λ (j : ℕ). content_at (now log) j ≡ Some c → ⊥) place away
@@ -185,15 +161,11 @@ module _ (f : SuperFields) (chosen : Chosen) (for : IsFor f chosen) (log : Log) 
       at_weaker (KeepsChoice (content_at (now log)) c) (KeepsUnlessMisled log c) (λ l keeps image left not. keeps image left.kept not) (repair_events f 0 members) log
       (each_stays f c puts (content_at (now log)) choice.is 0 members log fits (record { shown = λ n below. inr refl; firm = λ n below is. quiet n below }) outside)
 
-pub repairs_steadily : {T E : Type 0} → (f : SuperFields) (chosen : Chosen) (old new : Option Told) (result : Result T E) → IsFor f chosen → Adds (repair_events f 0 chosen.members) old new result → RepairsSteadily chosen old new
-repairs_steadily f chosen None new result for is = tt
-repairs_steadily f chosen (Some t) new result for is = λ c whole choice steady. passes (λ l. IsKept l c) (repair_events f 0 chosen.members) t new result (kept_each f chosen for t.log c whole choice steady) is
-
 pub repairs_unless_misled : {T E : Type 0} → (f : SuperFields) (chosen : Chosen) (old new : Option Told) (result : Result T E) → IsFor f chosen → Adds (repair_events f 0 chosen.members) old new result → RepairsUnlessMisled chosen old new
 repairs_unless_misled f chosen None new result for is = tt
 repairs_unless_misled f chosen (Some t) new result for is = λ c whole choice quiet. passes (KeepsUnlessMisled t.log c) (repair_events f 0 chosen.members) t new result (unless_misled f chosen for t.log c whole choice quiet) is
 
 pub ends_repaired : {T E : Type 0} → (f : SuperFields) (chosen : Chosen) (old new : Option Told) (result : Result T E) → IsFor f chosen → Adds (repair_events f 0 chosen.members) old new result → OnOk result (EndsRepaired chosen old new)
 ends_repaired f chosen None new (Ok x) for is = tt
-ends_repaired f chosen (Some t) new (Ok x) for is = λ c whole choice. tells_after (repair_events f 0 chosen.members) t new (λ log. IsRepaired t.log log c) is (repaired f chosen for t.log c whole choice)
+ends_repaired f chosen (Some t) new (Ok x) for is = λ c whole choice. tells_after (repair_events f 0 chosen.members) t new (λ log. AreEqual (now log) c) is (equal f chosen for t.log c whole choice)
 ends_repaired f chosen old new (Err e) for is = tt

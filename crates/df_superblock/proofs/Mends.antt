@@ -1,4 +1,4 @@
--- A repair, one copy after the other, by the history.
+-- A repair, one copy after the other: which copies it writes, and what they show then.
 use Rattle.std.proofs.Common.{◌≡◌, ◌⊎◌, inl, inr, ℕ, zero, suc, ◌<◌, ◌≤◌, ◌+◌, Bool, true, false, List, [], ◌∷◌, length, get_or, Some, ◌∙◌, ap, subst, arith}
 use Rattle.std.proofs.lemmas.Bool.{cases_eq}
 use Rattle.df_base.specs.Image.{Image, written}
@@ -6,12 +6,9 @@ use Rattle.df_base.specs.Log.{Write, Sync, Log, add, now}
 use Rattle.df_format.specs.Super.{copy_bytes}
 use Rattle.df_format.specs.Copies.{Content, content_at}
 use Rattle.df_format.specs.declared.superblock.SuperFields.{SuperFields}
-use Rattle.df_superblock.specs.Copies.{AreSteady, IsKept}
 use Rattle.df_superblock.specs.Events.{repair_events}
 use Rattle.df_base.specs.Moments.{adds}
 use Rattle.df_superblock.proofs.Sights.{PutsCopy, seen_apart}
-use Rattle.df_superblock.proofs.Ready.{IsReady, ready_kept, ready_wrote, ready_synced}
-use Rattle.df_base.proofs.Laws.{AtEach}
 
 -- this copy isn't among those that are written, from a number on
 abbrev pub Spares : ℕ → ℕ → List Bool → Type 0
@@ -58,26 +55,6 @@ module _ (f : SuperFields) (c : Content) (puts : (n : ℕ) → n < 4 → PutsCop
   -- the log with one copy more
   abbrev one_more : ℕ → Log → Log
   one_more n log = add Sync (add (Write n (copy_bytes n f)) log)
-
-  pub repair_keeps : (p q number : ℕ) (members : List Bool) (log : Log) → number + length members ≤ 4 → Spares p number members → Spares q number members → IsReady log c p q → AtEach (λ l. IsKept l c) log (repair_events f number members)
-  repair_keeps p q number [] log fits first second ready = ready_kept log c p q ready
-  repair_keeps p q number (true ∷ members) log fits first second ready = repair_keeps p q (number + 1) members log (omega arith) first second ready
-  repair_keeps p q number (false ∷ members) log fits first second ready =
-      let wet : IsReady (add (Write number (copy_bytes number f)) log) c p q = ready_wrote log c p q number (copy_bytes number f) (puts number (omega arith)) first.0 second.0 ready in (
-        ready_kept log c p q ready,
-        (
-          ready_kept (add (Write number (copy_bytes number f)) log) c p q wet,
-          repair_keeps p q (number + 1) members (one_more number log) (omega arith) first.1 second.1 (ready_synced (add (Write number (copy_bytes number f)) log) c p q wet),
-        ),
-      )
-
-  pub repair_steady : (p q number : ℕ) (members : List Bool) (log : Log) → number + length members ≤ 4 → Spares p number members → Spares q number members → IsReady log c p q → AreSteady log c → AreSteady (adds (repair_events f number members) log) c
-  repair_steady p q number [] log fits first second ready steady = steady
-  repair_steady p q number (true ∷ members) log fits first second ready steady = repair_steady p q (number + 1) members log (omega arith) first second ready steady
-  repair_steady p q number (false ∷ members) log fits first second ready steady =
-      let wet : IsReady (add (Write number (copy_bytes number f)) log) c p q = ready_wrote log c p q number (copy_bytes number f) (puts number (omega arith)) first.0 second.0 ready in
-      repair_steady p q (number + 1) members (one_more number log) (omega arith) first.1 second.1 (ready_synced (add (Write number (copy_bytes number f)) log) c p q wet)
-      (ready_kept (add (Write number (copy_bytes number f)) log) c p q wet).synced
 
   -- a copy that shows the content goes on showing it
   one_stays : (n number : ℕ) (image : Image) → number < 4 → content_at image n ≡ Some c → content_at (written number (copy_bytes number f) image) n ≡ Some c

@@ -1,17 +1,15 @@
 -- An update of four equal copies, step by step.
 use Rattle.std.proofs.Common.{◌≡◌, ◌⊎◌, inl, inr, ℕ, ◌<◌, ◌≤◌, ◌+◌, ◌||◌, false, List, [], ◌∷◌, ◌++◌, Some, refl, sym, ◌∙◌, ap, subst, arith}
 use Rattle.std.proofs.lemmas.Bool.{cases_eq, cases_lt}
-use Rattle.df_base.specs.Image.{Image, written, changed}
-use Rattle.df_base.specs.Log.{Event, Write, Sync, Stop, Log, AreLoose, add, loose, loose_of, now, now_of}
+use Rattle.df_base.specs.Image.{Image, written}
+use Rattle.df_base.specs.Log.{Event, Write, Sync, Stop, Log, add, loose, loose_of, now, now_of}
 use Rattle.df_base.specs.Moments.{Extends}
 use Rattle.df_format.specs.Copies.{Content, content_at, rank_of}
-use Rattle.df_format.specs.CopyPools.{AmongWrites, NoChanceCopy}
 use Rattle.df_quorum.specs.Quorum.{Copies, Agree, IsChosen}
-use Rattle.df_superblock.specs.Copies.{AreQuiet, IsBounded, AreSteady, AreEqual, OfEither, IsEither, Spare, IsOldOrNew}
+use Rattle.df_superblock.specs.Copies.{AreQuiet, AreEqual, OfEither, Spare, IsOldOrNew}
 use Rattle.df_quorum.proofs.Choices.{same_content as same_copy}
 use Rattle.df_superblock.proofs.Choices.{chosen_above, shows_content}
-use Rattle.df_superblock.proofs.Sights.{PutsCopy, put_is, seen_apart, none_pending}
-use Rattle.df_superblock.proofs.Ready.{Keeps, Knows, IsLow, stop_keeps, firm_shows, bounded_stop, bounded_sync, quiet_low, quiet_knows, knows_wrote, low_wrote, loose_wrote}
+use Rattle.df_superblock.proofs.Sights.{Keeps, PutsCopy, firm_shows, loose_wrote, seen_apart}
 use Rattle.df_base.proofs.Laws.{AtEach}
 
 -- ---- the choice among copies of which the first i are new, the next one is any, and the others are old
@@ -115,73 +113,6 @@ turn_moment entry log old new i less quiet equal turn = record {
       is_old (content_at image) old new i less (turn_left log old new i image turn left.kept) (λ both. omega (arith, ap rank_of (same_copy (content_at image) 1 old new shown both)));
 }
 
--- ---- by the history
-
--- what may be pending or durable, as long as copy 1 isn't new and from then on
-pub record HasPast (log : Log) (old new : Content) (i : ℕ) : Type 0 where
-  pub low : IsLow log new
-  pub knows : Knows log (now log)
-  pub bounded : i < 2 → IsBounded log old
-  pub pending : i < 2 → (n : ℕ) (d : Content) → 0 < n → n < 4 → AmongWrites log.events n d → (n ≡ 1) × (d ≡ new)
-
-module _ (log : Log) (old new : Content) (i : ℕ) (less : rank_of old < rank_of new) (turn : IsTurn log old new i) (past : HasPast log old new i) where
-  -- where copy 1 isn't new, the copies 1 to 3 show nothing above the old content
-  old_image : (image : Image) → Keeps log image → Knows log image → (content_at image 1 ≡ Some new → ⊥) → (n : ℕ) (d : Content) → 0 < n → n < 4 → content_at image n ≡ Some d → (d ≡ old) ⊎ (rank_of d < rank_of old)
-  old_image image keeps knows not n d above below is =
-      let soon : i < 2 = early (content_at image) old new i less (turn_left log old new i image turn keeps) not in
-      elim (knows n d below is) [
-        | inl stood ↦ past.bounded soon n d above below stood
-        | inr pending ↦
-            let at = past.pending soon n d above below pending in
-            absurd (not (ap (content_at image) (sym at.0) ∙ is ∙ ap (λ (x : Content). Some x) at.1))
-      ]
-
-  old_bounded : (image : Image) → Keeps log image → Knows log image → (content_at image 1 ≡ Some new → ⊥) → IsBounded log old
-  old_bounded image keeps knows not = past.bounded (early (content_at image) old new i less (turn_left log old new i image turn keeps) not)
-
-  stopped : (cs : List (ℕ × List ℕ)) → AreLoose log.events cs → NoChanceCopy log (changed cs (now log)) → OfEither (changed cs (now log)) old new (λ c. AreSteady (add (Stop cs) log) c)
-  stopped cs are chance =
-      let keeps : Keeps log (changed cs (now log)) = stop_keeps log cs are in
-      elim (either_chosen log old new i (changed cs (now log)) less turn keeps) [
-        | inl is ↦ inl (is.0, record { quiet = λ n below. refl; chosen = is.1; bounded = bounded_stop log new cs past.low chance.known })
-        | inr is ↦ inr (
-          is.0,
-          record {
-            quiet = λ n below. refl;
-            chosen = is.1;
-            bounded = λ n d above below which. elim which [
-              | inl shown ↦ old_image (changed cs (now log)) keeps chance.known is.0 n d above below shown
-              | inr stood ↦ old_bounded (changed cs (now log)) keeps chance.known is.0 n d above below stood
-            ];
-          },
-        )
-      ]
-
-  synced : OfEither (now log) old new (λ c. AreSteady (add Sync log) c)
-  synced =
-      let keeps : Keeps log (now log) = λ sector firm. refl in
-      elim (either_chosen log old new i (now log) less turn keeps) [
-        | inl is ↦ inl (is.0, record { quiet = λ n below. refl; chosen = is.1; bounded = bounded_sync log new past.low past.knows })
-        | inr is ↦ inr (
-          is.0,
-          record {
-            quiet = λ n below. refl;
-            chosen = is.1;
-            bounded = λ n d above below which. elim which [
-              | inl shown ↦ old_image (now log) keeps past.knows is.0 n d above below shown
-              | inr stood ↦ old_bounded (now log) keeps past.knows is.0 n d above below stood
-            ];
-          },
-        )
-      ]
-
-  pub turn_either : IsEither log old new
-  turn_either = record {
-    left = λ image left chance. either_chosen log old new i image less turn left.kept;
-    stopped = stopped;
-    synced = synced;
-  }
-
 -- ---- from one turn to the next
 
 -- the first i copies are new, the others old, and nothing of them is loose
@@ -219,60 +150,12 @@ module _ (log : Log) (old new : Content) (i : ℕ) (bytes : List ℕ) (put : Put
     quiet = λ n below. refl;
   }
 
--- and what was durable, as long as copy 1 isn't new and from then on
-pub record IsWithin (log : Log) (old new : Content) (i : ℕ) : Type 0 where
-  pub high : IsBounded log new
-  pub low : i < 2 → IsBounded log old
-
-pub at_past : (log : Log) (old new : Content) (i : ℕ) → IsAt log old new i → IsWithin log old new i → HasPast log old new i
-at_past log old new i at within = record {
-  low = quiet_low log new at.quiet within.high;
-  knows = quiet_knows log at.quiet;
-  bounded = within.low;
-  pending = λ soon n d above below pending. absurd (none_pending log.events n d (at.quiet n below) pending);
-}
-
-module _ (log : Log) (old new : Content) (i : ℕ) (bytes : List ℕ) (less : rank_of old < rank_of new) (put : PutsCopy i bytes new) (at : IsAt log old new i) (within : IsWithin log old new i) where
-  pub wrote_past : HasPast (add (Write i bytes) log) old new i
-  wrote_past = record {
-    low = low_wrote log new new i bytes put (quiet_low log new at.quiet within.high) (λ above. inl refl);
-    knows = knows_wrote log i bytes new put (quiet_knows log at.quiet);
-    bounded = within.low;
-    pending = λ soon n d above below is. elim is [
-      | inl shows ↦
-          let here = put_is i n bytes new d put shows in
-          (let turn : n ≡ 1 = omega (arith, here.0) in turn, here.1)
-      | inr pending ↦ absurd (none_pending log.events n d (at.quiet n below) pending)
-    ];
-  }
-
-  after : IsAt (add Sync (add (Write i bytes) log)) old new (i + 1)
-  after = synced_at log old new i bytes put at
-
-  pub synced_within : IsWithin (add Sync (add (Write i bytes) log)) old new (i + 1)
-  synced_within = record {
-    high = λ n d above below is. elim is [
-      | inl shown ↦ elim (cases_lt n (i + 1)) [
-        | inl less_n ↦ inl (same_copy (content_at (written i bytes (now log))) n d new shown (after.before n less_n below))
-        | inr more ↦ inr (let same : d ≡ old = same_copy (content_at (written i bytes (now log))) n d old shown (after.behind n more below) in omega (arith, ap rank_of same))
-      ]
-      | inr stood ↦ within.high n d above below stood
-    ];
-    low = λ soon n d above below is. elim is [
-      | inl shown ↦ inl (same_copy (content_at (written i bytes (now log))) n d old shown (after.behind n (omega arith) below))
-      | inr stood ↦ within.low (omega arith) n d above below stood
-    ];
-  }
-
 -- ---- the eight events
 
 module _ (P : Log → Type 0) (At : Log → ℕ → Type 0) (bytes : ℕ → List ℕ) (here : (log : Log) (i : ℕ) → At log i → P log)
     (wrote : (log : Log) (i : ℕ) → i < 4 → At log i → P (add (Write i (bytes i)) log)) (synced : (log : Log) (i : ℕ) → i < 4 → At log i → At (add Sync (add (Write i (bytes i)) log)) (i + 1)) where
   abbrev one_more : ℕ → Log → Log
   one_more i log = add Sync (add (Write i (bytes i)) log)
-
-  pub all_turns : (log : Log) → At log 0 → At (one_more 3 (one_more 2 (one_more 1 (one_more 0 log)))) 4
-  all_turns log at = synced _ 3 (omega arith) (synced _ 2 (omega arith) (synced _ 1 (omega arith) (synced log 0 (omega arith) at)))
 
   pub each_turn : (log : Log) → At log 0 → AtEach P log (Write 0 (bytes 0) ∷ Sync ∷ Write 1 (bytes 1) ∷ Sync ∷ Write 2 (bytes 2) ∷ Sync ∷ Write 3 (bytes 3) ∷ Sync ∷ [])
   each_turn log at =

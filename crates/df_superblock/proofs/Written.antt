@@ -1,31 +1,22 @@
 -- What an update's events make of the copies, where the disk tells its log.
-use Rattle.std.proofs.Common.{◌≡◌, ◌⊎◌, inl, inr, ◌<◌, ◌+◌, ℕ, zero, suc, Bool, false, List, [], ◌∷◌, get_or, Option, Some, None, refl, sym, ◌∙◌, ap, subst, arith, Result, Ok, Err, OnOk}
+use Rattle.std.proofs.Common.{◌≡◌, ◌<◌, ◌+◌, ℕ, zero, suc, Bool, false, List, [], ◌∷◌, get_or, Option, Some, None, refl, sym, ◌∙◌, ap, subst, arith, Result, Ok, Err, OnOk}
 use Rattle.df_base.specs.Image.{Image}
-use Rattle.df_base.specs.Log.{Event, Write, Sync, Log, add, after_event, now}
+use Rattle.df_base.specs.Log.{Event, Write, Log, add, after_event, now}
 use Rattle.df_disk.specs.Told.{Told, did}
 use Rattle.df_disk.specs.Adds.{Adds, after_all}
 use Rattle.df_format.specs.Super.{copy_bytes}
 use Rattle.df_format.specs.SuperRules.{IsUsable}
 use Rattle.df_format.specs.declared.superblock.SuperFields.{SuperFields}
-use Rattle.df_format.specs.Copies.{Content, content_with, rank_of}
-use Rattle.df_superblock.specs.Copies.{AreQuiet, AreEqual, AreSteady, IsBounded, IsEither, IsOldOrNew, MayUpdate}
+use Rattle.df_format.specs.Copies.{Content, content_with}
+use Rattle.df_superblock.specs.Copies.{AreEqual, IsOldOrNew, MayUpdate}
 use Rattle.df_superblock.specs.Events.{update_events}
 use Rattle.df_base.specs.Moments.{adds}
-use Rattle.df_superblock.specs.Laws.{NewLaw, WritingLaw}
-use Rattle.df_superblock.specs.Calls.{UpdatesSafely, UpdatesSteadily, TellsLog, ShowsEqual, EndsEqual, EndsSteady}
-use Rattle.df_superblock.proofs.Sights.{PutsCopy}
-use Rattle.df_superblock.proofs.Ready.{IsLow, Knows, bounded_sync, quiet_low, quiet_knows, low_wrote, knows_wrote, equal_chosen}
+use Rattle.df_superblock.specs.Calls.{UpdatesSafely, TellsLog, ShowsEqual, EndsEqual}
 use Rattle.df_base.proofs.Laws.{AtEach}
 use Rattle.df_disk.proofs.Laws.{passes, told_log}
-use Rattle.df_superblock.proofs.Turns.{IsAt, IsWithin, at_turn, at_past, wrote_turn, wrote_past, synced_at, synced_within, turn_moment, turn_either, each_turn}
+use Rattle.df_superblock.proofs.Turns.{IsAt, at_turn, wrote_turn, synced_at, turn_moment, each_turn}
 use Rattle.df_superblock.proofs.Mends.{Writes, other_written, written_shows}
-use Rattle.df_format.proofs.CopyClasses.{blank_copy_none}
 use Rattle.df_superblock.proofs.Puts.{copy_put}
-
--- what is no higher than a content is below a higher one
-higher : (c e : Content) → rank_of c < rank_of e → (d : Content) → (d ≡ c) ⊎ (rank_of d < rank_of c) → (d ≡ e) ⊎ (rank_of d < rank_of e)
-higher c e less d (inl same) = inr (omega (arith, less, ap rank_of same))
-higher c e less d (inr lower) = inr (omega (arith, less))
 
 -- ---- moments
 
@@ -43,28 +34,9 @@ module _ (f : SuperFields) (usable : IsUsable f) (entry : Log) (old : Content) (
       (λ log i below at. synced_at log old later i (copy_bytes i f) (copy_put f usable i below) at)
       entry begins
 
-  abbrev Stands : Log → ℕ → Type 0
-  Stands log i = IsAt log old later i × IsWithin log old later i
-
-  steady_each : AreSteady entry old → AtEach (λ log. IsEither log old later) entry (update_events f)
-  steady_each steady = each_turn (λ log. IsEither log old later) Stands (λ n. copy_bytes n f)
-      (λ log i at. turn_either log old later i may.above (at_turn log old later i at.0) (at_past log old later i at.0 at.1))
-      (λ log i below at. turn_either (add (Write i (copy_bytes i f)) log) old later i may.above
-      (wrote_turn log old later i (copy_bytes i f) (copy_put f usable i below) at.0)
-      (wrote_past log old later i (copy_bytes i f) may.above (copy_put f usable i below) at.0 at.1))
-      (λ log i below at. (
-        synced_at log old later i (copy_bytes i f) (copy_put f usable i below) at.0,
-        synced_within log old later i (copy_bytes i f) may.above (copy_put f usable i below) at.0 at.1,
-      ))
-      entry (begins, record { high = λ n d above below is. higher old later may.above d (steady.bounded n d above below is); low = λ soon. steady.bounded })
-
 pub updates_safely : {T E : Type 0} → (f : SuperFields) (old new : Option Told) (result : Result T E) → IsUsable f → Adds (update_events f) old new result → UpdatesSafely f old new
 updates_safely f None new result usable is = tt
 updates_safely f (Some t) new result usable is = λ before may. passes (IsOldOrNew t.log before (content_with f)) (update_events f) t new result (safe_each f usable t.log before may) is
-
-pub updates_steadily : {T E : Type 0} → (f : SuperFields) (old new : Option Told) (result : Result T E) → IsUsable f → Adds (update_events f) old new result → UpdatesSteadily f old new
-updates_steadily f None new result usable is = tt
-updates_steadily f (Some t) new result usable is = λ before may steady. passes (λ log. IsEither log before (content_with f)) (update_events f) t new result (steady_each f usable t.log before may steady) is
 
 -- ---- the end
 
@@ -110,48 +82,7 @@ ends_shown f (Some t) new (Ok x) usable is =
     subst (λ (o : Option Told). ShowsEqual f o) (sym (is ∙ u.1)) (subst (λ (image : Image). AreEqual image (content_with f)) (sym u.2) (all_equal f usable log))
 ends_shown f old new (Err e) usable is = tt
 
--- what may be pending or durable stays low while copies of one content are written
-record IsPast (log : Log) (c : Content) : Type 0 where
-  low : IsLow log c
-  knows : Knows log (now log)
-
-past_wrote : (log : Log) (c : Content) (n : ℕ) (bytes : List ℕ) → PutsCopy n bytes c → IsPast log c → IsPast (add Sync (add (Write n bytes) log)) c
-past_wrote log c n bytes put past =
-    let low : IsLow (add (Write n bytes) log) c = low_wrote log c c n bytes put past.low (λ above. inl refl) in
-    let knows : Knows (add (Write n bytes) log) (now (add (Write n bytes) log)) = knows_wrote log n bytes c put past.knows in
-    record {
-      low = record { bounded = bounded_sync (add (Write n bytes) log) c low knows; pending = λ m d above below none. absurd none };
-      knows = λ m d below is. inl (inl is);
-    }
-
-all_steady : (f : SuperFields) → IsUsable f → (log : Log) → AreQuiet log → IsBounded log (content_with f) → AreSteady (adds (update_events f) log) (content_with f)
-all_steady f usable log quiet bounded =
-    let c : Content = content_with f in
-    let past : IsPast log c = record { low = quiet_low log c quiet bounded; knows = quiet_knows log quiet } in
-    let past1 = past_wrote log c 0 (copy_bytes 0 f) (copy_put f usable 0 (omega arith)) past in
-    let past2 = past_wrote _ c 1 (copy_bytes 1 f) (copy_put f usable 1 (omega arith)) past1 in
-    let past3 = past_wrote _ c 2 (copy_bytes 2 f) (copy_put f usable 2 (omega arith)) past2 in
-    let past4 = past_wrote _ c 3 (copy_bytes 3 f) (copy_put f usable 3 (omega arith)) past3 in
-    let equal = all_equal f usable log in
-    record {
-      quiet = λ n below. refl;
-      chosen = equal_chosen (now (adds (update_events f) log)) c equal;
-      bounded = past4.low.bounded;
-    }
-
-pub new_law : NewLaw
-new_law c = (λ n below. refl, λ n d above below is. elim is [ inl shown ↦ absurd (let none = blank_copy_none n in cc (shown, none)) | inr never ↦ absurd never ])
-
-pub writing_law : WritingLaw
-writing_law log f usable = (all_equal f usable log, all_steady f usable log)
-
 pub ends_equal : {T E : Type 0} → (f : SuperFields) (old new : Option Told) (result : Result T E) → IsUsable f → Adds (update_events f) old new result → OnOk result (EndsEqual f new)
 ends_equal f None new (Ok x) usable is = tells_none (update_events f) new _ is
 ends_equal f (Some t) new (Ok x) usable is = tells_after (update_events f) t new (λ log. AreEqual (now log) (content_with f)) is (all_equal f usable t.log)
 ends_equal f old new (Err e) usable is = tt
-
-pub ends_steady : {T E : Type 0} → (f : SuperFields) (old new : Option Told) (result : Result T E) → IsUsable f → Adds (update_events f) old new result → OnOk result (EndsSteady f old new)
-ends_steady f None new (Ok x) usable is = tt
-ends_steady f (Some t) new (Ok x) usable is = λ before steady less.
-    tells_after (update_events f) t new (λ log. AreSteady log (content_with f)) is (all_steady f usable t.log steady.quiet (λ n d above below stood. higher before (content_with f) less d (steady.bounded n d above below stood)))
-ends_steady f old new (Err e) usable is = tt

@@ -12,12 +12,12 @@ use Rattle.df_layout.specs.declared.places.Zone.TheVariants.{Superblock}
 use Rattle.df_format.specs.Own.{place_in}
 use Rattle.df_format.specs.declared.superblock.SuperCopy.{SuperCopy}
 use Rattle.df_format.specs.declared.superblock.SuperFields.{SuperFields}
-use Rattle.df_format.specs.Copies.{Content, content_at, content_of, content_with, if_here, own_copy, rank_of}
+use Rattle.df_format.specs.Copies.{Content, content_at, content_of, content_with, if_here, own_copy}
 use Rattle.df_quorum.specs.declared.slot.Slot.{Slot}
 use Rattle.df_quorum.specs.declared.slot.Slot.TheVariants.{Sound, Bad}
 use Rattle.df_quorum.specs.declared.choice.Chosen.{Chosen}
 use Rattle.df_quorum.specs.Quorum.{IsChosen, copies_of, copy_of, nothing}
-use Rattle.df_superblock.specs.Copies.{AreQuiet, AreSteady, AreEqual, IsKept, IsEither, IsMisled, IsOldOrNew, MayUpdate, IsChoice}
+use Rattle.df_superblock.specs.Copies.{AreQuiet, AreEqual, IsMisled, IsOldOrNew, MayUpdate, IsChoice}
 use Rattle.df_superblock.specs.declared.updates.UpdateError.{UpdateError}
 use Rattle.df_superblock.specs.declared.updates.UpdateError.TheVariants.{Damaged, DiskFault}
 
@@ -133,11 +133,6 @@ abbrev pub UpdatesSafely : SuperFields → Option Told → Option Told → Type 
 UpdatesSafely f None new = Unit {0}
 UpdatesSafely f (Some t) new = (old : Content) → MayUpdate t.log old (content_with f) → PassedTo t new (IsOldOrNew t.log old (content_with f))
 
--- and where they are steady they go on so, on the one or on the other, wherever a stop falls
-abbrev pub UpdatesSteadily : SuperFields → Option Told → Option Told → Type 0
-UpdatesSteadily f None new = Unit {0}
-UpdatesSteadily f (Some t) new = (old : Content) → MayUpdate t.log old (content_with f) → AreSteady t.log old → PassedTo t new (λ log. IsEither log old (content_with f))
-
 -- the log that is told has this
 abbrev pub TellsLog : Option Told → (Log → Type 0) → Type 0
 TellsLog None P = Unit {0}
@@ -147,11 +142,6 @@ TellsLog (Some t) P = P t.log
 abbrev pub EndsEqual : SuperFields → Option Told → Type 0
 EndsEqual f told = TellsLog told (λ log. AreEqual (now log) (content_with f))
 
--- and steady, if they were so on a content below the new one
-abbrev pub EndsSteady : SuperFields → Option Told → Option Told → Type 0
-EndsSteady f None new = Unit {0}
-EndsSteady f (Some t) new = (old : Content) → AreSteady t.log old → rank_of old < rank_of (content_with f) → TellsLog new (λ log. AreSteady log (content_with f))
-
 -- ---- repairs
 
 -- what is shown at the members' places stays
@@ -159,11 +149,6 @@ abbrev pub KeepsMembers : List Bool → Option Told → Option Told → Type 0
 KeepsMembers members None new = Unit {0}
 KeepsMembers members (Some t) None = ⊥
 KeepsMembers members (Some t) (Some u) = (n : ℕ) → n < 4 → IsTrue (get_or members n false) → u.shown n ≡ t.shown n
-
--- from steady copies on, the choice is kept at each moment, wherever a stop falls
-abbrev pub RepairsSteadily : Chosen → Option Told → Option Told → Type 0
-RepairsSteadily chosen None new = Unit {0}
-RepairsSteadily chosen (Some t) new = (c : Content) → IsLog t.log → IsChoice (content_at (now t.log)) chosen c → AreSteady t.log c → PassedTo t new (λ log. IsKept log c)
 
 -- at this moment whatever a stop leaves has the content chosen, unless it is misled
 abbrev pub KeepsUnlessMisled : Log → Content → Log → Type 0
@@ -174,11 +159,7 @@ abbrev pub RepairsUnlessMisled : Chosen → Option Told → Option Told → Type
 RepairsUnlessMisled chosen None new = Unit {0}
 RepairsUnlessMisled chosen (Some t) new = (c : Content) → IsLog t.log → IsChoice (content_at (now t.log)) chosen c → AreQuiet t.log → PassedTo t new (KeepsUnlessMisled t.log c)
 
--- at its end the four copies are equal on the choice, and steady if they were
-pub record IsRepaired (before after : Log) (c : Content) : Type 0 where
-  pub equal : AreEqual (now after) c
-  pub steady : AreSteady before c → AreSteady after c
-
+-- at its end the four copies are equal on the choice
 abbrev pub EndsRepaired : Chosen → Option Told → Option Told → Type 0
 EndsRepaired chosen None new = Unit {0}
-EndsRepaired chosen (Some t) new = (c : Content) → IsLog t.log → IsChoice (content_at (now t.log)) chosen c → TellsLog new (λ log. IsRepaired t.log log c)
+EndsRepaired chosen (Some t) new = (c : Content) → IsLog t.log → IsChoice (content_at (now t.log)) chosen c → TellsLog new (λ log. AreEqual (now log) c)

@@ -1,10 +1,9 @@
--- The four copies of the superblock over a log: what a stop may leave of them, and histories that bear it.
+-- The four copies of the superblock over a log: what a stop may leave of them at a moment of a call.
 use Rattle.std.specs.Prelude.{◌≡◌, ◌≢◌, ◌⊎◌, ◌<◌, ◌≤◌, ℕ, true, false, List, [], ◌∷◌, Some}
-use Rattle.df_base.specs.Image.{Image, covers, changed}
-use Rattle.df_base.specs.Log.{Event, Write, Sync, Stop, Log, IsLeft, AreLoose, add, loose, now, settled}
+use Rattle.df_base.specs.Image.{Image, covers}
+use Rattle.df_base.specs.Log.{Event, Write, Sync, Stop, Log, IsLeft, loose, now}
 use Rattle.df_base.specs.Moments.{Extends}
 use Rattle.df_format.specs.Copies.{Content, content_at, rank_of}
-use Rattle.df_format.specs.CopyPools.{AmongImages, NoChanceCopy, EachLeftCopies}
 use Rattle.df_quorum.specs.declared.choice.Chosen.{Chosen}
 use Rattle.df_quorum.specs.Quorum.{Copies, IsChosen, AreMembers}
 
@@ -12,36 +11,13 @@ use Rattle.df_quorum.specs.Quorum.{Copies, IsChosen, AreMembers}
 abbrev pub AreQuiet : Log → Type 0
 AreQuiet log = (n : ℕ) → n < 4 → loose log n ≡ false
 
--- copies 1 to 3 never had anything durable but this content and lower ones; copy 0 may have had any
-abbrev pub IsBounded : Log → Content → Type 0
-IsBounded log c = (n : ℕ) (d : Content) → 0 < n → n < 4 → AmongImages (settled log) n d → (d ≡ c) ⊎ (rank_of d < rank_of c)
-
--- The copies are steady on a content: none is being written, it is chosen, and no history that they had brings another
--- one back.
-pub record AreSteady (log : Log) (c : Content) : Type 0 where
-  pub quiet : AreQuiet log
-  pub chosen : IsChosen (content_at (now log)) c
-  pub bounded : IsBounded log c
-
 -- the four copies show this content
 abbrev pub AreEqual : Image → Content → Type 0
 AreEqual image c = (n : ℕ) → n < 4 → content_at image n ≡ Some c
 
--- wherever a stop falls now this content is chosen, and the copies go on from there
-pub record IsKept (log : Log) (c : Content) : Type 0 where
-  pub left : EachLeftCopies log (λ image. IsChosen (content_at image) c)
-  pub stopped : (cs : List (ℕ × List ℕ)) → AreLoose log.events cs → NoChanceCopy log (changed cs (now log)) → AreSteady (add (Stop cs) log) c
-  pub synced : AreSteady (add Sync log) c
-
 -- a fact of the new content where copy 1 shows it, and of the old one where it doesn't
 abbrev pub OfEither : Image → Content → Content → (Content → Type 0) → Type 0
 OfEither image old new P = ((content_at image 1 ≡ Some new) × P new) ⊎ ((content_at image 1 ≢ Some new) × P old)
-
--- wherever a stop falls now the new content is chosen if copy 1 shows it, and else the old one, and the copies go on from there
-pub record IsEither (log : Log) (old new : Content) : Type 0 where
-  pub left : EachLeftCopies log (λ image. OfEither image old new (IsChosen (content_at image)))
-  pub stopped : (cs : List (ℕ × List ℕ)) → AreLoose log.events cs → NoChanceCopy log (changed cs (now log)) → OfEither (changed cs (now log)) old new (AreSteady (add (Stop cs) log))
-  pub synced : OfEither (now log) old new (AreSteady (add Sync log))
 
 -- The copy that is being written agrees with another one on another content, not below the chosen one, and before the
 -- call the two did not.

@@ -1,5 +1,6 @@
 pub mod Copies
 pub mod Events
 pub mod Calls
-pub mod Laws
 pub mod Steps
+pub mod Misleading
+pub mod Blank

@@ -2,15 +2,14 @@
 //! every moment.
 #![tactic(auto)]
 
+mod blank;
 mod copies;
-mod laws;
+mod misleading;
 mod repairs;
 mod updates;
 
+pub use blank::first_written;
 pub use copies::{read_all, write_copy};
-pub use laws::{
-    equal_copies_begin, four_copies_become_steady, new_disk_has_no_copies, other_writes_keep,
-    steady_copies_are_kept,
-};
+pub use misleading::a_start_can_mislead;
 pub use repairs::repair;
 pub use updates::{UpdateError, update};

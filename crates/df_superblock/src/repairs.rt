@@ -2,7 +2,7 @@
 ghost use Rattle.std.specs.Prelude.{◌≡◌, ◌<◌, length, OnOk};
 ghost use Rattle.df_base.specs.Causes.{HasCause};
 ghost use Rattle.df_disk.specs.Adds.{Adds};
-ghost use Rattle.df_superblock.specs.Calls.{KeepsMembers, RepairsSteadily, RepairsUnlessMisled, EndsRepaired};
+ghost use Rattle.df_superblock.specs.Calls.{KeepsMembers, RepairsUnlessMisled, EndsRepaired};
 ghost use Rattle.df_superblock.specs.Events.{mend_events, repair_events};
 ghost use Rattle.df_superblock.specs.Steps.{AreStepsOfCopies, repair_steps};
 
@@ -50,8 +50,9 @@ fn mend_each<D: Disk>(
 }
 
 /// Writes the copies that aren't members of the choice, in order of number, each durable before the next one is written,
-/// and no member. From steady copies on, whatever a stop leaves at any moment has the same content chosen, and at the end
-/// the four copies are equal.
+/// and no member. With no word on the history, whatever a stop leaves at any moment has the same content chosen unless it is
+/// misled: the copy that is being written agrees with another one on a content not below the choice. At the end the four
+/// copies are equal.
 pub fn repair<D: Disk>(
     disk: &mut D,
     room: &mut ProbeRoom,
@@ -62,7 +63,6 @@ pub fn repair<D: Disk>(
     ensures events { Adds (repair_events content.now 0 chosen.now.members) (D.told disk.old) (D.told disk.new) result }
     ensures steps { AreStepsOfCopies (repair_events content.now 0 chosen.now.members) (repair_steps content.now chosen.now.members) }
     ensures members { KeepsMembers chosen.now.members (D.told disk.old) (D.told disk.new) }
-    ensures history { RepairsSteadily chosen.now (D.told disk.old) (D.told disk.new) }
     ensures unless_misled { RepairsUnlessMisled chosen.now (D.told disk.old) (D.told disk.new) }
     ensures repaired { OnOk result (EndsRepaired chosen.now (D.told disk.old) (D.told disk.new)) }
     ensures size { length chosen.now.members ≡ 4 }

@@ -2,7 +2,7 @@
 ghost use Rattle.std.specs.Prelude.{◌≡◌, ◌<◌, ◌≤◌, ℕ, IsTrue, ◌↔◌, IfSome, IfNone, OnOk};
 ghost use Rattle.df_base.specs.Causes.{HasCause};
 ghost use Rattle.df_disk.specs.Adds.{Adds};
-ghost use Rattle.df_superblock.specs.Calls.{Holds, IsRead, IsFirstMissing, IsVerdict, IsJudged, IsUndamaged, AddsUpdate, IsCausedBy, UpdatesSafely, UpdatesSteadily, ShowsEqual, EndsEqual, EndsSteady, class_of_slot};
+ghost use Rattle.df_superblock.specs.Calls.{Holds, IsRead, IsFirstMissing, IsVerdict, IsJudged, IsUndamaged, AddsUpdate, IsCausedBy, UpdatesSafely, ShowsEqual, EndsEqual, class_of_slot};
 ghost use Rattle.df_superblock.specs.Events.{update_events};
 ghost use Rattle.df_superblock.specs.Steps.{AreStepsOfCopies};
 ghost use Rattle.df_theory.specs.CopyPuts.{update_steps};
@@ -42,10 +42,8 @@ fn write_all<D: Disk>(disk: &mut D, room: &mut ProbeRoom, content: &Super) -> Re
     ensures events { Adds (update_events content.now) (D.told disk.old) (D.told disk.new) result }
     ensures steps { AreStepsOfCopies (update_events content.now) (update_steps (put_copies content.now)) }
     ensures moments { UpdatesSafely content.now (D.told disk.old) (D.told disk.new) }
-    ensures history { UpdatesSteadily content.now (D.told disk.old) (D.told disk.new) }
     ensures shown { OnOk result (ShowsEqual content.now (D.told disk.new)) }
     ensures equal { OnOk result (EndsEqual content.now (D.told disk.new)) }
-    ensures steady { OnOk result (EndsSteady content.now (D.told disk.old) (D.told disk.new)) }
     ensures cause { HasCause (D.faults disk.old) (D.faults disk.new) result }
 {
     // Its fields obey their rules.
@@ -130,10 +128,8 @@ pub fn update<D: Disk>(
     ensures read_back { IsJudged (D.told disk.new) content.now result }
     ensures undamaged { IsUndamaged (D.told disk.new) result }
     ensures moments { UpdatesSafely content.now (D.told disk.old) (D.told disk.new) }
-    ensures history { UpdatesSteadily content.now (D.told disk.old) (D.told disk.new) }
     ensures shown { OnOk result (ShowsEqual content.now (D.told disk.new)) }
     ensures equal { OnOk result (EndsEqual content.now (D.told disk.new)) }
-    ensures steady { OnOk result (EndsSteady content.now (D.told disk.old) (D.told disk.new)) }
     ensures cause { IsCausedBy (D.faults disk.old) (D.faults disk.new) result }
 {
     match write_all(disk, room, content) {

@@ -17,14 +17,14 @@ use Rattle.df_format.specs.Shown
 use Rattle.df_format.specs.Shown.{bytes_of, part_in, unit_in}
 use Rattle.df_format.specs.Copies.{Content, class_of_copy, content_at, content_of as content_of_copy, copy_at, copy_in, copy_or_class, if_here}
 use Rattle.df_format.specs.Valid.{IsUnit}
-use Rattle.df_format.proofs.Laws.{prepares_are_units, read_shown, shown_belongs, shown_is_unit}
+use Rattle.df_format.proofs.Laws.{read_shown, shown_belongs, shown_is_unit}
 use Rattle.df_theory.specs.Units
 use Rattle.df_theory.specs.Units.{AnyUnit, BlockPlace, BlockUnit, CopyPlace, CopyUnit, HeaderPlace, HeaderUnit, PreparePlace, PrepareUnit, ReplyPlace, ReplyUnit}
 use Rattle.df_theory.specs.Found.{IsInRange, IsOfPlace}
 use Rattle.df_units.specs.Meaning.{block_of, content_of, header_of, message_of, number_of, place_of}
 use Rattle.df_units.specs.Bytes.{copy_unit, message_unit, unit_at}
 use Rattle.df_units.specs.Format.{shape_of}
-use Rattle.df_units.specs.Shown.{CopyReadIsUnit, HeaderReadIsUnit, PrepareAtIsUnit, ReadIsUnit, UnitsAreOfPlaces, read_copy}
+use Rattle.df_units.specs.Shown.{CopyReadIsUnit, HeaderReadIsUnit, ReadIsUnit, UnitsAreOfPlaces, read_copy}
 use Rattle.df_units.proofs.Chosen.{shown_checks}
 use Rattle.df_units.proofs.Numbers.{check_small, sealed_check}
 use Rattle.df_units.proofs.Writes.{header_count}
@@ -50,9 +50,6 @@ header_shown_by layout cluster image slot =
 
 pub header_read : HeaderReadIsUnit
 header_read layout cluster image slot = ap (message_unit (HeaderPlace slot)) (header_shown_by layout cluster image slot)
-
-pub prepare_unit : PrepareAtIsUnit
-prepare_unit layout cluster wal image slot is = ap (message_unit (PreparePlace slot)) (prepares_are_units layout cluster wal image slot is)
 
 read_by : (o : Option SuperCopy) (class : Class) → read_copy (copy_or_class o class) ≡ copy_unit (content_of_copy o)
 read_by None class = refl

@@ -6,14 +6,11 @@ use Rattle.df_layout.specs.declared.places.Zone.TheVariants.{Superblock, WalHead
 use Rattle.df_layout.specs.Spans.{span_of}
 use Rattle.df_layout.specs.declared.damage.Class.{Class}
 use Rattle.df_format.specs.declared.superblock.SuperCopy.{SuperCopy}
-use Rattle.df_format.specs.declared.wal.Wal.{Wal}
 use Rattle.df_format.specs.Copies.{content_of, own_copy}
 use Rattle.df_format.specs.Own.{place_in}
 use Rattle.df_format.specs.Shown.{part_in, unit_in}
-use Rattle.df_format.specs.Unit.{prepare_at}
-use Rattle.df_format.specs.UnitLaws.{IsWalOf}
 use Rattle.df_theory.specs.Units
-use Rattle.df_theory.specs.Units.{AnyUnit, CopyPlace, HeaderPlace, PreparePlace}
+use Rattle.df_theory.specs.Units.{AnyUnit, CopyPlace, HeaderPlace}
 use Rattle.df_theory.specs.Found.{AreOfPlaces}
 use Rattle.df_units.specs.Meaning.{place_of}
 use Rattle.df_units.specs.Bytes.{copy_unit, message_unit, span_at, unit_at}
@@ -30,12 +27,6 @@ abbrev pub HeaderReadIsUnit : Type 0
 HeaderReadIsUnit =
     (layout : Layout) (cluster : ℕ) (image : Image) (slot : ℕ)
     → message_unit (HeaderPlace slot) (unit_in layout cluster (place_in WalHeaders slot) (part_in WalHeaders slot (image (span_of layout (place_in WalHeaders slot)).first))) ≡ unit_at layout cluster image (HeaderPlace slot)
-
--- and a slot of the ring of prepares
-abbrev pub PrepareAtIsUnit : Type 0
-PrepareAtIsUnit =
-    (layout : Layout) (cluster : ℕ) (wal : Wal) (image : Image) (slot : ℕ) → IsWalOf layout cluster wal
-    → message_unit (PreparePlace slot) (prepare_at wal image slot) ≡ unit_at layout cluster image (PreparePlace slot)
 
 -- the copy that a sector was read as, or none
 abbrev pub read_copy : Result SuperCopy Class → Option AnyUnit

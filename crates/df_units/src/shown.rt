@@ -1,12 +1,11 @@
 // What the code reads of a place is the unit that the model sees there: laws, each the clause of a function that does nothing.
-ghost use Rattle.df_units.specs.Shown.{ReadIsUnit, HeaderReadIsUnit, CopyReadIsUnit, PrepareAtIsUnit, UnitsAreOfPlaces};
+ghost use Rattle.df_units.specs.Shown.{ReadIsUnit, HeaderReadIsUnit, CopyReadIsUnit, UnitsAreOfPlaces};
 
 /// The unit that the bytes of a place are is the one that the image shows there.
 pub fn read_is_unit()
     ensures slot { ReadIsUnit }
     ensures header { HeaderReadIsUnit }
     ensures copy { CopyReadIsUnit }
-    ensures prepare { PrepareAtIsUnit }
 {}
 
 /// Each unit that is shown is of the kind of its place, in its own slot, with its fields in their ranges.

@@ -1,4 +1,4 @@
-use Rattle.std.proofs.Common.{◌≡◌, arith, ◌++◌, ◌∙◌, ℕ, List, ap, refl, take, replicate, append_assoc}
+use Rattle.std.proofs.Common.{◌≡◌, arith, ◌++◌, ◌∙◌, ℕ, List, ap, take, replicate, append_assoc}
 use Rattle.df_base.specs.Fields.{spelled}
 use Rattle.df_format.proofs.Behind.{number_behind}
 use Rattle.df_format.proofs.CopyParts.{further, number_rest}

@@ -11,7 +11,7 @@ use Rattle.df_units.specs.Format.{format_of}
 use Rattle.df_units.specs.Meaning.{message_of}
 use Rattle.df_places.specs.Units.{unit_events, unit_steps}
 use Rattle.df_prepares.specs.Slots.{slot_place}
-use Rattle.df_prepares.proofs.Places.{in_place}
+use Rattle.df_prepares.proofs.Own.{in_place}
 use Rattle.df_prepares.proofs.slot.write_prepare.Goals as goal
 
 pub write_unit-requires-clause-own : goal.write_unit-requires-clause-own

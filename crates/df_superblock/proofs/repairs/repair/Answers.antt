@@ -1,5 +1,5 @@
 use Rattle.std.proofs.Common.{arith}
-use Rattle.df_superblock.proofs.Mended.{keeps_members, repairs_steadily, repairs_unless_misled, ends_repaired}
+use Rattle.df_superblock.proofs.Mended.{keeps_members, repairs_unless_misled, ends_repaired}
 use Rattle.df_superblock.proofs.Stepped.{repair_is_steps}
 use Rattle.df_superblock.proofs.repairs.repair.Goals as goal
 
@@ -8,9 +8,6 @@ returns-clause-steps g c = repair_is_steps c.args.content.now c.args.chosen.now.
 
 pub returns-clause-members : goal.returns-clause-members
 returns-clause-members g c = keeps_members c.args.content.now c.args.chosen.now.members _ _ c.mend_each.result c.fields-fields.ensures.usable c.mend_each.ensures.size c.mend_each.ensures.events
-
-pub returns-clause-history : goal.returns-clause-history
-returns-clause-history g c = repairs_steadily c.args.content.now c.args.chosen.now _ _ c.mend_each.result (record { usable = c.fields-fields.ensures.usable; fields = c.requires; size = c.mend_each.ensures.size }) c.mend_each.ensures.events
 
 pub returns-clause-unless_misled : goal.returns-clause-unless_misled
 returns-clause-unless_misled g c = repairs_unless_misled c.args.content.now c.args.chosen.now _ _ c.mend_each.result (record { usable = c.fields-fields.ensures.usable; fields = c.requires; size = c.mend_each.ensures.size }) c.mend_each.ensures.events

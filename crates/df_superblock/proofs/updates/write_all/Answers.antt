@@ -1,4 +1,4 @@
-use Rattle.df_superblock.proofs.Written.{updates_safely, updates_steadily, ends_shown, ends_equal, ends_steady}
+use Rattle.df_superblock.proofs.Written.{updates_safely, ends_shown, ends_equal}
 use Rattle.df_superblock.proofs.Stepped.{update_is_steps}
 use Rattle.df_superblock.proofs.updates.write_all.Goals as goal
 
@@ -8,14 +8,8 @@ returns-clause-steps g c = update_is_steps c.args.content.now c.fields-fields.en
 pub returns-clause-moments : goal.returns-clause-moments
 returns-clause-moments g c = updates_safely c.args.content.now _ _ c.write_each.result c.fields-fields.ensures.usable c.write_each.ensures.events
 
-pub returns-clause-history : goal.returns-clause-history
-returns-clause-history g c = updates_steadily c.args.content.now _ _ c.write_each.result c.fields-fields.ensures.usable c.write_each.ensures.events
-
 pub returns-clause-shown : goal.returns-clause-shown
 returns-clause-shown g c = ends_shown c.args.content.now _ _ c.write_each.result c.fields-fields.ensures.usable c.write_each.ensures.events
 
 pub returns-clause-equal : goal.returns-clause-equal
 returns-clause-equal g c = ends_equal c.args.content.now _ _ c.write_each.result c.fields-fields.ensures.usable c.write_each.ensures.events
-
-pub returns-clause-steady : goal.returns-clause-steady
-returns-clause-steady g c = ends_steady c.args.content.now _ _ c.write_each.result c.fields-fields.ensures.usable c.write_each.ensures.events

@@ -1,4 +1,4 @@
-use Rattle.df_units.proofs.AtPlaces.{copy_read, read_unit, header_read, prepare_unit}
+use Rattle.df_units.proofs.AtPlaces.{copy_read, header_read, read_unit}
 use Rattle.df_units.proofs.shown.read_is_unit.Goals as goal
 
 pub returns-clause-slot : goal.returns-clause-slot
@@ -9,6 +9,3 @@ returns-clause-header c = header_read
 
 pub returns-clause-copy : goal.returns-clause-copy
 returns-clause-copy c = copy_read
-
-pub returns-clause-prepare : goal.returns-clause-prepare
-returns-clause-prepare c = prepare_unit

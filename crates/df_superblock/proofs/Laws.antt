@@ -1,0 +1,2 @@
+-- What the crates above cite: the slots of the four places, and the sectors that they were read from.
+pub use Rattle.df_superblock.proofs.BlankSlots.{blank_shown, shown_blank, unformatted}
