@@ -1,6 +1,6 @@
 -- What the grid holds after each block that is adopted, and which addresses are free then.
 use Rattle.std.proofs.Common.{◌≡◌, ℕ, zero, suc, ◌+◌, ◌-◌, ◌<◌, ◌≤◌, ◌==◌, ◌||◌, nat_lt, Bool, true, false, Option, Some, None, List, [], ◌∷◌, length, map, drop, get_or, refl, sym, ap, ◌∙◌, subst, arith}
-use Rattle.std.specs.Prelude.{if◌then◌else◌}
+use Rattle.std.specs.Prelude.{if◌then◌else◌, OnOk, Result, Ok, Err}
 use Rattle.std.specs.List.{range_with_len}
 use Rattle.std.proofs.lemmas.Bool.Decides.{nat_tests}
 use Rattle.df_layout.specs.declared.layout.Layout.{Layout}
@@ -8,10 +8,13 @@ use Rattle.df_model.specs.Blocks.{Blocks, entries, entry, is_held_in, sum_at, wi
 use Rattle.df_model.specs.Work.{is_in, is_known}
 use Rattle.df_units.specs.Meaning.{number_of}
 use Rattle.df_grid.specs.Grid.{GridState, HasAddress, IsUnheld, with_blocks}
-use Rattle.df_grid.specs.Table.{adopted}
+use Rattle.df_grid.specs.Table.{IsIdle, adopted}
 use Rattle.df_checkpoint.specs.declared.links.Link.{Link}
 use Rattle.df_checkpoint.specs.Chain.{AreApart, is_among}
-use Rattle.df_checkpoint.specs.Adopting.{blocks_to, chained, pair_of}
+use Rattle.df_trailer.specs.declared.reader.Reader.{Reader}
+use Rattle.df_checkpoint.specs.declared.fault.TrailerFault.{TrailerFault}
+use Rattle.df_checkpoint.specs.declared.fault.TrailerFault.TheVariants.{Damaged, BadField, DiskFault}
+use Rattle.df_checkpoint.specs.Adopting.{AdoptAnswer, blocks_to, chained, pair_of}
 use Rattle.df_checkpoint.proofs.OneLink.{no_eq}
 
 -- blocks that are live and referenced
@@ -124,3 +127,10 @@ chain_next g h refs done at apart less here is none free inside =
 pub apart_same : (g h : GridState) (refs : List Link) → h.layout ≡ g.layout → AreApart g refs → AreApart h refs
 apart_same g h [] same apart = tt
 apart_same g h (r ∷ rs) same apart = (subst (λ (l : Layout). (1 ≤ r.address) × (r.address ≤ l.blocks)) (sym same) apart.0, apart.1, apart_same g h rs same apart.2)
+
+-- no checkpoint runs in a grid that adopted one
+pub adopted_idle : (old new : GridState) (reader : Reader) (refs : List Link) (result : Result (Unit {0}) TrailerFault) → AdoptAnswer old new reader refs result → OnOk result (IsIdle new.blocks)
+adopted_idle old new reader refs (Ok x) answer = subst (λ (g : GridState). IsIdle g.blocks) (sym answer.0) (record { captured = refl; written = refl; left = refl })
+adopted_idle old new reader refs (Err (Damaged address class)) answer = tt
+adopted_idle old new reader refs (Err (BadField field value)) answer = tt
+adopted_idle old new reader refs (Err DiskFault) answer = tt

@@ -5,3 +5,5 @@ pub mod Adopted
 pub mod Complete
 pub mod ReadWhole
 pub mod Unreadable
+pub mod Missed
+pub mod Laws

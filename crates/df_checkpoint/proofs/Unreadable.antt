@@ -6,6 +6,7 @@ use Rattle.std.proofs.lemmas.Bool.Decides.{nat_tests}
 use Rattle.std.proofs.Math.Nat.{mul-le-mul_left}
 use Rattle.df_layout.specs.declared.damage.Class.TheVariants.{Stale}
 use Rattle.df_theory.specs.Units.{AnyUnit, Block, BlockPlace, BlockUnit, Content, Parts, Units}
+use Rattle.df_theory.specs.Sessions.{Has}
 use Rattle.df_theory.specs.Shape.{Shape}
 use Rattle.df_theory.specs.Trailer.{InChain, IsCount, Links, Says, text_of}
 use Rattle.df_theory.specs.Opens.{Arrives, IsLink, IsReadable, IsShown}
@@ -17,7 +18,7 @@ use Rattle.df_trailer.specs.Text.{fault, parts_of, unless}
 use Rattle.df_grid.specs.Reads.{trailer_alone}
 use Rattle.df_checkpoint.specs.Chain.{asked}
 use Rattle.df_checkpoint.specs.Reads.{IsWhole}
-use Rattle.df_checkpoint.specs.Laws.{BadTextIsUnreadable, BrokenIsUnreadable, DamageIsMissed, ReferencedIsUnreadable}
+use Rattle.df_checkpoint.specs.Laws.{BadTextIsUnreadable, BrokenIsUnreadable, DamageIsMissed, ReferencedIsUnreadable, UntrackedIsUnreadable}
 use Rattle.df_checkpoint.proofs.OneLink.{asked_is}
 
 yes_eq : (a b : ℕ) → a ≡ b → (a == b) ≡ true
@@ -52,11 +53,11 @@ its_chain sh shown c chain whole b same readable =
     same_chain (sh.layout.block_size - 256) shown.units c chain b.chain c.trailer c.trailer_checksum whole.links (subst (λ (d : Content). Links (sh.layout.block_size - 256) d b.chain d.trailer d.trailer_checksum) same readable.sound.trailer.links) whole.shows readable.shown
 
 -- a whole chain has a block, so its text is parsed
-its_text : (sh : Shape) (op : ℕ) (chain : List (ℕ × Block)) (parts : Parts) → (chain ≡ [] → ⊥) → Says sh op chain parts → sh.parse op (text_of chain) ≡ Some parts
+pub its_text : (sh : Shape) (op : ℕ) (chain : List (ℕ × Block)) (parts : Parts) → (chain ≡ [] → ⊥) → Says sh op chain parts → sh.parse op (text_of chain) ≡ Some parts
 its_text sh op [] parts some says = absurd (some refl)
 its_text sh op (x ∷ xs) parts some says = says
 
-some_chain : (room : ℕ) (c : Content) (chain : List (ℕ × Block)) → 0 < c.trailer → Links room c chain c.trailer c.trailer_checksum → chain ≡ [] → ⊥
+pub some_chain : (room : ℕ) (c : Content) (chain : List (ℕ × Block)) → 0 < c.trailer → Links room c chain c.trailer c.trailer_checksum → chain ≡ [] → ⊥
 some_chain room c [] some links is = omega (arith, links)
 some_chain room c (x ∷ xs) some links is = cc
 
@@ -84,9 +85,19 @@ referenced_unreadable sh shown c at some bad b same readable =
     let known = bad.known in
     let no : is_known (bad.parts.references at) ≡ false = ap (λ (p : Parts). is_known (p.references at)) (sym parts) ∙ ap is_known none in cc
 
+-- an op that waits has its session in each checkpoint that can be read
+pub untracked_unreadable : UntrackedIsUnreadable
+untracked_unreadable sh shown c n some bad b same readable =
+    let said = its_parts sh shown c bad.chain some bad.whole b same readable in
+    let says = bad.says in
+    let parts : b.parts ≡ bad.parts = cc in
+    let above : b.content.replies < n = omega (arith, bad.above, ap (λ (d : Content). d.replies) same) in
+    let reached : n ≤ b.content.op = omega (arith, bad.reached, ap (λ (d : Content). d.op) same) in
+    bad.lacks (subst (λ (p : Parts). Has p.sessions n) parts (readable.sound.tracks.pending n above reached))
+
 -- ---- a link
 
-count_once : (room size n m : ℕ) → IsCount room size n → IsCount room size m → n ≤ m
+pub count_once : (room size n m : ℕ) → IsCount room size n → IsCount room size m → n ≤ m
 count_once room size n m one two = elim (cases_lt m n) [
   | inl less ↦ let up : room * m ≤ room * (n - 1) = mul-le-mul_left room (omega arith) in absurd (omega (arith, up, one.needed (omega arith), two.holds))
   | inr most ↦ most

@@ -1,15 +1,16 @@
 -- What a refusal of a trailer says of the model's checkpoint.
-use Rattle.std.specs.Prelude.{◌≡◌, ◌<◌, ◌≤◌, ◌^◌, ℕ}
+use Rattle.std.specs.Prelude.{◌≡◌, ◌<◌, ◌≤◌, ◌^◌, ℕ, List}
 use Rattle.df_layout.specs.declared.damage.Class.{Class}
 use Rattle.df_layout.specs.declared.fields.Field.{Field}
-use Rattle.df_theory.specs.Units.{Content}
+use Rattle.df_theory.specs.Units.{Block, Content}
 use Rattle.df_theory.specs.Shape.{Shape}
 use Rattle.df_theory.specs.Opens.{IsReadable, IsShown, ReadsTo}
 use Rattle.df_theory.specs.View.{Checkpoint}
 use Rattle.df_model.specs.Supply.{Shown}
 use Rattle.df_trailer.specs.Text.{parse_of}
 use Rattle.df_checkpoint.specs.Chain.{IsBroken, IsLacking}
-use Rattle.df_checkpoint.specs.Reads.{IsBadText, IsReferenced}
+use Rattle.df_checkpoint.specs.Reads.{IsBadText, IsReferenced, IsWhole}
+use Rattle.df_checkpoint.specs.Waiting.{IsUntracked}
 
 -- a block that is wanted and not shown
 pub record IsMissed (sh : Shape) (shown : Shown) (c : Content) (a : ℕ) : Type 0 where
@@ -31,3 +32,17 @@ ReferencedIsUnreadable = (sh : Shape) (shown : Shown) (c : Content) (at : ℕ) �
 
 abbrev pub BrokenIsUnreadable : Type 0
 BrokenIsUnreadable = (sh : Shape) (shown : Shown) (c : Content) (at : ℕ) → IsBroken sh shown c at → (b : Checkpoint) → b.content ≡ c → IsReadable sh shown.units b → ⊥
+
+abbrev pub UntrackedIsUnreadable : Type 0
+UntrackedIsUnreadable = (sh : Shape) (shown : Shown) (c : Content) (n : ℕ) → 0 < c.trailer → IsUntracked sh shown c n → (b : Checkpoint) → b.content ≡ c → IsReadable sh shown.units b → ⊥
+
+-- each block that is wanted is shown
+abbrev pub AllShown : Shape → Shown → Content → Type 0
+AllShown sh shown c = (a k : ℕ) → ReadsTo sh shown.units c a k → IsShown shown.units a k
+
+-- where a link breaks the chain, or the chain is whole, no block is missed
+abbrev pub BrokenIsShown : Type 0
+BrokenIsShown = (sh : Shape) (shown : Shown) (c : Content) (at : ℕ) → IsBroken sh shown c at → AllShown sh shown c
+
+abbrev pub WholeIsShown : Type 0
+WholeIsShown = (sh : Shape) (shown : Shown) (c : Content) (chain : List (ℕ × Block)) → IsWhole sh shown c chain → AllShown sh shown c

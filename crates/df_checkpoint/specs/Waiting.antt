@@ -1,7 +1,13 @@
 -- The ops that wait for their replies: each has its session.
 use Rattle.std.specs.Prelude.{◌≡◌, ◌==◌, ◌<◌, ◌≤◌, ℕ, Bool, true, false, List, Option, Some, None}
 use Rattle.std.specs.List.{list_any}
+use Rattle.df_theory.specs.Units.{Block, Content, Parts}
+use Rattle.df_theory.specs.Sessions.{Has}
+use Rattle.df_theory.specs.Shape.{Shape}
+use Rattle.df_theory.specs.Trailer.{text_of}
+use Rattle.df_model.specs.Supply.{Shown}
 use Rattle.df_sessions.specs.declared.session.Session.{Session}
+use Rattle.df_checkpoint.specs.Reads.{IsWhole}
 
 -- the op is that of a session
 abbrev pub has_op : ℕ → List Session → Bool
@@ -13,6 +19,17 @@ pub record IsLeast (sessions : List Session) (replies op n : ℕ) : Type 0 where
   pub reached : n ≤ op
   pub lacks : has_op n sessions ≡ false
   pub least : (m : ℕ) → replies < m → m < n → has_op m sessions ≡ true
+
+-- in the model's words: a chain is whole, its text is one, and this is the least op that waits for its reply and is the op of no session
+pub record IsUntracked (sh : Shape) (shown : Shown) (c : Content) (n : ℕ) : Type 0 where
+  pub chain : List (ℕ × Block)
+  pub whole : IsWhole sh shown c chain
+  pub parts : Parts
+  pub says : sh.parse c.op (text_of chain) ≡ Some parts
+  pub above : c.replies < n
+  pub reached : n ≤ c.op
+  pub lacks : Has parts.sessions n → ⊥
+  pub least : (m : ℕ) → c.replies < m → m < n → Has parts.sessions m
 
 abbrev pub IsPending : List Session → (replies op : ℕ) → Option ℕ → Type 0
 IsPending sessions replies op None = (n : ℕ) → replies < n → n ≤ op → has_op n sessions ≡ true

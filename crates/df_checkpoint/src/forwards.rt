@@ -27,7 +27,8 @@ fn as_bad(answer: Result<(), Fault>) -> Result<(), TrailerFault>
 // Gives the reader the next piece of the text.
 fn feed(reader: &mut Reader, piece: &[u8]) -> Result<(), TrailerFault>
     requires { bytes_read reader.old + length piece.now < 2 ^ 62 }
-    ensures { Feeds reader.old reader.new piece.now result }
+    ensures feeds { Feeds reader.old reader.new piece.now result }
+    ensures layout { reader.new.layout ≡ reader.old.layout }
 {
     as_bad(reader.feed(piece))
 }
@@ -43,6 +44,7 @@ fn feed_block<D: Disk>(
     requires small { bytes_read reader.old < 2 ^ 60 }
     ensures fed { FeedAnswer grid.old (D.told disk.old) at reader.old reader.new result }
     ensures size { bytes_read reader.new ≤ bytes_read reader.old + 2 ^ 32 }
+    ensures layout { reader.new.layout ≡ reader.old.layout }
     ensures grid { grid.new ≡ grid.old }
     ensures same { D.told disk.new ≡ D.told disk.old }
     ensures cause { IsBlamed (D.faults disk.old) (D.faults disk.new) result }
@@ -77,6 +79,7 @@ fn feed_all<D: Disk>(
     requires fresh { bytes_read reader.old ≡ 0 }
     ensures fed { (op : ℕ) → HasRead grid.old.layout op reader.old [] → FedAnswer grid.old (D.told disk.old) blocks.now op reader.new result }
     ensures size { bytes_read reader.new < 2 ^ 60 }
+    ensures layout { reader.new.layout ≡ reader.old.layout }
     ensures grid { grid.new ≡ grid.old }
     ensures same { D.told disk.new ≡ D.told disk.old }
     ensures cause { IsBlamed (D.faults disk.old) (D.faults disk.new) result }
@@ -101,6 +104,7 @@ pub(crate) fn read_text<D: Disk>(
     requires few { length blocks.now ≤ 70 }
     requires fresh { bytes_read reader.old ≡ 0 }
     ensures text { (op : ℕ) → HasRead grid.old.layout op reader.old [] → TextAnswer grid.old (D.told disk.old) blocks.now op reader.new result }
+    ensures layout { reader.new.layout ≡ reader.old.layout }
     ensures grid { grid.new ≡ grid.old }
     ensures same { D.told disk.new ≡ D.told disk.old }
     ensures cause { IsBlamed (D.faults disk.old) (D.faults disk.new) result }

@@ -6,13 +6,13 @@ mod backwards;
 mod capture;
 mod fault;
 mod forwards;
-mod laws;
 mod links;
+mod meaning;
 mod reading;
 mod waiting;
 
 pub use capture::{Capture, write_piece};
 pub use fault::TrailerFault;
-pub use laws::{damage_is_missed, refused_is_unreadable};
+pub use meaning::{damage_is_missed, refused_is_shown, refused_is_unreadable};
 pub use reading::read_chain;
 pub use waiting::pending;

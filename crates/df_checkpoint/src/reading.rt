@@ -8,7 +8,7 @@ ghost use Rattle.df_units.specs.Meaning.{layout_of};
 ghost use Rattle.df_units.specs.Superblocks.{AreFieldsOf};
 ghost use Rattle.df_trailer.specs.Reading.{HasRead};
 ghost use Rattle.df_trailer.specs.Text.{parse_of};
-ghost use Rattle.df_grid.specs.Table.{no_blocks};
+ghost use Rattle.df_grid.specs.Table.{IsIdle, no_blocks};
 ghost use Rattle.df_checkpoint.specs.Adopting.{SameFile};
 ghost use Rattle.df_checkpoint.specs.Chain.{AreApart, IsBlamed, OfTold, content_in};
 ghost use Rattle.df_checkpoint.specs.Reads.{ChainAnswer, FoundAnswer, IsComplete};
@@ -76,6 +76,8 @@ pub fn read_chain<D: Disk>(
     requires fresh { HasRead grid.old.layout content.now.op reader.old [] }
     ensures answer { (sh : Shape) → sh.layout ≡ layout_of grid.old.layout → sh.parse ≡ parse_of sh.layout → OfTold grid.old (D.told disk.old) (λ shown. ChainAnswer sh shown (content_in content.now) grid.new reader.new result) }
     ensures complete { OnOk result (IsComplete grid.old content.now.op reader.new) }
+    ensures rooms { reader.new.layout ≡ reader.old.layout }
+    ensures idle { OnOk result (IsIdle grid.new.blocks) }
     ensures grid { SameFile grid.old grid.new }
     ensures same { D.told disk.new ≡ D.told disk.old }
     ensures cause { IsBlamed (D.faults disk.old) (D.faults disk.new) result }

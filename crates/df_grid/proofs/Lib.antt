@@ -1,6 +1,7 @@
 pub mod Zips
 pub mod Single
 pub mod Picks
+pub mod Counted
 pub mod Chains
 pub mod Held
 pub mod Free
@@ -11,4 +12,5 @@ pub mod Turns
 pub mod Views
 pub mod Answered
 pub mod Reading
+pub mod Loading
 pub mod Writing

@@ -121,5 +121,8 @@ module _ (test : Entry → Bool) (above : ℕ) where
 pub front_passes : (test : Entry → Bool) (s : ℕ) (e : Entry) (es : List Entry) → test e ≡ true → slice_get (picked test s (e ∷ es)) 0 ≡ Some (s, number_of e.checksum)
 front_passes test s e es passes = ap (λ (b : Bool). slice_get (cond b ((s, number_of e.checksum) ∷ picked test (s + 1) es) (picked test (s + 1) es)) 0) passes
 
+pub front_counts : (test : Entry → Bool) (s : ℕ) (e : Entry) (es : List Entry) → test e ≡ true → length (picked test s (e ∷ es)) ≡ suc (length (picked test (s + 1) es))
+front_counts test s e es passes = ap (λ (b : Bool). length (cond b ((s, number_of e.checksum) ∷ picked test (s + 1) es) (picked test (s + 1) es))) passes
+
 pub front_fails : (test : Entry → Bool) (s : ℕ) (e : Entry) (es : List Entry) → test e ≡ false → picked test s (e ∷ es) ≡ picked test (s + 1) es
 front_fails test s e es fails = ap (λ (b : Bool). cond b ((s, number_of e.checksum) ∷ picked test (s + 1) es) (picked test (s + 1) es)) fails

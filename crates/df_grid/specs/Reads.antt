@@ -8,14 +8,18 @@ use Rattle.df_layout.specs.declared.damage.Class.TheVariants.{Stale}
 use Rattle.df_layout.specs.declared.layout.Layout.{Layout}
 use Rattle.df_layout.specs.declared.places.Zone.TheVariants.{Grid}
 use Rattle.df_format.specs.declared.header.Header.{Header}
+use Rattle.df_format.specs.declared.kind.Kind.TheVariants.{Block as AsBlock}
 use Rattle.df_format.specs.Own.{place_in}
 use Rattle.df_format.specs.Spelling.{IsCheck}
 use Rattle.df_buffers.specs.declared.identity.Identity.{Identity}
 use Rattle.df_buffers.specs.declared.identity.Wanted.TheVariants.{Checksum}
+use Rattle.df_buffers.specs.Sounds.{Holding}
 use Rattle.df_theory.specs.Units.{Block}
 use Rattle.df_model.specs.Supply.{Shown, block_at, given_if, no_trailer}
 use Rattle.df_units.specs.Bytes.{unit_at}
+use Rattle.df_units.specs.Meaning.{block_of}
 use Rattle.df_units.specs.Wanted.{class_at}
+use Rattle.df_grid.specs.Grid.{IsKnownUnit}
 
 -- what an image shows, place by place, in the words of the machine
 abbrev pub shown_of : Layout → ℕ → Image → Shown
@@ -25,6 +29,18 @@ shown_of layout cluster image = record { units = unit_at layout cluster image; d
 abbrev pub ReadsBlock : Layout → ℕ → Option Told → ℕ → Option ℕ → Result Block Class → Type 0
 ReadsBlock layout cluster None address known answer = Unit {0}
 ReadsBlock layout cluster (Some t) address known answer = answer ≡ no_trailer (block_at (shown_of layout cluster t.shown) known address)
+
+-- so it is with a room that an address is read into: it holds the block, or the class says what is wrong
+abbrev pub Loads : Layout → ℕ → Option Told → ℕ → Option ℕ → Option Class → Option Holding → Type 0
+Loads layout cluster told address known None (Some held) = ReadsBlock layout cluster told address known (Ok (block_of held.unit))
+Loads layout cluster told address known None None = ⊥
+Loads layout cluster told address known (Some class) held = ReadsBlock layout cluster told address known (Err class)
+
+-- whatever the disk tells, where nothing is wrong the room holds the known block
+abbrev pub HoldsKnown : Layout → ℕ → ℕ → Option ℕ → Option Class → Option Holding → Type 0
+HoldsKnown layout cluster address known None (Some held) = IsKnownUnit AsBlock layout cluster address known held.unit
+HoldsKnown layout cluster address known None None = ⊥
+HoldsKnown layout cluster address known (Some class) held = Unit {0}
 
 -- any other block isn't read as a trailer's
 abbrev pub trailer_alone : Result Block Class → Result Block Class

@@ -1,9 +1,12 @@
 // The grid: which addresses are held and why, and what a new block, a release and a checkpoint make of that.
-ghost use Rattle.std.specs.Prelude.{◌≡◌, ◌≢◌, ◌<◌, ◌≤◌, Bool, false, true, List, ℕ, [], length, take, replicate, slice_get, All, IfSome, nat_lt};
+ghost use Rattle.std.specs.Prelude.{◌≡◌, ◌≢◌, ◌<◌, ◌≤◌, Bool, false, true, List, ℕ, [], length, map, take, replicate, slice_get, All, IfSome, nat_lt};
 ghost use Rattle.std.specs.List.{filter};
 ghost use Rattle.df_model.specs.Blocks.{block_released, blocks_captured, capture_finished, is_held_in, sum_at};
 ghost use Rattle.df_model.specs.Work.{is_known};
 ghost use Rattle.df_trailer.specs.Rooms.{number_in};
+ghost use Rattle.df_trailer.specs.Spelling.{is_referenced};
+ghost use Rattle.df_trailer.specs.Text.{ones};
+ghost use Rattle.df_trailer.specs.Writing.{captured_blocks};
 ghost use Rattle.df_units.specs.Meaning.{number_of};
 ghost use Rattle.df_grid.specs.Grid.{GridState, HasAddress, IsUnheld, free_of, referenced_of, with_blocks};
 ghost use Rattle.df_grid.specs.Table.{IsIdle, adopted, last_of, no_blocks, pair_in};
@@ -110,6 +113,22 @@ impl Grid {
         self.table.free()
     }
 
+    /// How many blocks the durable checkpoint references.
+    pub fn references(&self) -> u64
+        ensures { result ≡ length self.now.blocks.durable }
+    {
+        self.table.references()
+    }
+
+    /// How many blocks are live: so many a checkpoint that is begun now references.
+    pub fn live_blocks(&self) -> u64
+        ensures count { result ≡ length self.now.blocks.live }
+        ensures captured { result ≡ ones (map is_referenced (captured_blocks (λ a. sum_at a self.now.blocks.live) self.now.layout.blocks)) }
+        ensures most { result ≤ self.now.layout.blocks }
+    {
+        self.table.live_blocks()
+    }
+
     /// The checksum of a live block, None exactly where the address isn't live.
     pub fn live(&self, address: u64) -> Option<Check>
         ensures { number_in result ≡ sum_at address self.now.blocks.live }
@@ -155,7 +174,8 @@ impl Grid {
 
     /// The last block of the running trailer, None exactly where no checkpoint runs or that block isn't written yet.
     pub fn trailer(&self) -> Option<Reference>
-        ensures { pair_in result ≡ last_of self.now.blocks.left self.now.blocks.written }
+        ensures pair { pair_in result ≡ last_of self.now.blocks.left self.now.blocks.written }
+        ensures inside { IfSome result (λ r. HasAddress self.now r.address) }
     {
         self.table.trailer()
     }

@@ -1,8 +1,8 @@
 // What is looked up in the table's entries.
-ghost use Rattle.std.specs.Prelude.{◌≡◌, nat_lt, slice_get};
+ghost use Rattle.std.specs.Prelude.{◌≡◌, ◌≤◌, length, nat_lt, slice_get};
 ghost use Rattle.std.specs.List.{filter};
 ghost use Rattle.df_grid.specs.Entries.{is_marked};
-ghost use Rattle.df_grid.specs.Table.{entry_at, pair_in, picked};
+ghost use Rattle.df_grid.specs.Table.{entry_at, is_durable, is_live, pair_in, picked};
 
 use crate::entries::Entries;
 use crate::entry::{Entry, is_marked};
@@ -35,4 +35,37 @@ pub(crate) fn first_marked(entries: &Entries, above: u64) -> Option<Reference>
         place += 1;
     }
     None
+}
+
+/// How many entries are of blocks that the durable checkpoint references.
+pub(crate) fn count_durable(entries: &Entries) -> u64
+    ensures { result ≡ length (picked is_durable 1 entries.now) }
+{
+    let mut count = 0;
+    let mut place = 0;
+    while place < entries.len() {
+        let entry = entries.get(place + 1);
+        if entry.durable {
+            count += 1;
+        }
+        place += 1;
+    }
+    count
+}
+
+/// How many entries are of live blocks.
+pub(crate) fn count_live(entries: &Entries) -> u64
+    ensures count { result ≡ length (picked is_live 1 entries.now) }
+    ensures most { result ≤ length entries.now }
+{
+    let mut count = 0;
+    let mut place = 0;
+    while place < entries.len() {
+        let entry = entries.get(place + 1);
+        if entry.live {
+            count += 1;
+        }
+        place += 1;
+    }
+    count
 }

@@ -12,7 +12,7 @@ ghost use Rattle.df_model.specs.Work.{is_known};
 ghost use Rattle.df_units.specs.Meaning.{block_of, number_of};
 ghost use Rattle.df_places.specs.Units.{IsSeen};
 ghost use Rattle.df_grid.specs.Grid.{HasAddress, IsKnownUnit};
-ghost use Rattle.df_grid.specs.Reads.{ReadsBlock, ReadsTrailer, Tests, IsFaultOf, at_address, differs};
+ghost use Rattle.df_grid.specs.Reads.{HoldsKnown, Loads, ReadsBlock, ReadsTrailer, Tests, IsFaultOf, at_address, differs};
 ghost use Rattle.df_grid.specs.contracts.grid.Grid.{the_row};
 
 use crate::Grid;
@@ -21,6 +21,7 @@ use df_buffers::{Block, Identity, Sound, Trailer, Wanted};
 use df_disk::Disk;
 use df_format::{Header, Reference};
 use df_layout::{Class, Layout, Place, Zone};
+use df_places::Shelf;
 
 /// The place of an address.
 pub(crate) fn grid_place(address: u64) -> Place
@@ -94,6 +95,29 @@ impl Grid {
             Some(class) => Ok(Err(class)),
             None => Ok(Ok(self.block.unit())),
         }
+    }
+
+    /// Reads a live address into a room of the layout: None exactly where the block is valid there with the checksum that is known, and the
+    /// room holds it then; else the class of what is shown. After an error the room holds nothing.
+    pub fn load<D: Disk>(
+        &self,
+        room: &mut Shelf<Block>,
+        disk: &mut D,
+        address: u64,
+    ) -> Result<Option<Class>, Failed>
+        requires live { is_known (sum_at address self.now.blocks.live) ≡ true }
+        requires room { room.old.layout ≡ self.now.layout }
+        ensures room { room.new.layout ≡ room.old.layout }
+        ensures loads { IfOk result (λ wrong. Loads self.now.layout self.now.cluster (D.told disk.old) address (sum_at address self.now.blocks.live) wrong room.new.held) }
+        ensures valid { IfOk result (λ wrong. HoldsKnown self.now.layout self.now.cluster address (sum_at address self.now.blocks.live) wrong room.new.held) }
+        ensures same { D.told disk.new ≡ D.told disk.old }
+        ensures cause { HasCause (D.faults disk.old) (D.faults disk.new) result }
+    {
+        let Some(checksum) = self.table.live(address) else {
+            unreachable!()
+        };
+        let identity = known_at(&self.layout, self.cluster, address, checksum);
+        room.load(disk, &identity)
     }
 
     /// The trailer block at an address of the grid, exactly where it is valid there with this checksum, else the class of what is shown.

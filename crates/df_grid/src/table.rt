@@ -1,9 +1,12 @@
 // The block table with the free set and the chains of both checkpoints: what the grid knows, and how that changes.
-ghost use Rattle.std.specs.Prelude.{◌≡◌, ◌≢◌, ◌+◌, ◌-◌, ◌<◌, ◌≤◌, ◌↔◌, Bool, true, false, List, ℕ, [], ◌∷◌, Some, None, length, take, replicate, slice_get, slice_set, All, IfSome, nat_lt};
+ghost use Rattle.std.specs.Prelude.{◌≡◌, ◌≢◌, ◌+◌, ◌-◌, ◌<◌, ◌≤◌, ◌↔◌, Bool, true, false, List, ℕ, [], ◌∷◌, Some, None, length, map, take, replicate, slice_get, slice_set, All, IfSome, nat_lt};
 ghost use Rattle.std.specs.List.{filter, range_with_len};
 ghost use Rattle.df_model.specs.Blocks.{block_released, block_written, blocks_captured, capture_finished, entries, is_held_in, reference_in, sum_at};
 ghost use Rattle.df_model.specs.Work.{is_known};
 ghost use Rattle.df_trailer.specs.Rooms.{number_in};
+ghost use Rattle.df_trailer.specs.Spelling.{is_referenced};
+ghost use Rattle.df_trailer.specs.Text.{ones};
+ghost use Rattle.df_trailer.specs.Writing.{captured_blocks};
 ghost use Rattle.df_units.specs.Meaning.{number_of};
 ghost use Rattle.df_grid.specs.Entries.{HasEntry};
 ghost use Rattle.df_grid.specs.Table.{IsIdle, TableState, adopted, last_of, next_written, no_blocks, pair_in, unheld};
@@ -11,7 +14,7 @@ ghost use Rattle.df_grid.specs.Table.{IsIdle, TableState, adopted, last_of, next
 use crate::changes::{capture_all, finish_all, replace, take_least};
 use crate::entries::Entries;
 use crate::entry::{Entry, checksum_if};
-use crate::lookups::{entry_in, first_marked};
+use crate::lookups::{count_durable, count_live, entry_in, first_marked};
 use arrayvec::ArrayVec;
 use df_base::Check;
 use df_format::Reference;
@@ -74,6 +77,22 @@ impl Table {
         self.entries.len()
     }
 
+    /// How many blocks the durable checkpoint references.
+    pub(crate) fn references(&self) -> u64
+        ensures { result ≡ length self.now.blocks.durable }
+    {
+        count_durable(&self.entries)
+    }
+
+    /// How many blocks are live.
+    pub(crate) fn live_blocks(&self) -> u64
+        ensures count { result ≡ length self.now.blocks.live }
+        ensures captured { result ≡ ones (map is_referenced (captured_blocks (λ a. sum_at a self.now.blocks.live) self.now.size)) }
+        ensures most { result ≤ self.now.size }
+    {
+        count_live(&self.entries)
+    }
+
     /// The checksum of a live block, None where the address isn't live.
     pub(crate) fn live(&self, address: u64) -> Option<Check>
         ensures checksum { number_in result ≡ sum_at address self.now.blocks.live }
@@ -131,6 +150,7 @@ impl Table {
     pub(crate) fn last_written(&self) -> Option<Reference>
         ensures pair { pair_in result ≡ slice_get self.now.blocks.written 0 }
         ensures inside { IfSome result (λ r. 1 ≤ r.address) }
+        ensures within { IfSome result (λ r. r.address ≤ self.now.size) }
     {
         let address = self.written.first().copied()?;
         let checksum = self.entries.get(address).checksum;
@@ -139,7 +159,8 @@ impl Table {
 
     /// The last block of the running trailer, None where it isn't written yet.
     pub(crate) fn trailer(&self) -> Option<Reference>
-        ensures { pair_in result ≡ last_of self.now.blocks.left self.now.blocks.written }
+        ensures pair { pair_in result ≡ last_of self.now.blocks.left self.now.blocks.written }
+        ensures inside { IfSome result (λ r. (1 ≤ r.address) × (r.address ≤ self.now.size)) }
     {
         if self.left.is_empty() {
             self.last_written()

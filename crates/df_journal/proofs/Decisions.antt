@@ -77,6 +77,12 @@ taken_request layout cluster s h (body, is) =
     let rules : ObeysPrepare h = subst (λ (kind : Kind). ObeysKind kind h) in_slot.kind is.sealed.rules.kind in
     rules.request.1
 
+pub taken_op : (layout : Layout) (cluster s : ℕ) (h : Header) → IsThere layout cluster (place_in WalPrepares s) (Ok h) → h.op ≤ 2 ^ 62
+taken_op layout cluster s h (body, is) =
+    let in_slot : IsInSlot layout s h = (valid_belongs layout cluster (place_in WalPrepares s) (record { header = h; body = body }) is).belongs in
+    let rules : ObeysPrepare h = subst (λ (kind : Kind). ObeysKind kind h) in_slot.kind is.sealed.rules.kind in
+    rules.op.1
+
 pub taken_check : (layout : Layout) (cluster s : ℕ) (h : Header) → IsThere layout cluster (place_in WalPrepares s) (Ok h) → IsCheck h.checksum
 taken_check layout cluster s h (body, is) = unit_check layout cluster (place_in WalPrepares s) (record { header = h; body = body }) is
 

@@ -71,3 +71,4 @@ pub record IsSound (sessions : Table) (h : Header) : Type 0 where
   pub room : IsKnown h.client sessions.sessions ⊎ (length sessions.sessions < sessions.max)
   pub checksum : IsCheck h.checksum
   pub request : h.request ≤ 2 ^ 62
+  pub op : h.op ≤ 2 ^ 62

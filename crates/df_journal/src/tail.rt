@@ -86,6 +86,7 @@ pub fn find_tail(
         → StartsAt sh b layout.now found.now.start.op checksum.now sessions.old.sessions → FindsTail sh image b result sessions.new.sessions }
     ensures from { found.now.start.op ≤ result.op }
     ensures within { result.op ≤ found.now.start.op + layout.now.slots }
+    ensures most { result.op ≤ 2 ^ 62 }
     ensures checksum { IsCheck result.checksum }
     ensures start { result.op ≡ found.now.start.op → result.checksum ≡ checksum.now }
     ensures places { sessions.new.max ≡ sessions.old.max }

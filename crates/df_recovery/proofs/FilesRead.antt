@@ -17,7 +17,7 @@ use Rattle.df_sessions.specs.Requests.{sessions_of}
 use Rattle.df_theory.specs.Units
 use Rattle.df_theory.specs.Units.{AnyUnit, CopyPlace, CopyUnit}
 use Rattle.df_theory.specs.Opens.{IsLowest, IsReadable}
-use Rattle.df_theory.specs.Trailer.{IsReference, IsTrailer, no_parts}
+use Rattle.df_theory.specs.Trailer.{IsReference}
 use Rattle.df_theory.specs.View.{PassesTests}
 use Rattle.df_units.specs.Bytes.{copy_unit, unit_at}
 use Rattle.df_units.specs.Meaning.{content_of, layout_of}
@@ -27,9 +27,11 @@ use Rattle.df_journal.specs.Shows.{Tells}
 use Rattle.df_journal.proofs.Laws.{scanned_shown as slots_shown}
 use Rattle.df_replies.specs.Shown.{ShowsReplies}
 use Rattle.df_replies.proofs.Laws.{scanned_shown as replies_shown}
-use Rattle.df_recovery.specs.Finding.{FileIsRead, IsOfFile, Read, base_of, lowest_of, or_first}
-use Rattle.df_recovery.specs.State.{shape}
-use Rattle.df_recovery.specs.declared.file.DataFile.{DataFile}
+use Rattle.df_trailer.specs.Text.{parse_of}
+use Rattle.df_recovery.specs.Checkpoints.{Base, base_of}
+use Rattle.df_recovery.specs.Finding.{FileIsRead, IsOfFile, Read, lowest_of, or_first}
+use Rattle.df_state.specs.State.{shape}
+use Rattle.df_state.specs.declared.file.DataFile.{DataFile}
 use Rattle.df_recovery.proofs.Written.{super_is_written}
 
 -- ---- the lowest member
@@ -59,9 +61,9 @@ position_upto members k is = position_of members k (position (λ member. member)
 
 one_content : (layout : Layout) (cluster : ℕ) (named : 0 < cluster) (c d : Content) → HasChecks c → HasChecks d → AreFieldsOf layout cluster d.fields → IsSuper d.fields → content_of c ≡ content_of d → c ≡ d
 one_content layout cluster named c d one two of super same =
-    let parse : ℕ → List ℕ → Option Units.Parts = λ op text. None in
+    let parse : ℕ → List ℕ → Option Units.Parts = parse_of (layout_of layout) in
     let passes = usable_passes layout cluster named parse d of super in
-    let tests : PassesTests (shape (record { layout = layout; cluster = cluster; named = named }) parse) (content_of c) = subst (PassesTests (shape (record { layout = layout; cluster = cluster; named = named }) parse)) (sym same) passes.0 in
+    let tests : PassesTests (shape (record { layout = layout; cluster = cluster; named = named })) (content_of c) = subst (PassesTests (shape (record { layout = layout; cluster = cluster; named = named }))) (sym same) passes.0 in
     let other : IsSuper c.fields = (passing_is_usable layout cluster named parse c one tests (subst (IsReference (layout_of layout)) (sym same) passes.1)).1 in
     let checksum = one_number c.checksum d.checksum one.checksum two.checksum (ap (λ (e : Units.Content). e.checksum) same) in
     let op_checksum = one_number c.fields.op_checksum d.fields.op_checksum one.op_checksum two.op_checksum (ap (λ (e : Units.Content). e.op_checksum) same) in
@@ -97,7 +99,7 @@ copy_there (Some c) d at = let one : content_of c ≡ d = cc in (c, refl, one)
 
 -- ---- the checkpoint
 
-module _ (t : Told) (file : DataFile) (read : Read) (is : IsOfFile t file read) where
+module _ (t : Told) (file : DataFile) (read : Read) (base : Base) (is : IsOfFile t file read base) where
   fields_are : AreFieldsOf file.layout file.cluster read.found.content
   fields_are = record {
     slots = sym is.has.layout.slots;
@@ -135,53 +137,26 @@ module _ (t : Told) (file : DataFile) (read : Read) (is : IsOfFile t file read) 
             absurd (let both : true ≡ false = sym member ∙ not in cc);
       })
 
-  no_op : read.found.content.op ≡ 0
-  no_op = none read.found.content.op (λ some. usable.trailer.1 some is.has.trailer)
-    where
-      none : (n : ℕ) → ((n ≡ 0 → ⊥) → ⊥) → n ≡ 0
-      none zero never = refl
-      none (suc n) never = absurd (never (λ zero. omega (arith, zero)))
+  passes : PassesTests (shape file) (content_of (content_with read.found.content)) × IsReference (layout_of file.layout) (content_of (content_with read.found.content))
+  passes = usable_passes file.layout file.cluster file.named (parse_of (layout_of file.layout)) (content_with read.found.content) fields_are usable
 
-  module _ (parse : ℕ → List ℕ → Option Units.Parts) where
-    passes : PassesTests (shape file parse) (content_of (content_with read.found.content)) × IsReference (layout_of file.layout) (content_of (content_with read.found.content))
-    passes = usable_passes file.layout file.cluster file.named parse (content_with read.found.content) fields_are usable
-
-    trailer : IsTrailer (shape file parse) (content_of (content_with read.found.content)) [] no_parts
-    trailer = record {
-      reference = passes.1;
-      links = is.has.trailer;
-      count = record { holds = omega (arith, usable.no_trailer is.has.trailer); needed = λ some. absurd (omega arith) };
-      inside = λ a b none. absurd none;
-      size = sym (usable.no_trailer is.has.trailer);
-      says = refl;
-      spare = λ a b none. refl;
-    }
-
-    readable : IsReadable (shape file parse) (unit_at file.layout file.cluster t.shown) (base_of read.found.content)
-    readable = record {
-      chosen = choice_chosen file.layout file.cluster t.shown (content_with read.found.content) is.image chosen;
-      sound = record {
-        tests = passes.0;
-        trailer = trailer;
-        tracks = record {
-          below = λ k s at. absurd (cc);
-          apart = λ j k s u one two same. absurd (cc);
-          pending = λ o above to. absurd (omega (arith, above, to, no_op));
-        };
-      };
-      shown = λ a b none. absurd none;
-    }
+  readable : IsReadable (shape file) (unit_at file.layout file.cluster t.shown) (base_of read.found.content is.checkpoint.chain is.checkpoint.parts)
+  readable = record {
+    chosen = choice_chosen file.layout file.cluster t.shown (content_with read.found.content) is.image chosen;
+    sound = record { tests = passes.0; trailer = is.checkpoint.trailer; tracks = is.checkpoint.tracks };
+    shown = is.checkpoint.shown;
+  }
 
 pub file_is_read : FileIsRead
-file_is_read t file read parse is = record {
+file_is_read t file read base is = record {
   tells = subst (λ (image : Units.Units). Tells read.layout image read.slots) same (slots_shown read.layout t read.slots is.scanned.slots);
   shows = subst (λ (image : Units.Units). ShowsReplies image read.replies) same (replies_shown read.layout read.slots.start.cluster t read.replies is.scanned.replies);
   slots_are = ap (λ (l : Layout). l.slots) (sym is.layout);
   clients_are = ap (λ (l : Layout). l.clients) (sym is.layout);
   content_is = refl;
-  readable = readable t file read is parse;
-  lowest_is = lowest t file read is;
-  sessions_are = ap sessions_of (sym is.sessions);
+  readable = readable t file read base is;
+  lowest_is = lowest t file read base is;
+  sessions_are = is.checkpoint.sessions_are ∙ ap sessions_of is.sessions;
 }
   where
     same : unit_at read.layout read.slots.start.cluster t.shown ≡ unit_at file.layout file.cluster t.shown

@@ -17,7 +17,7 @@ use Rattle.df_theory.specs.Units.{AnyUnit, BlockPlace, CopyPlace, HeaderPlace, H
 use Rattle.df_theory.specs.Found.{IsReplies, NotLost}
 use Rattle.df_theory.specs.Sessions.{MayAsk, Tracks, noted, sessions_after}
 use Rattle.df_theory.proofs.Laws.{noted_get, tracks_chain}
-use Rattle.df_recovery.specs.State.{AreAsked}
+use Rattle.df_state.specs.State.{AreAsked}
 use Rattle.df_theory.specs.Tails.{Chain, last_mark}
 use Rattle.df_theory.specs.Shape.{Shape}
 use Rattle.df_theory.specs.View.{Checkpoint}
@@ -151,11 +151,15 @@ module _ (sh : Shape) (image : Units.Units) (f : SuperFields) (ss after : List S
     | inr (inr reply) ↦ omega (arith, reply.3, (kept.reply reply.0 reply.1 reply.2 reply.4).0)
   ]
 
-  pub tracks_on : Tracks n f.op (sessions_of ss) → Tracks n end.op (sessions_of after)
+  -- fewer ops wait where more replies are stored
+  fewer : Tracks f.replies f.op (sessions_of ss) → Tracks n f.op (sessions_of ss)
+  fewer tracks = record { below = tracks.below; apart = tracks.apart; pending = λ o above to. tracks.pending o (omega (arith, replies.superblock, above)) to }
+
+  pub tracks_on : Tracks f.replies f.op (sessions_of ss) → Tracks n end.op (sessions_of after)
   tracks_on tracks =
       subst (λ (l : List Units.Session). Tracks n end.op l) (sym found.ends.sessions_are)
       (subst (λ (top : ℕ). Tracks n top (sessions_after (sessions_of ss) found.tail)) (sym found.ends.op)
-      (tracks_chain sh.layout.clients f.op (any_base f ss).content.op_checksum 0 n n (sessions_of ss) found.tail tracks found.is.chain (omega arith) replies.mark))
+      (tracks_chain sh.layout.clients f.op (any_base f ss).content.op_checksum 0 n n (sessions_of ss) found.tail (fewer tracks) found.is.chain (omega arith) replies.mark))
 
   pub asked_on : AreAsked (sessions_of ss) → AreAsked (sessions_of after)
   asked_on asked = subst AreAsked (sym found.ends.sessions_are) (asked_chain sh.layout.clients (f.op + 1) (any_base f ss).content.op_checksum 0 (sessions_of ss) found.tail found.is.chain asked)

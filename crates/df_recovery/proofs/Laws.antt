@@ -5,7 +5,9 @@ pub use Rattle.df_recovery.proofs.FilesRead.{file_is_read}
 pub use Rattle.df_recovery.proofs.OpenAnswers.{kept_is_answer, refused_is_answer}
 -- ---- the sessions after a prepare
 pub use Rattle.df_recovery.proofs.FindingBounds.{asked_noted}
--- ---- the slots of the four places, and the sectors that they were read from
-pub use Rattle.df_recovery.proofs.Places.{blank_shown, shown_blank, unformatted}
 -- ---- the mends of the slots, one slot more
 pub use Rattle.df_recovery.proofs.Plans.{filter_more, slot_mends_more}
+-- ---- the checksums that wait
+pub use Rattle.df_recovery.proofs.Waits.{waiting_count}
+-- ---- what was scanned is of its file
+pub use Rattle.df_recovery.proofs.Scans.{scanned_of_file}

@@ -11,4 +11,9 @@ pub mod FilesRead
 pub mod OpenAnswers
 pub mod KeptReplies
 pub mod FindingBounds
+pub mod Tracked
+pub mod Bases
+pub mod Refusals
+pub mod Waits
+pub mod Scans
 pub mod Laws

@@ -1,28 +1,33 @@
 -- What is found of a file is the answer to an open.
-use Rattle.std.specs.Prelude.{Err}
-use Rattle.std.proofs.Common.{◌≡◌, ℕ, List, length, Option, None, refl, sym, ◌∙◌, ap, subst}
+use Rattle.std.specs.Prelude.{Err, Ok, map}
+use Rattle.std.specs.List.{range_with_len}
+use Rattle.std.proofs.Common.{◌≡◌, ℕ, ◌+◌, ◌-◌, List, length, refl, sym, ◌∙◌, ap, subst}
 use Rattle.df_format.specs.Copies.{content_with}
 use Rattle.df_format.specs.declared.superblock.SuperFields.{SuperFields}
 use Rattle.df_sessions.specs.declared.session.Session.{Session}
 use Rattle.df_theory.specs.Units
 use Rattle.df_theory.specs.Found.{IsFound}
-use Rattle.df_theory.specs.View.{Checkpoint, IsSoundCheckpoint, View}
+use Rattle.df_theory.specs.View.{Checkpoint, View}
 use Rattle.df_model.specs.declared.errors.OpenError.{OpenError}
 use Rattle.df_units.specs.Bytes.{unit_at}
-use Rattle.df_units.specs.Meaning.{content_of, number_of}
+use Rattle.df_units.specs.Meaning.{content_of, layout_of, number_of}
+use Rattle.df_checkpoint.specs.Reads.{blocks_read}
 use Rattle.df_journal.specs.Tail.{EndsAt}
-use Rattle.df_recovery.specs.Finding.{HasHeaders, IsKept, IsOfFile, Keeps, KeptIsAnswer, Read, RefusedIsAnswer, StoresTo, base_of}
-use Rattle.df_recovery.specs.State.{State, shape}
+use Rattle.df_recovery.specs.Checkpoints.{base_of}
+use Rattle.df_recovery.specs.Waiting.{waiting_sum}
+use Rattle.df_recovery.specs.Finding.{Answers, HasHeaders, IsKept, IsOfFile, IsReadFrom, Keeps, KeptIsAnswer, Read, RefusedIsAnswer, StoresTo, base_with}
+use Rattle.df_state.specs.State.{State, shape}
 use Rattle.df_recovery.specs.declared.finding.Traces.{Traces}
 use Rattle.df_disk.specs.Told.{Told}
 use Rattle.df_recovery.specs.Surveys.{HasFile, Surveys, class_there}
-use Rattle.df_recovery.specs.declared.file.DataFile.{DataFile}
+use Rattle.df_state.specs.declared.file.DataFile.{DataFile}
 use Rattle.df_recovery.proofs.KeptReplies.{stored_kept}
 use Rattle.df_recovery.proofs.FilesRead.{file_is_read}
 use Rattle.df_recovery.proofs.OpenedStates.{state_is_opened}
+use Rattle.df_recovery.proofs.Waits.{waiting_known}
 
 pub refused_is_answer : RefusedIsAnswer
-refused_is_answer t file read e is refused = subst (λ (x : OpenError). Surveys file.layout t.shown (Err x)) (sym refused.error_is) (record {
+refused_is_answer t file read base e is refused = subst (λ (x : OpenError). Surveys file.layout t.shown (Err x)) (sym refused.error_is) (record {
   file = file;
   fields = read.found.content;
   has = is.has;
@@ -30,64 +35,54 @@ refused_is_answer t file read e is refused = subst (λ (x : OpenError). Surveys 
   at = refused.at;
   at_is = refl;
   class_is = refused.class_is t is.scanned ∙ (λ i. class_there (is.layout i) (is.cluster i) t.shown refused.at);
-  opens = λ parse. refused.opens (shape file parse) (unit_at file.layout file.cluster t.shown) (base_of read.found.content) (file_is_read t file read parse is);
+  opens = refused.opens (shape file) (unit_at file.layout file.cluster t.shown) (base_of read.found.content is.checkpoint.chain is.checkpoint.parts) (file_is_read t file read base is);
 })
 
--- how the text of a trailer would be read is nothing to a file without one
-other_parse : (file : DataFile) (p q : ℕ → List ℕ → Option Units.Parts) (image : Units.Units) (v : View) → IsSoundCheckpoint (shape file q) v.checkpoint → IsFound (shape file p) image v → IsFound (shape file q) image v
-other_parse file p q image v sound found = record {
-  chosen = found.chosen;
-  checkpoint = sound;
-  chain_shown = found.chain_shown;
-  not_behind = record { header = found.not_behind.header; prepare = found.not_behind.prepare; reply = found.not_behind.reply };
-  tail = record {
-    chain = found.tail.chain;
-    takes = found.tail.takes;
-    room = found.tail.room;
-    groups = found.tail.groups;
-    reaches = found.tail.reaches;
-    pinned = found.tail.pinned;
-    longest = found.tail.longest;
-  };
-  not_lost = found.not_lost;
-  replies = found.replies;
-  stored = found.stored;
-}
+module _ (t : Told) (read : Read) (traces : Traces) (after : List Session) (s : State) (is : IsOfFile t s.file read (base_with s read.sessions)) (kept : IsKept read traces after s) (headers : HasHeaders (unit_at s.file.layout s.file.cluster t.shown) s) where
+  abbrev image : Units.Units
+  image = unit_at s.file.layout s.file.cluster t.shown
 
--- what is kept of the traces is what a state keeps of the view
-keeps_view : (t : Told) (read : Read) (traces : Traces) (after : List Session) (s : State) (parse : ℕ → List ℕ → Option Units.Parts) (v : View) → IsOfFile t s.file read → IsKept read traces after s → HasHeaders (unit_at s.file.layout s.file.cluster t.shown) s
-    → v.checkpoint ≡ base_of read.found.content → EndsAt v.checkpoint v.tail traces.tail after → v.replies ≡ traces.replies → IsFound (shape s.file parse) (unit_at s.file.layout s.file.cluster t.shown) v
-    → Keeps (shape s.file parse) (unit_at s.file.layout s.file.cluster t.shown) v s
-keeps_view t read traces after s parse v is kept headers base ends replies found =
-    let image = unit_at s.file.layout s.file.cluster t.shown in
-    record {
-      content = ap (λ (b : Checkpoint). b.content) base ∙ ap (λ (f : SuperFields). content_of (content_with f)) (sym kept.fields);
-      chain = ap (λ (b : Checkpoint). b.chain) base;
-      parts = ap (λ (b : Checkpoint). b.parts) base;
-      head_is = kept.head_is ∙ ends.op;
-      head_checksum = ap number_of kept.head_checksum ∙ ends.checksum;
-      replies = kept.replies ∙ sym replies;
-      sessions_are = kept.stored.requests ∙ ends.sessions_are;
-      stored = stored_kept image v read.replies after s.table.sessions (file_is_read t s.file read parse is).shows found.stored ends.sessions_are kept.unstored
-          (subst (λ (n : ℕ). StoresTo n read.replies (length after) after s.table.sessions) (sym replies) kept.stored);
-      count = kept.count;
-      headers = headers parse v found;
-      waiting = kept.waiting;
-    }
+  abbrev base : Checkpoint
+  base = base_of read.found.content is.checkpoint.chain is.checkpoint.parts
+
+  from : IsReadFrom (shape s.file) (unit_at s.file.layout s.file.cluster t.shown) (base_of read.found.content is.checkpoint.chain is.checkpoint.parts) read
+  from = file_is_read t s.file read (base_with s read.sessions) is
+
+  -- the checksums that wait are the model's
+  waits : map number_of s.waiting ≡ map (waiting_sum s image) (range_with_len (s.replies + 1) (s.head - s.replies))
+  waits =
+      let start : read.slots.start.op ≡ s.fields.op = is.op ∙ ap (λ (f : SuperFields). f.op) (sym kept.fields) in
+      ap (map number_of) kept.waiting ∙ waiting_known s image read.slots (range_with_len (s.replies + 1) (s.head - s.replies)) start from.tells.shows
+
+  -- what is kept of the traces is what a state keeps of the view
+  keeps_view : (v : View) → v.checkpoint ≡ base → EndsAt v.checkpoint v.tail traces.tail after → v.replies ≡ traces.replies → IsFound (shape s.file) image v → Keeps (shape s.file) image v s
+  keeps_view v same ends replies found = record {
+    content = ap (λ (b : Checkpoint). b.content) same ∙ ap (λ (f : SuperFields). content_of (content_with f)) (sym kept.fields);
+    root_is = is.checkpoint.root_is ∙ ap (λ (b : Checkpoint). b.parts.root) (sym same);
+    blocks_are = is.checkpoint.blocks_are ∙ ap (λ (b : Checkpoint). blocks_read (layout_of s.file.layout) b.parts b.chain) (sym same);
+    head_is = kept.head_is ∙ ends.op;
+    head_checksum = ap number_of kept.head_checksum ∙ ends.checksum;
+    replies = kept.replies ∙ sym replies;
+    sessions_are = kept.stored.requests ∙ ends.sessions_are;
+    stored = stored_kept image v read.replies after s.table.sessions from.shows found.stored ends.sessions_are kept.unstored
+        (subst (λ (n : ℕ). StoresTo n read.replies (length after) after s.table.sessions) (sym replies) kept.stored);
+    count = kept.count;
+    headers = headers v found;
+    waiting = waits;
+    starts = kept.starts;
+  }
+
+  pub kept_answer : Answers read (Ok traces) after → Surveys s.file.layout t.shown (Ok s)
+  kept_answer answers =
+      let first = answers (shape s.file) image base from in
+      let ends : EndsAt first.view.checkpoint first.view.tail traces.tail after = subst (λ (c : Checkpoint). EndsAt c first.view.tail traces.tail after) (sym first.checkpoint) first.ends in
+      record {
+        has = subst (HasFile t.shown s.file) (sym kept.fields) is.has;
+        of = refl;
+        view = first.view;
+        found = first.found;
+        stands = state_is_opened image first.view s first.found (keeps_view first.view first.checkpoint ends first.replies first.found);
+      }
 
 pub kept_is_answer : KeptIsAnswer
-kept_is_answer t read traces after s is answers kept headers =
-    let any : ℕ → List ℕ → Option Units.Parts = λ op text. None in
-    let image = unit_at s.file.layout s.file.cluster t.shown in
-    let b = base_of read.found.content in
-    let first = answers (shape s.file any) image b (file_is_read t s.file read any is) in
-    let ends : EndsAt first.view.checkpoint first.view.tail traces.tail after = subst (λ (c : Checkpoint). EndsAt c first.view.tail traces.tail after) (sym first.checkpoint) first.ends in
-    let found : (parse : ℕ → List ℕ → Option Units.Parts) → IsFound (shape s.file parse) image first.view =
-    λ parse. other_parse s.file any parse image first.view (subst (IsSoundCheckpoint (shape s.file parse)) (sym first.checkpoint) (file_is_read t s.file read parse is).readable.sound) first.found in
-    record {
-      has = subst (HasFile t.shown s.file) (sym kept.fields) is.has;
-      of = refl;
-      view = first.view;
-      found = found;
-      stands = λ parse spell. state_is_opened parse spell image first.view s (found parse) (keeps_view t read traces after s parse first.view is kept headers first.checkpoint ends first.replies (found parse));
-    }
+kept_is_answer t read traces after s is answers kept headers = kept_answer t read traces after s is kept headers answers

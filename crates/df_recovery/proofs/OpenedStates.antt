@@ -1,27 +1,27 @@
 -- What is kept of a view that an open finds stands for what the machine begins with.
-use Rattle.std.proofs.Common.{◌≡◌, inl, inr, ℕ, zero, suc, ◌+◌, ◌-◌, ◌%◌, ◌<◌, ◌≤◌, List, [], ◌∷◌, length, map, Option, Some, None, refl, sym, ◌∙◌, ap, subst, arith}
+use Rattle.std.proofs.Common.{◌≡◌, inl, inr, ℕ, zero, suc, ◌+◌, ◌-◌, ◌%◌, ◌<◌, ◌≤◌, Bool, true, false, List, [], ◌∷◌, length, map, Option, Some, None, refl, sym, ◌∙◌, ap, subst, arith}
 use Rattle.std.specs.List.{range_with_len, slice_get}
 use Rattle.std.proofs.Math.Nat.{mod-lt}
-use Rattle.std.proofs.lemmas.Bool.{cond-true, lt-ltb}
+use Rattle.std.specs.Prelude.{nat_lt, if◌then◌else◌}
+use Rattle.std.proofs.lemmas.Bool.{cases_lt, le-ltb}
 use Rattle.std.proofs.lemmas.List.{length-map}
 use Rattle.std.proofs.lemmas.Option.{slice_get_cases}
 use Rattle.df_format.specs.declared.header.Header.{Header}
 use Rattle.df_sessions.specs.declared.session.Session.{Session}
 use Rattle.df_sessions.specs.Requests.{session_of}
 use Rattle.df_theory.specs.Units
-use Rattle.df_theory.specs.Units.{Content, Message, Parts, PreparePlace}
+use Rattle.df_theory.specs.Units.{Content, Message, PreparePlace}
 use Rattle.df_theory.specs.Found.{IsFound}
 use Rattle.df_theory.specs.Sessions.{noted}
 use Rattle.df_theory.specs.Tails.{Chain, In}
-use Rattle.df_theory.specs.Trailer.{Links, no_parts}
 use Rattle.df_theory.specs.View.{View, head, sessions}
-use Rattle.df_model.specs.Blocks.{addresses, blocks_of, entries, pair_of}
 use Rattle.df_model.specs.Memory
 use Rattle.df_model.specs.Memory.{sum_of_message}
 use Rattle.df_model.specs.Work.{checksum_of, checksum_of_op, opened, waiting_checksum}
-use Rattle.df_units.specs.Meaning.{number_of}
+use Rattle.df_units.specs.Meaning.{layout_of, number_of}
 use Rattle.df_recovery.specs.Finding.{Keeps, StateIsOpened}
-use Rattle.df_recovery.specs.State.{State, memory, no_blocks, prepare_sum, shape, stored_sum, sum_of}
+use Rattle.df_state.specs.State.{State, course_in, memory, prepare_sum, shape, spelling, stored_sum, sum_of}
+use Rattle.df_recovery.specs.Waiting.{waiting_sum}
 
 -- ---- lists
 
@@ -52,10 +52,6 @@ stored_of (s ∷ ss) g a same =
     let rest : map stored_sum ss ≡ map g (range_with_len (a + 1) (length ss)) = stored_of ss g (a + 1) (λ k t at. same (suc k) t at ∙ ap g (omega arith)) in
     λ i. first i ∷ rest i
 
-no_entries : (list : List ℕ) → entries no_parts.references list ≡ []
-no_entries [] = refl
-no_entries (a ∷ list) = no_entries list
-
 -- ---- the tail
 
 in_at : (ps : List Message) (k : ℕ) (p : Message) → slice_get ps k ≡ Some p → In p ps
@@ -80,20 +76,9 @@ sum_here headers slot c within same = elim (slice_get_cases headers slot).1 [
 below : (n m : ℕ) → 0 < m → n % m < m
 below n m some = mod-lt n some
 
-module _ (parse : ℕ → List ℕ → Option Parts) (spell : Parts → List ℕ) (image : Units.Units) (v : View) (s : State) (found : IsFound (shape s.file parse) image v) (keeps : Keeps (shape s.file parse) image v s) where
+module _ (image : Units.Units) (v : View) (s : State) (found : IsFound (shape s.file) image v) (keeps : Keeps (shape s.file) image v s) where
   op_is : s.fields.op ≡ v.checkpoint.content.op
   op_is = ap (λ (c : Content). c.op) (sym keeps.content)
-
-  -- there is no checkpoint without a trailer
-  none_before : v.checkpoint.content.op ≡ 0
-  none_before =
-      let sh = shape s.file parse in
-      let links : v.checkpoint.content.trailer ≡ 0 = subst (λ (l : List (ℕ × Units.Block)). Links (sh.layout.block_size - 256) v.checkpoint.content l v.checkpoint.content.trailer v.checkpoint.content.trailer_checksum) keeps.chain found.checkpoint.trailer.links in
-      none v.checkpoint.content.op (λ some. omega (arith, found.checkpoint.trailer.reference.some some, links))
-    where
-      none : (n : ℕ) → (0 < n → ⊥) → n ≡ 0
-      none zero never = refl
-      none (suc n) never = absurd (never (omega arith))
 
   -- the header table knows each prepare of the tail
   tail_sum : (o : ℕ) → v.checkpoint.content.op + 1 ≤ o → o < v.checkpoint.content.op + 1 + length v.tail → prepare_sum s o ≡ checksum_of (slice_get v.tail (o - (v.checkpoint.content.op + 1)))
@@ -102,7 +87,7 @@ module _ (parse : ℕ → List ℕ → Option Parts) (spell : Parts → List ℕ
         let p = there.0 in
         let op : p.header.op ≡ v.checkpoint.content.op + 1 + (o - (v.checkpoint.content.op + 1)) = op_at s.file.layout.clients (v.checkpoint.content.op + 1) v.checkpoint.content.op_checksum 0 v.checkpoint.parts.sessions v.tail (o - (v.checkpoint.content.op + 1)) p found.tail.chain there.2 in
         let same : o ≡ p.header.op = omega (arith, op, from) in
-        let here : o % s.file.layout.slots < length s.headers = omega (arith, keeps.count, below o s.file.layout.slots (shape s.file parse).some) in
+        let here : o % s.file.layout.slots < length s.headers = omega (arith, keeps.count, below o s.file.layout.slots (shape s.file).some) in
         sum_here s.headers (o % s.file.layout.slots) p.header.checksum here (λ h at. sym (ap (λ (x : Units.Header). x.checksum) ((keeps.headers (o % s.file.layout.slots) h at).tail p (in_at v.tail (o - (v.checkpoint.content.op + 1)) p there.2) (ap (λ (n : ℕ). n % s.file.layout.slots) same))))
         ∙ sym (ap checksum_of there.2)
     | inr past ↦ absurd (omega (arith, past.0, from, to))
@@ -114,38 +99,41 @@ module _ (parse : ℕ → List ℕ → Option Parts) (spell : Parts → List ℕ
       ap (λ (n : ℕ). map (prepare_sum s) (range_with_len (n + 1) (s.head - s.fields.op))) op_is ∙ ap (λ (n : ℕ). map (prepare_sum s) (range_with_len (v.checkpoint.content.op + 1) n)) count
       ∙ map_range (prepare_sum s) (λ o. checksum_of (slice_get v.tail (o - (v.checkpoint.content.op + 1)))) (v.checkpoint.content.op + 1) (length v.tail) tail_sum ∙ sums_of v.tail (v.checkpoint.content.op + 1)
 
-  waits : (o : ℕ) → v.replies + 1 ≤ o → o < v.replies + 1 + (head v - v.replies) → prepare_sum s o ≡ waiting_checksum (shape s.file parse) image v o
-  waits o from to =
-      let above : v.checkpoint.content.op < o = omega (arith, none_before, from) in
-      let one : o - (v.checkpoint.content.op + 1) ≡ o - v.checkpoint.content.op - 1 = omega arith in
-      tail_sum o (omega (arith, above)) (omega (arith, from, to)) ∙ ap (λ (n : ℕ). checksum_of (slice_get v.tail n)) one
-      ∙ sym (cond-true _ _ (checksum_of_op o (image (PreparePlace (o % s.file.layout.slots)))) (lt-ltb v.checkpoint.content.op o above))
+  -- a prepare that waits for its reply
+  waits : (o : ℕ) → v.replies + 1 ≤ o → o < v.replies + 1 + (head v - v.replies) → waiting_sum s image o ≡ waiting_checksum (shape s.file) image v o
+  waits o from to = ap (λ (n : ℕ). if nat_lt n o then prepare_sum s o else checksum_of_op o (image (PreparePlace (o % s.file.layout.slots)))) op_is ∙ pick (nat_lt v.checkpoint.content.op o) refl
+    where
+      above : nat_lt v.checkpoint.content.op o ≡ true → v.checkpoint.content.op < o
+      above is = elim (cases_lt v.checkpoint.content.op o) [
+        | inl less ↦ less
+        | inr more ↦ absurd (let no : nat_lt v.checkpoint.content.op o ≡ false = le-ltb v.checkpoint.content.op o more in let both : true ≡ false = sym is ∙ no in cc)
+      ]
 
-  waiting_are : map number_of s.waiting ≡ map (waiting_checksum (shape s.file parse) image v) (range_with_len (v.replies + 1) (head v - v.replies))
+      pick : (b : Bool) → nat_lt v.checkpoint.content.op o ≡ b → (if b then prepare_sum s o else checksum_of_op o (image (PreparePlace (o % s.file.layout.slots))))
+          ≡ (if b then checksum_of (slice_get v.tail (o - v.checkpoint.content.op - 1)) else checksum_of_op o (image (PreparePlace (o % s.file.layout.slots))))
+      pick true is =
+          let one : o - (v.checkpoint.content.op + 1) ≡ o - v.checkpoint.content.op - 1 = omega arith in
+          tail_sum o (omega (arith, above is)) (omega (arith, from, to, above is)) ∙ ap (λ (n : ℕ). checksum_of (slice_get v.tail n)) one
+      pick false is = refl
+
+  waiting_are : map number_of s.waiting ≡ map (waiting_checksum (shape s.file) image v) (range_with_len (v.replies + 1) (head v - v.replies))
   waiting_are =
-      keeps.waiting ∙ ap (λ (n : ℕ). map (prepare_sum s) (range_with_len (n + 1) (s.head - n))) keeps.replies ∙ ap (λ (n : ℕ). map (prepare_sum s) (range_with_len (v.replies + 1) (n - v.replies))) keeps.head_is
-      ∙ map_range (prepare_sum s) (waiting_checksum (shape s.file parse) image v) (v.replies + 1) (head v - v.replies) waits
+      keeps.waiting ∙ ap (λ (n : ℕ). map (waiting_sum s image) (range_with_len (n + 1) (s.head - n))) keeps.replies ∙ ap (λ (n : ℕ). map (waiting_sum s image) (range_with_len (v.replies + 1) (n - v.replies))) keeps.head_is
+      ∙ map_range (waiting_sum s image) (waiting_checksum (shape s.file) image v) (v.replies + 1) (head v - v.replies) waits
 
   stored_are : map stored_sum s.table.sessions ≡ map (λ k. Memory.stored_sum (v.stored k)) (range_with_len 0 (length (sessions v)))
   stored_are =
       let count : length s.table.sessions ≡ length (sessions v) = sym (length-map s.table.sessions session_of) ∙ ap length keeps.sessions_are in
       stored_of s.table.sessions (λ k. Memory.stored_sum (v.stored k)) 0 (λ k t at. keeps.stored k t at ∙ ap (λ (n : ℕ). Memory.stored_sum (v.stored n)) (omega arith)) ∙ ap (λ (n : ℕ). map (λ k. Memory.stored_sum (v.stored k)) (range_with_len 0 n)) count
 
-  blocks_are : no_blocks ≡ blocks_of (shape s.file parse) (opened (shape s.file parse) image v)
-  blocks_are =
-      let l = (shape s.file parse).layout in
-      let none : [] ≡ entries v.checkpoint.parts.references (addresses l) = sym (no_entries (addresses l)) ∙ ap (λ (p : Parts). entries p.references (addresses l)) (sym keeps.parts) in
-      let chain : [] ≡ map pair_of v.checkpoint.chain = ap (map pair_of) (sym keeps.chain) in
-      λ i. record { live = none i; captured = []; written = []; left = []; durable = none i; chain = chain i }
-
-  pub opened_is : memory s ≡ Memory.memory_of (shape s.file parse) spell (opened (shape s.file parse) image v)
+  pub opened_is : memory s ≡ Memory.memory_of (shape s.file) (spelling s.file) (opened (shape s.file) image v)
   opened_is =
       let content = sym keeps.content in
-      let root = ap (λ (p : Parts). p.root) (sym keeps.parts) in
+      let running = ap (course_in s.file s.blocks) keeps.starts.running in
       λ i. record {
-        layout = (shape s.file parse).layout;
+        layout = layout_of s.file.layout;
         content = content i;
-        root = root i;
+        root = keeps.root_is i;
         head = keeps.head_is i;
         head_checksum = keeps.head_checksum i;
         replies = keeps.replies i;
@@ -153,11 +141,11 @@ module _ (parse : ℕ → List ℕ → Option Parts) (spell : Parts → List ℕ
         prepares = prepares_are i;
         stored = stored_are i;
         waiting = waiting_are i;
-        blocks = blocks_are i;
-        running = None;
-        tour = (opened (shape s.file parse) image v).tour;
-        findings = [];
+        blocks = keeps.blocks_are i;
+        running = running i;
+        tour = keeps.starts.tour i;
+        findings = keeps.starts.findings i;
       }
 
 pub state_is_opened : StateIsOpened
-state_is_opened parse spell image v s found keeps = opened_is parse spell image v s found keeps
+state_is_opened image v s found keeps = opened_is image v s found keeps

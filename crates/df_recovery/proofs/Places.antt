@@ -18,7 +18,9 @@ use Rattle.df_quorum.proofs.Choices.{same_law}
 use Rattle.df_quorum.specs.declared.choice.Chosen.{Chosen}
 use Rattle.df_disk.specs.Told.{Told}
 use Rattle.df_recovery.specs.Opening.{IsUnformatted, shown_classes, Refuses}
-use Rattle.df_recovery.specs.Found.{AreBlank, IsFirstWrittenOf, IsChoiceOf, TellsChoice}
+use Rattle.df_recovery.specs.Found.{IsChoiceOf, TellsChoice}
+use Rattle.df_superblock.specs.Blank.{AreBlank, IsFirstWrittenOf}
+use Rattle.df_superblock.proofs.Laws.{shown_blank, unformatted}
 use Rattle.df_model.specs.declared.errors.OpenError.TheVariants.{NotFormatted, NoQuorum}
 use Rattle.df_superblock.specs.Calls.{slot_of, slot_at, ShowsSlots, ShowsCopies}
 
@@ -32,39 +34,6 @@ class_of_slot n bytes (Some copy) is =
 
 class_shown : (image : Image) (n : ℕ) → class_in n (slot_at image n) ≡ class_of_copy n (image n)
 class_shown image n = class_of_slot n (image n) (if_here n (copy_in (image n))) refl
-
-test_blank : (b : Bool) (place : Place) → cond b Stale (Elsewhere place) ≡ Blank → ⊥
-test_blank true place is = cc
-test_blank false place is = cc
-
-never_blank : (n : ℕ) (o : Option SuperCopy) → class_of_sound n o ≡ Blank → ⊥
-never_blank n None is = cc
-never_blank n (Some copy) is = test_blank (copy.number == n) (place_in Superblock copy.number) is
-
-blank_class : (n : ℕ) (bytes : List ℕ) (b : Bool) → is_blank_copy bytes ≡ b → cond b Blank (class_of_sound n (copy_in bytes)) ≡ Blank → is_blank_copy bytes ≡ true
-blank_class n bytes true test is = test
-blank_class n bytes false test is = absurd (never_blank n (copy_in bytes) is)
-
-blank_of : (n : ℕ) (bytes : List ℕ) (o : Option SuperCopy) → slot_of (copy_or_class o (class_of_copy n bytes)) ≡ Bad Blank → is_blank_copy bytes ≡ true
-unfolding class_of_copy
-blank_of n bytes (Some copy) is = absurd (cc)
-blank_of n bytes None is = blank_class n bytes (is_blank_copy bytes) refl (cc)
-
--- a blank slot is a sector of zeros
-pub blank_shown : (image : Image) (n : ℕ) → slot_at image n ≡ Bad Blank → is_blank_copy (image n) ≡ true
-blank_shown image n is = blank_of n (image n) (if_here n (copy_in (image n))) is
-
-slot_blank : (n : ℕ) (bytes : List ℕ) → if_here n (copy_in bytes) ≡ None → is_blank_copy bytes ≡ true → slot_of (own_copy n bytes) ≡ Bad Blank
-unfolding class_of_copy
-slot_blank n bytes none blank = rw none (rw blank refl)
-
-none_here : (n : ℕ) (bytes : List ℕ) (o : Option SuperCopy) → is_blank_copy bytes ≡ true → copy_in bytes ≡ o → if_here n o ≡ None
-none_here n bytes None blank is = refl
-none_here n bytes (Some copy) blank is = absurd (let sound : is_blank_copy bytes ≡ false = copy_is_not_blank bytes copy is in cc)
-
--- and a sector of zeros is a blank slot
-pub shown_blank : (image : Image) (n : ℕ) → is_blank_copy (image n) ≡ true → slot_at image n ≡ Bad Blank
-shown_blank image n blank = slot_blank n (image n) (none_here n (image n) (copy_in (image n)) blank refl) blank
 
 -- a list of four
 four_of : (classes : List Class) → length classes ≡ 4 → classes ≡ get_or classes 0 Blank ∷ get_or classes 1 Blank ∷ get_or classes 2 Blank ∷ get_or classes 3 Blank ∷ []
@@ -99,10 +68,6 @@ module _ (one two : Copies) (same : (n : ℕ) → n < 4 → one n ≡ two n) whe
 
   pub members_same : (c : Content) (members : List Bool) → AreMembers one c members → AreMembers two c members
   members_same c members are n inside = (λ yes. sym (same n inside) ∙ (are n inside).0 yes, λ shows. (are n inside).1 (same n inside ∙ shows))
-
--- each slot of an unformatted disk is blank
-pub unformatted : (image : Image) (slots : List Slot) → ((n : ℕ) → n < 4 → get_or slots n nothing ≡ slot_at image n) → AreBlank slots 4 → IsUnformatted image
-unformatted image slots shown blank n inside = blank_shown image n (sym (shown n inside) ∙ blank n inside)
 
 -- where a slot isn't blank the disk is formatted
 pub formatted : (image : Image) (slots : List Slot) (first : ℕ) → ((n : ℕ) → n < 4 → get_or slots n nothing ≡ slot_at image n) → IsFirstWrittenOf slots first → IsUnformatted image → ⊥

@@ -6,7 +6,6 @@ use Rattle.df_disk.specs.Told.{Told}
 use Rattle.df_layout.specs.declared.damage.Class.{Class}
 use Rattle.df_layout.specs.declared.layout.Layout.{Layout}
 use Rattle.df_format.specs.declared.header.Header.{Header}
-use Rattle.df_format.specs.declared.superblock.SuperFields.{SuperFields}
 use Rattle.df_format.specs.Copies.{content_with}
 use Rattle.df_sessions.specs.declared.session.Session.{Session}
 use Rattle.df_sessions.specs.Requests.{sessions_of}
@@ -17,26 +16,29 @@ use Rattle.df_theory.specs.Opens.{Damaged as Damages, IsLowest, IsReadable, Open
 use Rattle.df_theory.specs.MendLaws.{IsSlotHeader}
 use Rattle.df_theory.specs.Shape.{Shape, clients, slots}
 use Rattle.df_theory.specs.Tails.{last_checksum}
-use Rattle.df_theory.specs.Trailer.{no_parts}
 use Rattle.df_theory.specs.View.{Checkpoint, View, head, sessions}
 use Rattle.df_model.specs.Memory
-use Rattle.df_model.specs.Work.{opened}
+use Rattle.df_model.specs.Work.{first_tour, opened}
 use Rattle.df_model.specs.declared.errors.OpenError.{OpenError}
 use Rattle.df_model.specs.declared.errors.OpenError.TheVariants.{Damaged}
 use Rattle.df_units.specs.Bytes.{unit_at}
-use Rattle.df_units.specs.Meaning.{content_of, header_of, number_of, place_of}
+use Rattle.df_units.specs.Meaning.{content_of, header_of, layout_of, number_of, place_of}
 use Rattle.df_journal.specs.Scan.{Scan}
-use Rattle.df_journal.specs.Scanned
+use Rattle.df_journal.specs.Scanned as rings
 use Rattle.df_journal.specs.Shows.{Tells}
 use Rattle.df_journal.specs.Tail.{AreUnstored, EndsAt}
 use Rattle.df_replies.specs.Shown
 use Rattle.df_replies.specs.Shown.{ShowsReplies}
-use Rattle.df_recovery.specs.State.{Represents, State, prepare_sum, shape, stored_sum}
+use Rattle.df_state.specs.State.{Represents, State, shape, stored_sum}
+use Rattle.df_checkpoint.specs.Reads.{blocks_read}
+use Rattle.df_recovery.specs.Checkpoints.{Base, HasCheckpoint, base_of}
+use Rattle.df_recovery.specs.Waiting.{waiting_in, waiting_sum}
 use Rattle.df_recovery.specs.Found.{IsChoiceOf}
 use Rattle.df_recovery.specs.Surveys.{HasFile, Surveys, class_there}
-use Rattle.df_recovery.specs.declared.file.DataFile.{DataFile}
+use Rattle.df_state.specs.declared.file.DataFile.{DataFile}
 use Rattle.df_recovery.specs.declared.superblock.Found.{Found}
 use Rattle.df_recovery.specs.declared.finding.Traces.{Traces}
+use Rattle.df_recovery.specs.declared.scanned.Scanned.{Scanned}
 
 abbrev pub or_first : Option ℕ → ℕ
 or_first None = 0
@@ -63,6 +65,10 @@ pub record Read : Type 0 where
   pub replies : List (Result Header Class)
   pub sessions : List Session
 
+-- of a file that was scanned
+abbrev pub read_of : Scanned → Read
+read_of s = record { layout = s.file.layout; found = s.copies.found; slots = s.log.slots; replies = s.log.replies; sessions = s.sessions.sessions }
+
 -- it was read from an image with this checkpoint: the superblock names it and can be used
 pub record IsReadFrom (sh : Shape) (image : Units.Units) (b : Checkpoint) (read : Read) : Type 0 where
   pub tells : Tells read.layout image read.slots
@@ -76,7 +82,7 @@ pub record IsReadFrom (sh : Shape) (image : Units.Units) (b : Checkpoint) (read 
 
 -- of a disk, what a scan saw
 pub record IsScannedFrom (t : Told) (read : Read) : Type 0 where
-  pub slots : Scanned.IsScanned read.layout (Some t) read.slots
+  pub slots : rings.IsScanned read.layout (Some t) read.slots
   pub replies : Shown.IsScanned read.layout read.slots.start.cluster (Some t) read.replies
 
 -- the image's state is a view that ends so, with these sessions
@@ -102,11 +108,17 @@ Answers read (Err e) sessions = IsRefused read e
 
 -- ---- the state in memory
 
--- what a state keeps of a view, of a file without a trailer: the header table says what each header is to be, and the checksums that wait are taken from it
+-- no checkpoint runs, the tour is at its start, and there is no finding
+pub record IsStarting (s : State) : Type 0 where
+  pub running : s.running ≡ None
+  pub tour : s.tour ≡ first_tour
+  pub findings : s.findings ≡ []
+
+-- what a state keeps of a view in this image, before anything is done with it: the header table says what each header is to be
 pub record Keeps (sh : Shape) (image : Units.Units) (v : View) (s : State) : Type 0 where
   pub content : v.checkpoint.content ≡ content_of (content_with s.fields)
-  pub chain : v.checkpoint.chain ≡ []
-  pub parts : v.checkpoint.parts ≡ no_parts
+  pub root_is : s.root ≡ v.checkpoint.parts.root
+  pub blocks_are : s.blocks ≡ blocks_read (layout_of s.file.layout) v.checkpoint.parts v.checkpoint.chain
   pub head_is : s.head ≡ head v
   pub head_checksum : number_of s.head_checksum ≡ last_checksum v.checkpoint.content.op_checksum v.tail
   pub replies : s.replies ≡ v.replies
@@ -114,40 +126,38 @@ pub record Keeps (sh : Shape) (image : Units.Units) (v : View) (s : State) : Typ
   pub stored : (k : ℕ) (t : Session) → slice_get s.table.sessions k ≡ Some t → stored_sum t ≡ Memory.stored_sum (v.stored k)
   pub count : length s.headers ≡ s.file.layout.slots
   pub headers : (slot : ℕ) (h : Header) → slice_get s.headers slot ≡ Some h → IsSlotHeader sh image v slot (header_of h)
-  pub waiting : map number_of s.waiting ≡ map (prepare_sum s) (range_with_len (s.replies + 1) (s.head - s.replies))
+  pub waiting : map number_of s.waiting ≡ map (waiting_sum s image) (range_with_len (s.replies + 1) (s.head - s.replies))
+  pub starts : IsStarting s
 
 -- such a state stands for what the machine begins with from the view that an open finds
 abbrev pub StateIsOpened : Type 0
 StateIsOpened =
-    (parse : ℕ → List ℕ → Option Units.Parts) (spell : Units.Parts → List ℕ) (image : Units.Units) (v : View) (s : State) → Found.IsFound (shape s.file parse) image v → Keeps (shape s.file parse) image v s
-    → Represents (shape s.file parse) spell s (opened (shape s.file parse) image v)
+    (image : Units.Units) (v : View) (s : State) → Found.IsFound (shape s.file) image v → Keeps (shape s.file) image v s → Represents s (opened (shape s.file) image v)
 
 -- ---- of a file
 
--- what was read is of a file without a trailer: its superblock with the members of the choice, the slots and the replies as they were scanned, and no session
-pub record IsOfFile (t : Told) (file : DataFile) (read : Read) : Type 0 where
+-- what was read is of a file: its superblock with the members of the choice, the slots and the replies as they were scanned, and this of its checkpoint
+pub record IsOfFile (t : Told) (file : DataFile) (read : Read) (base : Base) : Type 0 where
   pub image : IsImage t.shown
   pub has : HasFile t.shown file read.found.content
   pub choice : IsChoiceOf t.shown read.found.chosen
   pub chosen_is : read.found.content ≡ read.found.chosen.content
   pub layout : read.layout ≡ file.layout
   pub cluster : read.slots.start.cluster ≡ file.cluster
+  pub op : read.slots.start.op ≡ read.found.content.op
   pub scanned : IsScannedFrom t read
-  pub sessions : read.sessions ≡ []
+  pub checkpoint : HasCheckpoint file (unit_at file.layout file.cluster t.shown) read.found.content base
+  pub sessions : base.sessions ≡ read.sessions
 
--- the checkpoint of a superblock that names no trailer
-abbrev pub base_of : SuperFields → Checkpoint
-base_of f = record { content = content_of (content_with f); chain = []; parts = no_parts }
-
--- it was read from the image in the model's words, however the text of a trailer would be read
+-- it was read from the image in the model's words
 abbrev pub FileIsRead : Type 0
 FileIsRead =
-    (t : Told) (file : DataFile) (read : Read) (parse : ℕ → List ℕ → Option Units.Parts) → IsOfFile t file read
-    → IsReadFrom (shape file parse) (unit_at file.layout file.cluster t.shown) (base_of read.found.content) read
+    (t : Told) (file : DataFile) (read : Read) (base : Base) (is : IsOfFile t file read base)
+    → IsReadFrom (shape file) (unit_at file.layout file.cluster t.shown) (base_of read.found.content is.checkpoint.chain is.checkpoint.parts) read
 
 -- so a refusal is the answer to an open
 abbrev pub RefusedIsAnswer : Type 0
-RefusedIsAnswer = (t : Told) (file : DataFile) (read : Read) (e : OpenError) → IsOfFile t file read → IsRefused read e → Surveys file.layout t.shown (Err e)
+RefusedIsAnswer = (t : Told) (file : DataFile) (read : Read) (base : Base) (e : OpenError) → IsOfFile t file read base → IsRefused read e → Surveys file.layout t.shown (Err e)
 
 -- ---- the stored replies
 
@@ -174,7 +184,7 @@ StoredIsKept =
 
 -- ---- the answer
 
--- what a state keeps of the traces that are found, and of the sessions after the tail; the checksums that wait are those of its header table
+-- what a state keeps of the traces that are found, and of the sessions after the tail
 pub record IsKept (read : Read) (traces : Traces) (after : List Session) (s : State) : Type 0 where
   pub fields : s.fields ≡ read.found.content
   pub head_is : s.head ≡ traces.tail.op
@@ -183,15 +193,19 @@ pub record IsKept (read : Read) (traces : Traces) (after : List Session) (s : St
   pub unstored : AreUnstored after
   pub stored : StoresTo traces.replies read.replies (length after) after s.table.sessions
   pub count : length s.headers ≡ s.file.layout.slots
-  pub waiting : map number_of s.waiting ≡ map (prepare_sum s) (range_with_len (s.replies + 1) (s.head - s.replies))
+  pub waiting : s.waiting ≡ waiting_in s.file.layout.slots read.slots s.headers s.replies s.head
+  pub starts : IsStarting s
 
 -- the header table says what each header is to be, of whatever view is found
 abbrev pub HasHeaders : Units.Units → State → Type 0
-HasHeaders image s =
-    (parse : ℕ → List ℕ → Option Units.Parts) (v : View) → Found.IsFound (shape s.file parse) image v → (slot : ℕ) (h : Header) → slice_get s.headers slot ≡ Some h → IsSlotHeader (shape s.file parse) image v slot (header_of h)
+HasHeaders image s = (v : View) → Found.IsFound (shape s.file) image v → (slot : ℕ) (h : Header) → slice_get s.headers slot ≡ Some h → IsSlotHeader (shape s.file) image v slot (header_of h)
+
+-- of the checkpoint it keeps root and blocks, beside these sessions
+abbrev pub base_with : State → List Session → Base
+base_with s sessions = record { root = s.root; sessions = sessions; blocks = s.blocks }
 
 -- such a state is the answer to an open
 abbrev pub KeptIsAnswer : Type 0
 KeptIsAnswer =
-    (t : Told) (read : Read) (traces : Traces) (after : List Session) (s : State) → IsOfFile t s.file read → Answers read (Ok traces) after → IsKept read traces after s
+    (t : Told) (read : Read) (traces : Traces) (after : List Session) (s : State) → IsOfFile t s.file read (base_with s read.sessions) → Answers read (Ok traces) after → IsKept read traces after s
     → HasHeaders (unit_at s.file.layout s.file.cluster t.shown) s → Surveys s.file.layout t.shown (Ok s)

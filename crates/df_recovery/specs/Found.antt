@@ -1,35 +1,22 @@
 -- What the calls that look for a superblock answer.
-use Rattle.std.specs.Prelude.{◌≡◌, ◌<◌, ◌≤◌, ℕ, List, [], ◌∷◌, get_or, Option, Some, None, Result, Ok, Err}
+use Rattle.std.specs.Prelude.{◌≡◌, ◌≤◌, ℕ, [], ◌∷◌, Option, Some, None, Result, Ok, Err}
 use Rattle.df_base.specs.Causes.{Rose}
 use Rattle.df_base.specs.Image.{Image}
 use Rattle.df_base.specs.Log.{Sync}
 use Rattle.df_disk.specs.Told.{Told, after}
 use Rattle.df_disk.specs.Adds.{AddsPart}
-use Rattle.df_layout.specs.declared.damage.Class.TheVariants.{Blank}
 use Rattle.df_layout.specs.declared.layout.Layout.{Layout}
 use Rattle.df_format.specs.Copies.{Content, content_at}
 use Rattle.df_format.specs.SuperRules.{fault_of}
 use Rattle.df_format.specs.declared.superblock.SuperFault.{SuperFault}
 use Rattle.df_format.specs.declared.superblock.SuperFault.TheVariants.{Version as OtherVersion, BadField as BrokenField}
 use Rattle.df_format.specs.declared.superblock.SuperFields.{SuperFields}
-use Rattle.df_quorum.specs.Quorum.{IsChosen, AreMembers, nothing}
+use Rattle.df_quorum.specs.Quorum.{IsChosen, AreMembers}
 use Rattle.df_quorum.specs.declared.choice.Chosen.{Chosen}
-use Rattle.df_quorum.specs.declared.slot.Slot.{Slot}
-use Rattle.df_quorum.specs.declared.slot.Slot.TheVariants.{Bad}
 use Rattle.df_recovery.specs.Opening.{HasSuper, IsLayoutOf, Refuses}
 use Rattle.df_model.specs.declared.errors.OpenError.{OpenError}
 use Rattle.df_model.specs.declared.errors.OpenError.TheVariants.{NotFormatted, NoQuorum, Version, BadField, LayoutDiffers, Damaged, DiskFault}
 use Rattle.df_recovery.specs.declared.superblock.Found.{Found}
-
--- the first n places are blank
-abbrev pub AreBlank : List Slot → ℕ → Type 0
-AreBlank slots count = (n : ℕ) → n < count → get_or slots n nothing ≡ Bad Blank
-
--- the first place that isn't blank
-pub record IsFirstWrittenOf (slots : List Slot) (first : ℕ) : Type 0 where
-  pub inside : first < 4
-  pub written : ¬ (get_or slots first nothing ≡ Bad Blank)
-  pub before : AreBlank slots first
 
 -- the choice of an image: the content that is chosen, and which copies show it
 pub record IsChoiceOf (image : Image) (choice : Chosen) : Type 0 where

@@ -1,7 +1,8 @@
 pub mod Opening
 pub mod Found
 pub mod OpeningLaws
-pub mod State
+pub mod Checkpoints
+pub mod Waiting
 pub mod Surveys
 pub mod Scanning
 pub mod Finding

@@ -1,20 +1,17 @@
 -- What the superblock of an image says: whether the file can be opened, and if not, why.
-use Rattle.std.specs.Prelude.{◌≡◌, ◌<◌, ℕ, true, List, [], ◌∷◌, None, Some}
+use Rattle.std.specs.Prelude.{◌≡◌, List, [], ◌∷◌, None, Some}
 use Rattle.df_base.specs.Image.{Image}
 use Rattle.df_layout.specs.declared.damage.Class.{Class}
 use Rattle.df_layout.specs.declared.layout.Layout.{Layout}
-use Rattle.df_format.specs.Copies.{Content, content_at, class_of_copy, is_blank_copy}
+use Rattle.df_format.specs.Copies.{Content, content_at, class_of_copy}
 use Rattle.df_format.specs.SuperRules.{fault_of}
 use Rattle.df_format.specs.declared.superblock.SuperFault.{SuperFault}
 use Rattle.df_format.specs.declared.superblock.SuperFault.TheVariants.{Version as OtherVersion, BadField as BrokenField}
 use Rattle.df_format.specs.declared.superblock.SuperFields.{SuperFields}
 use Rattle.df_quorum.specs.Quorum.{IsChosen, IsSplit}
 use Rattle.df_model.specs.declared.errors.OpenError.{OpenError}
+pub use Rattle.df_superblock.specs.Blank.{IsUnformatted}
 use Rattle.df_model.specs.declared.errors.OpenError.TheVariants.{NotFormatted, NoQuorum, Version, BadField}
-
--- all four sectors of the superblock are zeros
-abbrev pub IsUnformatted : Image → Type 0
-IsUnformatted image = (n : ℕ) → n < 4 → is_blank_copy (image n) ≡ true
 
 -- the class of what each of the four sectors shows
 abbrev pub shown_classes : Image → List Class

@@ -1,6 +1,6 @@
 // What an open finds behind a superblock, from what a scan saw of the slots and of the replies: the state, or the first
 // damage in the order of open.
-ghost use Rattle.std.specs.Prelude.{◌≡◌, ◌≤◌, ◌<◌, ◌+◌, length, position, IfOk, IfErr};
+ghost use Rattle.std.specs.Prelude.{◌≡◌, ◌≤◌, ◌<◌, ◌+◌, ◌^◌, length, position, IfOk, IfErr};
 ghost use Rattle.df_format.specs.Spelling.{IsCheck};
 ghost use Rattle.df_sessions.specs.Requests.{sessions_of};
 ghost use Rattle.df_theory.specs.Sessions.{Tracks};
@@ -12,7 +12,7 @@ ghost use Rattle.df_journal.specs.Tail.{AreNumbered, AreUnstored};
 ghost use Rattle.df_journal.specs.Shows.{IsTable, ShowsTable};
 ghost use Rattle.df_replies.specs.Shown.{ShowsReplies};
 ghost use Rattle.df_recovery.specs.Finding.{Answers, FileIsRead, IsDamage, KeptIsAnswer, RefusedIsAnswer, StateIsOpened, damage, lowest_of};
-ghost use Rattle.df_recovery.specs.State.{AreAsked};
+ghost use Rattle.df_state.specs.State.{AreAsked};
 
 use crate::{Found, OpenError};
 use df_journal::{SlotTable, Tail, count_rings, find_tail, is_behind, is_lost, slot_behind};
@@ -106,10 +106,11 @@ pub fn find_state(
     ensures checksum { IfOk result (λ traces. IsCheck traces.tail.checksum) }
     ensures start { IfOk result (λ traces. traces.tail.op ≡ found.now.content.op → traces.tail.checksum ≡ found.now.content.op_checksum) }
     ensures ring { IfOk result (λ traces. (found.now.content.op ≤ traces.tail.op) × (traces.tail.op ≤ found.now.content.op + layout.now.slots)) }
+    ensures most { IfOk result (λ traces. traces.tail.op ≤ 2 ^ 62) }
     ensures few { IfOk result (λ traces. traces.tail.op ≤ traces.replies + 8) }
     ensures order { IfOk result (λ traces. traces.replies ≤ traces.tail.op) }
     ensures asked { IfOk result (λ _. AreAsked (sessions_of sessions.old.sessions) → AreAsked (sessions_of sessions.new.sessions)) }
-    ensures tracks { IfOk result (λ traces. Tracks traces.replies found.now.content.op (sessions_of sessions.old.sessions) → Tracks traces.replies traces.tail.op (sessions_of sessions.new.sessions)) }
+    ensures tracks { IfOk result (λ traces. Tracks found.now.content.replies found.now.content.op (sessions_of sessions.old.sessions) → Tracks traces.replies traces.tail.op (sessions_of sessions.new.sessions)) }
     ensures damage { IfErr result IsDamage }
     ensures unstored { AreUnstored sessions.old.sessions → AreUnstored sessions.new.sessions }
     ensures numbered { AreNumbered sessions.old.sessions → AreNumbered sessions.new.sessions }
@@ -139,7 +140,7 @@ pub fn state_is_opened()
     ensures { StateIsOpened }
 {}
 
-/// What was read of a file without a trailer was read from the image in the words of the model.
+/// What was read of a file was read from the image in the words of the model.
 pub fn file_is_read()
     ensures { FileIsRead }
 {}

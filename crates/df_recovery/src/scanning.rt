@@ -1,22 +1,22 @@
-// What a survey reads of a file: after the barrier the four copies of the superblock, both rings and the reply slots.
-ghost use Rattle.std.specs.Prelude.{◌≡◌, ◌≤◌, ◌^◌, IfOk, IfErr, OnOk};
-ghost use Rattle.df_base.specs.Causes.{HasCause};
-ghost use Rattle.df_journal.specs.Scanned.{IsScanned};
-ghost use Rattle.df_replies.specs.Shown.{IsScanned as AreReplies};
+// What an open reads of a file: after the barrier the four copies of the superblock, the trailer, both rings and the reply slots.
+ghost use Rattle.std.specs.Prelude.{◌≡◌, IfOk, IfErr, Ok, OnOk};
 ghost use Rattle.df_recovery.specs.Found.{OpensBy, Syncs, TellsFound};
-ghost use Rattle.df_recovery.specs.Scanning.{AreScanned, IsServed, IsUnserved, SurveysBy, TellsRead, answer_of, found_in};
+ghost use Rattle.df_grid.specs.Table.{IsIdle};
+ghost use Rattle.df_recovery.specs.Checkpoints.{AreOfCheckpoint, TellsCheckpoint};
+ghost use Rattle.df_recovery.specs.Scanning.{AreScanned, FitsFile, IsFileOf, IsServed, IsUnserved, RefusesBase, SurveysBy, TellsRead, answer_of, base_in, base_scanned, found_in};
 ghost use Rattle.df_superblock.specs.Calls.{ShowsSlots, ShowsCopies};
 
+use crate::checkpoint::{Checkpoint, Unread, read_checkpoint};
 use crate::superblock::superblock_of;
-use crate::{Found, OpenError, Rooms};
-use df_base::Failed;
+use crate::zones::scan_zones;
+use crate::{Found, OpenError, Scanned};
 use df_buffers::ProbeRoom;
 use df_disk::Disk;
 use df_format::Super;
-use df_journal::{Start, scan};
-use df_layout::{Field, Layout};
-use df_places::Shelf;
+use df_journal::Start;
+use df_layout::Layout;
 use df_quorum::Slot;
+use df_state::{DataFile, GridRooms, LogRooms, Rooms};
 use df_superblock::read_all;
 
 /// The superblock of a file, and what the four places of its copies show.
@@ -24,13 +24,6 @@ use df_superblock::read_all;
 pub struct Copies {
     pub found: Found,
     pub slots: [Slot; 4],
-}
-
-/// What was read of a file: its superblock, and in the tables of the rooms what the rings and the reply slots show.
-#[derive(Drop)]
-pub struct Scanned {
-    pub copies: Copies,
-    pub rooms: Rooms,
 }
 
 // The superblock that the four places show, with what they show.
@@ -61,13 +54,6 @@ fn test_served(layout: &Layout, content: &Super) -> Result<(), OpenError>
         return Err(OpenError::LayoutDiffers {
             reserved: *layout,
             found,
-        });
-    }
-    let address = content.fields().trailer_address;
-    if address != 0 {
-        return Err(OpenError::BadField {
-            field: Field::TrailerAddress,
-            value: u128::from(address),
         });
     }
     Ok(())
@@ -111,127 +97,148 @@ fn find_served<D: Disk>(
     }
 }
 
-// Scans both rings into the table of the rooms.
-fn scan_rings<D: Disk>(disk: &mut D, start: &Start, rooms: Rooms) -> (Rooms, Result<(), Failed>)
-    requires op { start.now.op ≤ 2 ^ 62 }
-    ensures scanned { OnOk result.1 (IsScanned rooms.layout (D.told disk.old) result.0.slots) }
-    ensures start { result.0.slots.start ≡ start.now }
-    ensures rooms { result.0.layout ≡ rooms.layout }
+// Scans the rings and the reply slots of a file whose checkpoint was read.
+fn scan_log<D: Disk>(
+    disk: &mut D,
+    file: &DataFile,
+    copies: &Copies,
+    log: LogRooms,
+    base: Checkpoint,
+) -> Result<Scanned, (Rooms, OpenError)>
+    requires file { IsFileOf log.layout copies.now.found.content file.now }
+    requires base { FitsFile file.now base }
+    ensures scanned { IfOk result (λ s. AreScanned log.layout copies.now.found.content.cluster (D.told disk.old) s.log.slots s.log.replies) }
+    ensures start { IfOk result (λ s. s.log.slots.start ≡ record { cluster = copies.now.found.content.cluster; op = copies.now.found.content.op }) }
+    ensures file { IfOk result (λ s. s.file ≡ file.now) }
+    ensures copies { IfOk result (λ s. s.copies ≡ copies.now) }
+    ensures base { IfOk result (λ s. base_scanned s ≡ base_in base) }
+    ensures places { IfOk result (λ s. s.sessions.max ≡ file.now.layout.clients) }
+    ensures idle { IfOk result (λ s. IsIdle s.grid.blocks) }
+    ensures given_back { IfErr result (λ refused. refused.0.layout ≡ log.layout) }
+    ensures fault { IfErr result (λ refused. refused.1 ≡ OpenError.DiskFault) }
     ensures same { D.told disk.new ≡ D.told disk.old }
-    ensures cause { HasCause (D.faults disk.old) (D.faults disk.new) result.1 }
-{
-    let Rooms {
-        layout,
-        superblock,
-        mut sector,
-        prepare,
-        reply,
-        headers,
-        mut slots,
-        replies,
-        mends,
-    } = rooms;
-    let (prepare, done) = scan(
-        disk,
-        &layout,
-        start,
-        &mut slots,
-        &mut sector,
-        prepare.into_room(),
-    );
-    let rooms = Rooms {
-        layout,
-        superblock,
-        sector,
-        prepare: Shelf::over(layout, prepare),
-        reply,
-        headers,
-        slots,
-        replies,
-        mends,
-    };
-    (rooms, done)
-}
-
-// Scans the reply slots into the table of the rooms.
-fn scan_replies<D: Disk>(disk: &mut D, cluster: u128, rooms: Rooms) -> (Rooms, Result<(), Failed>)
-    ensures scanned { OnOk result.1 (AreReplies rooms.layout cluster (D.told disk.old) result.0.replies) }
-    ensures slots { result.0.slots ≡ rooms.slots }
-    ensures rooms { result.0.layout ≡ rooms.layout }
-    ensures same { D.told disk.new ≡ D.told disk.old }
-    ensures cause { HasCause (D.faults disk.old) (D.faults disk.new) result.1 }
-{
-    let Rooms {
-        layout,
-        superblock,
-        sector,
-        prepare,
-        reply,
-        headers,
-        slots,
-        mut replies,
-        mends,
-    } = rooms;
-    let (reply, done) = replies.scan(disk, &layout, cluster, reply.into_room());
-    let rooms = Rooms {
-        layout,
-        superblock,
-        sector,
-        prepare,
-        reply: Shelf::over(layout, reply),
-        headers,
-        slots,
-        replies,
-        mends,
-    };
-    (rooms, done)
-}
-
-// Scans the rings and then the reply slots, behind the checkpoint of a superblock.
-fn scan_zones<D: Disk>(disk: &mut D, start: &Start, rooms: Rooms) -> (Rooms, Result<(), Failed>)
-    requires op { start.now.op ≤ 2 ^ 62 }
-    ensures scanned { OnOk result.1 (AreScanned rooms.layout start.now.cluster (D.told disk.old) result.0.slots result.0.replies) }
-    ensures start { result.0.slots.start ≡ start.now }
-    ensures rooms { result.0.layout ≡ rooms.layout }
-    ensures same { D.told disk.new ≡ D.told disk.old }
-    ensures cause { HasCause (D.faults disk.old) (D.faults disk.new) result.1 }
-{
-    let (rooms, rings) = scan_rings(disk, start, rooms);
-    match rings {
-        Ok(()) => scan_replies(disk, start.cluster, rooms),
-        Err(failed) => (rooms, Err(failed)),
-    }
-}
-
-/// Makes durable whatever an earlier call left loose, finds the superblock, and where the rooms serve its file reads each
-/// sector of the header ring, each slot of the ring of prepares and each reply slot once. The rooms come back with a refusal.
-pub fn scan_file<D: Disk>(disk: &mut D, rooms: Rooms) -> Result<Scanned, (Rooms, OpenError)>
-    ensures same_fields { IfOk result (λ s. s.copies.found.content ≡ s.copies.found.chosen.content) }
-    ensures served { IfOk result (λ s. IsServed rooms.layout s.copies.found.content) }
-    ensures slots { IfOk result (λ s. ShowsSlots (D.told disk.old) s.copies.slots) }
-    ensures shown { IfOk result (λ s. ShowsCopies (D.told disk.old) s.copies.slots) }
-    ensures scanned { IfOk result (λ s. AreScanned rooms.layout s.copies.found.content.cluster (D.told disk.old) s.rooms.slots s.rooms.replies) }
-    ensures start { IfOk result (λ s. s.rooms.slots.start ≡ record { cluster = s.copies.found.content.cluster; op = s.copies.found.content.op }) }
-    ensures kept { IfOk result (λ s. s.rooms.layout ≡ rooms.layout) }
-    ensures given_back { IfErr result (λ refused. refused.0.layout ≡ rooms.layout) }
-    ensures answer { TellsRead (λ s. s.copies.found) rooms.layout (D.told disk.old) (answer_of result) }
-    ensures barrier { Syncs (D.told disk.old) (D.told disk.new) (answer_of result) }
     ensures cause { SurveysBy (D.faults disk.old) (D.faults disk.new) (answer_of result) }
 {
-    let mut rooms = rooms;
-    let layout = rooms.layout;
-    let copies = match find_served(disk, &layout, &mut rooms.superblock) {
-        Ok(copies) => copies,
-        Err(refusal) => return Err((rooms, refusal)),
-    };
     let fields = copies.found.content.fields();
     let start = Start {
         cluster: fields.cluster,
         op: fields.op,
     };
-    let (rooms, done) = scan_zones(disk, &start, rooms);
+    let (log, done) = scan_zones(disk, &start, log);
+    let Checkpoint {
+        grid,
+        trailer,
+        root,
+        sessions,
+    } = base;
     match done {
-        Ok(()) => Ok(Scanned { copies, rooms }),
-        Err(_) => Err((rooms, OpenError::DiskFault)),
+        Ok(()) => Ok(Scanned {
+            file: *file,
+            copies: *copies,
+            log,
+            grid,
+            trailer,
+            root,
+            sessions,
+        }),
+        Err(_) => Err((
+            Rooms {
+                layout: file.layout,
+                log,
+                grid: GridRooms::of(grid),
+                trailer,
+            },
+            OpenError::DiskFault,
+        )),
+    }
+}
+
+// Reads what stands behind a superblock that the rooms serve.
+fn scan_served<D: Disk>(
+    disk: &mut D,
+    copies: &Copies,
+    rooms: Rooms,
+) -> Result<Scanned, (Rooms, OpenError)>
+    requires served { IsServed rooms.layout copies.now.found.content }
+    ensures scanned { IfOk result (λ s. AreScanned rooms.layout copies.now.found.content.cluster (D.told disk.old) s.log.slots s.log.replies) }
+    ensures start { IfOk result (λ s. s.log.slots.start ≡ record { cluster = copies.now.found.content.cluster; op = copies.now.found.content.op }) }
+    ensures file { IfOk result (λ s. IsFileOf rooms.layout copies.now.found.content s.file) }
+    ensures copies { IfOk result (λ s. s.copies ≡ copies.now) }
+    ensures checkpoint { IfOk result (λ s. TellsCheckpoint s.file (D.told disk.old) copies.now.found.content (Ok (base_scanned s))) }
+    ensures sessions { IfOk result (λ s. AreOfCheckpoint copies.now.found.content s.sessions.sessions) }
+    ensures places { IfOk result (λ s. s.sessions.max ≡ rooms.layout.clients) }
+    ensures idle { IfOk result (λ s. IsIdle s.grid.blocks) }
+    ensures given_back { IfErr result (λ refused. refused.0.layout ≡ rooms.layout) }
+    ensures refused { IfErr result (λ refused. RefusesBase rooms.layout copies.now.found.content (D.told disk.old) refused.1) }
+    ensures same { D.told disk.new ≡ D.told disk.old }
+    ensures cause { SurveysBy (D.faults disk.old) (D.faults disk.new) (answer_of result) }
+{
+    let content = copies.found.content;
+    let file = DataFile {
+        layout: rooms.layout,
+        cluster: content.fields().cluster,
+    };
+    let Rooms {
+        layout,
+        log,
+        grid,
+        trailer,
+    } = rooms;
+    match read_checkpoint(disk, &file, &content, grid, trailer) {
+        Ok(base) => scan_log(disk, &file, copies, log, base),
+        Err(unread) => {
+            let Unread {
+                grid,
+                trailer,
+                error,
+            } = unread;
+            let rooms = Rooms {
+                layout,
+                log,
+                grid,
+                trailer,
+            };
+            Err((rooms, error))
+        }
+    }
+}
+
+/// Makes durable whatever an earlier call left loose, finds the superblock, and where the rooms serve its file reads each block of
+/// the trailer twice, and each sector of the header ring, each slot of the ring of prepares and each reply slot once. The rooms
+/// come back with a refusal: one of the superblock, `LayoutDiffers`, or one of the trailer.
+pub fn scan_file<D: Disk>(disk: &mut D, rooms: Rooms) -> Result<Scanned, (Rooms, OpenError)>
+    ensures same_fields { IfOk result (λ s. s.copies.found.content ≡ s.copies.found.chosen.content) }
+    ensures file { IfOk result (λ s. IsFileOf rooms.layout s.copies.found.content s.file) }
+    ensures served { IfOk result (λ s. IsServed rooms.layout s.copies.found.content) }
+    ensures slots { IfOk result (λ s. ShowsSlots (D.told disk.old) s.copies.slots) }
+    ensures shown { IfOk result (λ s. ShowsCopies (D.told disk.old) s.copies.slots) }
+    ensures scanned { IfOk result (λ s. AreScanned rooms.layout s.copies.found.content.cluster (D.told disk.old) s.log.slots s.log.replies) }
+    ensures start { IfOk result (λ s. s.log.slots.start ≡ record { cluster = s.copies.found.content.cluster; op = s.copies.found.content.op }) }
+    ensures checkpoint { IfOk result (λ s. TellsCheckpoint s.file (D.told disk.old) s.copies.found.content (Ok (base_scanned s))) }
+    ensures sessions { IfOk result (λ s. AreOfCheckpoint s.copies.found.content s.sessions.sessions) }
+    ensures places { IfOk result (λ s. s.sessions.max ≡ rooms.layout.clients) }
+    ensures idle { IfOk result (λ s. IsIdle s.grid.blocks) }
+    ensures kept { IfOk result (λ s. s.file.layout ≡ rooms.layout) }
+    ensures given_back { IfErr result (λ refused. refused.0.layout ≡ rooms.layout) }
+    ensures answer { TellsRead (λ s. s.copies.found) rooms.layout (D.told disk.old) (answer_of result) }
+    ensures barrier { Syncs (D.told disk.old) (D.told disk.new) (answer_of result) }
+    ensures cause { SurveysBy (D.faults disk.old) (D.faults disk.new) (answer_of result) }
+{
+    let Rooms {
+        layout,
+        mut log,
+        grid,
+        trailer,
+    } = rooms;
+    let found = find_served(disk, &layout, &mut log.superblock);
+    let rooms = Rooms {
+        layout,
+        log,
+        grid,
+        trailer,
+    };
+    match found {
+        Ok(copies) => scan_served(disk, &copies, rooms),
+        Err(refusal) => Err((rooms, refusal)),
     }
 }

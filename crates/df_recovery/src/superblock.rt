@@ -1,15 +1,14 @@
 // What four copies of the superblock say, once they are read.
-ghost use Rattle.std.specs.Prelude.{◌≡◌, ◌<◌, ◌↔◌, Option, IsTrue, get_or, IfSome, IfNone, IfOk, IfErr, Ok, None};
+ghost use Rattle.std.specs.Prelude.{◌≡◌, Option, IfOk, IfErr, Ok, None};
 ghost use Rattle.df_disk.specs.Told.{Told};
 ghost use Rattle.df_format.specs.SuperRules.{fault_of};
-ghost use Rattle.df_quorum.specs.Quorum.{nothing};
-ghost use Rattle.df_recovery.specs.Found.{AreBlank, IsFirstWrittenOf, TellsChoice, TellsFound, HasFaultOf, IsRefusal, fault_error};
+ghost use Rattle.df_recovery.specs.Found.{TellsChoice, TellsFound, HasFaultOf, IsRefusal, fault_error};
 ghost use Rattle.df_superblock.specs.Calls.{ShowsSlots, ShowsCopies};
 
 use crate::OpenError;
 use df_format::{Super, SuperFault, test_fields};
-use df_layout::Class;
 use df_quorum::{Chosen, Slot, choose};
+use df_superblock::first_written;
 
 /// The superblock of a file that can be opened: which copies say it, and what it says.
 #[derive(Clone, Copy, Debug, PartialEq, Eq)]
@@ -17,27 +16,6 @@ pub struct Found {
     pub chosen: Chosen,
     /// The fields of the choice, which have passed their tests.
     pub content: Super,
-}
-
-// Whether the place of this number holds zeros alone.
-fn is_blank(copies: &[Slot; 4], number: u8) -> bool
-    requires { number < 4 }
-    ensures { IsTrue result ↔ (get_or copies.now number nothing ≡ Slot.Bad Class.Blank) }
-{
-    copies[usize::from(number)] == Slot::Bad(Class::Blank)
-}
-
-/// The first place that holds a byte other than zero.
-pub fn first_written(copies: &[Slot; 4]) -> Option<u8>
-    ensures some { IfSome result (IsFirstWrittenOf copies.now) }
-    ensures none { IfNone result (AreBlank copies.now 4) }
-{
-    for number in 0..4u8 {
-        if !is_blank(copies, number) {
-            return Some(number);
-        }
-    }
-    None
 }
 
 // The choice, or why there is none.

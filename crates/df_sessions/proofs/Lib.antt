@@ -4,3 +4,4 @@ pub mod Kept
 pub mod Noted
 pub mod Places
 pub mod Laws
+pub mod Listed

@@ -1,5 +1,5 @@
 -- What a session table holds, and what a request and a stored reply make of it.
-use Rattle.std.specs.Prelude.{◌≢◌, ℕ, zero, suc, ◌≤◌, Bool, ◌==◌, nat_eq, if◌then◌else◌, List, [], ◌∷◌, length, map, Some, None, IsSome}
+use Rattle.std.specs.Prelude.{◌≡◌, ◌≢◌, ℕ, zero, suc, ◌≤◌, Bool, ◌==◌, nat_eq, if◌then◌else◌, List, [], ◌∷◌, length, map, slice_get, Some, None, IsSome}
 use Rattle.std.specs.List.{AllByRecursion, IsDistinct, position}
 use Rattle.df_sessions.specs.declared.session.Session.{Session}
 
@@ -23,6 +23,14 @@ pub record IsTable (table : Table) : Type 0 where
   pub within : length table.sessions ≤ table.max
   pub distinct : IsDistinct nat_eq (clients_of table.sessions)
   pub named : AllByRecursion (λ client. client ≢ 0) (clients_of table.sessions)
+
+-- each session has a client
+abbrev pub AreNamed : List Session → Type 0
+AreNamed sessions = (k : ℕ) (s : Session) → slice_get sessions k ≡ Some s → s.client ≢ 0
+
+-- no client has two sessions
+abbrev pub AreApart : List Session → Type 0
+AreApart sessions = (j k : ℕ) (s t : Session) → slice_get sessions j ≡ Some s → slice_get sessions k ≡ Some t → s.client ≡ t.client → j ≡ k
 
 abbrev pub has_client : ℕ → Session → Bool
 has_client client session = session.client == client

@@ -2,7 +2,7 @@
 ghost use Rattle.std.specs.Prelude.{◌≡◌, ◌≢◌, ◌<◌, ◌≤◌, ◌⊎◌, ◌++◌, [], ◌∷◌, ℕ, List, Some, IsSome, length, slice_get, slice_set};
 ghost use Rattle.arrayvec.specs.ArrayVec.{array_vec_len};
 ghost use Rattle.std.specs.List.{position};
-ghost use Rattle.df_sessions.specs.Table.{IsTable, IsKnown, has_client, requested, with_request, with_reply};
+ghost use Rattle.df_sessions.specs.Table.{AreApart, AreNamed, IsTable, IsKnown, has_client, requested, with_request, with_reply};
 ghost use Rattle.df_sessions.specs.Changes.{Change, sessions_after};
 ghost use Rattle.df_sessions.specs.Changes.Change.{Request, Reply};
 ghost use Rattle.df_sessions.specs.Requests.{sessions_of};
@@ -43,6 +43,18 @@ impl SessionTable {
             sessions: ArrayVec::new(),
             max,
         }
+    }
+
+    /// The table of these sessions, as a checkpoint has them, with places for `max` of them: their clients aren't 0 and differ.
+    pub fn over(max: u32, sessions: ArrayVec<Session, 64>) -> SessionTable
+        requires some { 1 ≤ max }
+        requires most { max ≤ 64 }
+        requires few { length sessions.items ≤ max }
+        requires named { AreNamed sessions.items }
+        requires apart { AreApart sessions.items }
+        ensures { result ≡ record { max = max; sessions = sessions.items } }
+    {
+        SessionTable { sessions, max }
     }
 
     /// How many sessions there are.

@@ -5,6 +5,7 @@ pub mod Bytes
 pub mod Codec
 pub mod Places
 pub mod Laws
+pub mod Listed
 pub mod Longer
 pub mod OneBit
 pub mod Passing

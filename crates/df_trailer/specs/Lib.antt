@@ -1,4 +1,5 @@
 pub mod Laws
+pub mod Sessions
 pub mod Reading
 pub mod Rooms
 pub mod Spelling

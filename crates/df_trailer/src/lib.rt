@@ -22,7 +22,7 @@ pub use meaning::{
 };
 pub use parts::Parts;
 pub use reader::Reader;
-pub use size::blocks_needed;
+pub use size::{blocks_needed, trailer_size};
 pub use writer::piece;
 
 #[cfg(test)]

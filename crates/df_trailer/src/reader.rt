@@ -62,6 +62,7 @@ fn check_at(checks: &[Check], number: u64) -> Check
 impl Reader {
     ghost use Rattle.df_trailer.specs.Rooms.{AreParts, number_in};
     ghost use Rattle.df_trailer.specs.Text.{fault, parts_of, refusal};
+    ghost use Rattle.df_trailer.specs.Sessions.{AreRead};
     ghost use Rattle.df_trailer.specs.Reading.{HasBit, HasRead, IsRestTaken, bytes_read, failing_in, kept_at, referenced_below};
 
     /// A reader that was fed nothing, of the trailer of a checkpoint of this op.
@@ -70,6 +71,7 @@ impl Reader {
         requires checks { vec_len parts.checks ≡ layout.blocks }
         ensures fresh { HasRead layout op result [] }
         ensures size { bytes_read result ≡ 0 }
+        ensures layout { result.layout ≡ layout }
     {
         Reader {
             layout,
@@ -139,6 +141,7 @@ impl Reader {
         ensures kept { (layout : FileLayout) (op : ℕ) (text : List ℕ) → HasRead layout op self.old text → HasRead layout op self.new (text ++ piece.now) }
         ensures refusal { (layout : FileLayout) (op : ℕ) (text : List ℕ) → HasRead layout op self.old text → result ≡ answer (refusal (layout_of layout) op (text ++ piece.now)) }
         ensures size { bytes_read self.new ≡ bytes_read self.old + length piece.now }
+        ensures layout { self.new.layout ≡ self.old.layout }
     {
         let head = self.front.take(piece);
         self.take_rest(&piece[head..]);
@@ -178,6 +181,7 @@ impl Reader {
         ensures bits { (layout : FileLayout) (op : ℕ) (text : List ℕ) → HasRead layout op self text → vec_len result.bits ≡ (layout.blocks + 63) / 64 }
         ensures checks { (layout : FileLayout) (op : ℕ) (text : List ℕ) → HasRead layout op self text → vec_len result.checks ≡ layout.blocks }
         ensures parts { (layout : FileLayout) (op : ℕ) (text : List ℕ) → HasRead layout op self text → AreParts (layout_of layout) result (parts_of (layout_of layout) text) }
+        ensures sessions { (layout : FileLayout) (op : ℕ) (text : List ℕ) → HasRead layout op self text → AreRead layout.clients op result.sessions.items }
     {
         let Reader {
             layout,
@@ -189,5 +193,13 @@ impl Reader {
         parts.sessions = sessions_in(&front.head);
         spread(&parts.bits, &mut parts.checks, layout.blocks);
         parts
+    }
+
+    /// Gives the rooms for bits and checksums back, with anything in them, whatever `feed` and `end` have answered.
+    pub fn into_room(self) -> (Vec<u64>, Vec<Check>)
+        ensures bits { vec_len result.0 ≡ (self.layout.blocks + 63) / 64 }
+        ensures checks { vec_len result.1 ≡ self.layout.blocks }
+    {
+        (self.parts.bits, self.parts.checks)
     }
 }

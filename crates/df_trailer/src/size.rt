@@ -9,8 +9,8 @@ use df_layout::Layout;
 /// Bytes of a block that aren't body.
 const HEADER: u32 = 256;
 
-/// Bytes of a trailer with a root of so many bytes, so many sessions and so many referenced blocks.
-fn size_of(layout: &Layout, root: u64, sessions: u64, references: u64) -> u64
+/// Bytes of a trailer's text with a root of so many bytes, so many sessions and so many referenced blocks.
+pub fn trailer_size(layout: &Layout, root: u64, sessions: u64, references: u64) -> u64
     requires root { root ≤ 1024 }
     requires sessions { sessions ≤ 64 }
     requires references { references ≤ layout.now.blocks }
@@ -27,5 +27,5 @@ pub fn blocks_needed(layout: &Layout, root: u64, sessions: u64, references: u64)
     ensures count { IsCount (layout.now.block_size - 256) (text_size (layout_of layout.now) root sessions references) result }
     ensures most { result ≤ 70 }
 {
-    size_of(layout, root, sessions, references).div_ceil(u64::from(layout.block_size - HEADER))
+    trailer_size(layout, root, sessions, references).div_ceil(u64::from(layout.block_size - HEADER))
 }

@@ -3,8 +3,8 @@ use Rattle.std.proofs.Common.{◌∙◌, ap}
 use Rattle.df_checkpoint.specs.Texts.{bad_of}
 use Rattle.df_checkpoint.proofs.forwards.feed.Goals as goal
 
-pub returns : goal.returns
-returns c = record {
+pub returns-clause-feeds : goal.returns-clause-feeds
+returns-clause-feeds c = record {
   size = c.feed.ensures.size;
   kept = c.feed.ensures.kept;
   given = c.feed.result;

@@ -11,6 +11,7 @@ loop-done-init g c = record {
   grid = refl;
   told = refl;
   faults = refl;
+  layout = refl;
   size = omega (arith, c.requires.fresh);
   read = λ op has. read_first c.args.grid.now (g.D.Disk.told c.args.disk.now) c.args.blocks.now op c.args.reader.now has;
 }
@@ -33,6 +34,7 @@ loop-done-preserved g c =
       grid = c.in-Ok.ensures.grid ∙ i.grid;
       told = c.in-Ok.ensures.same ∙ i.told;
       faults = c.in-Ok.ensures.cause ∙ i.faults;
+      layout = c.in-Ok.ensures.layout ∙ i.layout;
       size = omega (arith, i.size, c.in-Ok.ensures.size);
       read = λ op has. read_more c.args.grid.now (g.D.Disk.told c.args.disk.now) c.args.blocks.now op c.loop-done.done (length c.args.blocks.now - 1 - c.loop-done.done) c.link_after.result c.loop-done.reader c.feed_block.new.reader c.in-Ok.field-0
           (omega (arith, c.loop-done-test)) c.link_after.ensures

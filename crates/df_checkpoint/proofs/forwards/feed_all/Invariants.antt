@@ -9,6 +9,7 @@ invariant-loop-done g l = record {
   grid : l.grid ≡ l.fn.grid;
   told : g.D.Disk.told l.disk ≡ g.D.Disk.told l.fn.disk;
   faults : g.D.Disk.faults l.disk ≡ g.D.Disk.faults l.fn.disk;
+  layout : l.reader.layout ≡ l.fn.reader.layout;
   size : bytes_read l.reader ≤ l.done * 2 ^ 32;
   read : (op : ℕ) → HasRead l.fn.grid.layout op l.fn.reader [] → HasReadTo l.fn.grid (g.D.Disk.told l.fn.disk) l.fn.blocks op l.done l.reader;
 }

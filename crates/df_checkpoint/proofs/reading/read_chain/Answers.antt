@@ -1,6 +1,7 @@
 -- The chain, the text and what the grid adopts, one behind the other.
 use Rattle.std.proofs.Common.{◌∙◌}
 use Rattle.std.specs.Prelude.{Err, Ok}
+use Rattle.df_checkpoint.proofs.Adopted.{adopted_idle}
 use Rattle.df_checkpoint.proofs.ReadWhole.{adopt_same, chain_adopted, chain_refused, found_same, fresh_size, text_refused, text_same}
 use Rattle.df_checkpoint.proofs.reading.read_chain.Goals as goal
 
@@ -26,3 +27,6 @@ returns-in-Ok-read_text-clause-answer g c = λ sh same parse.
     (text_same c.args.grid.now c.find_chain.new.grid (g.D.Disk.told c.args.disk.now) (g.D.Disk.told c.find_chain.new.disk) c.in-Ok.blocks.items c.deref.result.now c.args.content.now.op c.args.reader.now c.read_text.new.reader (Ok c.in-Ok-read_text.field-0)
     c.in-Ok.ensures.grid c.in-Ok.ensures.same c.deref.ensures.0 c.in-Ok-read_text.ensures.text c.requires.fresh)
     (adopt_same c.args.grid.now c.read_text.new.grid c.adopt.new.grid c.in-Ok.blocks.items c.deref-in-Ok-read_text.result.now c.read_text.new.reader c.adopt.result (c.in-Ok-read_text.ensures.grid ∙ c.in-Ok.ensures.grid) c.deref-in-Ok-read_text.ensures.0 c.adopt.ensures)
+
+pub returns-in-Ok-read_text-clause-idle : goal.returns-in-Ok-read_text-clause-idle
+returns-in-Ok-read_text-clause-idle g c = adopted_idle c.read_text.new.grid c.adopt.new.grid c.read_text.new.reader c.deref-in-Ok-read_text.result.now c.adopt.result c.adopt.ensures

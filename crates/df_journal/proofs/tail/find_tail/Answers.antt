@@ -1,5 +1,5 @@
 -- Each turn takes the prepare that comes next; where there is none, or the ring is full, the tail ends.
-use Rattle.std.proofs.Common.{◌≡◌, ◌+◌, List, None, sym, ◌∙◌, ap, subst, arith}
+use Rattle.std.proofs.Common.{◌≡◌, ◌≤◌, ◌+◌, ◌^◌, List, None, sym, ◌∙◌, ap, subst, arith}
 use Rattle.df_format.specs.declared.header.Header.{Header}
 use Rattle.df_format.specs.Spelling.{IsCheck}
 use Rattle.df_sessions.specs.declared.session.Session.{Session}
@@ -21,6 +21,7 @@ loop-last-preserved c =
     record {
       from = omega (arith, op, c.loop-last.invariant.from);
       within = omega (arith, op, first, c.loop-last-test.true, c.from.ensures, c.loop-last.invariant.from);
+      most = subst (λ (t : Tail). t.op ≤ 2 ^ 62) is c.in-Some.ensures.sound.op;
       checksum = subst (λ (t : Tail). IsCheck t.checksum) is c.in-Some.ensures.sound.checksum;
       start = λ same. absurd (omega (arith, op, same, c.loop-last.invariant.from));
       places = c.apply.ensures.places ∙ c.loop-last.invariant.places;

@@ -1,5 +1,5 @@
 -- The prepares that were passed are taken and fit, and end here.
-use Rattle.std.proofs.Common.{◌≡◌, ◌+◌, ◌-◌, ◌≤◌}
+use Rattle.std.proofs.Common.{◌≡◌, ◌+◌, ◌-◌, ◌≤◌, ◌^◌}
 use Rattle.df_format.specs.Spelling.{IsCheck}
 use Rattle.df_theory.specs.Units.{Units}
 use Rattle.df_theory.specs.Shape.{Shape}
@@ -13,6 +13,7 @@ abbrev pub invariant-loop-last : goal.invariant-loop-last
 invariant-loop-last l = record {
   from : l.found.start.op ≤ l.last.op;
   within : l.last.op ≤ l.found.start.op + l.layout.slots;
+  most : l.last.op ≤ 2 ^ 62;
   checksum : IsCheck l.last.checksum;
   start : l.last.op ≡ l.found.start.op → l.last.checksum ≡ l.checksum;
   places : l.sessions.max ≡ l.layout.clients;

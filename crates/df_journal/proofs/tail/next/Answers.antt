@@ -2,7 +2,7 @@
 use Rattle.std.proofs.Common.{◌+◌, ◌<◌, ◌⊎◌, ℕ, length, arith, subst, sym}
 use Rattle.df_sessions.specs.Table.{IsKnown}
 use Rattle.df_journal.proofs.Asks.{asks_room}
-use Rattle.df_journal.proofs.Decisions.{slot_checks, taken_check, taken_client, taken_parent, taken_request, taken_unit}
+use Rattle.df_journal.proofs.Decisions.{slot_checks, taken_check, taken_client, taken_op, taken_parent, taken_request, taken_unit}
 use Rattle.df_journal.proofs.tail.next.Goals as goal
 
 pub taken-requires : goal.taken-requires
@@ -22,4 +22,5 @@ returns-then-fits-clause-sound c =
       room = subst (λ (n : ℕ). IsKnown c.in_ok-header.header.client c.args.sessions.now.sessions ⊎ (length c.args.sessions.now.sessions < n)) (sym c.requires.places) (asks_room c.args.layout.now.clients c.in_ok-header.header c.args.sessions.now.sessions fits.asks);
       checksum = taken_check c.args.layout.now c.args.found.now.start.cluster _ c.in_ok-header.header there;
       request = taken_request c.args.layout.now c.args.found.now.start.cluster _ c.in_ok-header.header there;
+      op = taken_op c.args.layout.now c.args.found.now.start.cluster _ c.in_ok-header.header there;
     }

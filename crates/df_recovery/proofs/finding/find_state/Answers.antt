@@ -1,5 +1,5 @@
 -- Each step answers as the model's step.
-use Rattle.std.proofs.Common.{ℕ, refl, sym, ap, subst}
+use Rattle.std.proofs.Common.{refl, sym, ap, subst}
 use Rattle.df_layout.specs.declared.damage.Class.TheVariants.{Stale}
 use Rattle.df_format.specs.SuperRules.{IsSuper}
 use Rattle.df_format.specs.declared.superblock.SuperFields.{SuperFields}
@@ -118,5 +118,5 @@ returns-in-None-clause-tracks c =
     let starts = any_starts c.args.layout.now c.args.slots.now.start.op f c.args.found.now.content c.args.sessions.now.sessions c.requires.start c.fields-content.ensures.value in
     let found = c.find_tail-tail.ensures.tail (any_shape c.args.layout.now) image b (record { table = c.requires.table; shows = shows_table slots c.args.replies.now }) starts in
     let number = c.replies-stored.ensures image b.content found.tail shows refl refl (sym found.ends.mark) in
-    subst (λ (op : ℕ). Tracks c.replies-stored.result op (sessions_of c.args.sessions.now.sessions) → Tracks c.replies-stored.result c.find_tail-tail.result.op (sessions_of c.find_tail-tail.new.sessions.sessions)) (ap (λ (x : SuperFields). x.op) c.fields-content.ensures.value)
+    subst (λ (x : SuperFields). Tracks x.replies x.op (sessions_of c.args.sessions.now.sessions) → Tracks c.replies-stored.result c.find_tail-tail.result.op (sessions_of c.find_tail-tail.new.sessions.sessions)) c.fields-content.ensures.value
     (tracks_on (any_shape c.args.layout.now) image f c.args.sessions.now.sessions c.find_tail-tail.new.sessions.sessions c.find_tail-tail.result c.replies-stored.result (subst IsSuper (sym c.fields-content.ensures.value) c.fields-content.ensures.usable.rules) found number)

@@ -17,3 +17,8 @@ returns-clause-pair c = let s = c.self.inside in
 
 pub returns-clause-inside : goal.returns-clause-inside
 returns-clause-inside c = let s = c.self.inside in (written_inside s.entries s.free s.written.items s.left.items s.chain.items c.in_ok-address.address c.self.invariant (ap (λ (l : List ℕ). slice_get l 0) (sym c.deref.ensures.0) ∙ sym c.first.ensures.value ∙ sym c.in_ok-address.ensures)).0
+
+pub returns-clause-within : goal.returns-clause-within
+returns-clause-within c = let s = c.self.inside in
+    let has = written_inside s.entries s.free s.written.items s.left.items s.chain.items c.in_ok-address.address c.self.invariant (ap (λ (l : List ℕ). slice_get l 0) (sym c.deref.ensures.0) ∙ sym c.first.ensures.value ∙ sym c.in_ok-address.ensures) in
+    omega (arith, has.1, ap (λ (v : TableState). v.size) c.self.view_is)

@@ -1,6 +1,7 @@
 use Rattle.std.proofs.Common.{◌∙◌, ℕ, List, get_or, [], take, drop, map, ap, refl}
 use Rattle.df_trailer.specs.Rooms.{without_reply}
 use Rattle.df_trailer.specs.Text.{count, read_sessions, root_size, sessions_at}
+use Rattle.df_trailer.proofs.Listed.{sessions_listed}
 use Rattle.df_trailer.proofs.Said.{empty_room, moved_room, parts_said, same_rows, same_words}
 use Rattle.df_trailer.proofs.Words.{lent_back}
 use Rattle.df_trailer.proofs.reader.Reader.into_parts.Goals as goal
@@ -23,3 +24,6 @@ returns-clause-bits c = λ layout op text read. c.args.self.bits_room ∙ same_w
 
 pub returns-clause-checks : goal.returns-clause-checks
 returns-clause-checks c = λ layout op text read. c.args.self.checks_room ∙ same_rows c.args.self.layout layout read.of_layout
+
+pub returns-clause-sessions : goal.returns-clause-sessions
+returns-clause-sessions c = λ layout op text read. sessions_listed layout op text c.args.self _ c.requires read (returns-clause-parts c layout op text read).sessions

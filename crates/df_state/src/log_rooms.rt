@@ -1,4 +1,4 @@
-// All the rooms of a replica, whose memory is taken in one call.
+// The rooms of the superblock, of both rings and of the replies.
 ghost use Rattle.std.specs.Prelude.{◌≡◌, ◌≤◌, ◌+◌, length, vec_capacity, IfOk};
 
 use df_base::OutOfMemory;
@@ -11,9 +11,9 @@ use df_places::Shelf;
 use df_replies::ReplyTable;
 use std::alloc::Global;
 
-/// The memory that serves a file of one layout.
+/// The memory that serves the log zones of a file of one layout.
 #[derive(Drop)]
-pub struct Rooms {
+pub struct LogRooms {
     pub layout: Layout,
     // The rooms that copies of the superblock are read into and made in.
     pub superblock: ProbeRoom,
@@ -85,9 +85,9 @@ fn mend_list(alloc: Global, layout: &Layout) -> Result<Vec<Mend>, OutOfMemory>
     }
 }
 
-impl Rooms {
-    /// The rooms for a layout, or the refusal of memory for one of them. No other call of a replica takes memory.
-    pub fn reserve(alloc: Global, layout: &Layout) -> Result<Rooms, OutOfMemory>
+impl LogRooms {
+    /// The rooms for a layout, or the refusal of memory for one of them.
+    pub(crate) fn reserve(alloc: Global, layout: &Layout) -> Result<LogRooms, OutOfMemory>
         ensures { IfOk result (λ rooms. rooms.layout ≡ layout.now) }
     {
         let superblock = ProbeRoom::reserve(alloc)?;
@@ -98,7 +98,7 @@ impl Rooms {
         let slots = slot_table(alloc, layout)?;
         let replies = ReplyTable::reserve(alloc, layout)?;
         let mends = mend_list(alloc, layout)?;
-        Ok(Rooms {
+        Ok(LogRooms {
             layout: *layout,
             superblock,
             sector,
@@ -109,12 +109,5 @@ impl Rooms {
             replies,
             mends,
         })
-    }
-
-    /// The layout that the rooms were reserved for.
-    pub fn layout(&self) -> Layout
-        ensures { result ≡ self.now.layout }
-    {
-        self.layout
     }
 }

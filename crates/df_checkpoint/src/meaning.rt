@@ -1,5 +1,5 @@
 // What a refusal of a trailer says of the checkpoints of the model, as functions with an empty body.
-ghost use Rattle.df_checkpoint.specs.Laws.{BadTextIsUnreadable, BrokenIsUnreadable, DamageIsMissed, ReferencedIsUnreadable};
+ghost use Rattle.df_checkpoint.specs.Laws.{BadTextIsUnreadable, BrokenIsShown, BrokenIsUnreadable, DamageIsMissed, ReferencedIsUnreadable, UntrackedIsUnreadable, WholeIsShown};
 
 /// A block that is refused as damaged is one that the model misses.
 pub fn damage_is_missed()
@@ -11,4 +11,11 @@ pub fn refused_is_unreadable()
     ensures text { BadTextIsUnreadable }
     ensures referenced { ReferencedIsUnreadable }
     ensures broken { BrokenIsUnreadable }
+    ensures pending { UntrackedIsUnreadable }
+{}
+
+/// Where a field is refused, each block that is wanted is shown.
+pub fn refused_is_shown()
+    ensures broken { BrokenIsShown }
+    ensures whole { WholeIsShown }
 {}

@@ -1,0 +1,198 @@
+-- The checkpoint of a superblock: with the trailer that was read, or with none.
+use Rattle.std.proofs.Common.{◌≡◌, ◌≢◌, inl, inr, ℕ, zero, suc, ◌-◌, ◌<◌, ◌≤◌, List, [], ◌∷◌, map, Option, Some, None, refl, sym, ◌∙◌, ap, subst, arith}
+use Rattle.std.specs.Prelude.{Result, Ok, Err}
+use Rattle.df_base.specs.Image.{Image}
+use Rattle.df_disk.specs.Told.{Told}
+use Rattle.df_layout.specs.declared.fields.Field.TheVariants.{Pending}
+use Rattle.df_layout.specs.declared.layout.Layout.{Layout}
+use Rattle.df_format.specs.Copies.{content_with}
+use Rattle.df_format.specs.SuperRules.{IsSuper}
+use Rattle.df_format.specs.declared.superblock.SuperFields.{SuperFields}
+use Rattle.df_sessions.specs.declared.session.Session.{Session}
+use Rattle.df_sessions.specs.Requests.{sessions_of}
+use Rattle.df_theory.specs.Units
+use Rattle.df_theory.specs.Sessions.{Has, Tracks}
+use Rattle.df_theory.specs.Trailer.{InChain, IsReference, IsTrailer, no_parts, text_of}
+use Rattle.df_theory.specs.View.{PassesTests}
+use Rattle.df_model.specs.Blocks.{Blocks, addresses, entries}
+use Rattle.df_model.specs.Supply.{Shown}
+use Rattle.df_model.specs.declared.errors.OpenError.TheVariants as OpenError
+use Rattle.df_units.specs.Bytes.{unit_at}
+use Rattle.df_units.specs.Meaning.{content_of, layout_of}
+use Rattle.df_units.specs.Superblocks.{AreFieldsOf}
+use Rattle.df_units.proofs.Laws.{usable_passes}
+use Rattle.df_trailer.specs.Reading.{HasRead}
+use Rattle.df_trailer.specs.Rooms.{AreParts, without_reply}
+use Rattle.df_trailer.specs.Sessions.{AreRead}
+use Rattle.df_trailer.specs.Text.{parse_of, parts_of}
+use Rattle.df_trailer.specs.declared.parts.Parts as rooms
+use Rattle.df_trailer.specs.declared.reader.Reader.{Reader}
+use Rattle.df_grid.specs.Grid.{GridState}
+use Rattle.df_grid.specs.Reads.{shown_of}
+use Rattle.df_grid.specs.Table.{no_blocks}
+use Rattle.df_checkpoint.specs.Chain.{OfTold, content_in}
+use Rattle.df_checkpoint.specs.Reads.{ChainAnswer, IsAdopted, IsComplete, blocks_read}
+use Rattle.df_checkpoint.specs.Waiting.{IsPending, IsUntracked}
+use Rattle.df_checkpoint.specs.declared.fault.TrailerFault.{TrailerFault}
+use Rattle.df_checkpoint.specs.declared.fault.TrailerFault.TheVariants.{BadField, Damaged, DiskFault}
+use Rattle.df_checkpoint.proofs.Laws.{its_text, some_chain}
+use Rattle.df_state.specs.State.{shape}
+use Rattle.df_state.specs.declared.file.DataFile.{DataFile}
+use Rattle.df_recovery.specs.Checkpoints.{Base, HasCheckpoint, RefusesTrailer, TellsCheckpoint, error_of}
+use Rattle.df_recovery.proofs.Tracked.{has_is, has_not, sessions_back, tracked}
+
+-- ---- no trailer
+
+pub no_op : (f : SuperFields) → IsSuper f → f.trailer_address ≡ 0 → f.op ≡ 0
+no_op f usable none = zero_if f.op (λ some. usable.trailer.1 some none)
+  where
+    zero_if : (n : ℕ) → ((n ≡ 0 → ⊥) → ⊥) → n ≡ 0
+    zero_if zero never = refl
+    zero_if (suc n) never = absurd (never (λ zero. omega (arith, zero)))
+
+no_entries : (list : List ℕ) → entries no_parts.references list ≡ []
+no_entries [] = refl
+no_entries (a ∷ list) = no_entries list
+
+none_read : (l : Units.Layout) → no_blocks ≡ blocks_read l no_parts []
+none_read l = ap (λ (xs : List (ℕ × ℕ)). record { live = xs; captured = []; written = []; left = []; durable = xs; chain = [] }) (sym (no_entries (addresses l)))
+
+module _ (file : DataFile) (image : Units.Units) (f : SuperFields) (of : AreFieldsOf file.layout file.cluster f) (usable : IsSuper f) (none : f.trailer_address ≡ 0) where
+  reference : IsReference (layout_of file.layout) (content_in f)
+  reference = (usable_passes file.layout file.cluster file.named (parse_of (layout_of file.layout)) (content_with f) of usable).1
+
+  trailer : IsTrailer (shape file) (content_in f) [] no_parts
+  trailer = record {
+    reference = reference;
+    links = none;
+    count = record { holds = omega (arith, usable.no_trailer none); needed = λ some. absurd (omega arith) };
+    inside = λ a b no. absurd no;
+    size = sym (usable.no_trailer none);
+    says = refl;
+    spare = λ a b no. refl;
+  }
+
+  no_tracks : (replies op : ℕ) → op ≡ 0 → Tracks replies op []
+  no_tracks replies op first = record {
+    below = λ k s at. absurd (cc);
+    apart = λ j k s u one two same. absurd (cc);
+    pending = λ o above to. absurd (omega (arith, above, to, first));
+  }
+
+  pub no_base : HasCheckpoint file image f (record { root = []; sessions = []; blocks = no_blocks })
+  no_base = record {
+    chain = [];
+    parts = no_parts;
+    trailer = trailer;
+    shown = λ a b no. absurd no;
+    tracks = no_tracks f.replies f.op (no_op f usable none);
+    root_is = refl;
+    sessions_are = refl;
+    blocks_are = none_read (layout_of file.layout);
+  }
+
+-- and so it is of a disk, told or not
+pub told_none : (file : DataFile) (told : Option Told) (f : SuperFields) (base : Base) → AreFieldsOf file.layout file.cluster f → IsSuper f → f.trailer_address ≡ 0 → base ≡ record { root = []; sessions = []; blocks = no_blocks } → TellsCheckpoint file told f (Ok base)
+told_none file None f base of usable none is = tt
+told_none file (Some t) f base of usable none is = subst (HasCheckpoint file (unit_at file.layout file.cluster t.shown) f) (sym is) (no_base file (unit_at file.layout file.cluster t.shown) f of usable none)
+
+-- ---- a trailer that was read
+
+-- what the reader gives of each text that it was fed
+abbrev pub GivesParts : Reader → rooms.Parts → Type 0
+GivesParts reader parts = (layout : Layout) (op : ℕ) (text : List ℕ) → HasRead layout op reader text → AreParts (layout_of layout) parts (parts_of (layout_of layout) text)
+
+module _ (file : DataFile) (shown : Shown) (f : SuperFields) (g : GridState) (reader : Reader) (parts : rooms.Parts) (adopted : IsAdopted (shape file) shown (content_in f) g reader) (same : g.layout ≡ file.layout) (gives : GivesParts reader parts) where
+  said : AreParts (layout_of file.layout) parts adopted.parts
+  said = subst (AreParts (layout_of file.layout) parts) (sym adopted.parts_are) (gives file.layout f.op (text_of adopted.chain) (subst (λ (l : Layout). HasRead l f.op reader (text_of adopted.chain)) same adopted.has))
+
+  sessions_said : adopted.parts.sessions ≡ sessions_of parts.sessions.items
+  sessions_said = sym (ap sessions_of said.sessions ∙ sessions_back adopted.parts.sessions)
+
+  pub adopted_base : (image : Units.Units) → shown.units ≡ image → (places : ℕ) → AreRead places f.op parts.sessions.items → IsPending parts.sessions.items f.replies f.op None
+      → HasCheckpoint file image f (record { root = parts.root.items; sessions = parts.sessions.items; blocks = g.blocks })
+  unfolding said sessions_said
+  adopted_base image is places read pending = record {
+    chain = adopted.chain;
+    parts = adopted.parts;
+    trailer = adopted.trailer;
+    shown = subst (λ (units : Units.Units). (a : ℕ) (b : Units.Block) → InChain a b adopted.chain → units (Units.BlockPlace a) ≡ Some (Units.BlockUnit b)) is adopted.shows;
+    tracks = subst (Tracks f.replies f.op) (sym sessions_said) (tracked places f.replies f.op parts.sessions.items read pending);
+    root_is = said.root;
+    sessions_are = sessions_said;
+    blocks_are = adopted.blocks;
+  }
+
+  pub adopted_untracked : (n : ℕ) → 0 < f.trailer_address → IsPending parts.sessions.items f.replies f.op (Some n) → IsUntracked (shape file) shown (content_in f) n
+  unfolding said sessions_said
+  adopted_untracked n named lacking = record {
+    chain = adopted.chain;
+    whole = record {
+      links = adopted.trailer.links;
+      count = adopted.trailer.count;
+      inside = adopted.trailer.inside;
+      size = adopted.trailer.size;
+      shows = adopted.shows;
+    };
+    parts = adopted.parts;
+    says = its_text (shape file) f.op adopted.chain adopted.parts (some_chain (file.layout.block_size - 256) (content_in f) adopted.chain named adopted.trailer.links) adopted.trailer.says;
+    above = lacking.above;
+    reached = lacking.reached;
+    lacks = λ has. has_not n parts.sessions.items lacking.lacks (subst (λ (ss : List Units.Session). Has ss n) sessions_said has);
+    least = λ m above less. subst (λ (ss : List Units.Session). Has ss m) (sym sessions_said) (has_is m parts.sessions.items (lacking.least m above less));
+  }
+
+-- a reader that has read a whole text gives this of it
+pub complete_gives : (P : Layout → ℕ → Type 0) (g : GridState) (op : ℕ) (reader : Reader) (layout : Layout) → IsComplete g op reader → g.layout ≡ layout → ((l : Layout) (o : ℕ) (text : List ℕ) → HasRead l o reader text → P l o) → P layout op
+complete_gives P g op reader layout complete same gives = subst (λ (l : Layout). P l op) same (gives g.layout op complete.text complete.has)
+
+-- the ops that wait, of copies of the sessions and of the superblock
+pub pending_of : (lent ss : List Session) (fields f : SuperFields) (o : Option ℕ) → lent ≡ ss → fields ≡ f → IsPending lent fields.replies fields.op o → IsPending ss f.replies f.op o
+pending_of lent ss fields f o same one pending = subst (λ (l : List Session). IsPending l f.replies f.op o) same (subst (λ (x : SuperFields). IsPending lent x.replies x.op o) one pending)
+
+-- ---- of a disk, told or not
+
+some_address : (n : ℕ) → n ≢ 0 → 0 < n
+some_address zero other = absurd (other refl)
+some_address (suc n) other = omega arith
+
+pub told_base : (file : DataFile) (told : Option Told) (f : SuperFields) (g h : GridState) (reader : Reader) (parts : rooms.Parts) (base : Base) → h.layout ≡ file.layout → h.cluster ≡ file.cluster → g.layout ≡ file.layout
+    → OfTold h told (λ shown. ChainAnswer (shape file) shown (content_in f) g reader (Ok tt)) → GivesParts reader parts → AreRead file.layout.clients f.op parts.sessions.items → IsPending parts.sessions.items f.replies f.op None
+    → base ≡ record { root = parts.root.items; sessions = parts.sessions.items; blocks = g.blocks } → TellsCheckpoint file told f (Ok base)
+told_base file None f g h reader parts base layout cluster same answer gives read pending is = tt
+told_base file (Some t) f g h reader parts base layout cluster same answer gives read pending is =
+    subst (HasCheckpoint file (unit_at file.layout file.cluster t.shown) f) (sym is)
+    (adopted_base file (shown_of h.layout h.cluster t.shown) f g reader parts answer same gives (unit_at file.layout file.cluster t.shown) (λ i. unit_at (layout i) (cluster i) t.shown) file.layout.clients read pending)
+
+-- an op that waits has no session
+pub told_untracked : (file : DataFile) (told : Option Told) (f : SuperFields) (g h : GridState) (reader : Reader) (parts : rooms.Parts) (n : ℕ) → h.layout ≡ file.layout → h.cluster ≡ file.cluster → g.layout ≡ file.layout → f.trailer_address ≢ 0
+    → OfTold h told (λ shown. ChainAnswer (shape file) shown (content_in f) g reader (Ok tt)) → GivesParts reader parts → IsPending parts.sessions.items f.replies f.op (Some n) → TellsCheckpoint file told f (Err (OpenError.BadField Pending n))
+told_untracked file None f g h reader parts n layout cluster same named answer gives lacking = tt
+told_untracked file (Some t) f g h reader parts n layout cluster same named answer gives lacking =
+    let some = some_address f.trailer_address named in (
+      some,
+      inr (inr (inr (
+        refl,
+        subst (λ (shown : Shown). IsUntracked (shape file) shown (content_in f) n) (λ i. shown_of (layout i) (cluster i) t.shown)
+            (adopted_untracked file (shown_of h.layout h.cluster t.shown) f g reader parts answer same gives n some lacking),
+      ))),
+    )
+
+-- the trailer is refused
+refused_shown : (file : DataFile) (image : Image) (f : SuperFields) (g : GridState) (reader : Reader) (e : TrailerFault) → 0 < f.trailer_address → ChainAnswer (shape file) (shown_of file.layout file.cluster image) (content_in f) g reader (Err e)
+    → RefusesTrailer file image f (error_of e)
+refused_shown file image f g reader (Damaged address class) named answer = (named, address, refl, answer)
+refused_shown file image f g reader (BadField field value) named (inl broken) = (named, inl broken)
+refused_shown file image f g reader (BadField field value) named (inr (inl text)) = (named, inr (inl text))
+refused_shown file image f g reader (BadField field value) named (inr (inr referenced)) = (named, inr (inr (inl referenced)))
+refused_shown file image f g reader DiskFault named answer = tt
+
+pub told_refused : (file : DataFile) (told : Option Told) (f : SuperFields) (g h : GridState) (reader : Reader) (e : TrailerFault) → h.layout ≡ file.layout → h.cluster ≡ file.cluster → f.trailer_address ≢ 0
+    → OfTold h told (λ shown. ChainAnswer (shape file) shown (content_in f) g reader (Err e)) → TellsCheckpoint file told f (Err (error_of e))
+told_refused file None f g h reader e layout cluster named answer = tt
+told_refused file (Some t) f g h reader e layout cluster named answer =
+    refused_shown file t.shown f g reader e (some_address f.trailer_address named) (subst (λ (shown : Shown). ChainAnswer (shape file) shown (content_in f) g reader (Err e)) (λ i. shown_of (layout i) (cluster i) t.shown) answer)
+
+pub told_fault : (file : DataFile) (told : Option Told) (f : SuperFields) → TellsCheckpoint file told f (Err OpenError.DiskFault)
+told_fault file None f = tt
+told_fault file (Some t) f = tt

@@ -1,0 +1,89 @@
+-- What is read behind the barrier is what the disk showed before it, and a refusal is the answer to the open.
+use Rattle.std.proofs.Common.{◌≡◌, ◌∙◌, ℕ, ◌<◌, Option, Some, None, Result, Ok, Err, refl, sym, ap, subst}
+use Rattle.std.specs.Prelude.{IfErr, IfOk}
+use Rattle.df_base.specs.Image.{IsImage}
+use Rattle.df_base.specs.Log.{Sync}
+use Rattle.df_disk.specs.Told.{Told, after}
+use Rattle.df_layout.specs.declared.layout.Layout.{Layout}
+use Rattle.df_format.specs.declared.superblock.SuperFields.{SuperFields}
+use Rattle.df_model.specs.declared.errors.OpenError.{OpenError}
+use Rattle.df_model.specs.declared.errors.OpenError.TheVariants.{DiskFault}
+use Rattle.df_journal.specs.Scanned as rings
+use Rattle.df_journal.specs.declared.table.Start.{Start}
+use Rattle.df_replies.specs.Shown as slots
+use Rattle.df_state.specs.declared.file.DataFile.{DataFile}
+use Rattle.df_state.specs.declared.rooms.Rooms.{Rooms}
+use Rattle.df_recovery.specs.Checkpoints.{Base, TellsCheckpoint}
+use Rattle.df_recovery.specs.Finding.{IsOfFile, read_of}
+use Rattle.df_recovery.specs.Found.{IsFound}
+use Rattle.df_recovery.specs.Opening.{IsLayoutOf}
+use Rattle.df_recovery.specs.Scanning.{AreScanned, IsFileOf, IsServed, RefusesBase, TellsRead, answer_of, base_scanned}
+use Rattle.df_recovery.specs.Surveys.{Surveys}
+use Rattle.df_recovery.specs.declared.scanned.Scanned.{Scanned}
+use Rattle.df_recovery.specs.declared.scanning.Copies.{Copies}
+use Rattle.df_recovery.proofs.Bases.{told_fault}
+use Rattle.df_recovery.proofs.Refusals.{trailer_refused}
+use Rattle.df_recovery.proofs.Synced.{synced}
+
+pub refuses_base : (layout : Layout) (f : SuperFields) (told : Option Told) (e : OpenError) (file : DataFile) → TellsCheckpoint file told f (Err e) → IsFileOf layout f file → RefusesBase layout f told e
+refuses_base layout f told e file tells of = record { file = file; of = of; tells = tells }
+
+-- where the disk failed
+pub fault_refuses : (layout : Layout) (f : SuperFields) (told : Option Told) (result : Result Scanned (Rooms × OpenError)) → 0 < f.cluster → IfErr result (λ refused. refused.1 ≡ DiskFault) → IfErr result (λ refused. RefusesBase layout f told refused.1)
+fault_refuses layout f told (Ok s) named fault = fault
+fault_refuses layout f told (Err refused) named fault =
+    let file : DataFile = record { layout = layout; cluster = f.cluster; named = named } in
+    record { file = file; of = record { layout_is = refl; cluster_is = refl }; tells = subst (λ (e : OpenError). TellsCheckpoint file told f (Err e)) (sym fault) (told_fault file told f) }
+
+tells_synced : (file : DataFile) (told : Option Told) (f : SuperFields) (result : Result Base OpenError) → TellsCheckpoint file (after Sync told) f result → TellsCheckpoint file told f result
+tells_synced file None f result tells = tt
+tells_synced file (Some t) f (Ok base) tells = tells
+tells_synced file (Some t) f (Err e) tells = tells
+
+pub scanned_synced : (layout : Layout) (copies : Copies) (old new : Option Told) (result : Result Scanned (Rooms × OpenError)) → new ≡ after Sync old → IfOk result (λ s. s.copies ≡ copies)
+    → IfOk result (λ s. AreScanned layout copies.found.content.cluster new s.log.slots s.log.replies) → IfOk result (λ s. AreScanned layout s.copies.found.content.cluster old s.log.slots s.log.replies)
+scanned_synced layout copies old new (Err refused) barrier same scanned = same
+scanned_synced layout copies old new (Ok s) barrier same scanned =
+    synced layout s.copies.found.content.cluster old s.log.slots s.log.replies
+    (subst (λ (t : Option Told). AreScanned layout s.copies.found.content.cluster t s.log.slots s.log.replies) barrier (subst (λ (c : Copies). AreScanned layout c.found.content.cluster new s.log.slots s.log.replies) (sym same) scanned))
+
+pub base_synced : (copies : Copies) (old new : Option Told) (result : Result Scanned (Rooms × OpenError)) → new ≡ after Sync old → IfOk result (λ s. s.copies ≡ copies)
+    → IfOk result (λ s. TellsCheckpoint s.file new copies.found.content (Ok (base_scanned s))) → IfOk result (λ s. TellsCheckpoint s.file old s.copies.found.content (Ok (base_scanned s)))
+base_synced copies old new (Err refused) barrier same tells = same
+base_synced copies old new (Ok s) barrier same tells =
+    tells_synced s.file old s.copies.found.content (Ok (base_scanned s))
+    (subst (λ (t : Option Told). TellsCheckpoint s.file t s.copies.found.content (Ok (base_scanned s))) barrier (subst (λ (c : Copies). TellsCheckpoint s.file new c.found.content (Ok (base_scanned s))) (sym same) tells))
+
+pub scan_answers : (layout : Layout) (copies : Copies) (old new : Option Told) (result : Result Scanned (Rooms × OpenError)) → new ≡ after Sync old → IsServed layout copies.found.content → TellsRead (λ (c : Copies). c.found) layout old (Ok copies)
+    → IfOk result (λ s. s.copies ≡ copies) → IfErr result (λ refused. RefusesBase layout copies.found.content new refused.1) → TellsRead (λ (s : Scanned). s.copies.found) layout old (answer_of result)
+scan_answers layout copies None new result barrier served answer same refuses = tt
+scan_answers layout copies (Some t) new (Ok s) barrier served answer same refuses = subst (λ (c : Copies). IsFound t.shown c.found) (sym same) answer
+scan_answers layout copies (Some t) new (Err refused) barrier served answer same refuses = λ whole.
+    let f = copies.found.content in
+    let file = refuses.file in
+    let tells : TellsCheckpoint refuses.file (Some t) f (Err refused.1) = tells_synced file (Some t) f (Err refused.1) (subst (λ (u : Option Told). TellsCheckpoint refuses.file u f (Err refused.1)) barrier refuses.tells) in
+    subst (λ (l : Layout). Surveys l t.shown (Err refused.1)) refuses.of.layout_is
+    (trailer_refused file t.shown f (record { super = answer.super; layout = subst (λ (l : Layout). IsLayoutOf l f) (sym refuses.of.layout_is) served.layout_is; cluster = sym refuses.of.cluster_is }) whole refused.1 tells)
+
+-- ---- what was scanned is of its file
+
+pub scanned_of_file : (t : Told) (layout : Layout) (s : Scanned) → IsImage t.shown → IsFound t.shown s.copies.found → IsFileOf layout s.copies.found.content s.file → IsServed layout s.copies.found.content
+    → s.log.slots.start ≡ record { cluster = s.copies.found.content.cluster; op = s.copies.found.content.op } → AreScanned layout s.copies.found.content.cluster (Some t) s.log.slots s.log.replies
+    → TellsCheckpoint s.file (Some t) s.copies.found.content (Ok (base_scanned s)) → IsOfFile t s.file (read_of s) (base_scanned s)
+scanned_of_file t layout s whole found of served start scanned tells =
+    let cluster : s.log.slots.start.cluster ≡ s.copies.found.content.cluster = ap (λ (x : Start). x.cluster) start in
+    record {
+      image = whole;
+      has = record { super = found.super; layout = subst (λ (l : Layout). IsLayoutOf l s.copies.found.content) (sym of.layout_is) served.layout_is; cluster = sym of.cluster_is };
+      choice = found.choice;
+      chosen_is = found.content;
+      layout = refl;
+      cluster = cluster ∙ sym of.cluster_is;
+      op = ap (λ (x : Start). x.op) start;
+      scanned = record {
+        slots = subst (λ (l : Layout). rings.IsScanned l (Some t) s.log.slots) (sym of.layout_is) scanned.rings;
+        replies = subst (λ (l : Layout). slots.IsScanned l s.log.slots.start.cluster (Some t) s.log.replies) (sym of.layout_is) (subst (λ (n : ℕ). slots.IsScanned layout n (Some t) s.log.replies) (sym cluster) scanned.replies_are);
+      };
+      checkpoint = tells;
+      sessions = refl;
+    }

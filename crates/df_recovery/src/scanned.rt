@@ -1,0 +1,25 @@
+// What was read of a file, in the rooms that it was read into.
+ghost use Rattle.std.specs.Prelude.{◌≡◌};
+
+use crate::Copies;
+use arrayvec::ArrayVec;
+use df_grid::Grid;
+use df_sessions::SessionTable;
+use df_state::{DataFile, LogRooms, TrailerRooms};
+
+/// What was read of a file: its superblock, in the tables of the rooms what the rings and the reply slots show, in the grid the
+/// blocks that the checkpoint holds, and the checkpoint's root and sessions.
+#[derive(Drop)]
+pub struct Scanned {
+    pub file: DataFile,
+    pub copies: Copies,
+    pub log: LogRooms,
+    pub grid: Grid,
+    pub trailer: TrailerRooms,
+    pub root: ArrayVec<u8, 1024>,
+    pub sessions: SessionTable,
+    pub ghost log_fits: { log.layout ≡ file.layout },
+    pub ghost grid_fits: { grid.layout ≡ file.layout },
+    pub ghost grid_named: { grid.cluster ≡ file.cluster },
+    pub ghost trailer_fits: { trailer.layout ≡ file.layout },
+}

@@ -1,0 +1,16 @@
+//! What a replica keeps of its file: the state, in the words of the machine too, and the rooms that serve it.
+#![tactic(auto)]
+
+mod captured;
+mod file;
+mod grid_rooms;
+mod log_rooms;
+mod rooms;
+mod trailer_rooms;
+
+pub use captured::Captured;
+pub use file::DataFile;
+pub use grid_rooms::GridRooms;
+pub use log_rooms::LogRooms;
+pub use rooms::Rooms;
+pub use trailer_rooms::TrailerRooms;

@@ -1,0 +1,71 @@
+// The rooms that a trailer is read into and written from, and in which a new block is made.
+ghost use Rattle.std.specs.Prelude.{◌≡◌, ◌+◌, ◌-◌, ◌/◌, length, vec_len, IfOk};
+
+use df_base::{Check, HEADER, OutOfMemory};
+use df_buffers::{Block, Raw};
+use df_layout::Layout;
+use df_places::Shelf;
+use std::alloc::Global;
+
+/// The memory that serves a checkpoint's trailer, and the block that is made next.
+#[derive(Drop)]
+pub struct TrailerRooms {
+    pub layout: Layout,
+    // Where a reader keeps the bits and the checksums of the referenced blocks.
+    pub bits: Vec<u64>,
+    pub checks: Vec<Check>,
+    // A piece of the trailer's text: as long as a block's body.
+    pub piece: Vec<u8>,
+    // Where the next block is made.
+    pub block: Shelf<Block>,
+    pub ghost bits_fit: { vec_len bits ≡ (layout.blocks + 63) / 64 },
+    pub ghost checks_fit: { vec_len checks ≡ layout.blocks },
+    pub ghost piece_fits: { vec_len piece ≡ layout.block_size - 256 },
+    pub ghost block_fits: { block.layout ≡ layout },
+}
+
+fn bits(alloc: Global, layout: &Layout) -> Result<Vec<u64>, OutOfMemory>
+    ensures { IfOk result (λ bits. vec_len bits ≡ (layout.now.blocks + 63) / 64) }
+{
+    match vec![in alloc; 0u64; layout.blocks.div_ceil(64) as usize] {
+        Ok(bits) => Ok(bits),
+        Err(_) => Err(OutOfMemory),
+    }
+}
+
+fn checks(alloc: Global, layout: &Layout) -> Result<Vec<Check>, OutOfMemory>
+    ensures { IfOk result (λ checks. vec_len checks ≡ layout.now.blocks) }
+{
+    match vec![in alloc; [0u8; 16]; layout.blocks as usize] {
+        Ok(checks) => Ok(checks),
+        Err(_) => Err(OutOfMemory),
+    }
+}
+
+fn piece(alloc: Global, layout: &Layout) -> Result<Vec<u8>, OutOfMemory>
+    ensures { IfOk result (λ piece. vec_len piece ≡ layout.now.block_size - 256) }
+{
+    match vec![in alloc; 0u8; layout.block_size as usize - HEADER] {
+        Ok(piece) => Ok(piece),
+        Err(_) => Err(OutOfMemory),
+    }
+}
+
+impl TrailerRooms {
+    /// The rooms for a layout, or the refusal of memory for one of them.
+    pub(crate) fn reserve(alloc: Global, layout: &Layout) -> Result<TrailerRooms, OutOfMemory>
+        ensures { IfOk result (λ rooms. rooms.layout ≡ layout.now) }
+    {
+        let bits = bits(alloc, layout)?;
+        let checks = checks(alloc, layout)?;
+        let piece = piece(alloc, layout)?;
+        let block = Raw::reserve(alloc, layout)?;
+        Ok(TrailerRooms {
+            layout: *layout,
+            bits,
+            checks,
+            piece,
+            block: Shelf::over(*layout, block),
+        })
+    }
+}
