@@ -31,9 +31,9 @@ use Rattle.df_model.specs.declared.errors.AppendError.{AppendError}
 use Rattle.df_model.specs.declared.errors.AppendError.TheVariants as append
 use Rattle.df_replica.specs.Answering.{Serves, append_answer}
 use Rattle.df_replica.specs.Appending.{append_events, appended, header_given, next_unit, receipt_of}
-use Rattle.df_replica.specs.Serving.{IsCall, Known, next}
+use Rattle.df_replica.specs.Serving.{IsCall, next}
 use Rattle.df_replica.specs.Supply.{IsSupplied}
-use Rattle.df_recovery.specs.State.{IsState, Represents, State, memory, shape}
+use Rattle.df_state.specs.State.{IsState, Represents, State, memory, shape, spelling}
 use Rattle.df_replica.proofs.AppendCalls.{allowed_does, refused_does, ring_then, test_is}
 use Rattle.df_replica.proofs.AppendMemory.{appended_memory}
 use Rattle.df_replica.proofs.AppendTests.{may_next}
@@ -52,17 +52,17 @@ module _ (s : State) (client request : ℕ) (body : List ℕ) (given : Given) (i
   -- ---- a refusal
 
   module _ (e : AppendError) (some : first_refusal (append_refusals (memory s) client request body) ≡ Some e) where
-    refused_next : (c : Known) (w : Work) → Represents (shape s.file c.parse) c.spell s w → next s.file c w given command ≡ (w, ToAppend (Err e))
-    refused_next c w rep =
-        let p = prepare_of (memory_of (shape s.file c.parse) c.spell w) given.checksum client request body in
-        ap (λ (o : Option AppendError). as_answer ToAppend (outcome o w (with_prepare w p) (p.header.op, given.checksum))) (test_is s client request body given is sum c w rep (Some e) some)
+    refused_next : (w : Work) → Represents s w → next s.file w given command ≡ (w, ToAppend (Err e))
+    refused_next w rep =
+        let p = prepare_of (memory_of (shape s.file) (spelling s.file) w) given.checksum client request body in
+        ap (λ (o : Option AppendError). as_answer ToAppend (outcome o w (with_prepare w p) (p.header.op, given.checksum))) (test_is s client request body given is sum w rep (Some e) some)
 
     refused_as : Answered given command s s [] (ToAppend (Err e))
     refused_as = record {
       file = refl;
       live = live;
-      stands = λ c w work rep. (ap (λ (x : Work × Answer). x.1) (sym (refused_next c w rep)), subst (λ (x : Work × Answer). Represents (shape s.file c.parse) c.spell s x.0) (sym (refused_next c w rep)) rep);
-      ring = λ c w a b k all. subst (λ (x : Told). ShowsRing s.file.layout s.file.cluster (now x.log) s.headers) (sym (some-eq all)) k.ring;
+      stands = λ w work rep. (ap (λ (x : Work × Answer). x.1) (sym (refused_next w rep)), subst (λ (x : Work × Answer). Represents s x.0) (sym (refused_next w rep)) rep);
+      ring = λ g w a b k all. subst (λ (x : Told). ShowsRing s.file.layout s.file.cluster (now x.log) s.headers) (sym (some-eq all)) k.ring;
     }
 
     refused_call : (old : Option Told) → IsSupplied s old command given → IsCall given command s s old old (Some (ToAppend (Err e)))
@@ -80,12 +80,12 @@ module _ (s : State) (client request : ℕ) (body : List ℕ) (given : Given) (i
     abbrev answer : Answer
     answer = ToAppend (Ok (u.header.op, number_of u.header.checksum))
 
-    module _ (c : Known) (w : Work) (work : IsWork (shape s.file c.parse) c.spell w) (rep : Represents (shape s.file c.parse) c.spell s w) where
+    module _ (w : Work) (work : IsWork (shape s.file) (spelling s.file) w) (rep : Represents s w) where
       abbrev sh : Shape
-      sh = shape s.file c.parse
+      sh = shape s.file
 
       abbrev m : Memory
-      m = memory_of sh c.spell w
+      m = memory_of sh (spelling s.file) w
 
       abbrev p : theory.Message
       p = prepare_of m given.checksum client request body
@@ -94,37 +94,37 @@ module _ (s : State) (client request : ℕ) (body : List ℕ) (given : Given) (i
       pair = (p.header.op, given.checksum)
 
       none_there : first_refusal (append_refusals m client request body) ≡ None
-      none_there = test_is s client request body given is sum c w rep None none
+      none_there = test_is s client request body given is sum w rep None none
 
-      next_is : next s.file c w given command ≡ (with_prepare w p, ToAppend (Ok pair))
+      next_is : next s.file w given command ≡ (with_prepare w p, ToAppend (Ok pair))
       next_is = ap (λ (o : Option AppendError). as_answer ToAppend (outcome o w (with_prepare w p) pair)) none_there
 
-      memory_is : memory_of sh c.spell (with_prepare w p) ≡ appended_in m p
+      memory_is : memory_of sh (spelling s.file) (with_prepare w p) ≡ appended_in m p
       memory_is =
-          subst (λ (o : Option AppendError). memory_of sh c.spell (outcome o w (with_prepare w p) pair).0 ≡ record (unless_refused o m (appended_in m p)) { blocks = blocks_after c.spell m given command })
-          none_there (change_law sh c.spell w given command work)
+          subst (λ (o : Option AppendError). memory_of sh (spelling s.file) (outcome o w (with_prepare w p) pair).0 ≡ record (unless_refused o m (appended_in m p)) { blocks = blocks_after (spelling s.file) m given command })
+          none_there (change_law sh (spelling s.file) w given command work)
 
-      stands : Represents sh c.spell (appended s u) (with_prepare w p)
+      stands : Represents (appended s u) (with_prepare w p)
       stands =
           appended_memory s client request body is room slot_inside
           ∙ (λ i. appended_in (rep i) (prepare_of (rep i) (sym sum i) client request body))
           ∙ sym memory_is
 
-      allowed_at : (answer ≡ (next s.file c w given command).1) × Represents sh c.spell (appended s u) (next s.file c w given command).0
+      allowed_at : (answer ≡ (next s.file w given command).1) × Represents (appended s u) (next s.file w given command).0
       allowed_at =
-          subst (λ (x : Work × Answer). (answer ≡ x.1) × Represents sh c.spell (appended s u) x.0) (sym next_is)
+          subst (λ (x : Work × Answer). (answer ≡ x.1) × Represents (appended s u) x.0) (sym next_is)
           ((λ i. ToAppend (Ok ((rep i).head + 1, sym sum i))), stands)
 
     allowed_as : Answered given command s (appended s u) (append_events s u) answer
     allowed_as = record {
       file = refl;
       live = live;
-      stands = λ c w work rep. allowed_at c w work rep;
-      ring = λ c w a b k all. ring_then s client request body given is sum none own c w a k b all;
+      stands = λ w work rep. allowed_at w work rep;
+      ring = λ g w a b k all. ring_then s client request body given is sum none own g w a k b all;
     }
 
     allowed_calls : AreCalls given command s (append_events s u)
-    allowed_calls c w t k = allowed_does s client request body given is sum none own c w t k
+    allowed_calls g w t k = allowed_does s client request body given is sum none own g w t k
 
     receipt_call : (old new : Option Told) → IsSupplied s old command given → new ≡ after_all (append_events s u) old → IsCall given command s (appended s u) old new (Some answer)
     receipt_call old new supplied all = answered_call given command s (append_events s u) input allowed_calls (appended s u) answer allowed_as old new supplied all

@@ -23,8 +23,9 @@ use Rattle.df_theory.specs.Shape.{Shape}
 use Rattle.df_theory.specs.UnitLog.{put_one}
 use Rattle.df_theory.specs.WriterLaws.{IsHeaderSector}
 use Rattle.df_theory.proofs.Laws.{put_one_law}
+use Rattle.df_trailer.specs.Text.{parse_of}
 use Rattle.df_units.specs.Bytes.{unit_at}
-use Rattle.df_units.specs.Meaning.{header_of, message_of, number_of}
+use Rattle.df_units.specs.Meaning.{header_of, layout_of, message_of, number_of}
 use Rattle.df_units.specs.Puts.{IsNextSector, header_unit, put_headers}
 use Rattle.df_units.proofs.Laws.{sector_puts}
 use Rattle.df_model.specs.Commands.{Append, Command, Given}
@@ -36,9 +37,9 @@ use Rattle.df_model.specs.Refusals.{append_refusals, first_refusal}
 use Rattle.df_model.specs.Work.{Work}
 use Rattle.df_model.specs.declared.errors.AppendError.{AppendError}
 use Rattle.df_model.proofs.Laws.{append_may_law}
-use Rattle.df_recovery.specs.State.{IsState, Represents, State, memory, shape}
+use Rattle.df_state.specs.State.{IsState, Represents, State, memory, shape, spelling}
 use Rattle.df_replica.specs.Appending.{append_events, next_unit}
-use Rattle.df_replica.specs.Serving.{IsKept, Known, format}
+use Rattle.df_replica.specs.Serving.{Grade, IsKept, format}
 use Rattle.df_replica.proofs.Calls.{AreCalls, firmly}
 
 -- ---- a header sector with one new header, in the words of the model
@@ -75,68 +76,68 @@ module _ (s : State) (client request : ℕ) (body : List ℕ) (given : Given) (i
   abbrev command : Command
   command = Append client request body
 
-  module _ (c : Known) (w : Work) (rep : Represents (shape s.file c.parse) c.spell s w) where
-    pub test_is : (o : Option AppendError) → first_refusal (append_refusals (memory s) client request body) ≡ o → first_refusal (append_refusals (memory_of (shape s.file c.parse) c.spell w) client request body) ≡ o
+  module _ (w : Work) (rep : Represents s w) where
+    pub test_is : (o : Option AppendError) → first_refusal (append_refusals (memory s) client request body) ≡ o → first_refusal (append_refusals (memory_of (shape s.file) (spelling s.file) w) client request body) ≡ o
     test_is o there = ap (λ (x : Memory). first_refusal (append_refusals x client request body)) (sym rep) ∙ there
 
-    pub prepare_is : prepare_of (memory_of (shape s.file c.parse) c.spell w) given.checksum client request body ≡ message_of u
+    pub prepare_is : prepare_of (memory_of (shape s.file) (spelling s.file) w) given.checksum client request body ≡ message_of u
     prepare_is i = prepare_of (sym rep i) (sum i) client request body
 
   -- what is refused does nothing
   pub refused_does : (e : AppendError) → first_refusal (append_refusals (memory s) client request body) ≡ Some e → AreCalls given command s []
-  refused_does e some c w t k =
-      let m = memory_of (shape s.file c.parse) c.spell w in
+  refused_does e some g w t k =
+      let m = memory_of (shape s.file) (spelling s.file) w in
       record {
         steps = [];
         are = tt;
         does =
-            subst (λ (o : Option AppendError). UnlessRefused o [] (DoesAppend (shape s.file c.parse) (unit_at s.file.layout s.file.cluster (now t.log)) w.view (prepare_of m given.checksum client request body) []))
-            (sym (test_is c w k.stands (Some e) some)) refl;
+            subst (λ (o : Option AppendError). UnlessRefused o [] (DoesAppend (shape s.file) (unit_at s.file.layout s.file.cluster (now t.log)) w.view (prepare_of m given.checksum client request body) []))
+            (sym (test_is w k.stands (Some e) some)) refl;
       }
 
   module _ (none : first_refusal (append_refusals (memory s) client request body) ≡ None) (own : IsInOwnSlot s.file.layout u) where
     brings : Brings s.file.layout s.file.cluster (place_in WalPrepares u.header.slot) u (sectors_of u)
     brings = made_brings s.file.layout s.file.cluster (place_in WalPrepares u.header.slot) u (λ same. cc) own
 
-    module _ (c : Known) (w : Work) (t : Told) (k : IsKept c s w t.log) where
+    module _ (g : Grade) (w : Work) (t : Told) (k : IsKept g s w t.log) where
       next_is : IsNextSector s.file.layout s.file.cluster (now t.log) u.header (u.header.slot / 16) (new_sector u s.headers)
       next_is = next_sector s.file.layout u s.headers (now t.log) own is.ring k.ring
 
-      does_append : DoesAppend (shape s.file c.parse) (unit_at s.file.layout s.file.cluster (now t.log)) w.view (message_of u) (journal_steps u s.headers)
+      does_append : DoesAppend (shape s.file) (unit_at s.file.layout s.file.cluster (now t.log)) w.view (message_of u) (journal_steps u s.headers)
       does_append = record {
         prepare = put_one (PreparePlace u.header.slot) (PrepareUnit (message_of u));
         headers = put_headers (u.header.slot / 16) (new_sector u s.headers);
         one = put_one_law (PreparePlace u.header.slot) (PrepareUnit (message_of u));
-        sector = is_header_sector s.file.layout s.file.cluster (shape s.file c.parse) u (u.header.slot / 16) (new_sector u s.headers) (now t.log) refl next_is;
-        there = puts_new s.file.layout s.file.cluster (shape s.file c.parse) u (u.header.slot / 16) (new_sector u s.headers) (now t.log) refl next_is;
+        sector = is_header_sector s.file.layout s.file.cluster (shape s.file) u (u.header.slot / 16) (new_sector u s.headers) (now t.log) refl next_is;
+        there = puts_new s.file.layout s.file.cluster (shape s.file) u (u.header.slot / 16) (new_sector u s.headers) (now t.log) refl next_is;
         are = refl;
       }
 
-      pub allowed_does : DoesOnDisk (format s.file) (shape s.file c.parse) c.spell t.log w given command (append_events s u)
+      pub allowed_does : DoesOnDisk (format s.file) (shape s.file) (spelling s.file) t.log w given command (append_events s u)
       allowed_does =
-          let m = memory_of (shape s.file c.parse) c.spell w in
+          let m = memory_of (shape s.file) (spelling s.file) w in
           let steps = journal_steps u s.headers in
           record {
             steps = steps;
             are = append_steps s.file.layout u s.headers own is.ring (sectors_of u) brings;
             does =
-                subst (λ (o : Option AppendError). UnlessRefused o steps (DoesAppend (shape s.file c.parse) (unit_at s.file.layout s.file.cluster (now t.log)) w.view (prepare_of m given.checksum client request body) steps))
-                (sym (test_is c w k.stands None none))
-                (subst (λ (p : theory.Message). DoesAppend (shape s.file c.parse) (unit_at s.file.layout s.file.cluster (now t.log)) w.view p steps) (sym (prepare_is c w k.stands)) does_append);
+                subst (λ (o : Option AppendError). UnlessRefused o steps (DoesAppend (shape s.file) (unit_at s.file.layout s.file.cluster (now t.log)) w.view (prepare_of m given.checksum client request body) steps))
+                (sym (test_is w k.stands None none))
+                (subst (λ (p : theory.Message). DoesAppend (shape s.file) (unit_at s.file.layout s.file.cluster (now t.log)) w.view p steps) (sym (prepare_is w k.stands)) does_append);
           }
 
       may : MayAppendOn s.file.layout u s.headers t
       may =
-          let by = firmly c s w t.log k in
+          let by = firmly g s w t.log k in
           record {
             named = s.file.named;
-            parse = c.parse;
+            parse = parse_of (layout_of s.file.layout);
             view = w.view;
             is_log = k.log_is;
             tidy = by.tidy;
             may =
-                subst (λ (p : theory.Message). MayAppend (shape s.file c.parse) w.view (p ∷ [])) (prepare_is c w k.stands)
-                (append_may_law (shape s.file c.parse) c.spell w given.checksum client request body by.sense (test_is c w k.stands None none));
+                subst (λ (p : theory.Message). MayAppend (shape s.file) w.view (p ∷ [])) (prepare_is w k.stands)
+                (append_may_law (shape s.file) (spelling s.file) w given.checksum client request body by.sense (test_is w k.stands None none));
             ring = k.ring;
           }
 

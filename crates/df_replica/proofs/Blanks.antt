@@ -8,8 +8,8 @@ use Rattle.df_model.specs.declared.errors.FormatError.TheVariants.{NotBlank}
 use Rattle.df_quorum.specs.declared.slot.Slot.{Slot}
 use Rattle.df_quorum.specs.Quorum.{nothing}
 use Rattle.df_superblock.specs.Calls.{slot_at, ShowsSlots}
-use Rattle.df_recovery.specs.Found.{AreBlank, IsFirstWrittenOf}
-use Rattle.df_recovery.proofs.Laws.{blank_shown, shown_blank, unformatted}
+use Rattle.df_superblock.specs.Blank.{AreBlank, IsFirstWrittenOf}
+use Rattle.df_superblock.proofs.Laws.{blank_shown, shown_blank, unformatted}
 use Rattle.df_replica.specs.Formatting.{IsFirstWritten, TellsBlank}
 
 first_written : (image : Image) (slots : List Slot) (copy : ℕ) → ((n : ℕ) → n < 4 → get_or slots n nothing ≡ slot_at image n) → IsFirstWrittenOf slots copy → IsFirstWritten image copy

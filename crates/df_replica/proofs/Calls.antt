@@ -20,9 +20,9 @@ use Rattle.df_model.specs.OnDisk.{BacksOnDisk, DoesOnDisk, LeadsOnDisk}
 use Rattle.df_model.specs.Sense.{IsBacked, IsWork}
 use Rattle.df_model.specs.Work.{Work, kept}
 use Rattle.df_model.proofs.Laws.{disk_command_law, sense_law}
-use Rattle.df_recovery.specs.declared.file.DataFile.{DataFile}
-use Rattle.df_recovery.specs.State.{Represents, State, shape}
-use Rattle.df_replica.specs.Serving.{EachIsGood, Firm, GoesOnTo, Grade, IsCall, IsGoodFor, IsKept, Keeps, KeptFor, Known, Whole, format, next}
+use Rattle.df_state.specs.declared.file.DataFile.{DataFile}
+use Rattle.df_state.specs.State.{Represents, State, shape, spelling}
+use Rattle.df_replica.specs.Serving.{EachIsGood, Firm, GoesOnTo, Grade, IsCall, IsGoodFor, IsKept, Keeps, KeptFor, Whole, format, next}
 use Rattle.df_replica.specs.Supply.{IsSupplied}
 
 -- ---- logs that go on
@@ -54,70 +54,70 @@ grows (e ∷ es) t n (inl is) = subst (λ (x : Told). Extends x.log t.log) (sym 
 grows (e ∷ es) t n (inr more) = extends_on n.log (did e t).log t.log (grows es (did e t) n more) (e ∷ [], refl, refl)
 
 -- a good log is safe
-pub good_safe : (file : DataFile) (c : Known) (g : Grade) (v u : View) (log : Log) → IsGoodFor g (format file) (shape file c.parse) v u log → IsSafeDisk (format file) (shape file c.parse) log
-good_safe file c Firm v u log good = good.safe
-good_safe file c Whole v u log good = good.safe
+pub good_safe : (file : DataFile) (g : Grade) (v u : View) (log : Log) → IsGoodFor g (format file) (shape file) v u log → IsSafeDisk (format file) (shape file) log
+good_safe file Firm v u log good = good.safe
+good_safe file Whole v u log good = good.safe
 
 -- what is kept, whether the referenced blocks are shown or not
 firm_of : (g : Grade) (sh : Shape) (spell : Parts → List ℕ) (log : UnitLog) (w : Work) → KeptFor g sh spell log w → IsKeptBy sh spell log w
 firm_of Firm sh spell log w by = by
 firm_of Whole sh spell log w by = by.0
 
-pub firmly : (c : Known) (s : State) (w : Work) (log : Log) → IsKept c s w log → IsKeptBy (shape s.file c.parse) c.spell (units_log (format s.file) log) w
-firmly c s w log k = firm_of c.grade (shape s.file c.parse) c.spell (units_log (format s.file) log) w k.kept_by
+pub firmly : (g : Grade) (s : State) (w : Work) (log : Log) → IsKept g s w log → IsKeptBy (shape s.file) (spelling s.file) (units_log (format s.file) log) w
+firmly g s w log k = firm_of g (shape s.file) (spelling s.file) (units_log (format s.file) log) w k.kept_by
 
 -- ---- a call whose device calls are the machine's
 
 -- its device calls are the machine's, from each state that is kept
 abbrev pub AreCalls : Given → Command → State → List Event → Type 0
 AreCalls given command s events =
-    (c : Known) (w : Work) (t : Told) → IsKept c s w t.log → DoesOnDisk (format s.file) (shape s.file c.parse) c.spell t.log w given command events
+    (g : Grade) (w : Work) (t : Told) → IsKept g s w t.log → DoesOnDisk (format s.file) (shape s.file) (spelling s.file) t.log w given command events
 
 -- and it answered: its answer is the machine's, the state behind it stands for the machine's, and the header ring shows its table
 pub record Answered (given : Given) (command : Command) (s t : State) (events : List Event) (answer : Answer) : Type 0 where
   pub file : t.file ≡ s.file
   pub live : t.live ≡ true
-  pub stands : (c : Known) (w : Work) → IsWork (shape s.file c.parse) c.spell w → Represents (shape s.file c.parse) c.spell s w
-      → (answer ≡ (next s.file c w given command).1) × Represents (shape s.file c.parse) c.spell t (next s.file c w given command).0
-  pub ring : (c : Known) (w : Work) (a b : Told) → IsKept c s w a.log → Some b ≡ after_all events (Some a) → ShowsRing s.file.layout s.file.cluster (now b.log) t.headers
+  pub stands : (w : Work) → IsWork (shape s.file) (spelling s.file) w → Represents s w
+      → (answer ≡ (next s.file w given command).1) × Represents t (next s.file w given command).0
+  pub ring : (g : Grade) (w : Work) (a b : Told) → IsKept g s w a.log → Some b ≡ after_all events (Some a) → ShowsRing s.file.layout s.file.cluster (now b.log) t.headers
 
 module _ (given : Given) (command : Command) (s : State) (events : List Event) (input : IsInput given command) (does : AreCalls given command s events) where
-  module _ (c : Known) (w : Work) (t : Told) (k : IsKept c s w t.log) where
+  module _ (g : Grade) (w : Work) (t : Told) (k : IsKept g s w t.log) where
     abbrev u : Work
-    u = (next s.file c w given command).0
+    u = (next s.file w given command).0
 
     abbrev f : Format
     f = format s.file
 
     abbrev sh : Shape
-    sh = shape s.file c.parse
+    sh = shape s.file
 
-    firm : KeptFor Firm sh c.spell (units_log f t.log) w → LeadsOnDisk f sh c.spell t.log w u events × (IsBacked (units_log f t.log) w → BacksOnDisk f sh t.log w u events)
-    firm by = disk_command_law f sh c.spell t.log w given command events (is_format s.file.layout s.file.cluster) k.log_is input by (does c w t k)
+    firm : KeptFor Firm sh (spelling s.file) (units_log f t.log) w → LeadsOnDisk f sh (spelling s.file) t.log w u events × (IsBacked (units_log f t.log) w → BacksOnDisk f sh t.log w u events)
+    firm by = disk_command_law f sh (spelling s.file) t.log w given command events (is_format s.file.layout s.file.cluster) k.log_is input by (does g w t k)
 
-    moments_for : (g : Grade) → KeptFor g sh c.spell (units_log f t.log) w → EachMoment t.log (adds events t.log) (IsGoodFor g f sh (kept w) (kept u))
+    moments_for : (g : Grade) → KeptFor g sh (spelling s.file) (units_log f t.log) w → EachMoment t.log (adds events t.log) (IsGoodFor g f sh (kept w) (kept u))
     moments_for Firm by = (firm by).0.moments
     moments_for Whole by = ((firm by.0).1 by.1).moments
 
-    ends_for : (g : Grade) → KeptFor g sh c.spell (units_log f t.log) w → KeptFor g sh c.spell (units_log f (adds events t.log)) u
+    ends_for : (g : Grade) → KeptFor g sh (spelling s.file) (units_log f t.log) w → KeptFor g sh (spelling s.file) (units_log f (adds events t.log)) u
     ends_for Firm by = (firm by).0.keeps
     ends_for Whole by = ((firm by.0).0.keeps, ((firm by.0).1 by.1).backed)
 
-    pub moments : (n : Told) → AddsPart events (Some t) (Some n) → EachMoment t.log n.log (IsGoodFor c.grade f sh (kept w) (kept u))
-    moments n part = part_moments events t n (IsGoodFor c.grade f sh (kept w) (kept u)) part (moments_for c.grade k.kept_by)
+    pub moments : (n : Told) → AddsPart events (Some t) (Some n) → EachMoment t.log n.log (IsGoodFor g f sh (kept w) (kept u))
+    moments n part = part_moments events t n (IsGoodFor g f sh (kept w) (kept u)) part (moments_for g k.kept_by)
 
     -- the last moment is the log at the end
     log_then : (n : Told) → AddsPart events (Some t) (Some n) → IsLog n.log
-    log_then n part = (good_safe s.file c c.grade (kept w) (kept u) n.log (moments n part n.log (record { since = grows events t n part; until = extends_self n.log }))).is_log
+    log_then n part = (good_safe s.file g (kept w) (kept u) n.log (moments n part n.log (record { since = grows events t n part; until = extends_self n.log }))).is_log
 
-    kept_then : (n : Told) → Some n ≡ after_all events (Some t) → KeptFor c.grade sh c.spell (units_log f n.log) u
-    kept_then n all = subst (λ (l : Log). KeptFor c.grade sh c.spell (units_log f l) u) (sym (all_added events t n all)) (ends_for c.grade k.kept_by)
+    kept_then : (n : Told) → Some n ≡ after_all events (Some t) → KeptFor g sh (spelling s.file) (units_log f n.log) u
+    kept_then n all = subst (λ (l : Log). KeptFor g sh (spelling s.file) (units_log f l) u) (sym (all_added events t n all)) (ends_for g k.kept_by)
 
-  good_part : (old new : Option Told) → AddsPart events old new → (c : Known) (w : Work) → Keeps c s w old → EachIsGood c s (kept w) (kept (next s.file c w given command).0) old new
-  good_part None None part c w k = tt
-  good_part None (Some n) part c w k = absurd (tells_none events n part)
-  good_part (Some t) None part c w k = absurd (tells_on events t part)
-  good_part (Some t) (Some n) part c w k = (grows events t n part, moments c w t k n part)
+  good_part : (old new : Option Told) → AddsPart events old new → (g : Grade) (w : Work) → Keeps g s w old → EachIsGood g s (kept w) (kept (next s.file w given command).0) old new
+  good_part None None part g w k = tt
+  good_part None (Some n) part g w k = absurd (tells_none events n part)
+  good_part (Some t) None part g w k = absurd (tells_on events t part)
+  good_part (Some t) (Some n) part g w k = (grows events t n part, moments g w t k n part)
 
   -- one that ended in a fault
   pub stopped_call : (t : State) (old new : Option Told) → IsSupplied s old command given → t.live ≡ false → AddsPart events old new → IsCall given command s t old new None
@@ -126,37 +126,33 @@ module _ (given : Given) (command : Command) (s : State) (events : List Event) (
     input = input;
     supplied = supplied;
     live = dead;
-    answers = λ c w k. tt;
-    keeps = λ c w k. (good_part old new part c w k, tt);
+    answers = λ g w k. tt;
+    keeps = λ g w k. (good_part old new part g w k, tt);
   }
 
   module _ (t : State) (answer : Answer) (call : Answered given command s t events answer) where
-    sense_then : (c : Known) (w : Work) → IsWork (shape s.file c.parse) c.spell w → IsWork (shape t.file c.parse) c.spell (next s.file c w given command).0
-    sense_then c w work =
-        subst (λ (file : DataFile). IsWork (shape file c.parse) c.spell (next s.file c w given command).0) (sym call.file) (sense_law (shape s.file c.parse) c.spell w given command input work)
+    sense_then : (w : Work) → IsWork (shape s.file) (spelling s.file) w → IsWork (shape t.file) (spelling t.file) (next s.file w given command).0
+    sense_then w work =
+        subst (λ (file : DataFile). IsWork (shape file) (spelling file) (next s.file w given command).0) (sym call.file) (sense_law (shape s.file) (spelling s.file) w given command input work)
 
-    stands_then : (c : Known) (w : Work) → IsWork (shape s.file c.parse) c.spell w → Represents (shape s.file c.parse) c.spell s w → Represents (shape t.file c.parse) c.spell t (next s.file c w given command).0
-    stands_then c w work rep =
-        subst (λ (file : DataFile). Represents (shape file c.parse) c.spell t (next s.file c w given command).0) (sym call.file) (call.stands c w work rep).1
+    alone : (g : Grade) (w : Work) → Keeps g s w None → GoesOnTo g t None (next s.file w given command) (Some answer)
+    alone g w k = ((call.stands w k.0 k.1).0, (sense_then w k.0, (call.stands w k.0 k.1).1))
 
-    alone : (c : Known) (w : Work) → Keeps c s w None → GoesOnTo c t None (next s.file c w given command) (Some answer)
-    alone c w k = ((call.stands c w k.0 k.1).0, (sense_then c w k.0, stands_then c w k.0 k.1))
-
-    goes_on : (old new : Option Told) → new ≡ after_all events old → (c : Known) (w : Work) → Keeps c s w old → GoesOnTo c t new (next s.file c w given command) (Some answer)
-    goes_on None None all c w k = alone c w k
-    goes_on None (Some n) all c w k = absurd (tells_none events n (all_are_part events None (Some n) all))
-    goes_on (Some a) None all c w k = absurd (tells_on events a (all_are_part events (Some a) None all))
-    goes_on (Some a) (Some n) all c w k =
-        let k_is : IsKept c s w a.log = k in
-        let work = (firmly c s w a.log k_is).sense in
-        let kept_on : IsKept c t (next s.file c w given command).0 n.log = record {
-          log_is = log_then c w a k_is n (all_are_part events (Some a) (Some n) all);
-          stands = stands_then c w work k_is.stands;
+    goes_on : (old new : Option Told) → new ≡ after_all events old → (g : Grade) (w : Work) → Keeps g s w old → GoesOnTo g t new (next s.file w given command) (Some answer)
+    goes_on None None all g w k = alone g w k
+    goes_on None (Some n) all g w k = absurd (tells_none events n (all_are_part events None (Some n) all))
+    goes_on (Some a) None all g w k = absurd (tells_on events a (all_are_part events (Some a) None all))
+    goes_on (Some a) (Some n) all g w k =
+        let k_is : IsKept g s w a.log = k in
+        let work = (firmly g s w a.log k_is).sense in
+        let kept_on : IsKept g t (next s.file w given command).0 n.log = record {
+          log_is = log_then g w a k_is n (all_are_part events (Some a) (Some n) all);
+          stands = (call.stands w work k_is.stands).1;
           kept_by =
-              subst (λ (file : DataFile). KeptFor c.grade (shape file c.parse) c.spell (units_log (format file) n.log) (next s.file c w given command).0) (sym call.file) (kept_then c w a k_is n all);
-          ring = subst (λ (file : DataFile). ShowsRing file.layout file.cluster (now n.log) t.headers) (sym call.file) (call.ring c w a n k_is all);
+              subst (λ (file : DataFile). KeptFor g (shape file) (spelling file) (units_log (format file) n.log) (next s.file w given command).0) (sym call.file) (kept_then g w a k_is n all);
+          ring = subst (λ (file : DataFile). ShowsRing file.layout file.cluster (now n.log) t.headers) (sym call.file) (call.ring g w a n k_is all);
         } in
-        ((call.stands c w work k_is.stands).0, kept_on)
+        ((call.stands w work k_is.stands).0, kept_on)
 
     -- one that answered
     pub answered_call : (old new : Option Told) → IsSupplied s old command given → new ≡ after_all events old → IsCall given command s t old new (Some answer)
@@ -165,6 +161,6 @@ module _ (given : Given) (command : Command) (s : State) (events : List Event) (
       input = input;
       supplied = supplied;
       live = call.live;
-      answers = λ c w k. alone c w k;
-      keeps = λ c w k. (good_part old new (all_are_part events old new all) c w k, goes_on old new all c w k);
+      answers = λ g w k. alone g w k;
+      keeps = λ g w k. (good_part old new (all_are_part events old new all) g w k, goes_on old new all g w k);
     }

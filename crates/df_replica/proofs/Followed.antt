@@ -1,5 +1,5 @@
 -- A file that is tidy, or that a stop left, is one that may be opened.
-use Rattle.std.proofs.Common.{◌≡◌, inl, inr, List, ◌∷◌, Some, subst}
+use Rattle.std.proofs.Common.{◌≡◌, inl, inr, List, [], ◌∷◌, Some, subst}
 use Rattle.df_base.specs.Image.{Image, changed}
 use Rattle.df_base.specs.Log as logs
 use Rattle.df_base.specs.Log.{IsLog, Stop}
@@ -11,15 +11,19 @@ use Rattle.df_theory.specs.Units
 use Rattle.df_theory.specs.Units.{AnyUnit, Place}
 use Rattle.df_theory.proofs.Laws.{disk_stop_law, found_law, now_units, rests_safe, safe_disk_law}
 use Rattle.df_units.proofs.Laws.{is_format}
-use Rattle.df_recovery.specs.State.{shape}
+use Rattle.df_state.specs.State.{shape}
 use Rattle.df_replica.specs.Following.{StoppedMayOpen, TidyMayOpen}
 use Rattle.df_replica.specs.Serving.{format}
-use Rattle.df_replica.proofs.Mendable.{in_pools}
+
+-- a unit of the pool is one of the pools
+pub in_pools : (start : Units.Units) (es : List UnitEvent) (place : Place) (x : AnyUnit) → InPool (record { start = start; events = es }) place x → InPools start es place x
+in_pools start [] place x is = is
+in_pools start (e ∷ es) place x is = inl is
 
 pub tidy_may_open : TidyMayOpen
-tidy_may_open file parse view t is_log honest tidy chance =
+tidy_may_open file view t is_log honest tidy chance =
     let fmt = format file in
-    let sh = shape file parse in
+    let sh = shape file in
     record {
       safe = safe_disk_law fmt sh t.log (is_format file.layout file.cluster) is_log (rests_safe sh (units_log fmt t.log) view tidy.rests);
       honest = honest;
@@ -36,9 +40,9 @@ pools_stopped start es image place x pooled (inl (inr none)) = absurd none
 pools_stopped start es image place x pooled (inr before) = before
 
 pub stopped_may_open : StoppedMayOpen
-stopped_may_open file parse view t changes safe honest loose chance held =
+stopped_may_open file view t changes safe honest loose chance held =
     let fmt = format file in
-    let sh = shape file parse in
+    let sh = shape file in
     let log : UnitLog = units_log fmt t.log in
     let left : Image = changed changes (logs.now t.log) in
     let is_log : IsLog (logs.add (Stop changes) t.log) = record { start = safe.is_log.start; events = (loose, safe.is_log.events) } in

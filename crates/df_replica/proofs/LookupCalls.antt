@@ -23,7 +23,7 @@ use Rattle.df_model.specs.Memory as memory
 use Rattle.df_model.specs.Refusals.{first_refusal, is_new, last_op, lookup_refusals, session_of_client}
 use Rattle.df_model.specs.declared.reading.LookupError.{LookupError}
 use Rattle.df_model.specs.declared.reading.LookupError.TheVariants as lookup
-use Rattle.df_recovery.specs.State.{State, memory, reply_sum as known_sum}
+use Rattle.df_state.specs.State.{State, memory, reply_sum as known_sum}
 use Rattle.df_replica.specs.Answering.{Gives, ServesRead, read_reply_answer}
 use Rattle.df_replica.specs.declared.lookup.Stored.{Stored}
 use Rattle.df_replica.specs.Lookups.{HoldsKnown, IsReadReply, IsStoredFor, ReplyBlames, Tells, place_for, reply_found, reply_leaves, reply_shown}
@@ -37,7 +37,7 @@ zero_sum given zero = subst IsChecksum (sym zero) (let small : 0 < 2 ^ 128 = ome
 
 module _ (s : State) (client : ℕ) (live : s.live ≡ true) where
   calls : (given : Given) → AreCalls given (ReadReply client) s []
-  calls given c w t k = record { steps = []; are = tt; does = refl }
+  calls given g w t k = record { steps = []; are = tt; does = refl }
 
   input : (told : Option Told) (given : Given) → IsSupplied s told (ReadReply client) given → IsInput given (ReadReply client)
   input told given supplied = record { checksum = zero_sum given supplied.0; fields = tt }
@@ -46,8 +46,8 @@ module _ (s : State) (client : ℕ) (live : s.live ≡ true) where
   answered given answer same = record {
     file = refl;
     live = live;
-    stands = λ c w work rep. (ap ToReadReply (sym same) ∙ ap (λ (m : Memory). ToReadReply (after.lookup_answer m given.message client)) rep, rep);
-    ring = λ c w a b k all. subst (λ (x : Told). ShowsRing s.file.layout s.file.cluster (now x.log) s.headers) (sym (some-eq all)) k.ring;
+    stands = λ w work rep. (ap ToReadReply (sym same) ∙ ap (λ (m : Memory). ToReadReply (after.lookup_answer m given.message client)) rep, rep);
+    ring = λ g w a b k all. subst (λ (x : Told). ShowsRing s.file.layout s.file.cluster (now x.log) s.headers) (sym (some-eq all)) k.ring;
   }
 
   answers : (told : Option Told) (found : Option (Result Units.Message Class)) (answer : Result Units.Message LookupError)

@@ -22,10 +22,10 @@ use Rattle.df_units.specs.Meaning.{message_of, number_of}
 use Rattle.df_model.specs.Commands.{ReadReply}
 use Rattle.df_model.specs.Memory as memory
 use Rattle.df_model.specs.Supply.{class_or, reply_at, reply_given}
-use Rattle.df_recovery.specs.declared.file.DataFile.{DataFile}
-use Rattle.df_recovery.specs.State.{State, memory, reply_sum as known_sum}
+use Rattle.df_state.specs.declared.file.DataFile.{DataFile}
+use Rattle.df_state.specs.State.{State, memory, reply_sum as known_sum}
 use Rattle.df_replica.specs.declared.lookup.Stored.{Stored}
-use Rattle.df_replica.specs.Lookups.{HoldsKnown, IsStoredFor, Tells, place_for, reply_shown}
+use Rattle.df_replica.specs.Lookups.{IsStoredFor, Tells, place_for, reply_shown}
 use Rattle.df_replica.specs.Reading.{IsFoundBy, IsKnownUnit, message_at, shown_of}
 use Rattle.df_replica.proofs.ReadFinds.{given, held_given, lacks_given, wanted_at}
 
@@ -51,12 +51,6 @@ module _ (file : DataFile) (place : ℕ) (check : List ℕ) (fits : IsCheck chec
   known_tells (Some t) None None holds read = holds
   known_tells (Some t) (Some class) held holds read =
       lacks_given file.layout file.cluster (place_in ClientReplies place) check Reply t.shown fits (only_replies file.layout file.cluster place) class held read ∙ sym (reply_image file t.shown (Some (number_of check)) place)
-
-  pub known_held : (wrong : Option Class) (held : Option Holding) → HoldsFound Reply (wanted_at file.layout file.cluster (place_in ClientReplies place) check) wrong held
-      → HoldsKnown Reply file (place_in ClientReplies place) (Some (number_of check)) wrong held
-  known_held None (Some h) holds = record { is = holds.is; of_kind = holds.of_kind; sum = ap (λ (b : List ℕ). Some (number_of b)) (sym holds.wanted) }
-  known_held None None holds = holds
-  known_held (Some class) held holds = tt
 
   pub if_tells : (told : Option Told) (r : Result (Option Class) Failed) (held : Option Holding) → IfOk r (λ wrong. HoldsFound Reply (wanted_at file.layout file.cluster (place_in ClientReplies place) check) wrong held)
       → IfOk r (λ wrong. IsRead Reply (wanted_at file.layout file.cluster (place_in ClientReplies place) check) told wrong held) → IfOk r (λ wrong. Tells told (reply_shown file place (Some check)) wrong held)

@@ -84,10 +84,6 @@ pub headers_some : (layout : Layout) (table : List Header) (ks : List ℕ) → t
 headers_some layout table [] some = absurd (cc)
 headers_some layout table (k ∷ ks) some = refl
 
-pub headers_none : (layout : Layout) (table : List Header) (ks : List ℕ) → false ≡ some_of ks → header_events layout table ks ≡ sector_writes layout table ks
-headers_none layout table [] none = refl
-headers_none layout table (k ∷ ks) none = absurd (cc)
-
 pub headers_fail : (layout : Layout) (table : List Header) (ks : List ℕ) (old new : Option Told) → AddsPart (sector_writes layout table ks) old new → AddsPart (header_events layout table ks) old new
 headers_fail layout table [] old new part = part
 headers_fail layout table (k ∷ ks) old new part = part_then (sector_writes layout table (k ∷ ks)) (Sync ∷ []) old new part

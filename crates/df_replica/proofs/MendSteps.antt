@@ -14,24 +14,28 @@ use Rattle.df_format.specs.declared.superblock.SuperFields.{SuperFields}
 use Rattle.df_format.specs.SuperRules.{IsUsable}
 use Rattle.df_theory.specs.Units
 use Rattle.df_theory.specs.Units.{AnyUnit, HeaderPlace, HeaderUnit, Place, or_else}
-use Rattle.df_theory.specs.Device.{AreSteps, IsGoodDisk, units_log}
+use Rattle.df_theory.specs.Device.{AreSteps, units_log}
 use Rattle.df_theory.specs.MakingLaws.{all_puts}
 use Rattle.df_theory.specs.MendLaws.{AllPutTable, MayMend, PutsTable, Reaches, copy_steps, header_steps, mend_steps}
-use Rattle.df_theory.specs.Runs.{Puts, Step, Syncs, after_steps}
-use Rattle.df_theory.specs.TidyLaws.{IsTidy}
+use Rattle.df_theory.specs.Runs.{Command, Puts, Step, Syncs, after_steps}
+use Rattle.df_theory.specs.TidyLaws.{IsTidy, KeepsStanding, LeadsTidily}
+use Rattle.df_theory.specs.Commands.{mend_command}
+use Rattle.df_theory.specs.View.{View}
+use Rattle.df_theory.specs.WholeLaws.{IsStanding}
 use Rattle.df_theory.specs.UnitLog.{Synced, UnitLog, add, now, wrote}
 use Rattle.df_theory.proofs.Laws.{now_units, steps_join_law, tidy_mend_law}
 use Rattle.df_units.specs.Format.{format_of}
-use Rattle.df_units.proofs.Laws.{call_ends, call_good, copy_put, headers_put, is_format}
+use Rattle.df_units.specs.Calls.{IsCall}
+use Rattle.df_units.proofs.Laws.{call_ends, call_good, call_whole, copy_put, headers_put, is_format}
 use Rattle.df_headers.specs.Ring.{IsTable, in_sector}
 use Rattle.df_headers.proofs.Laws.{table_written}
 use Rattle.df_superblock.specs.Events.{repair_events}
 use Rattle.df_superblock.specs.Steps.{repaired}
-use Rattle.df_recovery.specs.declared.file.DataFile.{DataFile}
+use Rattle.df_state.specs.declared.file.DataFile.{DataFile}
 use Rattle.df_recovery.specs.Plan.{header_or_none, headers_in, if_wanted}
 use Rattle.df_replica.specs.Mending.{IsMended, MayMendOn, header_events, mending_events, mending_steps, needs_sector, sector_puts, sector_writes, sectors_of, sectors_to}
-use Rattle.df_replica.specs.Serving.{format}
-use Rattle.df_recovery.specs.State.{shape}
+use Rattle.df_replica.specs.Serving.{Firm, Grade, IsGoodFor, StandingFor, Whole, format}
+use Rattle.df_state.specs.State.{shape}
 use Rattle.df_replica.proofs.MendEvents.{sectors_more}
 
 -- ---- the calls are steps
@@ -136,30 +140,53 @@ slot_ends table (put ∷ puts) f members log s all either =
 
 -- ---- moments and end
 
+-- the mending as a command of the model
+abbrev mending_command : DataFile → List Header → List Mend → SuperFields → List Bool → View → Command
+mending_command file table mends f members v = mend_command v (sector_puts table (sectors_of file.layout mends)) (repaired f 0 members)
+
+abbrev TidilyMends : DataFile → List Header → List Mend → SuperFields → List Bool → Told → View → Type 0
+TidilyMends file table mends f members t v =
+    LeadsTidily (shape file) (units_log (format file) t.log) v (mending_command file table mends f members v)
+    × (IsStanding (units_log (format file) t.log) v → KeepsStanding (shape file) (units_log (format file) t.log) v (mending_command file table mends f members v))
+
+-- what stands before it stands behind it
+stands_then : (g : Grade) (file : DataFile) (table : List Header) (mends : List Mend) (f : SuperFields) (members : List Bool) (t : Told) (v : View) → TidilyMends file table mends f members t v
+    → StandingFor g (units_log (format file) t.log) v → StandingFor g (after_steps (mending_steps file.layout table mends f members) (units_log (format file) t.log)) v
+stands_then Firm file table mends f members t v law standing = tt
+stands_then Whole file table mends f members t v law standing = (law.1 standing).standing
+
 pub mending_moments : (file : DataFile) (table : List Header) (mends : List Mend) (f : SuperFields) (members : List Bool) (before after : Told) (may : MayMendOn file table mends f members before)
     → AreSteps (format file) (mending_events file.layout table mends f members) (mending_steps file.layout table mends f members) → AddsPart (mending_events file.layout table mends f members) (Some before) (Some after)
-    → EachMoment before.log after.log (IsGoodDisk (format file) (shape file may.parse) may.view may.view)
-mending_moments file table mends f members before after may steps part =
-    let sh = shape file may.parse in
-    let puts = sector_puts table (sectors_of file.layout mends) in
-    let leads = (tidy_mend_law sh (units_log (format file) before.log) may.view (headers_in table) puts (repaired f 0 members) may.may).0 in
-    call_good (format file) sh may.view may.view (mending_events file.layout table mends f members) (mending_steps file.layout table mends f members) before after (is_format file.layout file.cluster)
-    (record { log = may.is_log; steps = steps; adds = part }) leads.leads.moments
+    → EachMoment before.log after.log (IsGoodFor may.grade (format file) (shape file) may.view may.view)
+mending_moments file table mends f members before after may steps part = each may.grade may.standing
+  where
+    law : TidilyMends file table mends f members before may.view
+    law = tidy_mend_law (shape file) (units_log (format file) before.log) may.view (headers_in table) (sector_puts table (sectors_of file.layout mends)) (repaired f 0 members) may.may
+
+    call : IsCall (format file) (mending_events file.layout table mends f members) (mending_steps file.layout table mends f members) before after
+    call = record { log = may.is_log; steps = steps; adds = part }
+
+    each : (g : Grade) → StandingFor g (units_log (format file) before.log) may.view → EachMoment before.log after.log (IsGoodFor g (format file) (shape file) may.view may.view)
+    each Firm standing =
+        call_good (format file) (shape file) may.view may.view (mending_events file.layout table mends f members) (mending_steps file.layout table mends f members) before after (is_format file.layout file.cluster) call law.0.leads.moments
+    each Whole standing =
+        call_whole (format file) (shape file) may.view (mending_command file table mends f members may.view) (mending_events file.layout table mends f members) before after (is_format file.layout file.cluster) call (law.1 standing)
 
 pub mending_ends : (file : DataFile) (table : List Header) (mends : List Mend) (f : SuperFields) (members : List Bool) (before after : Told) (result : Result Unit Failed) (may : MayMendOn file table mends f members before)
     → IsTable file.layout file.cluster table → AreSteps (format file) (mending_events file.layout table mends f members) (mending_steps file.layout table mends f members) → Adds (mending_events file.layout table mends f members) (Some before) (Some after) result
-    → OnOk result (IsMended file may.parse may.view table after)
+    → OnOk result (IsMended may.grade file may.view table after)
 mending_ends file table mends f members before after (Err failed) may is steps adds = tt
 mending_ends file table mends f members before after (Ok x) may is steps adds =
-    let sh = shape file may.parse in
+    let sh = shape file in
     let fmt = format file in
     let log = units_log fmt before.log in
     let puts = sector_puts table (sectors_of file.layout mends) in
     let ss = mending_steps file.layout table mends f members in
-    let leads = (tidy_mend_law sh log may.view (headers_in table) puts (repaired f 0 members) may.may).0 in
+    let law : TidilyMends file table mends f members before may.view = tidy_mend_law sh log may.view (headers_in table) puts (repaired f 0 members) may.may in
     let ends : units_log fmt after.log ≡ after_steps ss log = call_ends fmt (mending_events file.layout table mends f members) ss before after may.is_log steps adds in
     record {
-      tidy = subst (λ (l : UnitLog). IsTidy sh l may.view) (sym ends) leads.tidy;
+      tidy = subst (λ (l : UnitLog). IsTidy sh l may.view) (sym ends) law.0.tidy;
+      standing = subst (λ (l : UnitLog). StandingFor may.grade l may.view) (sym ends) (stands_then may.grade file table mends f members before may.view law may.standing);
       ring = λ s h at.
           let below : s < file.layout.slots = omega (arith, slice_get_within table s h at, is.count) in
           let shown = slot_ends (headers_in table) puts f members log s may.may.puts_headers (may.may.each_slot s below) in
@@ -168,6 +195,6 @@ mending_ends file table mends f members before after (Ok x) may is steps adds =
 
 -- the same list may be mended
 pub may_mend_same : (file : DataFile) (table : List Header) (mends others : List Mend) (f : SuperFields) (members : List Bool) (t : Told) → mends ≡ others → (may : MayMendOn file table mends f members t)
-    → MayMend (shape file may.parse) (units_log (format file) t.log) may.view (headers_in table) (sector_puts table (sectors_of file.layout others)) (repaired f 0 members)
+    → MayMend (shape file) (units_log (format file) t.log) may.view (headers_in table) (sector_puts table (sectors_of file.layout others)) (repaired f 0 members)
 may_mend_same file table mends others f members t same may =
-    subst (λ (list : List Mend). MayMend (shape file may.parse) (units_log (format file) t.log) may.view (headers_in table) (sector_puts table (sectors_of file.layout list)) (repaired f 0 members)) same may.may
+    subst (λ (list : List Mend). MayMend (shape file) (units_log (format file) t.log) may.view (headers_in table) (sector_puts table (sectors_of file.layout list)) (repaired f 0 members)) same may.may

@@ -33,11 +33,12 @@ use Rattle.df_headers.specs.Ring.{in_sector}
 use Rattle.df_headers.proofs.Laws.{sector_at, sector_has}
 use Rattle.df_superblock.specs.Steps.{repaired}
 use Rattle.df_journal.specs.Shows.{Tells}
-use Rattle.df_recovery.specs.declared.file.DataFile.{DataFile}
+use Rattle.df_state.specs.declared.file.DataFile.{DataFile}
 use Rattle.df_replica.specs.Mending.{IsPlanned, PlannedMayMend, RestsOnDisk, lies_in, needs_sector, sector_put, sector_puts, sectors_of, sectors_to}
 use Rattle.df_recovery.specs.Plan.{AreDistinct, IsScanOf, copy_mends, header_or_none, headers_in, if_wanted, needs_header, shown_class, slot_mend, slot_mends}
-use Rattle.df_replica.specs.Serving.{format}
-use Rattle.df_recovery.specs.State.{shape}
+use Rattle.df_replica.specs.Serving.{Grade, format}
+use Rattle.df_replica.proofs.Followed.{in_pools}
+use Rattle.df_state.specs.State.{shape}
 use Rattle.df_replica.proofs.MendEvents.{sectors_more}
 use Rattle.df_recovery.proofs.Laws.{slot_mends_more, super_is_written, written_is}
 
@@ -140,15 +141,9 @@ put_there table s h at =
     let has : slice_get (in_sector (s / 16) table) (s % 16) ≡ Some h = sector_has (s / 16) (s % 16) table h (omega arith) (subst (λ (k : ℕ). slice_get table k ≡ Some h) same at) in
     cond-true (s / 16 == s / 16) (header_unit (slice_get (in_sector (s / 16) table) (s % 16))) None (eq-eqb (s / 16) (s / 16) refl) ∙ ap header_unit has
 
--- ---- units of an image that didn't come about by chance
-
-pub in_pools : (start : Units.Units) (es : List UnitEvent) (place : Place) (x : AnyUnit) → InPool (record { start = start; events = es }) place x → InPools start es place x
-in_pools start [] place x is = is
-in_pools start (e ∷ es) place x is = inl is
-
 -- ---- all of it
 
-module _ (file : DataFile) (parse : ℕ → List ℕ → Option Units.Parts) (v : View) (table : List Header) (mends : List Mend) (f : SuperFields) (members : List Bool) (t : Told) (four : length members ≡ 4) (plan : IsPlanned file table mends f members t) (on : RestsOnDisk file parse v t) where
+module _ (g : Grade) (file : DataFile) (v : View) (table : List Header) (mends : List Mend) (f : SuperFields) (members : List Bool) (t : Told) (four : length members ≡ 4) (plan : IsPlanned file table mends f members t) (on : RestsOnDisk g file v t) where
   shown_is : t.shown ≡ Log.now t.log
   shown_is = λ i sector. on.honest.shows sector i
 
@@ -170,13 +165,13 @@ module _ (file : DataFile) (parse : ℕ → List ℕ → Option Units.Parts) (v 
   content_is : v.checkpoint.content ≡ content_of (content_with f)
   content_is = one_chosen_law (now (units_log (format file) t.log)) v.checkpoint.content (content_of (content_with f)) on.rests.holds.chosen is_chosen
 
-  is_scan : IsScanOf file.layout (shape file parse) (now (units_log (format file) t.log)) v plan.scan
+  is_scan : IsScanOf file.layout (shape file) (now (units_log (format file) t.log)) v plan.scan
   is_scan = record {
     version = refl;
     slots_are = refl;
     op = ap (λ (c : Units.Content). c.op) content_is ∙ sym plan.op;
     tells = tells;
-    found = (found_law (shape file parse) (now (units_log (format file) t.log)) v).0 on.rests.holds;
+    found = (found_law (shape file) (now (units_log (format file) t.log)) v).0 on.rests.holds;
   }
 
   distinct : AreDistinct (now (units_log (format file) t.log))
@@ -214,29 +209,29 @@ module _ (file : DataFile) (parse : ℕ → List ℕ → Option Units.Parts) (v 
       reaches_at table mends (HeaderPlace s) (s / 16) (file.layout.slots / 16) (HeaderUnit (header_of (get_or table s (reserved_header file.cluster 0)))) (omega (arith, below, file.layout.slots_within.2)) all (put_there table s (get_or table s (reserved_header file.cluster 0)) at)
 
 pub planned_may_mend : PlannedMayMend
-planned_may_mend file parse v table mends f members t four plan on =
-    let agreed = (chosen file parse v table mends f members t four plan on).agreed in
+planned_may_mend g file v table mends f members t four plan on =
+    let agreed = (chosen g file v table mends f members t four plan on).agreed in
     record {
       rests = on.rests;
       quiet = on.quiet;
-      tells = plan.planned.from (shape file parse) (now (units_log (format file) t.log)) v (is_scan file parse v table mends f members t four plan on);
+      tells = plan.planned.from (shape file) (now (units_log (format file) t.log)) v (is_scan g file v table mends f members t four plan on);
       puts_headers = all_puts_table table (sectors_of file.layout mends);
       agreed = record {
         first = agreed.first;
         second = agreed.second;
         apart = agreed.apart;
         inside = agreed.inside;
-        at_first = copy_shown file parse v table mends f members t four plan on agreed.first agreed.at_first;
-        at_second = copy_shown file parse v table mends f members t four plan on agreed.second agreed.at_second;
+        at_first = copy_shown g file v table mends f members t four plan on agreed.first agreed.at_first;
+        at_second = copy_shown g file v table mends f members t four plan on agreed.second agreed.at_second;
       };
-      puts_copies = subst (λ (c : Units.Content). AllPutCopy c agreed.first agreed.second (repaired f 0 members)) (sym (content_is file parse v table mends f members t four plan on))
-          (all_put f agreed.first agreed.second 0 members (member_of file parse v table mends f members t four plan on agreed.first (omega (arith, agreed.apart, agreed.inside)) agreed.at_first) (member_of file parse v table mends f members t four plan on agreed.second agreed.inside agreed.at_second));
+      puts_copies = subst (λ (c : Units.Content). AllPutCopy c agreed.first agreed.second (repaired f 0 members)) (sym (content_is g file v table mends f members t four plan on))
+          (all_put f agreed.first agreed.second 0 members (member_of g file v table mends f members t four plan on agreed.first (omega (arith, agreed.apart, agreed.inside)) agreed.at_first) (member_of g file v table mends f members t four plan on agreed.second agreed.inside agreed.at_second));
       each_slot = λ s below. elim (cases_bool (needs_header file.layout plan.scan.start.op (now (units_log (format file) t.log)) s)) [
-        | inl needs ↦ inr (needed file parse v table mends f members t four plan on s below needs)
-        | inr unlisted ↦ inl (plan.planned.others (shape file parse) (now (units_log (format file) t.log)) v (is_scan file parse v table mends f members t four plan on) (distinct file parse v table mends f members t four plan on) s below unlisted)
+        | inl needs ↦ inr (needed g file v table mends f members t four plan on s below needs)
+        | inr unlisted ↦ inl (plan.planned.others (shape file) (now (units_log (format file) t.log)) v (is_scan g file v table mends f members t four plan on) (distinct g file v table mends f members t four plan on) s below unlisted)
       ];
       each_copy = λ k below. elim (cases_bool (get_or members k false)) [
-        | inl member ↦ inl (copy_shown file parse v table mends f members t four plan on k ((members_are file parse v table mends f members t four plan on k below).0 member))
+        | inl member ↦ inl (copy_shown g file v table mends f members t four plan on k ((members_are g file v table mends f members t four plan on k below).0 member))
         | inr isnt ↦ inr (subst (λ (n : ℕ). IsNumber n (repaired f 0 members)) (let same : 0 + k ≡ k = omega arith in same) (not_member f 0 k members (omega (arith, below, four)) isnt))
       ];
     }

@@ -18,7 +18,10 @@ use Rattle.df_format.proofs.Laws.{some-eq}
 use Rattle.df_theory.specs.MakingLaws.{all_puts}
 use Rattle.df_theory.specs.Device.{AreSteps, IsSafeDisk}
 use Rattle.df_theory.proofs.Laws.{steps_join_law}
-use Rattle.df_units.specs.Format.{format_of, shape_of}
+use Rattle.df_units.specs.Format.{format_of}
+use Rattle.df_units.specs.Meaning.{layout_of}
+use Rattle.df_trailer.specs.Text.{parse_of}
+use Rattle.df_state.specs.State.{shape}
 use Rattle.df_units.specs.Making.{AreReserved, IsMadeOnDisk, first_view, header_puts, header_writes}
 use Rattle.df_units.specs.Sample.{reserved_header}
 use Rattle.df_units.proofs.Laws.{all_added, copy_put, format_on_disk, headers_put, part_moments}
@@ -28,7 +31,7 @@ use Rattle.df_headers.proofs.Laws.{reserved_table as reserved_is_table, sector_a
 use Rattle.df_model.specs.declared.errors.FormatError.{FormatError}
 use Rattle.df_model.specs.declared.errors.FormatError.TheVariants.{ClusterZero, NotBlank, DiskFault}
 use Rattle.df_replica.specs.Formatting.{AddsFormat}
-use Rattle.df_replica.specs.Making.{AreWritable, Makes, MayMakeOn, making_events, making_steps, reserved_table, sectors_in, sectors_of}
+use Rattle.df_replica.specs.Making.{AreWritable, Makes, MayMakeOn, file_of, making_events, making_steps, reserved_table, sectors_in, sectors_of}
 
 -- ---- the table of reserved headers
 
@@ -83,15 +86,15 @@ making_is_steps layout cluster is all =
     (copy_put layout cluster 0 f (omega arith) is, (copy_put layout cluster 1 f (omega arith) is, (copy_put layout cluster 2 f (omega arith) is, (copy_put layout cluster 3 f (omega arith) is, tt))))
 
 on_disk : (layout : Layout) (cluster : ℕ) → IsUsable (first_super layout cluster) → All layout cluster → (before : Told) (may : MayMakeOn layout cluster before)
-    → IsMadeOnDisk (format_of layout cluster) (shape_of layout cluster may.named may.parse) before.log (adds (making_events layout cluster) before.log) (first_view layout cluster)
+    → IsMadeOnDisk (format_of layout cluster) (shape (file_of layout cluster may.named)) before.log (adds (making_events layout cluster) before.log) (first_view layout cluster)
 on_disk layout cluster is all before may =
-    format_on_disk layout cluster may.named may.parse (sectors_in layout (reserved_table layout cluster)) before.log is (how_many 0 (layout.slots / 16) (reserved_table layout cluster)) all may.is_log may.making
+    format_on_disk layout cluster may.named (parse_of (layout_of layout)) (sectors_in layout (reserved_table layout cluster)) before.log is (how_many 0 (layout.slots / 16) (reserved_table layout cluster)) all may.is_log may.making
 
 -- where a part was done
 pub makes_part : {T E : Type 0} → (layout : Layout) (cluster : ℕ) → IsUsable (first_super layout cluster) → All layout cluster → (before : Told) (may : MayMakeOn layout cluster before) (after : Told) (e : E)
     → AddsPart (making_events layout cluster) (Some before) (Some after) → Makes {T = T} layout cluster before may after (Err e)
 makes_part layout cluster is all before may after e part = record {
-  moments = part_moments (making_events layout cluster) before after (IsSafeDisk (format_of layout cluster) (shape_of layout cluster may.named may.parse)) part (on_disk layout cluster is all before may).moments;
+  moments = part_moments (making_events layout cluster) before after (IsSafeDisk (format_of layout cluster) (shape (file_of layout cluster may.named))) part (on_disk layout cluster is all before may).moments;
   made = tt;
 }
 
@@ -101,8 +104,8 @@ pub makes_all : {T E : Type 0} → (layout : Layout) (cluster : ℕ) → IsUsabl
 makes_all layout cluster is all before may after x adds_all =
     let whole = on_disk layout cluster is all before may in
     record {
-      moments = part_moments (making_events layout cluster) before after (IsSafeDisk (format_of layout cluster) (shape_of layout cluster may.named may.parse)) (all_part adds_all) whole.moments;
-      made = subst (λ (log : Log). IsMadeOnDisk (format_of layout cluster) (shape_of layout cluster may.named may.parse) before.log log (first_view layout cluster)) (sym (all_added (making_events layout cluster) before after adds_all)) whole;
+      moments = part_moments (making_events layout cluster) before after (IsSafeDisk (format_of layout cluster) (shape (file_of layout cluster may.named))) (all_part adds_all) whole.moments;
+      made = subst (λ (log : Log). IsMadeOnDisk (format_of layout cluster) (shape (file_of layout cluster may.named)) before.log log (first_view layout cluster)) (sym (all_added (making_events layout cluster) before after adds_all)) whole;
     }
   where
     all_part : Some after ≡ after_all (making_events layout cluster) (Some before) → AddsPart (making_events layout cluster) (Some before) (Some after)
@@ -142,12 +145,6 @@ pub makes_call : {T E : Type 0} → (layout : Layout) (cluster : ℕ) → IsUsab
     → Adds (making_events layout cluster) (Some before) (Some after) result → Makes layout cluster before may after result
 makes_call layout cluster is before may after (Ok x) adds = makes_all layout cluster is (all_reserved layout cluster is) before may after x adds
 makes_call layout cluster is before may after (Err e) adds = makes_part layout cluster is (all_reserved layout cluster is) before may after e adds
-
--- a refusal adds a part of the events, or none of them
-pub refusal_adds : (es : List Event) (old new : Option Told) (e : FormatError) → AddsFormat {T = Unit {0}} es old new (Err e) → AddsPart es old new
-refusal_adds es old new DiskFault adds = adds
-refusal_adds es old new ClusterZero adds = nothing_is_part es old new adds
-refusal_adds es old new (NotBlank copy) adds = nothing_is_part es old new adds
 
 pub unchanged_adds : (es : List Event) (old new : Option Told) (e : FormatError) → new ≡ old → AddsFormat {T = Unit {0}} es old new (Err e)
 unchanged_adds es old new DiskFault is = nothing_is_part es old new is

@@ -1,5 +1,5 @@
 -- What an open leaves is kept by what the machine begins with: a mending writes no prepare.
-use Rattle.std.proofs.Common.{◌≡◌, ◌-◌, ◌+◌, ◌%◌, ℕ, List, [], ◌∷◌, ◌++◌, map, Bool, true, false, if◌then◌else◌, inl, inr, Option, Some, None, refl, sym, ◌∙◌, ap, subst}
+use Rattle.std.proofs.Common.{◌≡◌, ◌-◌, ◌+◌, ◌%◌, ℕ, List, [], ◌∷◌, ◌++◌, map, Bool, true, false, if◌then◌else◌, inl, inr, Option, Some, None, refl, sym, ◌∙◌, ap, subst, arith}
 use Rattle.std.specs.Prelude.{nat_lt, Ok}
 use Rattle.std.specs.List.{range_with_len, slice_get}
 use Rattle.df_base.specs.Image.{Image, IsImage}
@@ -15,7 +15,7 @@ use Rattle.df_format.specs.declared.header.Header.{Header}
 use Rattle.df_format.specs.declared.superblock.SuperFields.{SuperFields}
 use Rattle.df_theory.specs.Units
 use Rattle.df_theory.specs.Units.{AnyUnit, PreparePlace, or_else}
-use Rattle.df_theory.specs.Device.{AreSteps, IsGoodDisk, units_log}
+use Rattle.df_theory.specs.Device.{AreSteps, units_log}
 use Rattle.df_theory.specs.Found.{AreOfPlaces, IsFound}
 use Rattle.df_theory.specs.MakingLaws.{all_puts}
 use Rattle.df_theory.specs.MendLaws.{copy_steps, header_steps}
@@ -30,14 +30,21 @@ use Rattle.df_model.specs.Codec.{IsCodec}
 use Rattle.df_model.specs.Laws.{IsKeptBy}
 use Rattle.df_model.specs.Work.{Work, checksum_of, checksum_of_op, first_tour, opened, waiting_checksum}
 use Rattle.df_model.proofs.Laws.{found_law, opened_kept_law}
+use Rattle.df_model.specs.Sense.{IsBacked}
+use Rattle.df_theory.specs.WholeLaws.{IsStanding}
+use Rattle.df_trailer.specs.Text.{parse_of}
+use Rattle.df_trailer.proofs.Laws.{codec}
+use Rattle.df_units.specs.Meaning.{layout_of}
+use Rattle.df_replica.proofs.Calls.{good_safe}
 use Rattle.df_superblock.specs.Steps.{repaired}
-use Rattle.df_recovery.specs.declared.file.DataFile.{DataFile}
+use Rattle.df_state.specs.declared.file.DataFile.{DataFile}
 use Rattle.df_layout.specs.declared.layout.Layout.{Layout}
 use Rattle.df_replica.specs.Surveying.{TellsSurvey}
-use Rattle.df_replica.specs.Mending.{IsMended, MayOpen, live_state, mending_events, mending_steps, sector_puts, sectors_of}
-use Rattle.df_replica.specs.Serving.{Firm, IsKept, Keeps, Known, format}
+use Rattle.df_replica.specs.Following.{MayOpen}
+use Rattle.df_replica.specs.Mending.{IsMended, live_state, mending_events, mending_steps, sector_puts, sectors_of}
+use Rattle.df_replica.specs.Serving.{Firm, Grade, IsGoodFor, IsKept, Keeps, KeptFor, StandingFor, Whole, format}
 use Rattle.df_replica.specs.Opened.{ToldBy}
-use Rattle.df_recovery.specs.State.{Represents, State, shape}
+use Rattle.df_state.specs.State.{Represents, State, shape, spelling}
 use Rattle.df_recovery.specs.Surveys.{IsOpened}
 
 -- ---- no step of a mending puts a prepare
@@ -86,13 +93,23 @@ opened_same sh image other v same =
 
 -- ---- what an open leaves
 
+-- how its trailer is spelled is a codec of the file
+codec_of : (file : DataFile) → IsCodec (shape file) (spelling file)
+codec_of file = codec (shape file) (omega (arith, file.layout.clients_within.1)) (omega (arith, file.layout.block_size_within)) refl
+
+-- the end of the mending is kept by what the machine begins with, by the grade
+kept_on : (g : Grade) (sh : Shape) (spell : Units.Parts → List ℕ) (log : UnitLog) (v : View) → StandingFor g log v
+    → IsKeptBy sh spell log (opened sh (now log) v) × (IsStanding log v → IsBacked log (opened sh (now log) v)) → KeptFor g sh spell log (opened sh (now log) v)
+kept_on Firm sh spell log v standing by = by.0
+kept_on Whole sh spell log v standing by = (by.0, by.1 standing)
+
 -- the disk at its end is a disk's, and shows the prepares that it showed before
-pub open_keeps : (s : State) (mends : List Mend) (members : List Bool) (parse : ℕ → List ℕ → Option Units.Parts) (spell : Units.Parts → List ℕ) (view : View) (before after : Told) → IsCodec (shape s.file parse) spell → MayOpen s.file parse view before
+pub open_keeps : (g : Grade) (s : State) (mends : List Mend) (members : List Bool) (view : View) (before after : Told) → MayOpen s.file view before
     → IsOpened s.file.layout before.shown s → AreSteps (format s.file) (mending_events s.file.layout s.headers mends s.fields members) (mending_steps s.file.layout s.headers mends s.fields members)
-    → Some after ≡ after_all (mending_events s.file.layout s.headers mends s.fields members) (Some (did Sync before)) → EachMoment (did Sync before).log after.log (IsGoodDisk (format s.file) (shape s.file parse) view view) → IsMended s.file parse view s.headers after
-    → IsKept (record { parse = parse; spell = spell; grade = Firm }) s (opened (shape s.file parse) (unit_at s.file.layout s.file.cluster before.shown) view) after.log
-open_keeps s mends members parse spell view before after codec may is steps all moments mended =
-    let sh = shape s.file parse in
+    → Some after ≡ after_all (mending_events s.file.layout s.headers mends s.fields members) (Some (did Sync before)) → EachMoment (did Sync before).log after.log (IsGoodFor g (format s.file) (shape s.file) view view) → IsMended g s.file view s.headers after
+    → IsKept g s (opened (shape s.file) (unit_at s.file.layout s.file.cluster before.shown) view) after.log
+open_keeps g s mends members view before after may is steps all moments mended =
+    let sh = shape s.file in
     let fmt = format s.file in
     let es = mending_events s.file.layout s.headers mends s.fields members in
     let ss = mending_steps s.file.layout s.headers mends s.fields members in
@@ -100,7 +117,7 @@ open_keeps s mends members parse spell view before after codec may is steps all 
     let units = unit_at s.file.layout s.file.cluster in
     let grew = adds_extends es (did Sync before).log in
     let added = all_added es (did Sync before) after all in
-    let is_log : IsLog after.log = (moments after.log (record { since = subst (λ (l : Log.Log). Extends l (did Sync before).log) (sym added) grew; until = extends_self after.log })).safe.is_log in
+    let is_log : IsLog after.log = (good_safe s.file g view view after.log (moments after.log (record { since = subst (λ (l : Log.Log). Extends l (did Sync before).log) (sym added) grew; until = extends_self after.log }))).is_log in
     let image : units (Log.now after.log) ≡ now log = sym (now_units fmt after.log.start after.log.events) in
     let was_image : units (Log.now before.log) ≡ now (units_log fmt (did Sync before).log) = sym (now_units fmt (did Sync before).log.start (did Sync before).log.events) in
     let ends : log ≡ after_steps ss (units_log fmt (did Sync before).log) = call_ends fmt es ss (did Sync before) after (record { start = may.safe.is_log.start; events = may.safe.is_log.events }) steps all in
@@ -108,23 +125,24 @@ open_keeps s mends members parse spell view before after codec may is steps all 
     let prepares : (k : ℕ) → units before.shown (PreparePlace k) ≡ units (Log.now after.log) (PreparePlace k) = λ k.
     ap (λ (m : Image). units m (PreparePlace k)) shown ∙ ap (λ (u : Units.Units). u (PreparePlace k)) was_image ∙ sym (missed k ss (units_log fmt (did Sync before).log) (mending_misses s.file s.headers mends s.fields members k))
     ∙ ap (λ (l : UnitLog). now l (PreparePlace k)) (sym ends) ∙ ap (λ (u : Units.Units). u (PreparePlace k)) (sym image) in
-    let one : is.view ≡ view = one_found_law sh (units before.shown) is.view view (is.found parse) (subst (λ (m : Image). IsFound sh (units m) view) (sym shown) may.found) in
+    let one : is.view ≡ view = one_found_law sh (units before.shown) is.view view is.found (subst (λ (m : Image). IsFound sh (units m) view) (sym shown) may.found) in
     let whole : IsImage (Log.now after.log) = now_is_image after.log.start after.log.events is_log.start is_log.events in
     let choice = chosen_choice s.file.layout s.file.cluster (Log.now before.log) view.checkpoint.content (now_is_image before.log.start before.log.events may.safe.is_log.start may.safe.is_log.events) may.found.chosen in
-    let kept = (opened_kept_law sh spell log view codec (record { version = refl; names = ap (λ (c : Units.Content). c.reply_checksums) (sym choice.1) }) mended.tidy
-    (subst (AreOfPlaces sh) image (of_places s.file.layout s.file.cluster s.file.named parse (Log.now after.log) whole))).0 in
+    let kept = kept_on g sh (spelling s.file) log view mended.standing
+    (opened_kept_law sh (spelling s.file) log view (codec_of s.file) (record { version = refl; names = ap (λ (c : Units.Content). c.reply_checksums) (sym choice.1) }) mended.tidy
+    (subst (AreOfPlaces sh) image (of_places s.file.layout s.file.cluster s.file.named (parse_of (layout_of s.file.layout)) (Log.now after.log) whole))) in
     record {
       log_is = is_log;
-      stands = subst (λ (v : View). Represents sh spell s (opened sh (units before.shown) v)) one (is.stands parse spell);
+      stands = subst (λ (v : View). Represents s (opened sh (units before.shown) v)) one is.stands;
       kept_by =
-          subst (IsKeptBy sh spell log) (sym (opened_same sh (units before.shown) (units (Log.now after.log)) view prepares))
-          (subst (λ (u : Units.Units). IsKeptBy sh spell log (opened sh u view)) (sym image) kept);
+          subst (KeptFor g sh (spelling s.file) log) (sym (opened_same sh (units before.shown) (units (Log.now after.log)) view prepares))
+          (subst (λ (u : Units.Units). KeptFor g sh (spelling s.file) log (opened sh u view)) (sym image) kept);
       ring = mended.ring;
     }
 
 -- the answer of the survey, of what an honest disk shows
-pub survey_opened : (layout : Layout) (told : Option Told) (before : Told) (s : State) → told ≡ Some before → (parse : ℕ → List ℕ → Option Units.Parts) (view : View) → MayOpen s.file parse view before → s.file.layout ≡ layout → TellsSurvey layout told (Ok s) → IsOpened s.file.layout before.shown s
-survey_opened layout told before s is parse view may same answer =
+pub survey_opened : (layout : Layout) (told : Option Told) (before : Told) (s : State) → told ≡ Some before → (view : View) → MayOpen s.file view before → s.file.layout ≡ layout → TellsSurvey layout told (Ok s) → IsOpened s.file.layout before.shown s
+survey_opened layout told before s is view may same answer =
     let shown : before.shown ≡ Log.now before.log = λ i sector. may.honest.shows sector i in
     let whole : IsImage before.shown = subst IsImage (sym shown) (now_is_image before.log.start before.log.events may.safe.is_log.start may.safe.is_log.events) in
     subst (λ (l : Layout). IsOpened l before.shown s) (sym same) ((subst (λ (o : Option Told). TellsSurvey layout o (Ok s)) is answer) whole)
@@ -132,22 +150,21 @@ survey_opened layout told before s is parse view may same answer =
 -- ---- what an open finds in an image, whatever was done to it
 
 -- the state stands for what the machine begins with, which makes sense
-pub found_keeps : (s : State) (image : Image) (parse : ℕ → List ℕ → Option Units.Parts) (spell : Units.Parts → List ℕ) (view : View) → IsImage image → IsOpened s.file.layout image s → IsCodec (shape s.file parse) spell
-    → IsFound (shape s.file parse) (unit_at s.file.layout s.file.cluster image) view
-    → Keeps (record { parse = parse; spell = spell; grade = Firm }) s (opened (shape s.file parse) (unit_at s.file.layout s.file.cluster image) view) None
-found_keeps s image parse spell view whole is codec found =
-    let sh = shape s.file parse in
+pub found_keeps : (s : State) (image : Image) (view : View) → IsImage image → IsOpened s.file.layout image s → IsFound (shape s.file) (unit_at s.file.layout s.file.cluster image) view
+    → Keeps Firm s (opened (shape s.file) (unit_at s.file.layout s.file.cluster image) view) None
+found_keeps s image view whole is found =
+    let sh = shape s.file in
     let units = unit_at s.file.layout s.file.cluster image in
-    let one : is.view ≡ view = one_found_law sh units is.view view (is.found parse) found in
+    let one : is.view ≡ view = one_found_law sh units is.view view is.found found in
     let choice = chosen_choice s.file.layout s.file.cluster image view.checkpoint.content whole found.chosen in (
-      found_law sh spell units view codec (record { version = refl; names = ap (λ (c : Units.Content). c.reply_checksums) (sym choice.1) })
-          (of_places s.file.layout s.file.cluster s.file.named parse image whole) found,
-      subst (λ (v : View). Represents sh spell s (opened sh units v)) one (is.stands parse spell),
+      found_law sh (spelling s.file) units view (codec_of s.file) (record { version = refl; names = ap (λ (c : Units.Content). c.reply_checksums) (sym choice.1) })
+          (of_places s.file.layout s.file.cluster s.file.named (parse_of (layout_of s.file.layout)) image whole) found,
+      subst (λ (v : View). Represents s (opened sh units v)) one is.stands,
     )
 
 -- a state is kept as a live one
-pub live_kept : (c : Known) (s : State) (w : Work) (log : Log.Log) → IsKept c s w log → IsKept c (live_state s) w log
-live_kept c s w log is = record { log_is = is.log_is; stands = is.stands; kept_by = is.kept_by; ring = is.ring }
+pub live_kept : (g : Grade) (s : State) (w : Work) (log : Log.Log) → IsKept g s w log → IsKept g (live_state s) w log
+live_kept g s w log is = record { log_is = is.log_is; stands = is.stands; kept_by = is.kept_by; ring = is.ring }
 
 -- ---- where the disk failed
 

@@ -24,19 +24,19 @@ use Rattle.df_model.specs.Memory.{Memory, prepare_sum}
 use Rattle.df_model.specs.Refusals.{first_refusal, prepare_refusals}
 use Rattle.df_model.specs.declared.reading.PrepareError.{PrepareError}
 use Rattle.df_model.specs.declared.reading.PrepareError.TheVariants as prepare
-use Rattle.df_recovery.specs.State.{State, memory}
+use Rattle.df_state.specs.State.{State, memory}
 use Rattle.df_replica.specs.Answering.{Gives, ServesRead, read_prepare_answer}
 use Rattle.df_replica.specs.Reading.{IsFoundBy, IsKnownUnit, IsReadPrepare, PrepareBlames, check_in, prepare_found, prepare_leaves, prepare_wanted}
 use Rattle.df_replica.specs.Supply.{IsSupplied}
 use Rattle.df_replica.proofs.ReadFinds.{prepare_found_by, prepare_known, prepare_lacks_by}
 use Rattle.df_replica.proofs.Calls.{AreCalls, Answered, answered_call, stopped_call}
 
-zero_sum : (given : Given) → given.checksum ≡ 0 → IsChecksum given.checksum
+pub zero_sum : (given : Given) → given.checksum ≡ 0 → IsChecksum given.checksum
 zero_sum given zero = subst IsChecksum (sym zero) (let small : 0 < 2 ^ 128 = omega arith in small)
 
 module _ (s : State) (op : ℕ) (live : s.live ≡ true) where
   calls : (given : Given) → AreCalls given (ReadPrepare op) s []
-  calls given c w t k = record { steps = []; are = tt; does = refl }
+  calls given g w t k = record { steps = []; are = tt; does = refl }
 
   input : (told : Option Told) (given : Given) → IsSupplied s told (ReadPrepare op) given → IsInput given (ReadPrepare op)
   input told given supplied = record { checksum = zero_sum given supplied.0; fields = tt }
@@ -45,8 +45,8 @@ module _ (s : State) (op : ℕ) (live : s.live ≡ true) where
   answered given answer same = record {
     file = refl;
     live = live;
-    stands = λ c w work rep. (ap ToReadPrepare (sym same) ∙ ap (λ (m : Memory). ToReadPrepare (after.prepare_answer m given.message op)) rep, rep);
-    ring = λ c w a b k all. subst (λ (x : Told). ShowsRing s.file.layout s.file.cluster (now x.log) s.headers) (sym (some-eq all)) k.ring;
+    stands = λ w work rep. (ap ToReadPrepare (sym same) ∙ ap (λ (m : Memory). ToReadPrepare (after.prepare_answer m given.message op)) rep, rep);
+    ring = λ g w a b k all. subst (λ (x : Told). ShowsRing s.file.layout s.file.cluster (now x.log) s.headers) (sym (some-eq all)) k.ring;
   }
 
   answers : (told : Option Told) (found : Option (Result Units.Message Class)) (answer : Result Units.Message PrepareError)

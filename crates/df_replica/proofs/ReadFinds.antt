@@ -25,7 +25,6 @@ use Rattle.df_format.proofs.Laws.{valid_belongs, valid_stale}
 use Rattle.df_buffers.specs.declared.identity.Identity.{Identity}
 use Rattle.df_buffers.specs.declared.identity.Wanted.TheVariants.{Checksum}
 use Rattle.df_buffers.specs.Sounds.{Holding}
-use Rattle.df_headers.specs.Ring.{IsTable}
 use Rattle.df_theory.specs.Units
 use Rattle.df_theory.specs.Units.{PreparePlace}
 use Rattle.df_units.specs.Bytes.{message_unit}
@@ -37,8 +36,8 @@ use Rattle.df_model.specs.Refusals.{first_refusal, prepare_refusals}
 use Rattle.df_model.specs.Supply.{class_or, given_if, is_sum, prepare_at, prepare_given}
 use Rattle.df_model.proofs.Laws.{all_pass}
 use Rattle.df_places.specs.Shelves.{IsFound, IsOf, IsRead}
-use Rattle.df_recovery.specs.declared.file.DataFile.{DataFile}
-use Rattle.df_recovery.specs.State.{State, memory, prepare_sum, sum_of}
+use Rattle.df_state.specs.declared.file.DataFile.{DataFile}
+use Rattle.df_state.specs.State.{State, memory, prepare_sum, sum_of}
 use Rattle.df_replica.specs.Reading.{IsFoundBy, IsKnownUnit, check_in, prepare_wanted, shown_of}
 
 yes_eq : (a b : ℕ) → a ≡ b → (a == b) ≡ true
@@ -50,10 +49,6 @@ eq_true a b is = grind (arith, nat_tests)
 -- a sealed header's checksum has sixteen bytes
 sealed_check : (h : Header) → IsSealed h → IsCheck h.checksum
 sealed_check h is = subst IsCheck (sym is.checksum) (record { size = length-check_of (spelling_rest h); each = AreBytes-check_of (spelling_rest h) })
-
--- so have those of a table of headers
-pub check_there : (layout : Layout) (cluster slot : ℕ) (table : List Header) (h : Header) → IsTable layout cluster table → slice_get table slot ≡ Some h → IsCheck (check_in (slice_get table slot))
-check_there layout cluster slot table h is at = subst (λ (o : Option Header). IsCheck (check_in o)) (sym at) (sealed_check h (is.each slot h at).sealed)
 
 -- a place that shows a unit, where another one is wanted, is stale
 shown_stale : (layout : Layout) (cluster : ℕ) (image : Image) (place : Place) (u : Message) → Shown.unit_at layout cluster image place ≡ Some u → Shown.class_at layout cluster image place ≡ Stale

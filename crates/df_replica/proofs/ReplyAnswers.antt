@@ -37,10 +37,10 @@ use Rattle.df_model.specs.Work.{Work}
 use Rattle.df_model.proofs.Laws.{change_law}
 use Rattle.df_model.specs.declared.errors.ReplyError.{ReplyError}
 use Rattle.df_model.specs.declared.errors.ReplyError.TheVariants as reply
-use Rattle.df_recovery.specs.State.{IsState, Represents, State, memory, shape}
+use Rattle.df_state.specs.State.{IsState, Represents, State, memory, shape, spelling}
 use Rattle.df_replica.specs.Answering.{Serves, reply_answer}
 use Rattle.df_replica.specs.Replying.{first_check, next_reply, replied, reply_events, reply_given}
-use Rattle.df_replica.specs.Serving.{IsCall, IsKept, Known, format, next}
+use Rattle.df_replica.specs.Serving.{Grade, IsCall, IsKept, format, next}
 use Rattle.df_replica.specs.Supply.{IsSupplied}
 use Rattle.df_replica.proofs.Calls.{AreCalls, Answered, answered_call, stopped_call}
 use Rattle.df_replica.proofs.ReplyMemory.{replied_memory}
@@ -61,33 +61,33 @@ module _ (s : State) (op : ℕ) (body : List ℕ) (given : Given) (is : IsState 
   input : IsInput given command
   input = record { checksum = subst IsChecksum (sym sum) (field_at-lt 16 0 u.header.checksum (AreBytes-check_of (spelling_rest (for_body (reply_given s) body)))); fields = tt }
 
-  module _ (c : Known) (w : Work) (rep : Represents (shape s.file c.parse) c.spell s w) where
-    test_is : (o : Option ReplyError) → first_refusal (reply_refusals (memory s) op body) ≡ o → first_refusal (reply_refusals (memory_of (shape s.file c.parse) c.spell w) op body) ≡ o
+  module _ (w : Work) (rep : Represents s w) where
+    test_is : (o : Option ReplyError) → first_refusal (reply_refusals (memory s) op body) ≡ o → first_refusal (reply_refusals (memory_of (shape s.file) (spelling s.file) w) op body) ≡ o
     test_is o there = ap (λ (x : Memory). first_refusal (reply_refusals x op body)) (sym rep) ∙ there
 
   -- ---- a refusal
 
   module _ (e : ReplyError) (some : first_refusal (reply_refusals (memory s) op body) ≡ Some e) where
-    refused_next : (c : Known) (w : Work) → Represents (shape s.file c.parse) c.spell s w → next s.file c w given command ≡ (w, ToReply (Err e))
-    refused_next c w rep =
-        let m = memory_of (shape s.file c.parse) c.spell w in
-        ap (λ (o : Option ReplyError). as_answer ToReply (outcome o w (with_reply w (place_of_reply m) (reply_of m given.checksum body)) given.checksum)) (test_is c w rep (Some e) some)
+    refused_next : (w : Work) → Represents s w → next s.file w given command ≡ (w, ToReply (Err e))
+    refused_next w rep =
+        let m = memory_of (shape s.file) (spelling s.file) w in
+        ap (λ (o : Option ReplyError). as_answer ToReply (outcome o w (with_reply w (place_of_reply m) (reply_of m given.checksum body)) given.checksum)) (test_is w rep (Some e) some)
 
     refused_does : AreCalls given command s []
-    refused_does c w t k =
-        let m = memory_of (shape s.file c.parse) c.spell w in
+    refused_does g w t k =
+        let m = memory_of (shape s.file) (spelling s.file) w in
         record {
           steps = [];
           are = tt;
-          does = subst (λ (o : Option ReplyError). UnlessRefused o [] (DoesReply w.view (place_of_reply m) (reply_of m given.checksum body) [])) (sym (test_is c w k.stands (Some e) some)) refl;
+          does = subst (λ (o : Option ReplyError). UnlessRefused o [] (DoesReply w.view (place_of_reply m) (reply_of m given.checksum body) [])) (sym (test_is w k.stands (Some e) some)) refl;
         }
 
     refused_as : Answered given command s s [] (ToReply (Err e))
     refused_as = record {
       file = refl;
       live = live;
-      stands = λ c w work rep. (ap (λ (x : Work × Answer). x.1) (sym (refused_next c w rep)), subst (λ (x : Work × Answer). Represents (shape s.file c.parse) c.spell s x.0) (sym (refused_next c w rep)) rep);
-      ring = λ c w a b k all. subst (λ (x : Told). ShowsRing s.file.layout s.file.cluster (now x.log) s.headers) (sym (some-eq all)) k.ring;
+      stands = λ w work rep. (ap (λ (x : Work × Answer). x.1) (sym (refused_next w rep)), subst (λ (x : Work × Answer). Represents s x.0) (sym (refused_next w rep)) rep);
+      ring = λ g w a b k all. subst (λ (x : Told). ShowsRing s.file.layout s.file.cluster (now x.log) s.headers) (sym (some-eq all)) k.ring;
     }
 
     refused_call : (old : Option Told) → IsSupplied s old command given → IsCall given command s s old old (Some (ToReply (Err e)))
@@ -102,65 +102,65 @@ module _ (s : State) (op : ℕ) (body : List ℕ) (given : Given) (is : IsState 
     waits : 0 < length s.waiting
     waits = omega (arith, (may_reply s op body is none).waits, is.waiting)
 
-    module _ (c : Known) (w : Work) (rep : Represents (shape s.file c.parse) c.spell s w) where
-      reply_is : reply_of (memory_of (shape s.file c.parse) c.spell w) given.checksum body ≡ message_of u
+    module _ (w : Work) (rep : Represents s w) where
+      reply_is : reply_of (memory_of (shape s.file) (spelling s.file) w) given.checksum body ≡ message_of u
       reply_is =
           (λ i. reply_of (sym rep i) (sum i) body)
           ∙ ap (λ (parent : ℕ). record { header = record (message_of u).header { parent = parent }; body = body }) (first_number s.waiting waits)
 
-      place_is : place_of_reply (memory_of (shape s.file c.parse) c.spell w) ≡ u.header.slot
+      place_is : place_of_reply (memory_of (shape s.file) (spelling s.file) w) ≡ u.header.slot
       place_is = ap place_of_reply (sym rep)
 
-      none_there : first_refusal (reply_refusals (memory_of (shape s.file c.parse) c.spell w) op body) ≡ None
-      none_there = test_is c w rep None none
+      none_there : first_refusal (reply_refusals (memory_of (shape s.file) (spelling s.file) w) op body) ≡ None
+      none_there = test_is w rep None none
 
-    does_reply : (c : Known) (w : Work) (t : Told) → IsKept c s w t.log → DoesOnDisk (format s.file) (shape s.file c.parse) c.spell t.log w given command (reply_events s u)
-    does_reply c w t k =
-        let m = memory_of (shape s.file c.parse) c.spell w in
+    does_reply : (g : Grade) (w : Work) (t : Told) → IsKept g s w t.log → DoesOnDisk (format s.file) (shape s.file) (spelling s.file) t.log w given command (reply_events s u)
+    does_reply g w t k =
+        let m = memory_of (shape s.file) (spelling s.file) w in
         let steps = write_steps u in
         let does : DoesReply w.view u.header.slot (message_of u) steps = record { put = put_one (ReplyPlace u.header.slot) (ReplyUnit (message_of u)); one = put_one_law (ReplyPlace u.header.slot) (ReplyUnit (message_of u)); are = refl } in
         record {
           steps = steps;
           are = (put, tt);
           does =
-              subst (λ (o : Option ReplyError). UnlessRefused o steps (DoesReply w.view (place_of_reply m) (reply_of m given.checksum body) steps)) (sym (none_there c w k.stands))
-              (subst (λ (p : theory.Message). DoesReply w.view (place_of_reply m) p steps) (sym (reply_is c w k.stands))
-              (subst (λ (place : ℕ). DoesReply w.view place (message_of u) steps) (sym (place_is c w k.stands)) does));
+              subst (λ (o : Option ReplyError). UnlessRefused o steps (DoesReply w.view (place_of_reply m) (reply_of m given.checksum body) steps)) (sym (none_there w k.stands))
+              (subst (λ (p : theory.Message). DoesReply w.view (place_of_reply m) p steps) (sym (reply_is w k.stands))
+              (subst (λ (place : ℕ). DoesReply w.view place (message_of u) steps) (sym (place_is w k.stands)) does));
         }
 
     abbrev answer : Answer
     answer = ToReply (Ok (number_of u.header.checksum))
 
-    module _ (c : Known) (w : Work) (work : IsWork (shape s.file c.parse) c.spell w) (rep : Represents (shape s.file c.parse) c.spell s w) where
+    module _ (w : Work) (work : IsWork (shape s.file) (spelling s.file) w) (rep : Represents s w) where
       abbrev m : Memory
-      m = memory_of (shape s.file c.parse) c.spell w
+      m = memory_of (shape s.file) (spelling s.file) w
 
       abbrev later : Work
       later = with_reply w (place_of_reply m) (reply_of m given.checksum body)
 
-      next_is : next s.file c w given command ≡ (later, ToReply (Ok given.checksum))
-      next_is = ap (λ (o : Option ReplyError). as_answer ToReply (outcome o w later given.checksum)) (none_there c w rep)
+      next_is : next s.file w given command ≡ (later, ToReply (Ok given.checksum))
+      next_is = ap (λ (o : Option ReplyError). as_answer ToReply (outcome o w later given.checksum)) (none_there w rep)
 
-      memory_is : memory_of (shape s.file c.parse) c.spell later ≡ replied_in m given.checksum
+      memory_is : memory_of (shape s.file) (spelling s.file) later ≡ replied_in m given.checksum
       memory_is =
-          subst (λ (o : Option ReplyError). memory_of (shape s.file c.parse) c.spell (outcome o w later given.checksum).0 ≡ record (unless_refused o m (replied_in m given.checksum)) { blocks = blocks_after c.spell m given command })
-          (none_there c w rep) (change_law (shape s.file c.parse) c.spell w given command work)
+          subst (λ (o : Option ReplyError). memory_of (shape s.file) (spelling s.file) (outcome o w later given.checksum).0 ≡ record (unless_refused o m (replied_in m given.checksum)) { blocks = blocks_after (spelling s.file) m given command })
+          (none_there w rep) (change_law (shape s.file) (spelling s.file) w given command work)
 
-      stands : Represents (shape s.file c.parse) c.spell (replied s u.header) later
+      stands : Represents (replied s u.header) later
       stands = replied_memory s u.header refl ∙ (λ i. replied_in (rep i) (sym sum i)) ∙ sym memory_is
 
-      allowed_at : (answer ≡ (next s.file c w given command).1) × Represents (shape s.file c.parse) c.spell (replied s u.header) (next s.file c w given command).0
+      allowed_at : (answer ≡ (next s.file w given command).1) × Represents (replied s u.header) (next s.file w given command).0
       allowed_at =
-          subst (λ (x : Work × Answer). (answer ≡ x.1) × Represents (shape s.file c.parse) c.spell (replied s u.header) x.0) (sym next_is) (ap (λ (n : ℕ). ToReply (Ok n)) (sym sum), stands)
+          subst (λ (x : Work × Answer). (answer ≡ x.1) × Represents (replied s u.header) x.0) (sym next_is) (ap (λ (n : ℕ). ToReply (Ok n)) (sym sum), stands)
 
     -- the header ring shows what it did
-    ring_kept : (c : Known) (w : Work) (a b : Told) → IsKept c s w a.log → Some b ≡ after_all (reply_events s u) (Some a) → ShowsRing s.file.layout s.file.cluster (now b.log) s.headers
-    ring_kept c w a b k all =
+    ring_kept : (g : Grade) (w : Work) (a b : Told) → IsKept g s w a.log → Some b ≡ after_all (reply_events s u) (Some a) → ShowsRing s.file.layout s.file.cluster (now b.log) s.headers
+    ring_kept g w a b k all =
         let whole : IsImage (now a.log) = now_is_image a.log.start a.log.events k.log_is.start k.log_is.events in
         subst (λ (x : Told). ShowsRing s.file.layout s.file.cluster (now x.log) s.headers) (sym (some-eq all)) (λ slot h at. put.shows (now a.log) (HeaderPlace slot) whole ∙ k.ring slot h at)
 
     allowed_as : Answered given command s (replied s u.header) (reply_events s u) answer
-    allowed_as = record { file = refl; live = live; stands = λ c w work rep. allowed_at c w work rep; ring = λ c w a b k all. ring_kept c w a b k all }
+    allowed_as = record { file = refl; live = live; stands = λ w work rep. allowed_at w work rep; ring = λ g w a b k all. ring_kept g w a b k all }
 
     stored_call : (old new : Option Told) → IsSupplied s old command given → new ≡ after_all (reply_events s u) old → IsCall given command s (replied s u.header) old new (Some answer)
     stored_call old new supplied all = answered_call given command s (reply_events s u) input does_reply (replied s u.header) answer allowed_as old new supplied all

@@ -1,10 +1,11 @@
 -- What a reply that isn't refused may rely on: the session of the prepare that waits the longest, and its place.
-use Rattle.std.proofs.Common.{◌≡◌, ◌≢◌, ◌∙◌, inl, inr, ℕ, zero, suc, ◌+◌, ◌<◌, ◌==◌, true, false, List, [], ◌∷◌, length, map, Option, Some, None, refl, sym, ap, subst, arith}
+use Rattle.std.proofs.Common.{◌≡◌, ◌≢◌, ◌∙◌, ℕ, zero, suc, ◌+◌, ◌^◌, ◌<◌, ◌≤◌, ◌==◌, true, false, List, [], ◌∷◌, length, map, Option, Some, None, refl, sym, ap, subst, arith}
 use Rattle.std.specs.Prelude.{option_map}
 use Rattle.std.specs.List.{AllByRecursion, slice_get}
-use Rattle.std.proofs.lemmas.Bool.{cases_lt, eq-eqb, ne_eqb}
+use Rattle.std.proofs.lemmas.Bool.{eq-eqb, ne_eqb}
 use Rattle.std.proofs.lemmas.Option.{slice_get-map, slice_get_within}
 use Rattle.df_format.proofs.Laws.{some-eq}
+use Rattle.df_journal.specs.Tail.{AreNumbered}
 use Rattle.df_sessions.specs.declared.session.Session as told
 use Rattle.df_sessions.specs.Requests.{session_of, sessions_of}
 use Rattle.df_sessions.specs.Table.{clients_of}
@@ -12,7 +13,7 @@ use Rattle.df_theory.specs.Units.{Session}
 use Rattle.df_model.specs.Making.{place_of_op}
 use Rattle.df_model.specs.Refusals.{first_refusal, reply_refusals}
 use Rattle.df_model.proofs.Laws.{all_pass, op_found}
-use Rattle.df_recovery.specs.State.{IsState, State, memory}
+use Rattle.df_state.specs.State.{IsState, State, memory}
 use Rattle.df_replica.specs.Replying.{MayReplyNext, place_waiting, session_waiting}
 use Rattle.df_replica.proofs.AppendTests.{eq_false, lt_false}
 
@@ -37,15 +38,6 @@ no_place op [] none = refl
 no_place op (x ∷ ss) none =
     let other : (x.op == op) ≡ false = ne_eqb x.op op (none 0 x (omega arith) refl) in
     rw other (ap (λ (n : ℕ). suc n) (no_place op ss (λ i t below there. none (suc i) t (omega (arith, below)) there)))
-
--- none of the first k has it, and neither has the next
-pub lack_more : (op : ℕ) (ss : List told.Session) (k : ℕ) (s : told.Session) → slice_get ss k ≡ Some s → s.op ≢ op → LackBefore op ss k → LackBefore op ss (k + 1)
-lack_more op ss k s at other before i t below there = elim (cases_lt i k) [
-  | inl less ↦ before i t less there
-  | inr from ↦ λ is.
-      let same : i ≡ k = omega (arith, below, from) in
-      other (ap (λ (x : told.Session). x.op) (some-eq (sym at ∙ ap (slice_get ss) (sym same) ∙ there)) ∙ is)
-]
 
 -- ---- the session that waits
 
@@ -83,3 +75,13 @@ may_reply s op body is none =
       waits = (let some = eq_false _ _ tests.0 in omega (arith, is.waiting));
       fits = (let fits = lt_false _ _ tests.1.1.0 in omega (arith, s.file.layout.message_size_within.0));
     }
+
+-- sessions with the same requests are within the same limit
+pub numbered_by : (before after : List told.Session) → sessions_of after ≡ sessions_of before → AreNumbered before → AreNumbered after
+numbered_by before after same within k s at = from (slice_get before k) refl (sym (slice_get-map session_of before k) ∙ sym (ap (λ (ss : List Session). slice_get ss k) same) ∙ slice_get-map session_of after k ∙ ap (option_map session_of) at)
+  where
+    from : (o : Option told.Session) → slice_get before k ≡ o → option_map session_of (slice_get before k) ≡ Some (session_of s) → s.request ≤ 2 ^ 62
+    from None there is = absurd (let no : option_map session_of None ≡ Some (session_of s) = subst (λ (x : Option told.Session). option_map session_of x ≡ Some (session_of s)) there is in cc)
+    from (Some t) there is =
+        let both : Some (session_of t) ≡ Some (session_of s) = subst (λ (x : Option told.Session). option_map session_of x ≡ Some (session_of s)) there is in
+        subst (λ (n : ℕ). n ≤ 2 ^ 62) (ap (λ (x : Session). x.request) (some-eq both)) (within k t there)

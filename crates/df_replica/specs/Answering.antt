@@ -4,17 +4,27 @@ use Rattle.df_disk.specs.Told.{Told}
 use Rattle.df_layout.specs.declared.damage.Class.{Class}
 use Rattle.df_theory.specs.Units
 use Rattle.df_units.specs.Meaning.{number_of}
-use Rattle.df_model.specs.Commands.{Answer, Command, Given, ToAppend, ToReadPrepare, ToReadReply, ToReply}
+use Rattle.df_format.specs.declared.reference.Reference.{Reference}
+use Rattle.df_model.specs.declared.answers.Progress.{Progress}
+use Rattle.df_model.specs.Commands.{Answer, Command, Given, ToAdvance, ToAppend, ToBegin, ToReadBlock, ToReadPrepare, ToReadReply, ToRelease, ToReply, ToWriteBlock}
 use Rattle.df_model.specs.declared.answers.Receipt.{Receipt}
 use Rattle.df_model.specs.declared.errors.AppendError.{AppendError}
 use Rattle.df_model.specs.declared.errors.AppendError.TheVariants as append
+use Rattle.df_model.specs.declared.errors.BeginError.{BeginError}
 use Rattle.df_model.specs.declared.errors.ReplyError.{ReplyError}
 use Rattle.df_model.specs.declared.errors.ReplyError.TheVariants as reply
+use Rattle.df_model.specs.declared.errors.BlockError.{BlockError}
+use Rattle.df_model.specs.declared.errors.BlockError.TheVariants as block
+use Rattle.df_model.specs.declared.errors.NotLive.{NotLive}
+use Rattle.df_model.specs.declared.errors.StepError.{StepError}
+use Rattle.df_model.specs.declared.errors.StepError.TheVariants as step
 use Rattle.df_model.specs.declared.reading.LookupError.{LookupError}
 use Rattle.df_model.specs.declared.reading.LookupError.TheVariants as lookup
 use Rattle.df_model.specs.declared.reading.PrepareError.{PrepareError}
 use Rattle.df_model.specs.declared.reading.PrepareError.TheVariants as prepare
-use Rattle.df_recovery.specs.State.{State}
+use Rattle.df_model.specs.declared.reading.ReadError.{ReadError}
+use Rattle.df_model.specs.declared.reading.ReadError.TheVariants as read
+use Rattle.df_state.specs.State.{State}
 use Rattle.df_replica.specs.Serving.{IsCall}
 use Rattle.df_replica.specs.Supply.{IsSupplied}
 
@@ -30,6 +40,16 @@ reply_answer (Ok check) = Some (ToReply (Ok (number_of check)))
 reply_answer (Err reply.DiskFault) = None
 reply_answer (Err e) = Some (ToReply (Err e))
 
+-- that of a begin, which asks no disk
+abbrev pub begin_answer : Result ℕ BeginError → Option Answer
+begin_answer result = Some (ToBegin result)
+
+-- that of a step; at a fault of the disk there is none, nor where copies of the new superblock were not read back
+abbrev pub step_answer : Result Progress StepError → Option Answer
+step_answer (Err step.DiskFault) = None
+step_answer (Err (step.Damaged place kind)) = None
+step_answer result = Some (ToAdvance result)
+
 -- that of a read of a prepare
 abbrev pub read_prepare_answer : Result Units.Message PrepareError → Option Answer
 read_prepare_answer (Err prepare.DiskFault) = None
@@ -39,6 +59,22 @@ read_prepare_answer result = Some (ToReadPrepare result)
 abbrev pub read_reply_answer : Result Units.Message LookupError → Option Answer
 read_reply_answer (Err lookup.DiskFault) = None
 read_reply_answer result = Some (ToReadReply result)
+
+-- that of a write of a block
+abbrev pub write_block_answer : Result Reference BlockError → Option Answer
+write_block_answer (Ok reference) = Some (ToWriteBlock (Ok (reference.address, number_of reference.checksum)))
+write_block_answer (Err block.DiskFault) = None
+write_block_answer (Err e) = Some (ToWriteBlock (Err e))
+
+-- that of a release, which no fault ends
+abbrev pub release_answer : {A : Type 0} → Result A NotLive → Option Answer
+release_answer (Ok done) = Some (ToRelease (Ok tt))
+release_answer (Err e) = Some (ToRelease (Err e))
+
+-- that of a read of a block
+abbrev pub read_block_answer : Result Units.Block ReadError → Option Answer
+read_block_answer (Err read.DiskFault) = None
+read_block_answer result = Some (ToReadBlock result)
 
 -- the command is served, whatever it was rightly supplied with
 abbrev pub Serves : Command → (s t : State) → (old new : Option Told) → Option Answer → Type 0
@@ -52,3 +88,11 @@ Gives told found given = Unit {0}
 -- the read is served, and does nothing to the disk
 abbrev pub ServesRead : Command → (s t : State) → Option Told → Option (Result Units.Message Class) → Option Answer → Type 0
 ServesRead command s t told found answer = (given : Given) → IsSupplied s told command given → Gives told found given → IsCall given command s t told told answer
+
+-- so it is with a block that is read
+abbrev pub GivesBlock : Option Told → Option (Result Units.Block Class) → Given → Type 0
+GivesBlock None (Some found) given = given.block ≡ found
+GivesBlock told found given = Unit {0}
+
+abbrev pub ServesBlockRead : Command → (s t : State) → Option Told → Option (Result Units.Block Class) → Option Answer → Type 0
+ServesBlockRead command s t told found answer = (given : Given) → IsSupplied s told command given → GivesBlock told found given → IsCall given command s t told told answer

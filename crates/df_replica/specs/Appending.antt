@@ -20,7 +20,7 @@ use Rattle.df_model.specs.Refusals.{append_refusals, first_refusal}
 use Rattle.df_model.specs.declared.answers.Receipt.{Receipt}
 use Rattle.df_model.specs.declared.errors.AppendError.{AppendError}
 use Rattle.df_model.specs.declared.errors.AppendError.TheVariants as append
-use Rattle.df_recovery.specs.State.{State, memory}
+use Rattle.df_state.specs.State.{State, memory}
 
 -- what the maker of the next prepare says of it
 abbrev pub header_given : State → (client request : ℕ) → Header

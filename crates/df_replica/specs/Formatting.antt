@@ -1,4 +1,4 @@
--- What the making of a file of copies alone answers, and what it does to the disk.
+-- What the making of a file answers, and what it does to the disk.
 use Rattle.std.specs.Prelude.{◌≡◌, ◌<◌, ◌≤◌, ℕ, true, false, List, Option, Some, None, Result, Ok, Err}
 use Rattle.df_base.specs.Causes.{Rose}
 use Rattle.df_base.specs.Image.{Image}
@@ -6,7 +6,7 @@ use Rattle.df_base.specs.Log.{Event}
 use Rattle.df_disk.specs.Told.{Told}
 use Rattle.df_disk.specs.Adds.{AddsPart, after_all}
 use Rattle.df_format.specs.Copies.{is_blank_copy}
-use Rattle.df_recovery.specs.Opening.{IsUnformatted}
+use Rattle.df_superblock.specs.Blank.{IsUnformatted}
 use Rattle.df_model.specs.declared.errors.FormatError.{FormatError}
 use Rattle.df_model.specs.declared.errors.FormatError.TheVariants.{ClusterZero, NotBlank, DiskFault}
 

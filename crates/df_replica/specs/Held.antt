@@ -2,34 +2,34 @@
 use Rattle.std.specs.Prelude.{◌≡◌, List, [], Option, Some, None, IsSome}
 use Rattle.df_format.specs.declared.header.Header.{Header}
 use Rattle.df_buffers.specs.Sounds.{Holding}
-use Rattle.df_recovery.specs.declared.file.DataFile.{DataFile}
-use Rattle.df_recovery.specs.declared.rooms.Rooms.{Rooms}
+use Rattle.df_state.specs.declared.file.DataFile.{DataFile}
+use Rattle.df_state.specs.declared.log_rooms.LogRooms.{LogRooms}
 
 -- the table of headers in them
-abbrev pub headers_of : Option Rooms → List Header
+abbrev pub headers_of : Option LogRooms → List Header
 headers_of None = []
 headers_of (Some rooms) = rooms.headers
 
 -- there are rooms, and they are of the file's layout
-abbrev pub AreFor : DataFile → Option Rooms → Type 0
+abbrev pub AreFor : DataFile → Option LogRooms → Type 0
 AreFor file None = ⊥
 AreFor file (Some rooms) = rooms.layout ≡ file.layout
 
 -- the room of a prepare holds one
-abbrev pub HoldsPrepare : Option Rooms → Type 0
+abbrev pub HoldsPrepare : Option LogRooms → Type 0
 HoldsPrepare None = ⊥
 HoldsPrepare (Some rooms) = IsSome rooms.prepare.held
 
 -- and lends it
-abbrev pub LendsPrepare : Option Rooms → Holding → Type 0
+abbrev pub LendsPrepare : Option LogRooms → Holding → Type 0
 LendsPrepare None lent = ⊥
 LendsPrepare (Some rooms) lent = rooms.prepare.held ≡ Some lent
 
 -- so it is with the room of a reply
-abbrev pub HoldsReply : Option Rooms → Type 0
+abbrev pub HoldsReply : Option LogRooms → Type 0
 HoldsReply None = ⊥
 HoldsReply (Some rooms) = IsSome rooms.reply.held
 
-abbrev pub LendsReply : Option Rooms → Holding → Type 0
+abbrev pub LendsReply : Option LogRooms → Holding → Type 0
 LendsReply None lent = ⊥
 LendsReply (Some rooms) lent = rooms.reply.held ≡ Some lent

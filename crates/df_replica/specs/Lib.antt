@@ -1,6 +1,4 @@
 pub mod Formatting
-pub mod OneContent
-pub mod Laws
 pub mod Serving
 pub mod Making
 pub mod Replica
@@ -11,9 +9,14 @@ pub mod Refusing
 pub mod Appending
 pub mod Answering
 pub mod Replying
+pub mod Beginning
+pub mod Stepping
 pub mod Reading
 pub mod Lookups
+pub mod Blocks
+pub mod BlockReads
 pub mod Supply
 pub mod Session
 pub mod Opened
+pub mod HeldBlocks
 pub mod Following

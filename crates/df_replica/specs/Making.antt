@@ -1,5 +1,5 @@
 -- The making of a whole file: its device calls, what they are in the words of the model, and on what disk a file may be made.
-use Rattle.std.specs.Prelude.{◌<◌, ◌+◌, ◌/◌, ℕ, zero, suc, List, [], ◌∷◌, ◌++◌, map, Option, Result, OnOk}
+use Rattle.std.specs.Prelude.{◌<◌, ◌+◌, ◌/◌, ℕ, zero, suc, List, [], ◌∷◌, ◌++◌, map, Result, OnOk}
 use Rattle.std.specs.List.{range_with_len}
 use Rattle.df_base.specs.Log.{Event, IsLog, Sync}
 use Rattle.df_base.specs.Moments.{EachMoment}
@@ -10,16 +10,17 @@ use Rattle.df_format.specs.declared.superblock.SuperFields.{SuperFields}
 use Rattle.df_format.specs.First.{first_content, first_super}
 use Rattle.df_format.specs.UnitLaws.{AreSixteen}
 use Rattle.df_superblock.specs.Events.{update_events}
-use Rattle.df_theory.specs.Units.{Parts}
 use Rattle.df_theory.specs.Runs.{Step}
 use Rattle.df_theory.specs.Device.{IsSafeDisk, units_log}
 use Rattle.df_theory.specs.MakingLaws.{IsMaking, format_steps}
-use Rattle.df_units.specs.Format.{format_of, shape_of}
+use Rattle.df_units.specs.Format.{format_of}
 use Rattle.df_units.specs.Making.{IsMadeOnDisk, first_view, header_puts, header_writes}
 use Rattle.df_units.specs.Meaning.{content_of}
 use Rattle.df_units.specs.Puts.{put_copies}
 use Rattle.df_units.specs.Sample.{reserved_header}
 use Rattle.df_headers.specs.Ring.{in_sector}
+use Rattle.df_state.specs.declared.file.DataFile.{DataFile}
+use Rattle.df_state.specs.State.{shape}
 
 -- n sectors of a table, from this one on
 abbrev pub sectors_of : ℕ → ℕ → List Header → List (List Header)
@@ -50,14 +51,16 @@ making_events layout cluster = file_events layout (reserved_table layout cluster
 abbrev pub making_steps : Layout → ℕ → List Step
 making_steps layout cluster = format_steps (header_puts 0 (sectors_in layout (reserved_table layout cluster))) (put_copies (first_super layout cluster))
 
+abbrev pub file_of : (layout : Layout) (cluster : ℕ) → 0 < cluster → DataFile
+file_of layout cluster named = record { layout = layout; cluster = cluster; named = named }
+
 -- a file of this layout and cluster may be made on the disk, as on one that was never written
 pub record MayMakeOn (layout : Layout) (cluster : ℕ) (t : Told) : Type 0 where
   pub named : 0 < cluster
-  pub parse : ℕ → List ℕ → Option Parts
   pub is_log : IsLog t.log
-  pub making : IsMaking (shape_of layout cluster named parse) (units_log (format_of layout cluster) t.log) (content_of (first_content layout cluster))
+  pub making : IsMaking (shape (file_of layout cluster named)) (units_log (format_of layout cluster) t.log) (content_of (first_content layout cluster))
 
 -- what a making leaves: the disk is safe at each moment, also where it failed, and where it was made it has the first view, tidy and with all that it references
 pub record Makes {T E : Type 0} (layout : Layout) (cluster : ℕ) (before : Told) (may : MayMakeOn layout cluster before) (after : Told) (result : Result T E) : Type 0 where
-  pub moments : EachMoment before.log after.log (IsSafeDisk (format_of layout cluster) (shape_of layout cluster may.named may.parse))
-  pub made : OnOk result (IsMadeOnDisk (format_of layout cluster) (shape_of layout cluster may.named may.parse) before.log after.log (first_view layout cluster))
+  pub moments : EachMoment before.log after.log (IsSafeDisk (format_of layout cluster) (shape (file_of layout cluster may.named)))
+  pub made : OnOk result (IsMadeOnDisk (format_of layout cluster) (shape (file_of layout cluster may.named)) before.log after.log (first_view layout cluster))

@@ -1,5 +1,5 @@
 -- The mending of a file: which sectors of the header ring are written, its device calls, what they are in the words of the model, and what they leave.
-use Rattle.std.specs.Prelude.{◌≡◌, ◌/◌, ◌==◌, ◌&&◌, ℕ, Bool, true, false, List, [], ◌∷◌, ◌++◌, length, map, Option}
+use Rattle.std.specs.Prelude.{◌≡◌, ◌/◌, ◌==◌, ◌&&◌, ℕ, Bool, true, false, List, [], ◌∷◌, ◌++◌, length, map}
 use Rattle.std.specs.List.{filter, list_any, range_with_len}
 use Rattle.df_base.specs.Log.{Event, IsLog, Sync, now}
 use Rattle.df_disk.specs.Told.{IsHonest, Told, did}
@@ -12,12 +12,11 @@ use Rattle.df_format.specs.Copies.{content_at}
 use Rattle.df_format.specs.declared.superblock.SuperFields.{SuperFields}
 use Rattle.df_quorum.specs.declared.slot.Slot.{Slot}
 use Rattle.df_quorum.specs.Quorum.{AreMembers}
-use Rattle.df_theory.specs.Units.{Parts, Units}
+use Rattle.df_theory.specs.Units.{Units}
 use Rattle.df_theory.specs.Rests.{IsQuiet, RestsOn}
 use Rattle.df_theory.specs.Shape.{Shape}
 use Rattle.df_theory.specs.View.{View}
-use Rattle.df_theory.specs.Device.{IsSafeDisk, NoChanceOf, units_log}
-use Rattle.df_theory.specs.Found.{IsFound}
+use Rattle.df_theory.specs.Device.{NoChanceOf, units_log}
 use Rattle.df_theory.specs.MendLaws.{IsTable as IsSlotTable, MayMend, mend_steps}
 use Rattle.df_theory.specs.Runs.{Step}
 use Rattle.df_theory.specs.TidyLaws.{IsTidy}
@@ -29,13 +28,14 @@ use Rattle.df_journal.specs.Shows.{Tells}
 use Rattle.df_journal.specs.Append.{ShowsRing}
 use Rattle.df_superblock.specs.Events.{repair_events}
 use Rattle.df_superblock.specs.Steps.{repaired}
-use Rattle.df_recovery.specs.declared.file.DataFile.{DataFile}
+use Rattle.df_state.specs.declared.file.DataFile.{DataFile}
 use Rattle.df_recovery.specs.Opening.{HasSuper}
 use Rattle.df_recovery.specs.Plan.{AreDistinct, IsScanOf, OthersAreShown, headers_in, if_wanted, mend_list}
-use Rattle.df_replica.specs.Serving.{format}
-use Rattle.df_recovery.specs.declared.superblock.Found.{Found}
-use Rattle.df_replica.specs.Replica.{Survey, state_with}
-use Rattle.df_recovery.specs.State.{State, shape}
+use Rattle.df_replica.specs.Following.{MayOpen}
+use Rattle.df_replica.specs.Serving.{Grade, StandingFor, StandsFor, format}
+use Rattle.df_recovery.specs.declared.scanned.Scanned.{Scanned}
+use Rattle.df_replica.specs.Replica.{Survey}
+use Rattle.df_state.specs.State.{State, shape}
 
 -- ---- sectors
 
@@ -95,14 +95,16 @@ mending_steps layout table mends f members = mend_steps (sector_puts table (sect
 
 -- the log rests on a view, and with this table and this list it may be mended
 pub record MayMendOn (file : DataFile) (table : List Header) (mends : List Mend) (f : SuperFields) (members : List Bool) (t : Told) : Type 0 where
-  pub parse : ℕ → List ℕ → Option Parts
+  pub grade : Grade
   pub view : View
   pub is_log : IsLog t.log
-  pub may : MayMend (shape file parse) (units_log (format file) t.log) view (headers_in table) (sector_puts table (sectors_of file.layout mends)) (repaired f 0 members)
+  pub standing : StandingFor grade (units_log (format file) t.log) view
+  pub may : MayMend (shape file) (units_log (format file) t.log) view (headers_in table) (sector_puts table (sectors_of file.layout mends)) (repaired f 0 members)
 
--- the file is tidy, with the view, and its header ring shows the table
-pub record IsMended (file : DataFile) (parse : ℕ → List ℕ → Option Parts) (view : View) (table : List Header) (t : Told) : Type 0 where
-  pub tidy : IsTidy (shape file parse) (units_log (format file) t.log) view
+-- the file is tidy, with the view, and its header ring shows the table; by the grade the referenced blocks stand, too
+pub record IsMended (g : Grade) (file : DataFile) (view : View) (table : List Header) (t : Told) : Type 0 where
+  pub tidy : IsTidy (shape file) (units_log (format file) t.log) view
+  pub standing : StandingFor g (units_log (format file) t.log) view
   pub ring : ShowsRing file.layout file.cluster (now t.log) table
 
 -- ---- what an open knows of a file before it mends it
@@ -115,12 +117,11 @@ pub record ArePlannedFrom (layout : Layout) (cluster : ℕ) (scan : Scan) (copie
   pub list : (image : Units) → Tells layout image scan → mends ≡ mend_list layout scan image copies members
 
 -- what a survey hands out is planned from what was read
-pub record IsSettledFrom (layout : Layout) (found : Found) (scan : Scan) (copies : List Slot) (s : Survey) : Type 0 where
-  pub layout_is : s.state.file.layout ≡ layout
-  pub cluster_is : s.state.file.cluster ≡ found.content.cluster
-  pub fields_are : s.state.fields ≡ found.content
-  pub chosen_is : s.chosen ≡ found.chosen
-  pub planned : ArePlannedFrom s.state.file.layout s.state.file.cluster scan copies s.chosen.members s.state.headers s.mends
+pub record IsSettledFrom (scanned : Scanned) (s : Survey) : Type 0 where
+  pub file_is : s.state.file ≡ scanned.file
+  pub fields_are : s.state.fields ≡ scanned.copies.found.content
+  pub chosen_is : s.chosen ≡ scanned.copies.found.chosen
+  pub planned : ArePlannedFrom s.state.file.layout s.state.file.cluster scanned.log.slots scanned.copies.slots s.chosen.members s.state.headers s.mends
 
 -- the scan and the choice are what the disk shows, and the table and the list are planned from them
 pub record IsPlanned (file : DataFile) (table : List Header) (mends : List Mend) (f : SuperFields) (members : List Bool) (t : Told) : Type 0 where
@@ -133,31 +134,25 @@ pub record IsPlanned (file : DataFile) (table : List Header) (mends : List Mend)
   pub planned : ArePlannedFrom file.layout file.cluster scan copies members table mends
 
 -- an honest disk whose log rests on a view and is quiet, where no unit came about by chance: what holds of it behind the barrier of an open
-pub record RestsOnDisk (file : DataFile) (parse : ℕ → List ℕ → Option Parts) (view : View) (t : Told) : Type 0 where
+pub record RestsOnDisk (g : Grade) (file : DataFile) (view : View) (t : Told) : Type 0 where
   pub is_log : IsLog t.log
   pub honest : IsHonest t
-  pub rests : RestsOn (shape file parse) (units_log (format file) t.log) view
+  pub rests : RestsOn (shape file) (units_log (format file) t.log) view
   pub quiet : IsQuiet (units_log (format file) t.log)
   pub no_chance : NoChanceOf (format file) t.log (now t.log)
+  pub standing : StandingFor g (units_log (format file) t.log) view
 
 -- what is planned of it may be mended
 abbrev pub PlannedMayMend : Type 0
 PlannedMayMend =
-    (file : DataFile) (parse : ℕ → List ℕ → Option Parts) (view : View) (table : List Header) (mends : List Mend) (f : SuperFields) (members : List Bool) (t : Told)
-    → length members ≡ 4 → IsPlanned file table mends f members t → RestsOnDisk file parse view t
-    → MayMend (shape file parse) (units_log (format file) t.log) view (headers_in table) (sector_puts table (sectors_of file.layout mends)) (repaired f 0 members)
+    (g : Grade) (file : DataFile) (view : View) (table : List Header) (mends : List Mend) (f : SuperFields) (members : List Bool) (t : Told)
+    → length members ≡ 4 → IsPlanned file table mends f members t → RestsOnDisk g file view t
+    → MayMend (shape file) (units_log (format file) t.log) view (headers_in table) (sector_puts table (sectors_of file.layout mends)) (repaired f 0 members)
 
 -- the state once it is mended: calls may go on
 abbrev pub live_state : State → State
-live_state s = state_with s.file s.fields s.head s.head_checksum s.replies s.table s.waiting s.headers true
-
--- a disk that is safe to open: this view is found in what its log leaves, it shows that, and none of its units came about by chance
-pub record MayOpen (file : DataFile) (parse : ℕ → List ℕ → Option Parts) (view : View) (t : Told) : Type 0 where
-  pub safe : IsSafeDisk (format file) (shape file parse) t.log
-  pub honest : IsHonest t
-  pub found : IsFound (shape file parse) (unit_at file.layout file.cluster (now t.log)) view
-  pub no_chance : NoChanceOf (format file) t.log (now t.log)
+live_state s = record s { live = true }
 
 -- behind the barrier its log rests on the view
 abbrev pub BarrierRests : Type 0
-BarrierRests = (file : DataFile) (parse : ℕ → List ℕ → Option Parts) (view : View) (t : Told) → MayOpen file parse view t → RestsOnDisk file parse view (did Sync t)
+BarrierRests = (g : Grade) (file : DataFile) (view : View) (t : Told) → MayOpen file view t → StandsFor g (unit_at file.layout file.cluster t.shown) view → RestsOnDisk g file view (did Sync t)

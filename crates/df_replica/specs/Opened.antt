@@ -1,17 +1,16 @@
 -- What an open leaves of a file where the disk failed in it.
-use Rattle.std.specs.Prelude.{◌≡◌, ◌⊎◌, ℕ, List, Option, Some}
+use Rattle.std.specs.Prelude.{◌≡◌, ◌⊎◌, List, Option, Some}
 use Rattle.df_base.specs.Log.{Event, Sync}
 use Rattle.df_base.specs.Moments.{EachMoment}
 use Rattle.df_disk.specs.Told.{Told, did}
 use Rattle.df_disk.specs.Adds.{after_all}
 use Rattle.df_layout.specs.declared.layout.Layout.{Layout}
-use Rattle.df_theory.specs.Device.{IsGoodDisk}
-use Rattle.df_theory.specs.Units.{Parts}
 use Rattle.df_theory.specs.View.{View}
-use Rattle.df_recovery.specs.State.{State, shape}
+use Rattle.df_units.specs.Bytes.{unit_at}
+use Rattle.df_state.specs.State.{State, shape}
 use Rattle.df_recovery.specs.Surveys.{IsOpened}
-use Rattle.df_replica.specs.Mending.{MayOpen}
-use Rattle.df_replica.specs.Serving.{format}
+use Rattle.df_replica.specs.Following.{MayOpen}
+use Rattle.df_replica.specs.Serving.{Grade, IsGoodFor, StandsFor, format}
 
 -- what the disk tells changed by events alone
 abbrev pub ToldBy : (old new : Option Told) → Type 0
@@ -22,7 +21,8 @@ pub record MendsPartly (layout : Layout) (t : Told) (later : Option Told) : Type
   pub state : State
   pub opened : IsOpened layout t.shown state
   pub told : ToldBy (Some (did Sync t)) later
-  pub moments : (n : Told) (parse : ℕ → List ℕ → Option Parts) (view : View) → later ≡ Some n → MayOpen state.file parse view t → EachMoment (did Sync t).log n.log (IsGoodDisk (format state.file) (shape state.file parse) view view)
+  pub moments : (n : Told) (g : Grade) (view : View) → later ≡ Some n → MayOpen state.file view t → StandsFor g (unit_at state.file.layout state.file.cluster t.shown) view
+      → EachMoment (did Sync t).log n.log (IsGoodFor g (format state.file) (shape state.file) view view)
 
 -- it failed in the barrier, which added a sync or nothing, or in a read behind it; or within the mending
 abbrev pub StopsOpening : Layout → Told → Option Told → Type 0

@@ -3,10 +3,12 @@ use Rattle.std.specs.Prelude.{◌≡◌, ℕ, true, false, List, Option, Some, N
 use Rattle.df_base.specs.Log.{IsLog, Log, now}
 use Rattle.df_base.specs.Moments.{EachMoment, Extends}
 use Rattle.df_disk.specs.Told.{Told}
-use Rattle.df_theory.specs.Units.{Parts}
+use Rattle.df_theory.specs.Units.{Parts, Units}
 use Rattle.df_theory.specs.Shape.{Shape}
 use Rattle.df_theory.specs.UnitLog.{UnitLog}
 use Rattle.df_theory.specs.View.{View}
+use Rattle.df_theory.specs.Holds.{Stands}
+use Rattle.df_theory.specs.WholeLaws.{IsStanding}
 use Rattle.df_theory.specs.Device.{Format, IsGoodDisk, IsGoodWholeDisk, units_log}
 use Rattle.df_units.specs.Format.{format_of}
 use Rattle.df_journal.specs.Append.{ShowsRing}
@@ -14,20 +16,14 @@ use Rattle.df_model.specs.Commands.{Answer, Command, Given, IsInput, after}
 use Rattle.df_model.specs.Laws.{IsKeptBy}
 use Rattle.df_model.specs.Sense.{IsBacked, IsWork}
 use Rattle.df_model.specs.Work.{Work, kept}
-use Rattle.df_recovery.specs.declared.file.DataFile.{DataFile}
-use Rattle.df_recovery.specs.State.{Represents, State, shape}
+use Rattle.df_state.specs.declared.file.DataFile.{DataFile}
+use Rattle.df_state.specs.State.{Represents, State, shape, spelling}
 use Rattle.df_replica.specs.Supply.{IsSupplied}
 
 -- how much holds of a file: that nothing is to be mended, or that each block that it references is shown, too
 pub data Grade : Type 0 where
   Firm : Grade
   Whole : Grade
-
--- what is said of a file from outside: how the text of its trailers is read and spelled, and how much holds of it
-pub record Known : Type 0 where
-  pub parse : ℕ → List ℕ → Option Parts
-  pub spell : Parts → List ℕ
-  pub grade : Grade
 
 abbrev pub KeptFor : Grade → Shape → (Parts → List ℕ) → UnitLog → Work → Type 0
 KeptFor Firm sh spell log w = IsKeptBy sh spell log w
@@ -37,26 +33,36 @@ abbrev pub IsGoodFor : Grade → Format → Shape → (v u : View) → Log → T
 IsGoodFor Firm f sh v u log = IsGoodDisk f sh v u log
 IsGoodFor Whole f sh v u log = IsGoodWholeDisk f sh v u log
 
+-- what is asked of an image for it: nothing, or that it shows each block that the view references
+abbrev pub StandsFor : Grade → Units → View → Type 0
+StandsFor Firm image v = Unit {0}
+StandsFor Whole image v = Stands image v
+
+-- of a log, that none of them is being written, too
+abbrev pub StandingFor : Grade → UnitLog → View → Type 0
+StandingFor Firm log v = Unit {0}
+StandingFor Whole log v = IsStanding log v
+
 abbrev pub format : DataFile → Format
 format file = format_of file.layout file.cluster
 
 -- the one fact that a session keeps from call to call: the replica stands for this state of the machine, and the file that the log leaves is that state's
-pub record IsKept (c : Known) (s : State) (w : Work) (log : Log) : Type 0 where
+pub record IsKept (g : Grade) (s : State) (w : Work) (log : Log) : Type 0 where
   pub log_is : IsLog log
-  pub stands : Represents (shape s.file c.parse) c.spell s w
-  pub kept_by : KeptFor c.grade (shape s.file c.parse) c.spell (units_log (format s.file) log) w
+  pub stands : Represents s w
+  pub kept_by : KeptFor g (shape s.file) (spelling s.file) (units_log (format s.file) log) w
   pub ring : ShowsRing s.file.layout s.file.cluster (now log) s.headers
 
 -- where the disk tells no log, that the state makes sense and the replica stands for it
-abbrev pub Keeps : (c : Known) (s : State) → Work → Option Told → Type 0
-Keeps c s w None = IsWork (shape s.file c.parse) c.spell w × Represents (shape s.file c.parse) c.spell s w
-Keeps c s w (Some t) = IsKept c s w t.log
+abbrev pub Keeps : (g : Grade) (s : State) → Work → Option Told → Type 0
+Keeps g s w None = IsWork (shape s.file) (spelling s.file) w × Represents s w
+Keeps g s w (Some t) = IsKept g s w t.log
 
 -- at each moment of a call, each image that a stop may leave holds one of two views
-abbrev pub EachIsGood : (c : Known) (s : State) → (v u : View) → (old new : Option Told) → Type 0
-EachIsGood c s v u (Some t) (Some n) = Extends n.log t.log × EachMoment t.log n.log (IsGoodFor c.grade (format s.file) (shape s.file c.parse) v u)
-EachIsGood c s v u None None = Unit {0}
-EachIsGood c s v u old new = ⊥
+abbrev pub EachIsGood : (g : Grade) (s : State) → (v u : View) → (old new : Option Told) → Type 0
+EachIsGood g s v u (Some t) (Some n) = Extends n.log t.log × EachMoment t.log n.log (IsGoodFor g (format s.file) (shape s.file) v u)
+EachIsGood g s v u None None = Unit {0}
+EachIsGood g s v u old new = ⊥
 
 -- where there is an answer
 abbrev pub OnSome : Option Answer → Type 0 → Type 0
@@ -69,13 +75,13 @@ StaysLive None t = t.live ≡ false
 StaysLive (Some answer) t = t.live ≡ true
 
 -- what a call leaves: the answer is the machine's, and what is kept goes on from the state after it
-abbrev pub GoesOnTo : Known → (t : State) → Option Told → (Work × Answer) → Option Answer → Type 0
-GoesOnTo c t new expected None = Unit {0}
-GoesOnTo c t new expected (Some answer) = (answer ≡ expected.1) × Keeps c t expected.0 new
+abbrev pub GoesOnTo : Grade → (t : State) → Option Told → (Work × Answer) → Option Answer → Type 0
+GoesOnTo g t new expected None = Unit {0}
+GoesOnTo g t new expected (Some answer) = (answer ≡ expected.1) × Keeps g t expected.0 new
 
 -- the machine's next state and answer
-abbrev pub next : DataFile → Known → Work → Given → Command → Work × Answer
-next file c w given command = after (shape file c.parse) c.spell w given command
+abbrev pub next : DataFile → Work → Given → Command → Work × Answer
+next file w given command = after (shape file) (spelling file) w given command
 
 -- every call, with what it was rightly supplied with, from each state of the machine that the replica stands for: it answers as the machine; and where the file was kept for
 -- that state, each moment is good and what comes after is kept
@@ -84,6 +90,6 @@ pub record IsCall (given : Given) (command : Command) (s t : State) (old new : O
   pub live : StaysLive answer t
   pub input : IsInput given command
   pub supplied : IsSupplied s old command given
-  pub answers : (c : Known) (w : Work) → Keeps c s w None → GoesOnTo c t None (next s.file c w given command) answer
-  pub keeps : (c : Known) (w : Work) → Keeps c s w old
-      → EachIsGood c s (kept w) (kept (next s.file c w given command).0) old new × GoesOnTo c t new (next s.file c w given command) answer
+  pub answers : (g : Grade) (w : Work) → Keeps g s w None → GoesOnTo g t None (next s.file w given command) answer
+  pub keeps : (g : Grade) (w : Work) → Keeps g s w old
+      → EachIsGood g s (kept w) (kept (next s.file w given command).0) old new × GoesOnTo g t new (next s.file w given command) answer

@@ -11,9 +11,9 @@ use Rattle.df_theory.specs.Holds.{Held, Stands}
 use Rattle.df_theory.specs.Device.{IsSafeDisk, NoChanceOf}
 use Rattle.df_model.specs.Commands.{Answer, Command, Given}
 use Rattle.df_model.specs.Work.{Work, kept}
-use Rattle.df_recovery.specs.declared.file.DataFile.{DataFile}
-use Rattle.df_recovery.specs.State.{State, shape}
-use Rattle.df_replica.specs.Serving.{Firm, Grade, IsCall, Keeps, Known, Whole, format, next}
+use Rattle.df_state.specs.declared.file.DataFile.{DataFile}
+use Rattle.df_state.specs.State.{State, shape}
+use Rattle.df_replica.specs.Serving.{Firm, Grade, IsCall, Keeps, Whole, format, next}
 
 -- a command with what it was supplied with
 pub record Act : Type 0 where
@@ -21,14 +21,14 @@ pub record Act : Type 0 where
   pub given : Given
 
 -- the state after these acts
-abbrev pub work_after : DataFile → Known → Work → List Act → Work
-work_after file c w [] = w
-work_after file c w (a ∷ acts) = work_after file c (next file c w a.given a.command).0 acts
+abbrev pub work_after : DataFile → Work → List Act → Work
+work_after file w [] = w
+work_after file w (a ∷ acts) = work_after file (next file w a.given a.command).0 acts
 
 -- their answers
-abbrev pub answers_of : DataFile → Known → Work → List Act → List Answer
-answers_of file c w [] = []
-answers_of file c w (a ∷ acts) = (next file c w a.given a.command).1 ∷ answers_of file c (next file c w a.given a.command).0 acts
+abbrev pub answers_of : DataFile → Work → List Act → List Answer
+answers_of file w [] = []
+answers_of file w (a ∷ acts) = (next file w a.given a.command).1 ∷ answers_of file (next file w a.given a.command).0 acts
 
 -- the image has the view; of a whole file with each block that it references
 abbrev pub HoldsFor : Grade → Shape → Units → View → Type 0
@@ -36,46 +36,46 @@ HoldsFor Firm sh image v = Held sh image v
 HoldsFor Whole sh image v = Held sh image v × Stands image v
 
 -- the image has the view of this state
-abbrev pub HasView : DataFile → Known → Work → Image → Type 0
-HasView file c w image = HoldsFor c.grade (shape file c.parse) ((format file).unit_at image) (kept w)
+abbrev pub HasView : DataFile → Grade → Work → Image → Type 0
+HasView file g w image = HoldsFor g (shape file) ((format file).unit_at image) (kept w)
 
 -- the image has the view after some of the acts, from the first on
-abbrev pub HoldsSome : DataFile → Known → Work → List Act → Image → Type 0
-HoldsSome file c w [] image = HasView file c w image
-HoldsSome file c w (a ∷ acts) image = HasView file c w image ⊎ HoldsSome file c (next file c w a.given a.command).0 acts image
+abbrev pub HoldsSome : DataFile → Grade → Work → List Act → Image → Type 0
+HoldsSome file g w [] image = HasView file g w image
+HoldsSome file g w (a ∷ acts) image = HasView file g w image ⊎ HoldsSome file g (next file w a.given a.command).0 acts image
 
 -- a moment: the log is safe, and each image that a stop may leave, under no chance, has the view after some of the acts
-pub record IsMidway (file : DataFile) (c : Known) (w : Work) (acts : List Act) (log : Log) : Type 0 where
-  pub safe : IsSafeDisk (format file) (shape file c.parse) log
-  pub left : (image : Image) → IsLeft log image → NoChanceOf (format file) log image → HoldsSome file c w acts image
+pub record IsMidway (file : DataFile) (g : Grade) (w : Work) (acts : List Act) (log : Log) : Type 0 where
+  pub safe : IsSafeDisk (format file) (shape file) log
+  pub left : (image : Image) → IsLeft log image → NoChanceOf (format file) log image → HoldsSome file g w acts image
 
-abbrev pub EachIsMidway : DataFile → Known → Work → List Act → (first new : Option Told) → Type 0
-EachIsMidway file c w acts (Some t) (Some n) = Extends n.log t.log × EachMoment t.log n.log (IsMidway file c w acts)
-EachIsMidway file c w acts None None = Unit {0}
-EachIsMidway file c w acts first new = ⊥
+abbrev pub EachIsMidway : DataFile → Grade → Work → List Act → (first new : Option Told) → Type 0
+EachIsMidway file g w acts (Some t) (Some n) = Extends n.log t.log × EachMoment t.log n.log (IsMidway file g w acts)
+EachIsMidway file g w acts None None = Unit {0}
+EachIsMidway file g w acts first new = ⊥
 
 -- whatever a stop leaves now, under no chance, has the view of this state
-abbrev pub LeavesView : DataFile → Known → Work → Option Told → Type 0
-LeavesView file c w None = Unit {0}
-LeavesView file c w (Some t) = (image : Image) → IsLeft t.log image → NoChanceOf (format file) t.log image → HasView file c w image
+abbrev pub LeavesView : DataFile → Grade → Work → Option Told → Type 0
+LeavesView file g w None = Unit {0}
+LeavesView file g w (Some t) = (image : Image) → IsLeft t.log image → NoChanceOf (format file) t.log image → HasView file g w image
 
 -- or that of one of two
-abbrev pub LeavesEither : DataFile → Known → (w u : Work) → Option Told → Type 0
-LeavesEither file c w u None = Unit {0}
-LeavesEither file c w u (Some t) = (image : Image) → IsLeft t.log image → NoChanceOf (format file) t.log image → HasView file c w image ⊎ HasView file c u image
+abbrev pub LeavesEither : DataFile → Grade → (w u : Work) → Option Told → Type 0
+LeavesEither file g w u None = Unit {0}
+LeavesEither file g w u (Some t) = (image : Image) → IsLeft t.log image → NoChanceOf (format file) t.log image → HasView file g w image ⊎ HasView file g u image
 
 -- from one state of a replica to another these acts were served: from each state of the machine that the first stood for, the answers are the machine's and the second stands
 -- for the state after them; and where the file was kept, it is, and each moment since is midway
 pub record IsServed (s0 s : State) (told0 told : Option Told) (acts : List Act) (answers : List Answer) : Type 0 where
   pub file : s.file ≡ s0.file
   pub live : s.live ≡ true
-  pub answered : (c : Known) (w : Work) → Keeps c s0 w None → (answers ≡ answers_of s0.file c w acts) × Keeps c s (work_after s0.file c w acts) None
-  pub kept_on : (c : Known) (w : Work) → Keeps c s0 w told0 → EachIsMidway s0.file c w acts told0 told × Keeps c s (work_after s0.file c w acts) told
+  pub answered : (g : Grade) (w : Work) → Keeps g s0 w None → (answers ≡ answers_of s0.file w acts) × Keeps g s (work_after s0.file w acts) None
+  pub kept_on : (g : Grade) (w : Work) → Keeps g s0 w told0 → EachIsMidway s0.file g w acts told0 told × Keeps g s (work_after s0.file w acts) told
 
 -- the call after them ended in a fault: each moment is midway in the acts and this one, and what a stop leaves now has the view after the acts or after one more, never less
 pub record IsStopped (s0 : State) (told0 told : Option Told) (acts : List Act) (act : Act) : Type 0 where
-  pub moments : (c : Known) (w : Work) → Keeps c s0 w told0 → EachIsMidway s0.file c w (acts ++ act ∷ []) told0 told
-  pub left : (c : Known) (w : Work) → Keeps c s0 w told0 → LeavesEither s0.file c (work_after s0.file c w acts) (work_after s0.file c w (acts ++ act ∷ [])) told
+  pub moments : (g : Grade) (w : Work) → Keeps g s0 w told0 → EachIsMidway s0.file g w (acts ++ act ∷ []) told0 told
+  pub left : (g : Grade) (w : Work) → Keeps g s0 w told0 → LeavesEither s0.file g (work_after s0.file w acts) (work_after s0.file w (acts ++ act ∷ [])) told
 
 -- ---- the laws
 
@@ -99,4 +99,4 @@ FaultStopsThem =
 abbrev pub AnsweredIsThere : Type 0
 AnsweredIsThere =
     (s0 s : State) (told0 told : Option Told) (acts : List Act) (answers : List Answer) → IsServed s0 s told0 told acts answers
-    → (c : Known) (w : Work) → Keeps c s0 w told0 → LeavesView s0.file c (work_after s0.file c w acts) told
+    → (g : Grade) (w : Work) → Keeps g s0 w told0 → LeavesView s0.file g (work_after s0.file w acts) told

@@ -3,21 +3,24 @@ use Rattle.std.specs.Prelude.{◌≡◌, Option}
 use Rattle.df_disk.specs.Told.{Told}
 use Rattle.df_units.specs.Meaning.{number_of}
 use Rattle.df_model.specs.Commands.{Advance, Append, Begin, Command, Given, ReadBlock, ReadPrepare, ReadReply, Recent, Release, Reply, Scrub, WriteBlock}
-use Rattle.df_recovery.specs.State.{State}
+use Rattle.df_state.specs.State.{State}
 use Rattle.df_replica.specs.Appending.{next_unit}
+use Rattle.df_replica.specs.Blocks.{next_block}
+use Rattle.df_replica.specs.BlockReads.{IsBlockFound}
 use Rattle.df_replica.specs.Reading.{IsFoundBy}
 use Rattle.df_replica.specs.Replying.{next_reply}
+use Rattle.df_replica.specs.Stepping.{made_by}
 
--- the checksum is that of the unit which the call makes; the message is what a read finds at its place
+-- the checksum is that of the unit which the call makes; the message, or the block, is what a read finds at its place
 abbrev pub IsSupplied : State → Option Told → Command → Given → Type 0
 IsSupplied s told (Append client request body) given = given.checksum ≡ number_of (next_unit s client request body).header.checksum
 IsSupplied s told (Reply op body) given = given.checksum ≡ number_of (next_reply s body).header.checksum
-IsSupplied s told (WriteBlock kind body) given = Unit {0}
-IsSupplied s told (Release address) given = Unit {0}
-IsSupplied s told (Begin root) given = Unit {0}
-IsSupplied s told Advance given = Unit {0}
+IsSupplied s told (WriteBlock kind body) given = given.checksum ≡ number_of (next_block s kind body).header.checksum
+IsSupplied s told (Release address) given = given.checksum ≡ 0
+IsSupplied s told (Begin root) given = given.checksum ≡ 0
+IsSupplied s told Advance given = given.checksum ≡ made_by s s.running
 IsSupplied s told (ReadPrepare op) given = (given.checksum ≡ 0) × IsFoundBy s (ReadPrepare op) told given.message
 IsSupplied s told (ReadReply client) given = (given.checksum ≡ 0) × IsFoundBy s (ReadReply client) told given.message
-IsSupplied s told (ReadBlock address) given = Unit {0}
+IsSupplied s told (ReadBlock address) given = (given.checksum ≡ 0) × IsBlockFound s address told given.block
 IsSupplied s told Scrub given = Unit {0}
 IsSupplied s told (Recent place) given = Unit {0}

@@ -1,9 +1,8 @@
 -- What a survey answers, and what it keeps in memory of what it read.
-use Rattle.std.specs.Prelude.{◌≡◌, ◌+◌, ◌-◌, ◌%◌, ℕ, Bool, false, not, List, [], ◌++◌, length, map, get_or, slice_get, Option, Some, None, Result, Ok, Err}
+use Rattle.std.specs.Prelude.{◌≡◌, ℕ, Bool, false, not, List, ◌++◌, length, map, get_or, Option, Some, None, Result, Ok, Err}
 use Rattle.std.specs.List.{filter, range_with_len}
 use Rattle.df_base.specs.Image.{Image, IsImage}
 use Rattle.df_disk.specs.Told.{Told}
-use Rattle.df_layout.specs.declared.damage.Class.{Class}
 use Rattle.df_layout.specs.declared.damage.Mend.{Mend}
 use Rattle.df_layout.specs.declared.layout.Layout.{Layout}
 use Rattle.df_layout.specs.declared.places.Zone.TheVariants.{Superblock, WalHeaders}
@@ -22,46 +21,34 @@ use Rattle.df_theory.specs.Shape.{Shape}
 use Rattle.df_theory.specs.Units.{Units}
 use Rattle.df_theory.specs.View.{View}
 use Rattle.df_units.specs.Bytes.{unit_at}
-use Rattle.df_recovery.specs.Found.{IsChoiceOf, IsFound}
+use Rattle.df_recovery.specs.Finding.{IsOfFile, IsStarting, read_of}
+use Rattle.df_recovery.specs.Found.{IsChoiceOf}
 use Rattle.df_recovery.specs.Plan.{IsScanOf, class_of_slot, headers_in, mend_list, needs_header, slot_mends}
-use Rattle.df_replica.specs.Replica.{Survey}
-use Rattle.df_recovery.specs.Scanning.{AreScanned, IsServed}
-use Rattle.df_recovery.specs.State.{State}
+use Rattle.df_recovery.specs.Scanning.{base_scanned}
 use Rattle.df_recovery.specs.Surveys.{Surveys}
+use Rattle.df_recovery.specs.Waiting.{waiting_in}
 use Rattle.df_recovery.specs.declared.finding.Traces.{Traces}
-use Rattle.df_recovery.specs.declared.superblock.Found.{Found}
+use Rattle.df_recovery.specs.declared.scanned.Scanned.{Scanned}
+use Rattle.df_replica.specs.Replica.{Survey}
+use Rattle.df_state.specs.State.{State}
 
--- the checksum of a header of the table
-abbrev pub checksum_of : Option Header → List ℕ
-checksum_of None = []
-checksum_of (Some h) = h.checksum
+-- what was read is of the file that a disk shows
+abbrev pub IsReadOf : Told → Scanned → Type 0
+IsReadOf t scanned = IsOfFile t scanned.file (read_of scanned) (base_scanned scanned)
 
--- that of the prepare with this op, by the header in its slot of a ring of n
-abbrev pub checksum_at : ℕ → List Header → ℕ → List ℕ
-checksum_at n headers op = checksum_of (slice_get headers (op % n))
-
--- those of the prepares above the stored replies, up to the head
-abbrev pub waiting_in : ℕ → List Header → (replies head : ℕ) → List (List ℕ)
-waiting_in n headers replies head = map (checksum_at n headers) (range_with_len (replies + 1) (head - replies))
-
--- what was read is of the image that a disk shows: whole sectors, a superblock that can be used and whose file the rooms serve, and the tables
-pub record IsReadOf (t : Told) (layout : Layout) (found : Found) (scan : Scan) (replies : List (Result Header Class)) : Type 0 where
-  pub image : IsImage t.shown
-  pub found_is : IsFound t.shown found
-  pub served : IsServed layout found.content
-  pub scanned : AreScanned layout scan.start.cluster (Some t) scan replies
-
--- the state keeps what was found, with these sessions; the checksums that wait are those of its header table
-pub record IsSettled (layout : Layout) (found : Found) (traces : Traces) (table : Table) (s : State) : Type 0 where
-  pub layout_is : s.file.layout ≡ layout
-  pub cluster : s.file.cluster ≡ found.content.cluster
-  pub fields : s.fields ≡ found.content
+-- the state keeps what was read and found, with these sessions
+pub record IsSettled (scanned : Scanned) (traces : Traces) (table : Table) (s : State) : Type 0 where
+  pub file : s.file ≡ scanned.file
+  pub fields : s.fields ≡ scanned.copies.found.content
+  pub root_is : s.root ≡ scanned.root.items
+  pub blocks_are : s.blocks ≡ scanned.grid.blocks
   pub head_is : s.head ≡ traces.tail.op
   pub head_checksum : s.head_checksum ≡ traces.tail.checksum
   pub replies : s.replies ≡ traces.replies
   pub table_is : s.table ≡ table
-  pub count : length s.headers ≡ layout.slots
-  pub waiting : s.waiting ≡ waiting_in layout.slots s.headers s.replies s.head
+  pub count : length s.headers ≡ scanned.file.layout.slots
+  pub waiting : s.waiting ≡ waiting_in scanned.file.layout.slots scanned.log.slots s.headers s.replies s.head
+  pub starts : IsStarting s
 
 -- the header table says what each header is to be, whatever view is found in an image that the scan is of
 abbrev pub PlansHeaders : Layout → Scan → List Header → Type 0

@@ -17,17 +17,18 @@ ghost use Rattle.df_model.specs.Commands.{Append};
 ghost use Rattle.df_model.specs.Refusals.{append_refusals, first_refusal};
 ghost use Rattle.df_replica.specs.Answering.{Serves, append_answer};
 ghost use Rattle.df_replica.specs.Refusing.{AreCounters};
-ghost use Rattle.df_recovery.specs.State.{IsState, memory};
+ghost use Rattle.df_state.specs.State.{IsState, memory};
 ghost use Rattle.df_replica.specs.Appending.{IsAppend, IsBlamed, MayNext, MayNote, append_events, appended, header_given, next_unit, noted, receipt_of, unit_events, unit_of, with_header};
 
 use crate::refusing::{Counters, append_refusal, session_of};
-use crate::{DataFile, Replica, Rooms};
+use crate::{DataFile, Replica};
 use df_base::Failed;
 use df_disk::Disk;
 use df_format::{Header, Kind};
 use df_journal::append;
 use df_model::{AppendError, Receipt};
 use df_places::Shelf;
+use df_state::LogRooms;
 
 // What stands in place of a checksum that is set later.
 const NO_CHECKSUM: [u8; 16] = [0; 16];
@@ -38,8 +39,8 @@ fn append_in<D: Disk>(
     file: &DataFile,
     header: Header,
     body: &[u8],
-    rooms: Rooms,
-) -> (Rooms, Result<Header, Failed>)
+    rooms: LogRooms,
+) -> (LogRooms, Result<Header, Failed>)
     requires layout { rooms.layout ≡ file.now.layout }
     requires table { IsTable file.now.layout file.now.cluster rooms.headers }
     requires cluster { header.cluster ≡ file.now.cluster }
@@ -55,7 +56,7 @@ fn append_in<D: Disk>(
     ensures layout { result.0.layout ≡ rooms.layout }
     ensures cause { HasCause (D.faults disk.old) (D.faults disk.new) result.1 }
 {
-    let Rooms {
+    let LogRooms {
         layout,
         superblock,
         mut sector,
@@ -69,7 +70,7 @@ fn append_in<D: Disk>(
     let unit = prepare.into_room().make(header, body);
     let made = *unit.header();
     let done = append(disk, &layout, &unit, &mut headers, &mut sector);
-    let rooms = Rooms {
+    let rooms = LogRooms {
         layout,
         superblock,
         sector,

@@ -2,9 +2,11 @@
 #![tactic(auto)]
 
 mod append;
-mod content_laws;
+mod begin;
+mod block;
+mod block_laws;
+mod block_reading;
 mod first;
-mod first_copies;
 mod following;
 mod lookup;
 mod making;
@@ -16,21 +18,20 @@ mod refusing;
 mod replica;
 mod reply;
 mod session_laws;
+mod step;
 mod surveyed;
 mod surveying;
 
-pub use content_laws::{
-    choices_have_two_members, copies_are_apart, copies_format, events_are_of_file, safe_stays_safe,
-    stop_stays_safe, two_copies_stay_chosen, untouched_is_safe,
-};
+pub use block_laws::held_blocks_are_shown;
 pub use df_model::{
-    AppendError, FormatError, LookupError, OpenError, PrepareError, Receipt, ReplyError,
+    AppendError, BeginError, BlockError, FormatError, LookupError, NotLive, OpenError,
+    PrepareError, Progress, ReadError, Receipt, ReplyError, StepError,
 };
 pub use df_recovery::{
-    DataFile, Found, Rooms, file_is_read, found_is_answer, one_answer, probe, read_superblock,
-    state_is_opened, stored_is_kept, super_is_written, survey_superblock,
+    Found, file_is_read, found_is_answer, one_answer, probe, read_superblock, state_is_opened,
+    stored_is_kept, super_is_written, survey_superblock,
 };
-pub use first_copies::format_superblock;
+pub use df_state::{DataFile, Rooms};
 pub use following::what_is_left_may_be_opened;
 pub use making::format;
 pub use replica::Replica;

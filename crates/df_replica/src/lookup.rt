@@ -12,7 +12,7 @@ ghost use Rattle.df_units.specs.Meaning.{number_of};
 ghost use Rattle.df_model.specs.Commands.{ReadReply};
 ghost use Rattle.df_model.specs.Memory.{reply_sum};
 ghost use Rattle.df_model.specs.Refusals.{first_refusal, lookup_refusals};
-ghost use Rattle.df_recovery.specs.State.{memory, reply_sum as known_sum};
+ghost use Rattle.df_state.specs.State.{memory, reply_sum as known_sum};
 ghost use Rattle.df_replica.specs.Answering.{ServesRead, read_reply_answer};
 ghost use Rattle.df_replica.specs.Held.{HoldsReply, LendsReply};
 ghost use Rattle.df_replica.specs.Lookups.{HoldsKnown, IsReadReply, IsStoredFor, ReplyBlames, Tells, place_for, reply_found, reply_leaves, reply_shown};
@@ -20,13 +20,14 @@ ghost use Rattle.df_replica.specs.Reading.{IsKnownUnit, in_words};
 ghost use Rattle.df_replica.specs.contracts.replica.Replica.{the_row};
 
 use crate::reply::as_check;
-use crate::{DataFile, Replica, Rooms};
+use crate::{DataFile, Replica};
 use df_base::{Check, Failed};
 use df_buffers::{Identity, Reply, Sound, Wanted};
 use df_disk::Disk;
 use df_layout::{Class, Place, Zone};
 use df_model::LookupError;
 use df_places::Shelf;
+use df_state::LogRooms;
 
 // The place of a client's session whose reply is stored, and the reply's checksum.
 #[derive(Clone, Copy)]
@@ -96,8 +97,8 @@ fn load_reply<D: Disk>(
     disk: &mut D,
     file: &DataFile,
     stored: &Stored,
-    rooms: Rooms,
-) -> (Rooms, Result<Option<Class>, Failed>)
+    rooms: LogRooms,
+) -> (LogRooms, Result<Option<Class>, Failed>)
     requires layout { rooms.layout ≡ file.now.layout }
     requires place { stored.now.place < file.now.layout.clients }
     ensures layout { result.0.layout ≡ rooms.layout }
@@ -121,7 +122,7 @@ fn load_reply<D: Disk>(
 }
 
 // The reply that the room holds.
-fn reply_in(rooms: &Option<Rooms>) -> &Sound<Reply>
+fn reply_in(rooms: &Option<LogRooms>) -> &Sound<Reply>
     requires { HoldsReply rooms.now }
     ensures { LendsReply rooms.now result.now }
 {

@@ -15,7 +15,6 @@ ghost use Rattle.df_replica.specs.Formatting.{AddsFormat, FormatsBy, RefusesClus
 ghost use Rattle.df_replica.specs.Making.{AreWritable, Makes, MayMakeOn, file_events, making_events, making_steps, sectors_in};
 
 use crate::first::first_superblock;
-use crate::first_copies::{test_blank, write_copies};
 use crate::{FormatError, Rooms};
 use df_base::Failed;
 use df_buffers::{HeaderSector, ProbeRoom, Raw};
@@ -23,9 +22,38 @@ use df_disk::Disk;
 use df_format::Super;
 use df_headers::HeaderTable;
 use df_layout::Layout;
+use df_state::LogRooms;
+use df_superblock::{first_written, read_all, write_copy};
 
 // How many headers a sector of the header ring has.
 const HEADERS: u32 = 16;
+
+// Whether the sectors of the copies hold zeros alone.
+fn test_blank<D: Disk>(disk: &mut D, room: &mut ProbeRoom) -> Result<(), FormatError>
+    ensures blank { TellsBlank (D.told disk.old) result }
+    ensures cluster { RefusesCluster 1 result }
+    ensures same { D.told disk.new ≡ D.told disk.old }
+    ensures cause { FormatsBy (D.faults disk.old) (D.faults disk.new) result }
+{
+    match read_all(disk, room) {
+        Ok(copies) => match first_written(&copies) {
+            Some(copy) => Err(FormatError::NotBlank { copy }),
+            None => Ok(()),
+        },
+        Err(_) => Err(FormatError::DiskFault),
+    }
+}
+
+// Writes the copies in order of number, each durable before the next one is written.
+fn write_copies<D: Disk>(disk: &mut D, room: &mut ProbeRoom, content: &Super) -> Result<(), Failed>
+    ensures events { Adds (update_events content.now) (D.told disk.old) (D.told disk.new) result }
+    ensures cause { HasCause (D.faults disk.old) (D.faults disk.new) result }
+{
+    write_copy(disk, room, content, 0)?;
+    write_copy(disk, room, content, 1)?;
+    write_copy(disk, room, content, 2)?;
+    write_copy(disk, room, content, 3)
+}
 
 // Writes each sector of the header ring from the table, in order and without a sync.
 fn write_headers<D: Disk>(
@@ -89,7 +117,7 @@ fn write_file<D: Disk>(
 // Makes the file, of a cluster that isn't 0 on a disk that is blank where the copies stand.
 fn make_file<D: Disk>(
     disk: &mut D,
-    rooms: &mut Rooms,
+    rooms: &mut LogRooms,
     cluster: u128,
     content: &Super,
 ) -> Result<(), Failed>
@@ -116,7 +144,7 @@ fn make_file<D: Disk>(
 // Makes the file, unless a sector of the copies holds a byte other than zero.
 fn make_on_blank<D: Disk>(
     disk: &mut D,
-    rooms: &mut Rooms,
+    rooms: &mut LogRooms,
     cluster: u128,
     content: &Super,
 ) -> Result<(), FormatError>
@@ -155,7 +183,7 @@ pub fn format<D: Disk>(disk: &mut D, rooms: &mut Rooms, cluster: u128) -> Result
     ensures layout { rooms.new.layout ≡ rooms.old.layout }
 {
     match first_superblock(&rooms.layout, cluster) {
-        Some(content) => make_on_blank(disk, rooms, cluster, &content),
+        Some(content) => make_on_blank(disk, &mut rooms.log, cluster, &content),
         None => Err(FormatError::ClusterZero),
     }
 }

@@ -5,11 +5,11 @@ ghost use Rattle.df_base.specs.Causes.{HasCause};
 ghost use Rattle.df_base.specs.Moments.{EachMoment};
 ghost use Rattle.df_disk.specs.Told.{Told};
 ghost use Rattle.df_disk.specs.Adds.{Adds};
-ghost use Rattle.df_theory.specs.Device.{AreSteps, IsGoodDisk};
+ghost use Rattle.df_theory.specs.Device.{AreSteps};
 ghost use Rattle.df_headers.specs.Ring.{IsTable};
 ghost use Rattle.df_replica.specs.Mending.{IsMended, MayMendOn, header_events, lies_in, mending_events, mending_steps, needs_sector, sector_writes, sectors_of, some_of, wanted_writes};
-ghost use Rattle.df_replica.specs.Serving.{format};
-ghost use Rattle.df_recovery.specs.State.{shape};
+ghost use Rattle.df_replica.specs.Serving.{IsGoodFor, format};
+ghost use Rattle.df_state.specs.State.{shape};
 
 use crate::DataFile;
 use df_base::Failed;
@@ -167,10 +167,10 @@ pub(crate) fn write_mends<D: Disk>(
         (mending_steps file.now.layout headers.now mends.now content.now chosen.now.members) }
     ensures moments { (before after : Told) → D.told disk.old ≡ Some before → D.told disk.new ≡ Some after
         → (may : MayMendOn file.now headers.now mends.now content.now chosen.now.members before)
-        → EachMoment before.log after.log (IsGoodDisk (format file.now) (shape file.now may.parse) may.view may.view) }
+        → EachMoment before.log after.log (IsGoodFor may.grade (format file.now) (shape file.now) may.view may.view) }
     ensures mended { (before after : Told) → D.told disk.old ≡ Some before → D.told disk.new ≡ Some after
         → (may : MayMendOn file.now headers.now mends.now content.now chosen.now.members before)
-        → OnOk result (IsMended file.now may.parse may.view headers.now after) }
+        → OnOk result (IsMended may.grade file.now may.view headers.now after) }
     ensures room { sector.new.layout ≡ file.now.layout }
     ensures cause { HasCause (D.faults disk.old) (D.faults disk.new) result }
 {

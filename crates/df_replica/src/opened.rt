@@ -1,20 +1,18 @@
 // An open: a survey, and then the mending of what it lists.
-ghost use Rattle.std.specs.Prelude.{◌≡◌, Option, ℕ, List, IfOk, IfErr, OnOk, Some, true};
+ghost use Rattle.std.specs.Prelude.{◌≡◌, IfOk, IfErr, Some, true};
 ghost use Rattle.df_base.specs.Image.{IsImage};
 ghost use Rattle.df_base.specs.Log.{Sync};
 ghost use Rattle.df_base.specs.Moments.{EachMoment};
 ghost use Rattle.df_disk.specs.Told.{Told, after, did};
-ghost use Rattle.df_theory.specs.Device.{IsGoodDisk};
-ghost use Rattle.df_theory.specs.Units.{Parts};
 ghost use Rattle.df_theory.specs.View.{View};
 ghost use Rattle.df_units.specs.Bytes.{unit_at};
-ghost use Rattle.df_model.specs.Codec.{IsCodec};
 ghost use Rattle.df_model.specs.Work.{opened};
-ghost use Rattle.df_replica.specs.Mending.{IsMended, MayOpen};
+ghost use Rattle.df_replica.specs.Following.{MayOpen};
+ghost use Rattle.df_replica.specs.Mending.{IsMended};
 ghost use Rattle.df_recovery.specs.Scanning.{SurveysBy, answer_of};
 ghost use Rattle.df_replica.specs.Opened.{StopsOpening, ToldBy};
-ghost use Rattle.df_replica.specs.Serving.{Firm, IsKept, format};
-ghost use Rattle.df_recovery.specs.State.{shape};
+ghost use Rattle.df_replica.specs.Serving.{Grade, IsGoodFor, IsKept, StandsFor, format};
+ghost use Rattle.df_state.specs.State.{shape};
 ghost use Rattle.df_replica.specs.Surveying.{TellsSurvey};
 
 use crate::{OpenError, Replica, Rooms, survey};
@@ -28,13 +26,14 @@ impl Replica {
         ensures live { IfOk result (λ replica. replica.live ≡ true) }
         ensures given_back { IfErr result (λ refused. refused.0.layout ≡ rooms.layout) }
         ensures answer { TellsSurvey rooms.layout (D.told disk.old) (answer_of result) }
-        ensures moments { (before after : Told) → D.told disk.old ≡ Some before → D.told disk.new ≡ Some after → IfOk result (λ replica. (parse : ℕ → List ℕ → Option Parts) (view : View)
-            → MayOpen replica.file parse view before → EachMoment (did Sync before).log after.log (IsGoodDisk (format replica.file) (shape replica.file parse) view view)) }
-        ensures mended { (before after : Told) → D.told disk.old ≡ Some before → D.told disk.new ≡ Some after → IfOk result (λ replica. (parse : ℕ → List ℕ → Option Parts) (view : View)
-            → MayOpen replica.file parse view before → IsMended replica.file parse view replica.headers after) }
-        ensures kept_for { (before after : Told) → D.told disk.old ≡ Some before → D.told disk.new ≡ Some after → IfOk result (λ replica. (parse : ℕ → List ℕ → Option Parts) (spell : Parts → List ℕ) (view : View)
-            → IsCodec (shape replica.file parse) spell → MayOpen replica.file parse view before
-            → IsKept (record { parse = parse; spell = spell; grade = Firm }) replica (opened (shape replica.file parse) (unit_at replica.file.layout replica.file.cluster before.shown) view) after.log) }
+        ensures moments { (before after : Told) → D.told disk.old ≡ Some before → D.told disk.new ≡ Some after → IfOk result (λ replica. (g : Grade) (view : View)
+            → MayOpen replica.file view before → StandsFor g (unit_at replica.file.layout replica.file.cluster before.shown) view
+            → EachMoment (did Sync before).log after.log (IsGoodFor g (format replica.file) (shape replica.file) view view)) }
+        ensures mended { (before after : Told) → D.told disk.old ≡ Some before → D.told disk.new ≡ Some after → IfOk result (λ replica. (g : Grade) (view : View)
+            → MayOpen replica.file view before → StandsFor g (unit_at replica.file.layout replica.file.cluster before.shown) view → IsMended g replica.file view replica.headers after) }
+        ensures kept_for { (before after : Told) → D.told disk.old ≡ Some before → D.told disk.new ≡ Some after → IfOk result (λ replica. (g : Grade) (view : View)
+            → MayOpen replica.file view before → StandsFor g (unit_at replica.file.layout replica.file.cluster before.shown) view
+            → IsKept g replica (opened (shape replica.file) (unit_at replica.file.layout replica.file.cluster before.shown) view) after.log) }
         ensures told { IfOk result (λ replica. ToldBy (after Sync (D.told disk.old)) (D.told disk.new)) }
         ensures refused { IfErr result (λ refused. (refused.1 ≡ OpenError.DiskFault → ⊥) → D.told disk.new ≡ after Sync (D.told disk.old)) }
         ensures stopped { (t : Told) → D.told disk.old ≡ Some t → IfErr result (λ refused. IsImage t.shown → refused.1 ≡ OpenError.DiskFault → StopsOpening rooms.layout t (D.told disk.new)) }

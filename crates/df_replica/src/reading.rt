@@ -12,19 +12,20 @@ ghost use Rattle.df_model.specs.Commands.{ReadPrepare};
 ghost use Rattle.df_model.specs.Memory.{prepare_sum};
 ghost use Rattle.df_model.specs.Refusals.{first_refusal, prepare_refusals};
 ghost use Rattle.df_places.specs.Shelves.{HoldsFound, IsRead};
-ghost use Rattle.df_recovery.specs.State.{IsState, memory};
+ghost use Rattle.df_state.specs.State.{IsState, memory};
 ghost use Rattle.df_replica.specs.Answering.{ServesRead, read_prepare_answer};
 ghost use Rattle.df_replica.specs.Held.{HoldsPrepare, LendsPrepare};
 ghost use Rattle.df_replica.specs.Reading.{IsKnownUnit, IsReadPrepare, PrepareBlames, check_in, in_words, prepare_found, prepare_leaves, prepare_wanted};
 ghost use Rattle.df_replica.specs.contracts.replica.Replica.{the_row};
 
 use crate::refusing::prepare_refusal;
-use crate::{DataFile, Replica, Rooms};
+use crate::{DataFile, Replica};
 use df_base::Failed;
 use df_buffers::{Identity, Prepare, Sound, Wanted};
 use df_disk::Disk;
 use df_layout::{Class, Layout, Place, Zone};
 use df_model::PrepareError;
+use df_state::LogRooms;
 
 // The place of the prepare of an op.
 fn prepare_place(layout: &Layout, op: u64) -> Place
@@ -37,7 +38,7 @@ fn prepare_place(layout: &Layout, op: u64) -> Place
 }
 
 // The prepare of an op that is kept, with the checksum of the header in its slot.
-fn prepare_wanted(file: &DataFile, rooms: &Rooms, op: u64) -> Identity
+fn prepare_wanted(file: &DataFile, rooms: &LogRooms, op: u64) -> Identity
     requires layout { rooms.now.layout ≡ file.now.layout }
     requires table { IsTable file.now.layout file.now.cluster rooms.now.headers }
     ensures identity { result ≡ prepare_wanted file.now rooms.now.headers op }
@@ -58,8 +59,8 @@ fn load_prepare<D: Disk>(
     disk: &mut D,
     file: &DataFile,
     op: u64,
-    rooms: Rooms,
-) -> (Rooms, Result<Option<Class>, Failed>)
+    rooms: LogRooms,
+) -> (LogRooms, Result<Option<Class>, Failed>)
     requires layout { rooms.layout ≡ file.now.layout }
     requires table { IsTable file.now.layout file.now.cluster rooms.headers }
     ensures layout { result.0.layout ≡ rooms.layout }
@@ -77,7 +78,7 @@ fn load_prepare<D: Disk>(
 }
 
 // The prepare that the room holds.
-fn prepare_in(rooms: &Option<Rooms>) -> &Sound<Prepare>
+fn prepare_in(rooms: &Option<LogRooms>) -> &Sound<Prepare>
     requires { HoldsPrepare rooms.now }
     ensures { LendsPrepare rooms.now result.now }
 {

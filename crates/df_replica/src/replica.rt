@@ -1,13 +1,15 @@
 // A replica: what it keeps in memory of the file that it works on, and what it tells of it.
-ghost use Rattle.std.specs.Prelude.{◌≡◌, [], slice_get};
+ghost use Rattle.std.specs.Prelude.{◌≡◌, slice_get};
 ghost use Rattle.df_replica.specs.Replica.{summary_of};
 
-use crate::{DataFile, Rooms};
 use arrayvec::ArrayVec;
 use df_base::Check;
 use df_format::Super;
+use df_grid::Grid;
+use df_layout::Layout;
 use df_model::Summary;
 use df_sessions::{Session, SessionTable};
+use df_state::{Captured, DataFile, GridRooms, LogRooms, Rooms, TrailerRooms};
 use std::marker::Model;
 
 /// The state of a file in memory, with the rooms that serve it. Contracts see the state.
@@ -15,6 +17,8 @@ use std::marker::Model;
 pub struct Replica {
     pub(crate) file: DataFile,
     pub(crate) content: Super,
+    // The durable checkpoint's root.
+    pub(crate) root: ArrayVec<u8, 1024>,
     pub(crate) head: u64,
     pub(crate) head_checksum: Check,
     pub(crate) replies: u64,
@@ -23,42 +27,68 @@ pub struct Replica {
     pub(crate) waiting: ArrayVec<Check, 8>,
     pub(crate) live: bool,
     // A call takes the rooms out while it works in them.
-    pub(crate) rooms: Option<Rooms>,
+    pub(crate) rooms: Option<LogRooms>,
+    pub(crate) grid: Grid,
+    pub(crate) running: Option<Captured>,
+    pub(crate) trailer: TrailerRooms,
 }
 
 impl Model for Replica {
-    ghost use Rattle.std.specs.Prelude.{◌≡◌};
-    ghost use Rattle.df_recovery.specs.State.{State, IsState};
-    ghost use Rattle.df_replica.specs.Replica.{state_with};
+    ghost use Rattle.std.specs.Prelude.{◌≡◌, []};
+    ghost use Rattle.df_model.specs.Work.{first_tour};
+    ghost use Rattle.df_state.specs.Captures.{running_of};
+    ghost use Rattle.df_state.specs.State.{State, IsState};
     ghost use Rattle.df_replica.specs.Held.{AreFor, headers_of};
 
     ghost Value = { State };
 
-    ghost view = { λ r. state_with r.file r.content r.head r.head_checksum r.replies r.sessions r.waiting.items (headers_of r.rooms) r.live };
+    ghost view = { λ r. record {
+      file = r.file;
+      fields = r.content;
+      root = r.root.items;
+      head = r.head;
+      head_checksum = r.head_checksum;
+      replies = r.replies;
+      table = r.sessions;
+      waiting = r.waiting.items;
+      headers = headers_of r.rooms;
+      blocks = r.grid.blocks;
+      running = running_of r.running;
+      tour = first_tour;
+      findings = [];
+      live = r.live;
+    } };
 
-    ghost invariant = { λ r. IsState (state_with r.file r.content r.head r.head_checksum r.replies r.sessions r.waiting.items (headers_of r.rooms) r.live) × AreFor r.file r.rooms };
+    ghost invariant = { λ r. IsState (record {
+      file = r.file;
+      fields = r.content;
+      root = r.root.items;
+      head = r.head;
+      head_checksum = r.head_checksum;
+      replies = r.replies;
+      table = r.sessions;
+      waiting = r.waiting.items;
+      headers = headers_of r.rooms;
+      blocks = r.grid.blocks;
+      running = running_of r.running;
+      tour = first_tour;
+      findings = [];
+      live = r.live;
+    }) × AreFor r.file r.rooms × (r.grid.layout ≡ r.file.layout) × (r.grid.cluster ≡ r.file.cluster) × (r.trailer.layout ≡ r.file.layout) };
 }
 
-// What is told of a state: its numbers, and how many sessions there are. A replica over the log zones references no block.
-pub(crate) fn summary(
-    file: &DataFile,
-    content: &Super,
-    head: u64,
-    replies: u64,
-    sessions: &SessionTable,
-) -> Summary
-    ensures { result ≡ summary_of file.now content.now head replies sessions.now }
+// All the rooms of a file that is done with.
+pub(crate) fn rooms_of(layout: Layout, log: LogRooms, grid: Grid, trailer: TrailerRooms) -> Rooms
+    requires log { log.layout ≡ layout }
+    requires grid { grid.layout ≡ layout }
+    requires trailer { trailer.layout ≡ layout }
+    ensures { result.layout ≡ layout }
 {
-    let fields = content.fields();
-    Summary {
-        cluster: file.cluster,
-        layout: file.layout,
-        sequence: fields.sequence,
-        checkpoint_op: fields.op,
-        head,
-        replies,
-        sessions: sessions.len(),
-        references: 0,
+    Rooms {
+        layout,
+        log,
+        grid: GridRooms::of(grid),
+        trailer,
     }
 }
 
@@ -72,22 +102,26 @@ impl Replica {
 
     /// The numbers of the state.
     pub fn summary(&self) -> Summary
-        ensures { result ≡ summary_of self.now.file self.now.fields self.now.head self.now.replies self.now.table }
+        ensures { result ≡ summary_of self.now }
     {
-        summary(
-            &self.file,
-            &self.content,
-            self.head,
-            self.replies,
-            &self.sessions,
-        )
+        let fields = self.content.fields();
+        Summary {
+            cluster: self.file.cluster,
+            layout: self.file.layout,
+            sequence: fields.sequence,
+            checkpoint_op: fields.op,
+            head: self.head,
+            replies: self.replies,
+            sessions: self.sessions.len(),
+            references: self.grid.references(),
+        }
     }
 
     /// The root of the durable checkpoint; it is empty while no checkpoint has one.
     pub fn root(&self) -> &[u8]
-        ensures { result.now ≡ [] }
+        ensures { result.now ≡ self.now.root }
     {
-        &[]
+        self.root.as_slice()
     }
 
     /// The session at a place, None exactly where the place is past the table.
@@ -101,9 +135,22 @@ impl Replica {
     pub fn close(self) -> Rooms
         ensures { result.layout ≡ self.file.layout }
     {
-        match self.rooms {
-            Some(rooms) => rooms,
-            None => unreachable!(),
-        }
+        let Replica {
+            file,
+            content: _,
+            root: _,
+            head: _,
+            head_checksum: _,
+            replies: _,
+            sessions: _,
+            waiting: _,
+            live: _,
+            rooms,
+            grid,
+            running: _,
+            trailer,
+        } = self;
+        let Some(log) = rooms else { unreachable!() };
+        rooms_of(file.layout, log, grid, trailer)
     }
 }

@@ -18,10 +18,10 @@ ghost use Rattle.df_model.specs.Refusals.{first_refusal, reply_refusals};
 ghost use Rattle.df_replica.specs.Answering.{Serves, reply_answer};
 ghost use Rattle.df_replica.specs.Appending.{unit_of};
 ghost use Rattle.df_replica.specs.Replying.{BlamesReply, IsReply, MayReplyNext, first_check, next_reply, replied, reply_calls, reply_events, reply_given};
-ghost use Rattle.df_recovery.specs.State.{IsState, memory};
+ghost use Rattle.df_state.specs.State.{IsState, memory};
 
+use crate::Replica;
 use crate::refusing::reply_refusal;
-use crate::{Replica, Rooms};
 use df_base::{Check, Failed};
 use df_disk::Disk;
 use df_format::{Header, Kind};
@@ -29,12 +29,13 @@ use df_model::ReplyError;
 use df_places::Shelf;
 use df_replies::write_reply;
 use df_sessions::{Session, SessionTable};
+use df_state::LogRooms;
 
 // What stands in place of a checksum that is set later.
 const NO_CHECKSUM: [u8; 16] = [0; 16];
 
 // The session at a place.
-fn session_in(table: &SessionTable, place: u64) -> Session
+pub(crate) fn session_in(table: &SessionTable, place: u64) -> Session
     requires { place < length table.now.sessions }
     ensures { slice_get table.now.sessions place ≡ Some result }
 {
@@ -82,8 +83,8 @@ fn reply_in<D: Disk>(
     disk: &mut D,
     header: Header,
     body: &[u8],
-    rooms: Rooms,
-) -> (Rooms, Result<Header, Failed>)
+    rooms: LogRooms,
+) -> (LogRooms, Result<Header, Failed>)
     requires rules { ObeysRules (for_body header body.now) }
     requires kind { header.kind ≡ AsReply }
     requires own { IsSome (own_place rooms.layout ClientReplies header) }
@@ -95,7 +96,7 @@ fn reply_in<D: Disk>(
     ensures layout { result.0.layout ≡ rooms.layout }
     ensures cause { HasCause (D.faults disk.old) (D.faults disk.new) result.1 }
 {
-    let Rooms {
+    let LogRooms {
         layout,
         superblock,
         sector,
@@ -109,7 +110,7 @@ fn reply_in<D: Disk>(
     let unit = reply.into_room().make(header, body);
     let made = *unit.header();
     let done = write_reply(disk, &layout, &unit);
-    let rooms = Rooms {
+    let rooms = LogRooms {
         layout,
         superblock,
         sector,

@@ -1,5 +1,5 @@
 // The survey of a file: what it shows is read, its state is found, and what is to be mended is listed. Nothing is written.
-ghost use Rattle.std.specs.Prelude.{◌≡◌, ◌≢◌, ◌<◌, ◌≤◌, ◌+◌, ◌^◌, [], length, false, Some, IfOk, IfErr};
+ghost use Rattle.std.specs.Prelude.{◌≡◌, ◌≤◌, ◌+◌, ◌^◌, length, Some, IfOk, IfErr};
 ghost use Rattle.df_disk.specs.Told.{Told};
 ghost use Rattle.df_format.specs.Spelling.{IsCheck};
 ghost use Rattle.df_headers.specs.Ring.{IsTable};
@@ -9,52 +9,30 @@ ghost use Rattle.df_sessions.specs.Requests.{sessions_of};
 ghost use Rattle.df_superblock.specs.Calls.{ShowsSlots};
 ghost use Rattle.df_theory.specs.Sessions.{Tracks};
 ghost use Rattle.df_theory.specs.Units.{Units};
-ghost use Rattle.df_recovery.specs.Plan.{mend_list};
+ghost use Rattle.df_grid.specs.Table.{IsIdle};
+ghost use Rattle.df_recovery.specs.Checkpoints.{AreOfCheckpoint};
 ghost use Rattle.df_recovery.specs.Finding.{IsDamage};
 ghost use Rattle.df_recovery.specs.Found.{Syncs};
-ghost use Rattle.df_replica.specs.Mending.{ArePlannedFrom, IsPlanned, IsSettledFrom};
-ghost use Rattle.df_recovery.specs.Scanning.{IsServed, SurveysBy, answer_of};
-ghost use Rattle.df_recovery.specs.State.{AreAsked};
+ghost use Rattle.df_recovery.specs.Plan.{mend_list};
+ghost use Rattle.df_recovery.specs.Scanning.{SurveysBy};
 ghost use Rattle.df_recovery.specs.Surveys.{Surveys};
-ghost use Rattle.df_replica.specs.Surveying.{IsMendable, IsReadOf, IsSettled, ListsMends, PlansHeaders, TellsMends, TellsSurvey, checksum_at, state_of, waiting_in};
+ghost use Rattle.df_recovery.specs.Waiting.{waiting_in};
+ghost use Rattle.df_state.specs.State.{AreAsked};
+ghost use Rattle.df_replica.specs.Mending.{ArePlannedFrom, IsPlanned, IsSettledFrom};
+ghost use Rattle.df_replica.specs.Surveying.{IsMendable, IsReadOf, IsSettled, ListsMends, PlansHeaders, TellsMends, TellsSurvey, state_of};
 
+use crate::replica::rooms_of;
 use crate::{DataFile, OpenError, Rooms, Surveyed};
 use arrayvec::ArrayVec;
 use df_base::Check;
 use df_disk::Disk;
-use df_headers::HeaderTable;
-use df_layout::Layout;
-use df_recovery::{Copies, Scanned, Traces, find_state, plan, scan_file, store_replies};
-use df_sessions::SessionTable;
-
-// The checksum of the prepare with this op, by the header in its slot.
-fn checksum_at(layout: &Layout, headers: &HeaderTable, op: u64) -> Check
-    requires { length headers.now ≡ layout.now.slots }
-    ensures { result ≡ checksum_at layout.now.slots headers.now op }
-{
-    let header = headers.get((op % u64::from(layout.slots)) as u32);
-    header.checksum
-}
-
-// The checksums of the prepares above the stored replies, up to the head, in order of op.
-#[tactic(auto, using(crate::proofs::Waiting::waiting_count, crate::proofs::Waiting::waiting_more, crate::proofs::Waiting::waiting_none))]
-fn waiting_of(layout: &Layout, headers: &HeaderTable, replies: u64, head: u64) -> ArrayVec<Check, 8>
-    requires order { replies ≤ head }
-    requires few { head ≤ replies + 8 }
-    requires table { length headers.now ≡ layout.now.slots }
-    ensures { result.items ≡ waiting_in layout.now.slots headers.now replies head }
-{
-    let mut waiting = ArrayVec::new();
-    let mut op = replies;
-    while op < head {
-        op += 1;
-        waiting.push(checksum_at(layout, headers, op));
-    }
-    waiting
-}
+use df_recovery::{
+    Copies, Scanned, Traces, find_state, plan, scan_file, store_replies, waiting_of,
+};
+use df_state::LogRooms;
 
 // Plans the mending in the rooms: the header that each slot is to have, and the list.
-fn plan_rooms(file: &DataFile, copies: &Copies, rooms: Rooms) -> Rooms
+fn plan_rooms(file: &DataFile, copies: &Copies, rooms: LogRooms) -> LogRooms
     requires layout { rooms.layout ≡ file.now.layout }
     requires cluster { rooms.slots.start.cluster ≡ file.now.cluster }
     requires slots { AreSlots file.now.layout file.now.cluster rooms.slots.slots }
@@ -63,8 +41,9 @@ fn plan_rooms(file: &DataFile, copies: &Copies, rooms: Rooms) -> Rooms
     ensures plans { PlansHeaders file.now.layout rooms.slots result.headers }
     ensures lists { (image : Units) → Tells file.now.layout image rooms.slots → result.mends.items ≡ mend_list file.now.layout rooms.slots image copies.now.slots copies.now.found.chosen.members }
     ensures layout { result.layout ≡ file.now.layout }
+    ensures slots { result.slots ≡ rooms.slots }
 {
-    let Rooms {
+    let LogRooms {
         layout,
         superblock,
         sector,
@@ -85,7 +64,7 @@ fn plan_rooms(file: &DataFile, copies: &Copies, rooms: Rooms) -> Rooms
         &mut headers,
         &mut mends,
     );
-    Rooms {
+    LogRooms {
         layout,
         superblock,
         sector,
@@ -98,84 +77,146 @@ fn plan_rooms(file: &DataFile, copies: &Copies, rooms: Rooms) -> Rooms
     }
 }
 
-// The survey of a file whose state was found.
-fn surveyed(copies: &Copies, traces: &Traces, sessions: SessionTable, rooms: Rooms) -> Surveyed
-    requires cluster { rooms.slots.start.cluster ≡ copies.now.found.content.cluster }
-    requires slots { AreSlots rooms.layout rooms.slots.start.cluster rooms.slots.slots }
+// The checksums of the prepares that wait, by the tables of the rooms.
+fn waiting_in(
+    file: &DataFile,
+    rooms: &LogRooms,
+    base: u64,
+    replies: u64,
+    head: u64,
+) -> ArrayVec<Check, 8>
+    requires layout { rooms.now.layout ≡ file.now.layout }
+    requires base { base ≡ rooms.now.slots.start.op }
+    requires order { replies ≤ head }
+    requires few { head ≤ replies + 8 }
+    ensures { result.items ≡ waiting_in file.now.layout.slots rooms.now.slots rooms.now.headers replies head }
+{
+    waiting_of(
+        &file.layout,
+        &rooms.slots,
+        &rooms.headers,
+        base,
+        replies,
+        head,
+    )
+}
+
+// A root has at most 1,024 bytes.
+fn root_fits(root: &ArrayVec<u8, 1024>)
+    ensures { length root.now.items ≤ 1024 }
+{
+    let _bytes = root.as_slice();
+}
+
+// The survey of a file whose state was found: of what was read, with the sessions after the tail.
+fn surveyed(traces: &Traces, scanned: Scanned) -> Surveyed
+    requires named { scanned.file.cluster ≡ scanned.copies.found.content.cluster }
+    requires cluster { scanned.log.slots.start.cluster ≡ scanned.file.cluster }
+    requires op { scanned.log.slots.start.op ≡ scanned.copies.found.content.op }
+    requires slots { AreSlots scanned.file.layout scanned.file.cluster scanned.log.slots.slots }
+    requires idle { IsIdle scanned.grid.blocks }
     requires checksum { IsCheck traces.now.tail.checksum }
-    requires start { traces.now.tail.op ≡ copies.now.found.content.op → traces.now.tail.checksum ≡ copies.now.found.content.op_checksum }
-    requires from { copies.now.found.content.op ≤ traces.now.tail.op }
-    requires within { traces.now.tail.op ≤ copies.now.found.content.op + rooms.layout.slots }
+    requires start { traces.now.tail.op ≡ scanned.copies.found.content.op → traces.now.tail.checksum ≡ scanned.copies.found.content.op_checksum }
+    requires from { scanned.copies.found.content.op ≤ traces.now.tail.op }
+    requires within { traces.now.tail.op ≤ scanned.copies.found.content.op + scanned.file.layout.slots }
     requires most { traces.now.tail.op ≤ 2 ^ 62 }
     requires order { traces.now.replies ≤ traces.now.tail.op }
     requires few { traces.now.tail.op ≤ traces.now.replies + 8 }
-    requires places { sessions.max ≡ rooms.layout.clients }
-    requires numbered { AreNumbered sessions.sessions }
-    requires asked { AreAsked (sessions_of sessions.sessions) }
-    requires tracks { Tracks traces.now.replies traces.now.tail.op (sessions_of sessions.sessions) }
-    ensures planned { IsSettledFrom rooms.layout copies.now.found rooms.slots copies.now.slots result }
-    ensures settled { IsSettled rooms.layout copies.now.found traces.now sessions result.state }
-    ensures plans { PlansHeaders rooms.layout rooms.slots result.state.headers }
-    ensures chosen { result.chosen ≡ copies.now.found.chosen }
-    ensures lists { ListsMends rooms.layout rooms.slots copies.now.slots result }
+    requires places { scanned.sessions.max ≡ scanned.file.layout.clients }
+    requires numbered { AreNumbered scanned.sessions.sessions }
+    requires asked { AreAsked (sessions_of scanned.sessions.sessions) }
+    requires tracks { Tracks traces.now.replies traces.now.tail.op (sessions_of scanned.sessions.sessions) }
+    ensures planned { IsSettledFrom scanned result }
+    ensures settled { IsSettled scanned traces.now scanned.sessions result.state }
+    ensures plans { PlansHeaders scanned.file.layout scanned.log.slots result.state.headers }
+    ensures lists { ListsMends scanned.file.layout scanned.log.slots scanned.copies.slots result }
 {
+    let Scanned {
+        file,
+        copies,
+        log,
+        grid,
+        trailer,
+        root,
+        sessions,
+    } = scanned;
+    let rooms = plan_rooms(&file, &copies, log);
     let content = copies.found.content;
-    let file = DataFile {
-        layout: rooms.layout,
-        cluster: content.fields().cluster,
-    };
-    let rooms = plan_rooms(&file, copies, rooms);
+    let chosen = copies.found.chosen;
     let head = traces.tail.op;
-    let waiting = waiting_of(&file.layout, &rooms.headers, traces.replies, head);
     let head_checksum = traces.tail.checksum;
+    let waiting = waiting_in(&file, &rooms, content.fields().op, traces.replies, head);
+    root_fits(&root);
     Surveyed {
         file,
         content,
-        chosen: copies.found.chosen,
+        chosen,
+        root,
         head,
         head_checksum,
         replies: traces.replies,
         sessions,
         waiting,
         rooms,
+        grid,
+        trailer,
     }
 }
 
 // The survey of a file that was read: its state is found, and the mending planned.
 fn settle(scanned: Scanned) -> Result<Surveyed, (Rooms, OpenError)>
-    requires start { scanned.rooms.slots.start ≡ record { cluster = scanned.copies.found.content.cluster; op = scanned.copies.found.content.op } }
-    requires slots { AreSlots scanned.rooms.layout scanned.rooms.slots.start.cluster scanned.rooms.slots.slots }
-    requires first { scanned.copies.found.content.op ≡ 0 }
-    ensures kept { IfOk result (λ survey. survey.state.file.layout ≡ scanned.rooms.layout) }
-    ensures given_back { IfErr result (λ refused. refused.0.layout ≡ scanned.rooms.layout) }
-    ensures planned { IfOk result (IsSettledFrom scanned.rooms.layout scanned.copies.found scanned.rooms.slots scanned.copies.slots) }
+    requires named { scanned.file.cluster ≡ scanned.copies.found.content.cluster }
+    requires cluster { scanned.log.slots.start.cluster ≡ scanned.file.cluster }
+    requires op { scanned.log.slots.start.op ≡ scanned.copies.found.content.op }
+    requires slots { AreSlots scanned.file.layout scanned.file.cluster scanned.log.slots.slots }
+    requires idle { IsIdle scanned.grid.blocks }
+    requires sessions { AreOfCheckpoint scanned.copies.found.content scanned.sessions.sessions }
+    requires places { scanned.sessions.max ≡ scanned.file.layout.clients }
+    ensures kept { IfOk result (λ survey. survey.state.file.layout ≡ scanned.file.layout) }
+    ensures given_back { IfErr result (λ refused. refused.0.layout ≡ scanned.file.layout) }
+    ensures planned { IfOk result (IsSettledFrom scanned) }
     ensures place { IfErr result (λ refused. IsDamage refused.1) }
-    ensures answer { (t : Told) → IsReadOf t scanned.rooms.layout scanned.copies.found scanned.rooms.slots scanned.rooms.replies
-        → Surveys scanned.rooms.layout t.shown (state_of result) }
-    ensures mends { (t : Told) → IsReadOf t scanned.rooms.layout scanned.copies.found scanned.rooms.slots scanned.rooms.replies → ShowsSlots (Some t) scanned.copies.slots
-        → IfOk result (IsMendable scanned.rooms.layout t.shown) }
+    ensures answer { (t : Told) → IsReadOf t scanned → Surveys scanned.file.layout t.shown (state_of result) }
+    ensures mends { (t : Told) → IsReadOf t scanned → ShowsSlots (Some t) scanned.copies.slots → IfOk result (IsMendable scanned.file.layout t.shown) }
 {
-    let Scanned { copies, rooms } = scanned;
-    let mut sessions = SessionTable::new(rooms.layout.clients);
+    let Scanned {
+        file,
+        copies,
+        log,
+        grid,
+        trailer,
+        root,
+        mut sessions,
+    } = scanned;
     let found = find_state(
-        &rooms.layout,
+        &file.layout,
         &copies.found,
-        &rooms.slots,
-        &rooms.replies,
+        &log.slots,
+        &log.replies,
         &mut sessions,
     );
     match found {
         Ok(traces) => {
-            store_replies(&mut sessions, traces.replies, &rooms.replies);
-            Ok(surveyed(&copies, &traces, sessions, rooms))
+            store_replies(&mut sessions, traces.replies, &log.replies);
+            let settled = Scanned {
+                file,
+                copies,
+                log,
+                grid,
+                trailer,
+                root,
+                sessions,
+            };
+            Ok(surveyed(&traces, settled))
         }
-        Err(refusal) => Err((rooms, refusal)),
+        Err(refusal) => Err((rooms_of(file.layout, log, grid, trailer), refusal)),
     }
 }
 
 /// What a file shows: its state, and what is to be mended before calls may work on it; or the first reason of the order of
-/// open why it isn't opened, and the rooms. It syncs once, then reads each copy of the superblock, each sector of the header
-/// ring, each slot of the ring of prepares and each reply slot once, and writes nothing.
+/// open why it isn't opened, and the rooms. It syncs once, then reads each copy of the superblock once, each block of the
+/// trailer that it names twice, and each sector of the header ring, each slot of the ring of prepares and each reply slot
+/// once, and writes nothing.
 pub fn survey<D: Disk>(disk: &mut D, rooms: Rooms) -> Result<Surveyed, (Rooms, OpenError)>
     ensures kept { IfOk result (λ survey. survey.state.file.layout ≡ rooms.layout) }
     ensures given_back { IfErr result (λ refused. refused.0.layout ≡ rooms.layout) }

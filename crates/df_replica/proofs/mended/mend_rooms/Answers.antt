@@ -9,11 +9,11 @@ use Rattle.df_replica.proofs.mended.mend_rooms.Goals as goal
 
 pub returns-clause-moments : goal.returns-clause-moments
 returns-clause-moments g c = λ before after first last may.
-    c.write_mends-done.ensures.moments before after first last (record { parse = may.parse; view = may.view; is_log = may.is_log; may = may_mend_same c.args.file.now c.args.rooms.headers c.args.rooms.mends.items c.deref.result.now c.args.content.now c.args.members before (sym c.deref.ensures.value) may })
+    c.write_mends-done.ensures.moments before after first last (record { grade = may.grade; view = may.view; is_log = may.is_log; standing = may.standing; may = may_mend_same c.args.file.now c.args.rooms.headers c.args.rooms.mends.items c.deref.result.now c.args.content.now c.args.members before (sym c.deref.ensures.value) may })
 
 pub returns-clause-mended : goal.returns-clause-mended
 returns-clause-mended g c = λ before after first last may.
-    c.write_mends-done.ensures.mended before after first last (record { parse = may.parse; view = may.view; is_log = may.is_log; may = may_mend_same c.args.file.now c.args.rooms.headers c.args.rooms.mends.items c.deref.result.now c.args.content.now c.args.members before (sym c.deref.ensures.value) may })
+    c.write_mends-done.ensures.mended before after first last (record { grade = may.grade; view = may.view; is_log = may.is_log; standing = may.standing; may = may_mend_same c.args.file.now c.args.rooms.headers c.args.rooms.mends.items c.deref.result.now c.args.content.now c.args.members before (sym c.deref.ensures.value) may })
 
 pub returns-clause-steps : goal.returns-clause-steps
 returns-clause-steps g c =

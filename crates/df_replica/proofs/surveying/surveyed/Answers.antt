@@ -1,20 +1,20 @@
 -- The state makes sense by itself: what was found is in its ranges, and the table is one of the file.
-use Rattle.std.proofs.Common.{◌≡◌, ◌-◌, ◌∙◌, ap, sym, arith, length, ◌<◌, ◌^◌, subst}
+use Rattle.std.proofs.Common.{◌≡◌, ◌-◌, ◌∙◌, ℕ, ap, sym, arith, length, ◌<◌, ◌^◌, subst}
 use Rattle.df_format.specs.SuperRules.{IsUsable}
-use Rattle.df_format.specs.declared.superblock.SuperFields.{SuperFields}
-use Rattle.df_replica.proofs.Waiting.{waiting_count}
+use Rattle.df_recovery.proofs.Laws.{waiting_count}
 use Rattle.df_replica.proofs.surveying.surveyed.Goals as goal
 
 pub invariant_of-result : goal.invariant_of-result
 invariant_of-result c =
-    let usable : IsUsable c.args.copies.now.found.content = c.fields.ensures.usable in
-    let cluster = subst (λ (f : SuperFields). f.cluster < 2 ^ 128) (sym c.fields.ensures.value) usable.fits.cluster in
-    let count : length c.waiting_of-waiting.result.items ≡ c.args.traces.now.tail.op - c.args.traces.now.replies =
-    ap length c.waiting_of-waiting.ensures ∙ waiting_count c.args.rooms.layout.slots c.plan_rooms-rooms.result.headers c.args.traces.now.replies c.args.traces.now.tail.op in (
+    let usable : IsUsable c.args.scanned.copies.found.content = c.fields.ensures.usable in
+    let cluster = subst (λ (n : ℕ). n < 2 ^ 128) (sym c.requires.named) usable.fits.cluster in
+    let count : length c.waiting_in-waiting.result.items ≡ c.args.traces.now.tail.op - c.args.traces.now.replies =
+    ap length c.waiting_in-waiting.ensures ∙ waiting_count c.args.scanned.file.layout.slots c.plan_rooms-rooms.result.slots c.plan_rooms-rooms.result.headers c.args.traces.now.replies c.args.traces.now.tail.op in (
       record {
         cluster = cluster;
         parent = c.requires.checksum;
         sequence = usable.rules.sequence;
+        root = c.root_fits.ensures;
         order = c.requires.from;
         room = c.requires.within;
         head_to = c.requires.most;
@@ -26,6 +26,10 @@ invariant_of-result c =
         asked = c.requires.asked;
         tracks = c.requires.tracks;
         ring = c.plan_rooms-rooms.ensures.planned.is_table;
+        course = c.requires.idle;
       },
       c.plan_rooms-rooms.ensures.layout,
+      c.args.scanned.grid_fits,
+      c.args.scanned.grid_named,
+      c.args.scanned.trailer_fits,
     )

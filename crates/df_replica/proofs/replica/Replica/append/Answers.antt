@@ -1,7 +1,7 @@
 -- What isn't refused may be the next prepare, and each call is the machine's.
 use Rattle.std.proofs.Common.{false, List, refl, sym, ap, ◌∙◌}
 use Rattle.df_format.specs.declared.header.Header.{Header}
-use Rattle.df_recovery.specs.State.{State}
+use Rattle.df_state.specs.State.{State}
 use Rattle.df_replica.proofs.AppendAnswers.{fault_serves, receipt_serves, refusal_serves}
 use Rattle.df_replica.proofs.AppendTests.{may_next}
 use Rattle.df_replica.proofs.replica.Replica.append.Goals as goal

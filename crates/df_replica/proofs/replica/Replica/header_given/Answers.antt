@@ -2,7 +2,7 @@
 use Rattle.std.proofs.Common.{ℕ, ◌%◌, ◌^◌, ◌<◌, ◌≤◌, refl, ap, arith, rules}
 use Rattle.std.proofs.Math.Nat.{mod-lt}
 use Rattle.df_base.proofs.Laws.{length-check_of, AreBytes-check_of}
-use Rattle.df_recovery.specs.State.{State}
+use Rattle.df_state.specs.State.{State}
 use Rattle.df_replica.proofs.replica.Replica.header_given.Goals as goal
 
 small_slot : (op slots : ℕ) → 0 < slots → slots ≤ 1024 → op % slots < 2 ^ 32

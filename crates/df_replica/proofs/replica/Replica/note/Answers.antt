@@ -3,8 +3,9 @@ use Rattle.std.proofs.Common.{◌≡◌, ◌+◌, ℕ, List, length, refl, sym, 
 use Rattle.std.proofs.lemmas.List.{length_push}
 use Rattle.df_journal.specs.Tail.{AreNumbered}
 use Rattle.df_replica.specs.Appending.{MayNote}
-use Rattle.df_recovery.specs.State.{AreAsked, State}
-use Rattle.df_recovery.proofs.Laws.{asked_noted}
+use Rattle.df_state.specs.State.{AreAsked, State}
+use Rattle.df_state.proofs.Laws.{asked_noted, course_on}
+use Rattle.df_state.specs.Captures.{running_of}
 use Rattle.df_sessions.specs.Requests.{sessions_of}
 use Rattle.df_theory.specs.Sessions.{Tracks, noted}
 use Rattle.df_theory.specs.Units
@@ -24,6 +25,7 @@ invariant_of-self c =
         cluster = old.cluster;
         parent = c.requires.sum;
         sequence = old.sequence;
+        root = old.root;
         order = omega (arith, op, old.order);
         room = omega (arith, op, may.room);
         head_to = omega (arith, op, may.op);
@@ -38,6 +40,10 @@ invariant_of-self c =
             (subst (λ (top : ℕ). Tracks c.self.inside.replies top (noted h (sessions_of c.self.inside.sessions.sessions))) (sym op)
             (tracks_noted c.self.inside.file.layout.clients c.self.inside.replies c.self.inside.replies c.self.inside.head h (sessions_of c.self.inside.sessions.sessions) old.tracks (may.asks h refl refl refl) op (omega arith) (omega arith)));
         ring = old.ring;
+        course = course_on c.self.inside.file c.self.inside.content c.self.inside.head c.args.made.now.op c.self.inside.grid.blocks (running_of c.self.inside.running) (omega (arith, op)) old.course;
       },
       c.self.invariant.1,
+      c.self.invariant.2,
+      c.self.invariant.3,
+      c.self.invariant.4,
     )

@@ -2,8 +2,8 @@
 use Rattle.std.proofs.Common.{◌≡◌, ◌<◌, ◌+◌, length, sym, subst, ◌∙◌, arith}
 use Rattle.df_sessions.specs.Requests.{sessions_of}
 use Rattle.df_theory.specs.Sessions.{Tracks}
-use Rattle.df_recovery.specs.State.{AreAsked, State}
-use Rattle.df_replica.proofs.Settled.{numbered_by}
+use Rattle.df_state.specs.State.{AreAsked, State}
+use Rattle.df_replica.proofs.ReplyTests.{numbered_by}
 use Rattle.df_replica.proofs.replica.Replica.note_reply.Goals as goal
 
 pub invariant_of-self : goal.invariant_of-self
@@ -16,6 +16,7 @@ invariant_of-self c =
         cluster = old.cluster;
         parent = old.parent;
         sequence = old.sequence;
+        root = old.root;
         order = old.order;
         room = old.room;
         head_to = old.head_to;
@@ -29,6 +30,10 @@ invariant_of-self c =
             subst (Tracks (c.self.inside.replies + 1) c.self.inside.head) (sym same)
             (record { below = old.tracks.below; apart = old.tracks.apart; pending = λ o above within. old.tracks.pending o (omega (arith, above)) within });
         ring = old.ring;
+        course = old.course;
       },
       c.self.invariant.1,
+      c.self.invariant.2,
+      c.self.invariant.3,
+      c.self.invariant.4,
     )

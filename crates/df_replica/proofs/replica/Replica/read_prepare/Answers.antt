@@ -10,7 +10,7 @@ use Rattle.df_buffers.specs.Sounds.{Holding}
 use Rattle.df_places.specs.Shelves.{HoldsFound, IsRead}
 use denote.Ref.{Bor}
 use Rattle.df_model.specs.Refusals.{first_refusal, prepare_refusals}
-use Rattle.df_recovery.specs.State.{State, memory}
+use Rattle.df_state.specs.State.{State, memory}
 use Rattle.df_replica.specs.Held.{headers_of}
 use Rattle.df_replica.specs.Reading.{prepare_wanted}
 use Rattle.df_replica.specs.contracts.replica.Replica.{the_view}

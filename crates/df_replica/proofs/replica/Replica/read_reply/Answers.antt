@@ -10,7 +10,7 @@ use Rattle.df_format.specs.declared.kind.Kind.TheVariants.{Reply}
 use Rattle.df_format.specs.Own.{place_in}
 use Rattle.df_buffers.specs.Sounds.{Holding}
 use Rattle.df_model.specs.Refusals.{first_refusal, lookup_refusals}
-use Rattle.df_recovery.specs.State.{State, memory, reply_sum}
+use Rattle.df_state.specs.State.{State, memory, reply_sum}
 use Rattle.df_replica.specs.Held.{headers_of}
 use Rattle.df_replica.specs.Lookups.{HoldsKnown, IsStoredFor, Tells, reply_shown}
 use Rattle.df_replica.specs.contracts.replica.Replica.{the_view}

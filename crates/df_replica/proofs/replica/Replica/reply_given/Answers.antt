@@ -8,9 +8,8 @@ use Rattle.df_format.specs.Own.{own_place}
 use Rattle.df_format.specs.Rules.{ObeysRules}
 use Rattle.df_format.specs.Spelling.{IsCheck, no_checksum}
 use Rattle.df_sessions.specs.Table.{IsTable}
-use Rattle.df_recovery.specs.State.{IsState, State}
-use Rattle.df_replica.specs.Held.{headers_of}
-use Rattle.df_replica.specs.Replica.{state_with}
+use Rattle.df_state.specs.State.{IsState, State}
+use Rattle.df_replica.specs.contracts.replica.Replica.{the_view}
 use Rattle.df_replica.specs.Replying.{first_check, reply_given}
 use Rattle.df_replica.proofs.ReplyGiven.{given_own, given_rules, header_is, place_small}
 use Rattle.df_replica.proofs.ReplyTests.{place_inside}
@@ -29,7 +28,7 @@ overflow_cast-result c =
 pub returns-clause-value : goal.returns-clause-value
 unfolding no_checksum
 returns-clause-value c =
-    let s : State = state_with c.self.inside.file c.self.inside.content c.self.inside.head c.self.inside.head_checksum c.self.inside.replies c.self.inside.sessions c.self.inside.waiting.items (headers_of c.self.inside.rooms) c.self.inside.live in
+    let s : State = the_view c.self.inside in
     let same : s ≡ c.args.self.now = c.self.view_is in
     header_is s c.first_waiting-parent.result c.client_of-client.result c.place_of_op-place.result c.fields.result.now.sequence c.session_in-session.result c.client_of-client.ensures.value
     (c.first_waiting-parent.ensures.value ∙ ap (λ (x : State). first_check x.waiting) (sym same)) c.place_of_op-place.ensures.place c.session_in-session.ensures (ap (λ (f : SuperFields). f.sequence) c.fields.ensures.value)

@@ -1,0 +1,114 @@
+-- Each begin is the machine's: its answer, and the state behind it. It does nothing to the disk.
+use Rattle.std.proofs.Common.{◌≡◌, ◌∙◌, ℕ, ◌<◌, ◌^◌, true, List, [], take, Option, Some, None, refl, sym, ap, subst, arith}
+use Rattle.std.specs.Prelude.{Ok, Err}
+use Rattle.df_base.specs.Fields.{AreBytes}
+use Rattle.df_base.specs.Log.{now}
+use Rattle.df_disk.specs.Told.{Told}
+use Rattle.df_format.proofs.Laws.{some-eq}
+use Rattle.df_journal.specs.Append.{ShowsRing}
+use Rattle.df_theory.specs.Units.{Parts}
+use Rattle.df_model.specs.After.{begun as begun_by, outcome, with_running}
+use Rattle.df_model.specs.Blocks.{blocks_captured}
+use Rattle.df_model.specs.Changing.{begun_in, unless_refused}
+use Rattle.df_model.specs.Commands.{Answer, Begin, Command, Given, IsInput, ToBegin, as_answer}
+use Rattle.df_model.specs.Making.{needed_of}
+use Rattle.df_model.specs.Memory.{Memory, free_of, memory_of}
+use Rattle.df_model.specs.Refusals.{begin_refusals, first_refusal}
+use Rattle.df_model.specs.Sense.{IsWork}
+use Rattle.df_model.specs.Work.{Work}
+use Rattle.df_model.proofs.Laws.{change_law}
+use Rattle.df_model.specs.declared.errors.BeginError.{BeginError}
+use Rattle.df_state.specs.State.{Represents, State, shape, spelling}
+use Rattle.df_replica.specs.Answering.{Serves, begin_answer}
+use Rattle.df_replica.specs.Beginning.{begin_refusal, begun, needed}
+use Rattle.df_replica.specs.Serving.{IsCall, next}
+use Rattle.df_replica.specs.Supply.{IsSupplied}
+use Rattle.df_replica.proofs.Calls.{AreCalls, Answered, answered_call}
+
+-- what a begin makes of the memory
+abbrev begun_memory : (Parts → List ℕ) → Memory → List ℕ → Memory
+begun_memory spell m root = record m { running = Some (begun_in spell m root); blocks = blocks_captured m.blocks (take (needed_of spell m root) (free_of m)) }
+
+module _ (s : State) (root : List ℕ) (given : Given) (bytes : AreBytes root) (live : s.live ≡ true) (zero_sum : given.checksum ≡ 0) where
+  abbrev command : Command
+  command = Begin root
+
+  input : IsInput given command
+  input = record { checksum = (let small : given.checksum < 2 ^ 128 = omega (arith, zero_sum) in small); fields = bytes }
+
+  -- it does nothing
+  does : AreCalls given command s []
+  does g w t k = record { steps = []; are = tt; does = refl }
+
+  module _ (w : Work) (rep : Represents s w) where
+    test_is : (o : Option BeginError) → begin_refusal s root ≡ o → first_refusal (begin_refusals (memory_of (shape s.file) (spelling s.file) w) (needed_of (spelling s.file) (memory_of (shape s.file) (spelling s.file) w) root) root) ≡ o
+    test_is o there = ap (λ (x : Memory). first_refusal (begin_refusals x (needed_of (spelling s.file) x root) root)) (sym rep) ∙ there
+
+  -- ---- a refusal
+
+  module _ (e : BeginError) (some : begin_refusal s root ≡ Some e) where
+    refused_next : (w : Work) → Represents s w → next s.file w given command ≡ (w, ToBegin (Err e))
+    refused_next w rep =
+        let m = memory_of (shape s.file) (spelling s.file) w in
+        ap (λ (o : Option BeginError). as_answer ToBegin (outcome o w (with_running w (Some (begun_by (shape s.file) (spelling s.file) w root))) (needed_of (spelling s.file) m root))) (test_is w rep (Some e) some)
+
+    refused_as : Answered given command s s [] (ToBegin (Err e))
+    refused_as = record {
+      file = refl;
+      live = live;
+      stands = λ w work rep. (ap (λ (x : Work × Answer). x.1) (sym (refused_next w rep)), subst (λ (x : Work × Answer). Represents s x.0) (sym (refused_next w rep)) rep);
+      ring = λ g w a b k all. subst (λ (x : Told). ShowsRing s.file.layout s.file.cluster (now x.log) s.headers) (sym (some-eq all)) k.ring;
+    }
+
+    pub refused_call : (told : Option Told) → IsSupplied s told command given → IsCall given command s s told told (Some (ToBegin (Err e)))
+    refused_call told supplied = answered_call given command s [] input does s (ToBegin (Err e)) refused_as told told supplied refl
+
+  -- ---- a checkpoint that is begun
+
+  module _ (none : begin_refusal s root ≡ None) where
+    module _ (w : Work) (work : IsWork (shape s.file) (spelling s.file) w) (rep : Represents s w) where
+      abbrev m : Memory
+      m = memory_of (shape s.file) (spelling s.file) w
+
+      abbrev later : Work
+      later = with_running w (Some (begun_by (shape s.file) (spelling s.file) w root))
+
+      none_there : first_refusal (begin_refusals m (needed_of (spelling s.file) m root) root) ≡ None
+      none_there = test_is w rep None none
+
+      next_is : next s.file w given command ≡ (later, ToBegin (Ok (needed_of (spelling s.file) m root)))
+      next_is = ap (λ (o : Option BeginError). as_answer ToBegin (outcome o w later (needed_of (spelling s.file) m root))) none_there
+
+      memory_is : memory_of (shape s.file) (spelling s.file) later ≡ begun_memory (spelling s.file) m root
+      memory_is =
+          subst (λ (o : Option BeginError). memory_of (shape s.file) (spelling s.file) (outcome o w later (needed_of (spelling s.file) m root)).0
+          ≡ record (unless_refused o m (record m { running = Some (begun_in (spelling s.file) m root) })) { blocks = unless_refused o m.blocks (blocks_captured m.blocks (take (needed_of (spelling s.file) m root) (free_of m))) })
+          none_there (change_law (shape s.file) (spelling s.file) w given command work)
+
+      stands : Represents (begun s root) later
+      stands = ap (λ (x : Memory). begun_memory (spelling s.file) x root) rep ∙ sym memory_is
+
+      allowed_at : (ToBegin (Ok (needed s root)) ≡ (next s.file w given command).1) × Represents (begun s root) (next s.file w given command).0
+      allowed_at =
+          subst (λ (x : Work × Answer). (ToBegin (Ok (needed s root)) ≡ x.1) × Represents (begun s root) x.0) (sym next_is)
+          (ap (λ (x : Memory). ToBegin (Ok (needed_of (spelling s.file) x root))) rep, stands)
+
+    begun_as : Answered given command s (begun s root) [] (ToBegin (Ok (needed s root)))
+    begun_as = record {
+      file = refl;
+      live = live;
+      stands = λ w work rep. allowed_at w work rep;
+      ring = λ g w a b k all. subst (λ (x : Told). ShowsRing s.file.layout s.file.cluster (now x.log) s.headers) (sym (some-eq all)) k.ring;
+    }
+
+    pub begun_call : (told : Option Told) → IsSupplied s told command given → IsCall given command s (begun s root) told told (Some (ToBegin (Ok (needed s root))))
+    begun_call told supplied = answered_call given command s [] input does (begun s root) (ToBegin (Ok (needed s root))) begun_as told told supplied refl
+
+module _ (s : State) (root : List ℕ) (bytes : AreBytes root) (live : s.live ≡ true) where
+  pub refusal_serves : (e : BeginError) → begin_refusal s root ≡ Some e → (told : Option Told) → Serves (Begin root) s s told told (begin_answer (Err e))
+  refusal_serves e some told = λ given supplied. refused_call s root given bytes live supplied e some told supplied
+
+  pub begun_serves : begin_refusal s root ≡ None → (t : State) (blocks : ℕ) → blocks ≡ needed s root → t ≡ begun s root → (told : Option Told) → Serves (Begin root) s t told told (begin_answer (Ok blocks))
+  begun_serves none t blocks same next_is told =
+      subst (λ (x : State). Serves (Begin root) s x told told (begin_answer (Ok blocks))) (sym next_is)
+      (subst (λ (n : ℕ). Serves (Begin root) s (begun s root) told told (begin_answer (Ok n))) (sym same) (λ given supplied. begun_call s root given bytes live supplied none told supplied))

@@ -1,0 +1,55 @@
+-- The state with a checkpoint that was begun makes sense.
+use Rattle.std.proofs.Common.{◌≡◌, ◌∙◌, ℕ, ◌-◌, List, length, take, Option, refl, subst, arith}
+use Rattle.std.proofs.lemmas.List.{length-take}
+use Rattle.df_sessions.specs.Table.{IsTable}
+use Rattle.df_theory.specs.Trailer.{IsCount}
+use Rattle.df_model.specs.Blocks.{Blocks}
+use Rattle.df_model.specs.Memory.{free_of}
+use Rattle.df_state.specs.State.{Capture, IsCourse, IsRunning, IsState, State, memory}
+use Rattle.df_replica.specs.declared.begin.Plan.{Plan}
+use Rattle.df_replica.specs.Beginning.{MayBegin, begun, captured, needed}
+
+-- a state makes sense with other blocks and another course, where those do
+pub with_course : (s : State) (b : Blocks) (r : Option Capture) → IsState s → IsCourse s.file s.fields s.head b r → IsState (record s { blocks = b; running = r })
+with_course s b r is course = record {
+  cluster = is.cluster;
+  parent = is.parent;
+  sequence = is.sequence;
+  root = is.root;
+  order = is.order;
+  room = is.room;
+  head_to = is.head_to;
+  waiting = is.waiting;
+  few = is.few;
+  places = is.places;
+  first = is.first;
+  requests = is.requests;
+  asked = is.asked;
+  tracks = is.tracks;
+  ring = is.ring;
+  course = course;
+}
+
+module _ (s : State) (root : List ℕ) (plan : Plan) (is : IsState s) (table : IsTable s.table) (may : MayBegin s root plan) where
+  abbrev b : Blocks
+  b = (begun s root).blocks
+
+  taken : length (take (needed s root) (free_of (memory s))) ≡ needed s root
+  taken = length-take (needed s root) (free_of (memory s)) ∙ (let all = may.free in omega (arith, all))
+
+  pub is_running : IsRunning s.file s.fields s.head b (captured s root)
+  is_running = record {
+    op_from = is.order;
+    op_to = omega arith;
+    parent = is.parent;
+    first = is.first;
+    root = may.short;
+    sessions = omega (arith, table.within, is.places);
+    sequence = (refl, omega (arith, may.unspent));
+    size = refl;
+    fits = (omega (arith, may.planned.some, may.planned.size), omega (arith, may.planned.longest, may.planned.size));
+    count = subst (λ (n : ℕ). IsCount (s.file.layout.block_size - 256) n (needed s root)) may.planned.size (subst (λ (n : ℕ). IsCount (s.file.layout.block_size - 256) plan.size n) may.planned.blocks may.planned.count);
+    few = omega (arith, may.planned.few, may.planned.blocks);
+    all = omega (arith, taken);
+    written = refl;
+  }

@@ -1,0 +1,203 @@
+-- Each write of a block is the machine's: its answer, the state behind it, and what it does to the disk.
+use Rattle.std.proofs.Common.{◌≡◌, ◌∙◌, ℕ, true, false, Bool, List, [], ◌∷◌, Option, Some, None, refl, sym, ap, subst, arith}
+use Rattle.std.specs.Prelude.{if◌then◌else◌, Ok, Err}
+use Rattle.df_base.proofs.Laws.{AreBytes-check_of, field_at-lt, now_is_image}
+use Rattle.df_base.specs.Image.{IsImage}
+use Rattle.df_base.specs.Log.{now}
+use Rattle.df_disk.specs.Told.{Told}
+use Rattle.df_disk.specs.Adds.{AddsPart, after_all}
+use Rattle.df_format.proofs.Laws.{some-eq}
+use Rattle.df_format.specs.Making.{for_body}
+use Rattle.df_format.specs.Message.{Message}
+use Rattle.df_format.specs.Spelling.{spelling_rest}
+use Rattle.df_format.specs.declared.reference.Reference.{Reference}
+use Rattle.df_grid.specs.Writes.{block_steps}
+use Rattle.df_journal.specs.Append.{ShowsRing}
+use Rattle.df_theory.specs.Device.{AreSteps}
+use Rattle.df_theory.specs.Units as theory
+use Rattle.df_theory.specs.Units.{BlockPlace, BlockUnit, HeaderPlace}
+use Rattle.df_theory.specs.UnitLog.{put_one}
+use Rattle.df_theory.proofs.Laws.{put_one_law}
+use Rattle.df_units.specs.Format.{format_of}
+use Rattle.df_units.specs.Meaning as meaning
+use Rattle.df_units.specs.Meaning.{number_of}
+use Rattle.df_units.proofs.Laws.{no_number}
+use Rattle.df_model.specs.After.{outcome, with_live}
+use Rattle.df_model.specs.Blocks.{block_written, with_entry}
+use Rattle.df_model.specs.Changing.{unless_refused}
+use Rattle.df_model.specs.Codec.{IsChecksum}
+use Rattle.df_model.specs.Commands.{Answer, Command, Given, IsInput, ToWriteBlock, WriteBlock, as_answer}
+use Rattle.df_model.specs.Laws.{DoesBlock, UnlessRefused}
+use Rattle.df_model.specs.Making.{block_of, next_address}
+use Rattle.df_model.specs.Memory.{Memory, memory_of}
+use Rattle.df_model.specs.OnDisk.{DoesOnDisk}
+use Rattle.df_model.specs.Refusals.{block_refusals, first_refusal}
+use Rattle.df_model.specs.Sense.{IsWork}
+use Rattle.df_model.specs.Work.{Work}
+use Rattle.df_model.proofs.Laws.{change_law}
+use Rattle.df_model.specs.declared.errors.BlockError.{BlockError}
+use Rattle.df_model.specs.declared.errors.BlockError.TheVariants as block
+use Rattle.df_state.specs.State.{Represents, State, memory, shape, spelling}
+use Rattle.df_replica.specs.Answering.{Serves, write_block_answer}
+use Rattle.df_replica.specs.Blocks.{block_events, block_given, next_block, reference_of, written}
+use Rattle.df_replica.specs.Serving.{Grade, IsCall, IsKept, format, next}
+use Rattle.df_replica.specs.Supply.{IsSupplied}
+use Rattle.df_replica.proofs.Calls.{AreCalls, Answered, answered_call, stopped_call}
+use Rattle.df_replica.proofs.BlockStates.{blocks_memory}
+
+module _ (s : State) (kind : ℕ) (body : List ℕ) (given : Given) (live : s.live ≡ true) (sum : given.checksum ≡ number_of (next_block s kind body).header.checksum) where
+  abbrev u : Message
+  u = next_block s kind body
+
+  abbrev command : Command
+  command = WriteBlock kind body
+
+  input : IsInput given command
+  input = record { checksum = subst IsChecksum (sym sum) (field_at-lt 16 0 u.header.checksum (AreBytes-check_of (spelling_rest (for_body (block_given s (next_address (memory s)) kind) body)))); fields = tt }
+
+  module _ (w : Work) (rep : Represents s w) where
+    test_is : (o : Option BlockError) → first_refusal (block_refusals (memory s) kind body) ≡ o → first_refusal (block_refusals (memory_of (shape s.file) (spelling s.file) w) kind body) ≡ o
+    test_is o there = ap (λ (x : Memory). first_refusal (block_refusals x kind body)) (sym rep) ∙ there
+
+  -- ---- a refusal
+
+  module _ (e : BlockError) (some : first_refusal (block_refusals (memory s) kind body) ≡ Some e) where
+    refused_next : (w : Work) → Represents s w → next s.file w given command ≡ (w, ToWriteBlock (Err e))
+    refused_next w rep =
+        let a = next_address (memory_of (shape s.file) (spelling s.file) w) in
+        let pair : ℕ × ℕ = (a, given.checksum) in
+        ap (λ (o : Option BlockError). as_answer ToWriteBlock (outcome o w (with_live w a (Some given.checksum)) pair)) (test_is w rep (Some e) some)
+
+    refused_does : AreCalls given command s []
+    refused_does g w t k =
+        let m = memory_of (shape s.file) (spelling s.file) w in
+        record {
+          steps = [];
+          are = tt;
+          does = subst (λ (o : Option BlockError). UnlessRefused o [] (DoesBlock w.view (next_address m) (block_of given.checksum kind body) [])) (sym (test_is w k.stands (Some e) some)) refl;
+        }
+
+    refused_as : Answered given command s s [] (ToWriteBlock (Err e))
+    refused_as = record {
+      file = refl;
+      live = live;
+      stands = λ w work rep. (ap (λ (x : Work × Answer). x.1) (sym (refused_next w rep)), subst (λ (x : Work × Answer). Represents s x.0) (sym (refused_next w rep)) rep);
+      ring = λ g w a b k all. subst (λ (x : Told). ShowsRing s.file.layout s.file.cluster (now x.log) s.headers) (sym (some-eq all)) k.ring;
+    }
+
+    refused_call : (old : Option Told) → IsSupplied s old command given → IsCall given command s s old old (Some (ToWriteBlock (Err e)))
+    refused_call old supplied = answered_call given command s [] input refused_does s (ToWriteBlock (Err e)) refused_as old old supplied refl
+
+  -- ---- a block that is written, and a fault
+
+  module _ (none : first_refusal (block_refusals (memory s) kind body) ≡ None) (wrote : AreSteps (format_of s.file.layout s.file.cluster) (block_events s u) (block_steps u)) where
+    module _ (w : Work) (rep : Represents s w) where
+      address_is : next_address (memory_of (shape s.file) (spelling s.file) w) ≡ u.header.op
+      address_is = ap next_address (sym rep)
+
+      none_there : first_refusal (block_refusals (memory_of (shape s.file) (spelling s.file) w) kind body) ≡ None
+      none_there = test_is w rep None none
+
+    block_is : block_of given.checksum kind body ≡ meaning.block_of u
+    block_is =
+        ap (λ (n : ℕ). block_of n kind body) sum
+        ∙ ap (λ (n : ℕ). record (block_of (number_of u.header.checksum) kind body) { before_checksum = n }) (sym no_number)
+
+    does_block : (g : Grade) (w : Work) (t : Told) → IsKept g s w t.log → DoesOnDisk (format s.file) (shape s.file) (spelling s.file) t.log w given command (block_events s u)
+    does_block g w t k =
+        let m = memory_of (shape s.file) (spelling s.file) w in
+        let steps = block_steps u in
+        let does : DoesBlock w.view u.header.op (meaning.block_of u) steps = record { put = put_one (BlockPlace u.header.op) (BlockUnit (meaning.block_of u)); one = put_one_law (BlockPlace u.header.op) (BlockUnit (meaning.block_of u)); are = refl } in
+        record {
+          steps = steps;
+          are = wrote;
+          does =
+              subst (λ (o : Option BlockError). UnlessRefused o steps (DoesBlock w.view (next_address m) (block_of given.checksum kind body) steps)) (sym (none_there w k.stands))
+              (subst (λ (b : theory.Block). DoesBlock w.view (next_address m) b steps) (sym block_is)
+              (subst (λ (a : ℕ). DoesBlock w.view a (meaning.block_of u) steps) (sym (address_is w k.stands)) does));
+        }
+
+    abbrev answer : Answer
+    answer = ToWriteBlock (Ok (u.header.op, number_of u.header.checksum))
+
+    module _ (w : Work) (work : IsWork (shape s.file) (spelling s.file) w) (rep : Represents s w) where
+      abbrev m : Memory
+      m = memory_of (shape s.file) (spelling s.file) w
+
+      abbrev later : Work
+      later = with_live w (next_address m) (Some given.checksum)
+
+      abbrev pair : ℕ × ℕ
+      pair = (next_address m, given.checksum)
+
+      next_is : next s.file w given command ≡ (later, ToWriteBlock (Ok pair))
+      next_is = ap (λ (o : Option BlockError). as_answer ToWriteBlock (outcome o w later pair)) (none_there w rep)
+
+      memory_is : memory_of (shape s.file) (spelling s.file) later ≡ record m { blocks = block_written m.blocks (next_address m) given.checksum }
+      memory_is =
+          subst (λ (o : Option BlockError). memory_of (shape s.file) (spelling s.file) (outcome o w later pair).0 ≡ record m { blocks = unless_refused o m.blocks (block_written m.blocks (next_address m) given.checksum) })
+          (none_there w rep) (change_law (shape s.file) (spelling s.file) w given command work)
+
+      stands : Represents (written s u.header) later
+      stands =
+          blocks_memory s (with_entry u.header.op (number_of u.header.checksum) s.blocks.live)
+          ∙ (λ i. record (rep i) { blocks = block_written (rep i).blocks (next_address (rep i)) (sym sum i) })
+          ∙ sym memory_is
+
+      allowed_at : (answer ≡ (next s.file w given command).1) × Represents (written s u.header) (next s.file w given command).0
+      allowed_at =
+          subst (λ (x : Work × Answer). (answer ≡ x.1) × Represents (written s u.header) x.0) (sym next_is)
+          ((λ i. ToWriteBlock (Ok (sym (address_is w rep) i, sym sum i))), stands)
+
+    -- the header ring shows what it did
+    ring_kept : (g : Grade) (w : Work) (a b : Told) → IsKept g s w a.log → Some b ≡ after_all (block_events s u) (Some a) → ShowsRing s.file.layout s.file.cluster (now b.log) s.headers
+    ring_kept g w a b k all =
+        let whole : IsImage (now a.log) = now_is_image a.log.start a.log.events k.log_is.start k.log_is.events in
+        subst (λ (x : Told). ShowsRing s.file.layout s.file.cluster (now x.log) s.headers) (sym (some-eq all)) (λ slot h at. wrote.0.shows (now a.log) (HeaderPlace slot) whole ∙ k.ring slot h at)
+
+    allowed_as : Answered given command s (written s u.header) (block_events s u) answer
+    allowed_as = record { file = refl; live = live; stands = λ w work rep. allowed_at w work rep; ring = λ g w a b k all. ring_kept g w a b k all }
+
+    written_call : (old new : Option Told) → IsSupplied s old command given → new ≡ after_all (block_events s u) old → IsCall given command s (written s u.header) old new (Some answer)
+    written_call old new supplied all = answered_call given command s (block_events s u) input does_block (written s u.header) answer allowed_as old new supplied all
+
+    fault_call : (old new : Option Told) (t : State) → IsSupplied s old command given → t.live ≡ false → AddsPart (block_events s u) old new → IsCall given command s t old new None
+    fault_call old new t supplied dead part = stopped_call given command s (block_events s u) input does_block t old new supplied dead part
+
+-- no refusal is a fault
+abbrev IsRefusal : BlockError → Type 0
+IsRefusal block.DiskFault = ⊥
+IsRefusal e = Unit {0}
+
+abbrev AreRefusals : List (Bool × BlockError) → Type 0
+AreRefusals [] = Unit {0}
+AreRefusals (t ∷ ts) = IsRefusal t.1 × AreRefusals ts
+
+refusal_is : (b : Bool) (e : BlockError) (o : Option BlockError) → IsRefusal e → (if b then Some e else o) ≡ Some block.DiskFault → (o ≡ Some block.DiskFault → ⊥) → ⊥
+refusal_is true e o safe is there = let same : e ≡ block.DiskFault = cc in subst IsRefusal same safe
+refusal_is false e o safe is there = there is
+
+none_faults : (ts : List (Bool × BlockError)) → AreRefusals ts → first_refusal ts ≡ Some block.DiskFault → ⊥
+none_faults [] safe is = let same : None ≡ Some block.DiskFault = is in absurd (cc)
+none_faults (t ∷ ts) safe is = refusal_is t.0 t.1 (first_refusal ts) safe.0 is (λ more. none_faults ts safe.1 more)
+
+pub no_fault : (seen : Memory) (kind : ℕ) (body : List ℕ) → first_refusal (block_refusals seen kind body) ≡ Some block.DiskFault → ⊥
+no_fault seen kind body is = none_faults (block_refusals seen kind body) (tt, (tt, (tt, tt))) is
+
+module _ (s : State) (kind : ℕ) (body : List ℕ) (live : s.live ≡ true) where
+  pub refusal_serves : (e : BlockError) → first_refusal (block_refusals (memory s) kind body) ≡ Some e → (old : Option Told) → Serves (WriteBlock kind body) s s old old (write_block_answer (Err e))
+  refusal_serves block.KindZero some old = λ given supplied. refused_call s kind body given live supplied block.KindZero some old supplied
+  refusal_serves (block.BodyTooLong a) some old = λ given supplied. refused_call s kind body given live supplied (block.BodyTooLong a) some old supplied
+  refusal_serves (block.GridFull a) some old = λ given supplied. refused_call s kind body given live supplied (block.GridFull a) some old supplied
+  refusal_serves block.DiskFault some old = absurd (no_fault (memory s) kind body some)
+
+  module _ (none : first_refusal (block_refusals (memory s) kind body) ≡ None) (wrote : AreSteps (format_of s.file.layout s.file.cluster) (block_events s (next_block s kind body)) (block_steps (next_block s kind body))) where
+    pub written_serves : (t : State) (r : Reference) (old new : Option Told) → r ≡ reference_of (next_block s kind body).header → t ≡ written s (next_block s kind body).header
+        → new ≡ after_all (block_events s (next_block s kind body)) old → Serves (WriteBlock kind body) s t old new (write_block_answer (Ok r))
+    written_serves t r old new same next_is all =
+        subst (λ (x : State). Serves (WriteBlock kind body) s x old new (write_block_answer (Ok r))) (sym next_is)
+        (subst (λ (x : Reference). Serves (WriteBlock kind body) s (written s (next_block s kind body).header) old new (write_block_answer (Ok x))) (sym same)
+        (λ given supplied. written_call s kind body given live supplied none wrote old new supplied all))
+
+    pub fault_serves : (t : State) (old new : Option Told) → t.live ≡ false → AddsPart (block_events s (next_block s kind body)) old new → Serves (WriteBlock kind body) s t old new None
+    fault_serves t old new dead part = λ given supplied. fault_call s kind body given live supplied none wrote old new t supplied dead part

@@ -1,0 +1,120 @@
+-- Each read of a block is the machine's: it does nothing to the disk, and what it found is what it was supplied with.
+use Rattle.std.proofs.Common.{◌≡◌, ℕ, Bool, true, false, cond, not, List, [], Option, Some, None, refl, sym, ◌∙◌, ap, subst}
+use Rattle.std.specs.Prelude.{Result, Ok, Err, is_some}
+use Rattle.df_base.specs.Log.{now}
+use Rattle.df_disk.specs.Told.{Told}
+use Rattle.df_layout.specs.declared.damage.Class.{Class}
+use Rattle.df_layout.specs.declared.places.Place.{Place}
+use Rattle.df_layout.specs.declared.places.Zone.TheVariants.{Grid}
+use Rattle.df_format.proofs.Laws.{some-eq}
+use Rattle.df_format.specs.declared.kind.Kind.TheVariants.{Block}
+use Rattle.df_format.specs.Message.{Message}
+use Rattle.df_format.specs.Own.{place_in}
+use Rattle.df_buffers.specs.Sounds.{Holding}
+use Rattle.df_trailer.specs.Rooms.{number_in}
+use Rattle.df_grid.specs.Grid.{IsKnownUnit}
+use Rattle.df_grid.specs.Reads.{HoldsKnown, Loads, ReadsBlock}
+use Rattle.df_units.specs.Meaning.{block_of}
+use Rattle.df_journal.specs.Append.{ShowsRing}
+use Rattle.df_theory.specs.Units
+use Rattle.df_model.specs.After as after
+use Rattle.df_model.specs.After.{shown_or}
+use Rattle.df_model.specs.Blocks.{sum_at}
+use Rattle.df_model.specs.Commands.{Given, IsInput, ReadBlock, ToReadBlock}
+use Rattle.df_model.specs.Memory.{Memory}
+use Rattle.df_model.specs.Refusals.{first_refusal, read_refusals}
+use Rattle.df_model.specs.Work.{is_known}
+use Rattle.df_model.specs.declared.reading.ReadError.{ReadError}
+use Rattle.df_model.specs.declared.reading.ReadError.TheVariants as read
+use Rattle.df_state.specs.State.{State, memory}
+use Rattle.df_replica.specs.Answering.{GivesBlock, ServesBlockRead}
+use Rattle.df_replica.specs.BlockReads.{IsBlockFound, IsReadBlock}
+use Rattle.df_replica.specs.Supply.{IsSupplied}
+use Rattle.df_replica.proofs.Calls.{AreCalls, Answered, answered_call, stopped_call}
+use Rattle.df_replica.proofs.ReadCalls.{zero_sum}
+
+module _ (s : State) (address : ℕ) (live : s.live ≡ true) where
+  abbrev damaged : Class → ReadError
+  damaged = read.Damaged (place_in Grid address)
+
+  calls : (given : Given) → AreCalls given (ReadBlock address) s []
+  calls given g w t k = record { steps = []; are = tt; does = refl }
+
+  input : (told : Option Told) (given : Given) → IsSupplied s told (ReadBlock address) given → IsInput given (ReadBlock address)
+  input told given supplied = record { checksum = zero_sum given supplied.0; fields = tt }
+
+  answered : (given : Given) (answer : Result Units.Block ReadError) → after.read_answer (memory s) given.block address ≡ answer → Answered given (ReadBlock address) s s [] (ToReadBlock answer)
+  answered given answer same = record {
+    file = refl;
+    live = live;
+    stands = λ w work rep. (ap ToReadBlock (sym same) ∙ ap (λ (m : Memory). ToReadBlock (after.read_answer m given.block address)) rep, rep);
+    ring = λ g w a b k all. subst (λ (x : Told). ShowsRing s.file.layout s.file.cluster (now x.log) s.headers) (sym (some-eq all)) k.ring;
+  }
+
+  answers : (told : Option Told) (found : Option (Result Units.Block Class)) (answer : Result Units.Block ReadError)
+      → ((given : Given) → IsSupplied s told (ReadBlock address) given → GivesBlock told found given → after.read_answer (memory s) given.block address ≡ answer)
+      → ServesBlockRead (ReadBlock address) s s told found (Some (ToReadBlock answer))
+  answers told found answer same given supplied gives =
+      answered_call given (ReadBlock address) s [] (input told given supplied) (calls given) s (ToReadBlock answer) (answered given answer (same given supplied gives)) told told supplied refl
+
+  block_is : (told : Option Told) (b : Result Units.Block Class) → IsBlockFound s address told b → (given : Given) → IsSupplied s told (ReadBlock address) given → GivesBlock told (Some b) given → given.block ≡ b
+  block_is None b by given supplied gives = gives
+  block_is (Some t) b by given supplied gives = supplied.1 ∙ sym by
+
+  -- a refusal
+  pub block_refused : (told : Option Told) (e : ReadError) → first_refusal (read_refusals (memory s) address) ≡ Some e → ServesBlockRead (ReadBlock address) s s told None (Some (ToReadBlock (Err e)))
+  block_refused told e some = answers told None (Err e) (λ given supplied gives. ap (λ (o : Option ReadError). shown_or o damaged given.block) some)
+
+  -- what was found
+  pub block_serves : (told : Option Told) (b : Result Units.Block Class) → first_refusal (read_refusals (memory s) address) ≡ None → IsBlockFound s address told b
+      → ServesBlockRead (ReadBlock address) s s told (Some b) (Some (ToReadBlock (shown_or None damaged b)))
+  block_serves told b none by = answers told (Some b) (shown_or None damaged b) (λ given supplied gives.
+      ap (λ (o : Option ReadError). shown_or o damaged given.block) none ∙ ap (λ (r : Result Units.Block Class). shown_or None damaged r) (block_is told b by given supplied gives))
+
+  -- a fault
+  pub block_stopped : (told : Option Told) (t : State) → t.live ≡ false → ServesBlockRead (ReadBlock address) s t told None None
+  block_stopped told t dead given supplied gives = stopped_call given (ReadBlock address) s [] (input told given supplied) (calls given) t told told supplied dead refl
+
+-- what the grid reads is what the machine does
+found_by : (s : State) (address : ℕ) (told : Option Told) (b : Result Units.Block Class) → ReadsBlock s.file.layout s.file.cluster told address (sum_at address s.blocks.live) b → IsBlockFound s address told b
+found_by s address None b is = tt
+found_by s address (Some t) b is = is
+
+-- a block is lent
+pub record LendsBlock (s : State) (address : ℕ) (told : Option Told) (u : Message) : Type 0 where
+  pub exact : IsReadBlock address s told (Ok (block_of u))
+  pub known : IsKnownUnit Block s.file.layout s.file.cluster address (sum_at address s.blocks.live) u
+  pub call : ServesBlockRead (ReadBlock address) s s told (Some (Ok (block_of u))) (Some (ToReadBlock (Ok (block_of u))))
+
+-- a class is told
+pub record TellsBlock (s : State) (address : ℕ) (told : Option Told) (place : Place) (class : Class) : Type 0 where
+  pub exact : IsReadBlock address s told (Err (read.Damaged place class))
+  pub call : ServesBlockRead (ReadBlock address) s s told (Some (Err class)) (Some (ToReadBlock (Err (read.Damaged place class))))
+
+module _ (s : State) (address : ℕ) (live : s.live ≡ true) (told : Option Told) (none : first_refusal (read_refusals (memory s) address) ≡ None) where
+  abbrev known : Option ℕ
+  known = sum_at address s.blocks.live
+
+  pub lends_block : (wrong : Option Class) (held : Option Holding) → Loads s.file.layout s.file.cluster told address known wrong held → HoldsKnown s.file.layout s.file.cluster address known wrong held
+      → (h : Holding) → wrong ≡ None → held ≡ Some h → LendsBlock s address told h.unit
+  lends_block wrong held loads valid h is has =
+      let reads = subst (λ (o : Option Holding). Loads s.file.layout s.file.cluster told address known None o) has (subst (λ (o : Option Class). Loads s.file.layout s.file.cluster told address known o held) is loads) in
+      let known_is = subst (λ (o : Option Holding). HoldsKnown s.file.layout s.file.cluster address known None o) has (subst (λ (o : Option Class). HoldsKnown s.file.layout s.file.cluster address known o held) is valid) in
+      let by = found_by s address told (Ok (block_of h.unit)) reads in
+      record { exact = (none, by); known = known_is; call = block_serves s address live told (Ok (block_of h.unit)) none by }
+
+  pub tells_block : (wrong : Option Class) (held : Option Holding) → Loads s.file.layout s.file.cluster told address known wrong held → (class : Class) (place : Place) → wrong ≡ Some class → place ≡ place_in Grid address
+      → TellsBlock s address told place class
+  tells_block wrong held loads class place is there =
+      let by = found_by s address told (Err class) (subst (λ (o : Option Class). Loads s.file.layout s.file.cluster told address known o held) is loads) in
+      subst (λ (p : Place). TellsBlock s address told p class) (sym there) (record { exact = (none, refl, by); call = block_serves s address live told (Err class) none by })
+
+-- ---- whether it is refused
+
+pub not_live : (s : State) (address : ℕ) (o : Option (List ℕ)) (b : Bool) → number_in o ≡ sum_at address s.blocks.live → is_some o ≡ not b → b ≡ true → first_refusal (read_refusals (memory s) address) ≡ Some read.NotLive
+not_live s address None b there is none = ap (λ (k : Option ℕ). cond (not (is_known k)) (Some read.NotLive) None) (sym there)
+not_live s address (Some check) b there is none = absurd (cc)
+
+pub is_live : (s : State) (address : ℕ) (o : Option (List ℕ)) (b : Bool) → number_in o ≡ sum_at address s.blocks.live → is_some o ≡ not b → b ≡ false → first_refusal (read_refusals (memory s) address) ≡ None
+is_live s address None b there is some = absurd (cc)
+is_live s address (Some check) b there is some = ap (λ (k : Option ℕ). cond (not (is_known k)) (Some read.NotLive) None) (sym there)

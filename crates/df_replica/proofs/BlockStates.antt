@@ -1,0 +1,113 @@
+-- The state whose live blocks changed: it makes sense, and what it is in the words of the machine.
+use Rattle.std.proofs.Common.{◌≡◌, ◌∙◌, ℕ, ◌+◌, ◌<◌, ◌≤◌, ◌==◌, true, false, Bool, not, cond, List, [], ◌∷◌, length, Option, Some, None, refl, sym, ap, subst, arith}
+use Rattle.std.specs.Prelude.{Result, Ok, Err, OnErr, OnOk, if◌then◌else◌}
+use Rattle.df_format.specs.declared.superblock.SuperFields.{SuperFields}
+use Rattle.df_format.proofs.Laws.{some-eq}
+use Rattle.df_grid.specs.Grid.{GridState, IsUnheld, with_blocks as grid_of}
+use Rattle.df_model.specs.Blocks.{Blocks, block_released, sum_at, without_entry}
+use Rattle.df_model.specs.Making.{next_address}
+use Rattle.df_model.specs.Memory.{Course}
+use Rattle.df_model.specs.Refusals.{block_refusals, first_refusal}
+use Rattle.df_model.specs.Work.{is_known}
+use Rattle.df_model.proofs.Laws.{all_pass}
+use Rattle.df_model.specs.declared.errors.BlockError.{BlockError}
+use Rattle.df_state.specs.declared.file.DataFile.{DataFile}
+use Rattle.df_state.specs.State.{Capture, IsCourse, IsState, State, course_in, grid_with, memory}
+use Rattle.df_replica.specs.Blocks.{MayWriteNext, address_or, with_blocks}
+use Rattle.df_replica.proofs.AppendTests.{eq_false, lt_false}
+
+-- ---- other live blocks
+
+-- the blocks with these live ones
+abbrev pub lives : Blocks → List (ℕ × ℕ) → Blocks
+lives b live = record b { live = live }
+
+course_kept : (file : DataFile) (b : Blocks) (live : List (ℕ × ℕ)) (r : Option Capture) → course_in file (lives b live) r ≡ course_in file b r
+course_kept file b live None = refl
+course_kept file b live (Some r) = refl
+
+pub blocks_memory : (s : State) (live : List (ℕ × ℕ)) → memory (with_blocks s (lives s.blocks live)) ≡ record (memory s) { blocks = lives s.blocks live }
+blocks_memory s live = ap (λ (r : Option Course). record (memory s) { blocks = lives s.blocks live; running = r }) (course_kept s.file s.blocks live s.running)
+
+course_live : (file : DataFile) (f : SuperFields) (head : ℕ) (b : Blocks) (live : List (ℕ × ℕ)) (r : Option Capture) → IsCourse file f head b r → IsCourse file f head (lives b live) r
+course_live file f head b live None idle = record { captured = idle.captured; written = idle.written; left = idle.left }
+course_live file f head b live (Some r) is = record {
+  op_from = is.op_from;
+  op_to = is.op_to;
+  parent = is.parent;
+  first = is.first;
+  root = is.root;
+  sessions = is.sessions;
+  sequence = is.sequence;
+  size = is.size;
+  fits = is.fits;
+  count = is.count;
+  few = is.few;
+  all = is.all;
+  written = is.written;
+}
+
+pub live_state : (s : State) (live : List (ℕ × ℕ)) → IsState s → IsState (with_blocks s (lives s.blocks live))
+live_state s live is = record {
+  cluster = is.cluster;
+  parent = is.parent;
+  sequence = is.sequence;
+  root = is.root;
+  order = is.order;
+  room = is.room;
+  head_to = is.head_to;
+  waiting = is.waiting;
+  few = is.few;
+  places = is.places;
+  first = is.first;
+  requests = is.requests;
+  asked = is.asked;
+  tracks = is.tracks;
+  ring = is.ring;
+  course = course_live s.file s.fields s.head s.blocks live s.running is.course;
+}
+
+-- ---- an address that isn't live
+
+known_none : (o : Option ℕ) → is_known o ≡ false → o ≡ None
+known_none None is = refl
+known_none (Some c) is = absurd (cc)
+
+nothing_goes : (a : ℕ) (xs : List (ℕ × ℕ)) → sum_at a xs ≡ None → without_entry a xs ≡ xs
+nothing_goes a [] none = refl
+nothing_goes a (x ∷ xs) none = by (nothing_goes a xs) (x.0 == a) refl none
+  where
+    by : (sum_at a xs ≡ None → without_entry a xs ≡ xs) → (b : Bool) → (x.0 == a) ≡ b → cond b (Some x.1) (sum_at a xs) ≡ None → cond b xs (x ∷ without_entry a xs) ≡ x ∷ xs
+    by rest true same is = absurd (cc)
+    by rest false other is = ap (λ (l : List (ℕ × ℕ)). x ∷ l) (rest is)
+
+pub not_live_stays : (b : Blocks) (a : ℕ) → is_known (sum_at a b.live) ≡ false → block_released b a ≡ b
+not_live_stays b a not_live = ap (lives b) (nothing_goes a b.live (known_none (sum_at a b.live) not_live))
+
+-- ---- the address of the next block
+
+pub address_given : (o : Option BlockError) (a n : ℕ) → Ok n ≡ address_or o a → (o ≡ None) × (n ≡ a)
+address_given None a n is = (refl, (let same : n ≡ a = cc in same))
+address_given (Some e) a n is = absurd (cc)
+
+pub refusal_given : (o : Option BlockError) (a : ℕ) (e : BlockError) → Err e ≡ address_or o a → o ≡ Some e
+refusal_given None a e is = absurd (cc)
+refusal_given (Some x) a e is = ap (λ (y : BlockError). Some y) (let same : x ≡ e = cc in same)
+
+-- what isn't refused may be written at the address
+pub may_write : (s : State) (kind : ℕ) (body : List ℕ) (address : ℕ) → first_refusal (block_refusals (memory s) kind body) ≡ None → address ≡ next_address (memory s) → IsUnheld (grid_with s.file s.blocks) address
+    → MayWriteNext s kind (length body)
+may_write s kind body address none here free =
+    let tests = all_pass (block_refusals (memory s) kind body) none in
+    record {
+      named = (let some = eq_false _ _ tests.0 in omega (arith, some));
+      fits = (let fits = lt_false _ _ tests.1.0 in omega (arith, fits, s.file.layout.block_size_within.0));
+      free = subst (IsUnheld (grid_with s.file s.blocks)) here free;
+    }
+
+-- ---- the grid behind a write
+
+-- it has the blocks after it, or at a fault those before
+pub either_grid : {A E : Type 0} (result : Result A E) (old new : GridState) (b : Blocks) → OnOk result (new ≡ grid_of old b) → OnErr result (new ≡ old) → (P : GridState → Type 0) → P (grid_of old b) → P old → P new
+either_grid (Ok x) old new b is failed P after before = subst P (sym is) after
+either_grid (Err e) old new b is failed P after before = subst P (sym failed) before

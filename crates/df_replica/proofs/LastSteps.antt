@@ -1,0 +1,155 @@
+-- The step that ends a checkpoint is the machine's: its answer, the state behind it, and what it does to the disk.
+use Rattle.std.proofs.Common.{◌≡◌, ◌∙◌, ℕ, suc, ◌+◌, true, false, List, [], ◌∷◌, Option, Some, None, refl, sym, ap, subst, arith}
+use Rattle.std.specs.Prelude.{Ok, Err, slice_index}
+use Rattle.df_base.specs.Fields.{spelled}
+use Rattle.df_base.specs.Log.{Event, Sync, now}
+use Rattle.df_disk.specs.Told.{Told}
+use Rattle.df_disk.specs.Adds.{AddsPart, after_all}
+use Rattle.df_format.specs.Copies.{content_with}
+use Rattle.df_format.specs.declared.superblock.SuperFields.{SuperFields}
+use Rattle.df_journal.specs.Append.{ShowsRing}
+use Rattle.df_superblock.specs.Events.{update_events}
+use Rattle.df_superblock.specs.Steps.{AreStepsOfCopies}
+use Rattle.df_theory.specs.CopyPuts.{PutsCopies, update_steps}
+use Rattle.df_theory.specs.Runs.{Step, Syncs}
+use Rattle.df_theory.specs.Units as theory
+use Rattle.df_theory.specs.View.{PassesTests, sequence}
+use Rattle.df_units.specs.Meaning.{content_of, number_of, offset_list, rest_of}
+use Rattle.df_units.specs.Puts.{put_copies}
+use Rattle.df_grid.specs.Writes.{first_address, first_sum}
+use Rattle.df_model.specs.After.{checkpoint_of}
+use Rattle.df_model.specs.Commands.{Advance, Answer, Given, ToAdvance}
+use Rattle.df_model.specs.Laws.{DoesFinish}
+use Rattle.df_model.specs.Making as making
+use Rattle.df_model.specs.Memory.{Memory}
+use Rattle.df_model.specs.Sense.{IsWork}
+use Rattle.df_model.specs.Work.{Work}
+use Rattle.df_model.specs.declared.answers.Progress.TheVariants.{Done}
+use Rattle.df_model.specs.declared.errors.StepError.{StepError}
+use Rattle.df_model.specs.declared.errors.StepError.TheVariants as step
+use Rattle.df_state.specs.State.{Capture, IsCourse, IsRunning, IsState, Represents, State, course_of, memory, shape, spelling}
+use Rattle.df_replica.specs.Answering.{Serves, step_answer}
+use Rattle.df_replica.specs.Serving.{Grade, IsCall, IsKept, next}
+use Rattle.df_replica.specs.Stepping.{IsMade, OfRunning, finished, last_events, made_by, made_for, next_fields}
+use Rattle.df_replica.proofs.Calls.{AreCalls, all_are_part, firmly}
+use Rattle.df_replica.proofs.RingSpared.{ring_spared}
+use Rattle.df_replica.proofs.StepAnswers.{does_step, fault_call, next_is, runs, stepped_call, sum_is}
+use Rattle.df_replica.proofs.StepMemory.{last_memory, step_memory}
+
+-- what is behind the fields is zeros
+zero_rest : (boot : ℕ) (o : Option ℕ) → ((i : ℕ) → slice_index (boot ∷ offset_list o) i ≡ 0) → boot ∷ offset_list o ≡ 0 ∷ []
+zero_rest boot None zeros = ap (λ (n : ℕ). n ∷ []) (zeros 0)
+zero_rest boot (Some n) zeros = absurd (let one : suc n ≡ 0 = zeros 1 in omega arith)
+
+module _ (s : State) (r : Capture) (given : Given) (is : IsState s) (course : IsRunning s.file s.fields s.head s.blocks r) (running : s.running ≡ Some r) (left : s.blocks.left ≡ [])
+    (number : number_of (spelled 16 (first_sum s.blocks.written)) ≡ first_sum s.blocks.written) (steps : AreStepsOfCopies (update_events (next_fields s r)) (update_steps (put_copies (next_fields s r))))
+    (sum : given.checksum ≡ made_by s s.running) where
+  abbrev f : SuperFields
+  f = next_fields s r
+
+  abbrev made : ℕ
+  made = number_of (content_with f).checksum
+
+  abbrev given_steps : List Step
+  given_steps = Syncs ∷ update_steps (put_copies f)
+
+  sum_here : given.checksum ≡ made
+  sum_here = sum_is s r given running sum ∙ ap (made_for s r) left
+
+  module _ (w : Work) (work : IsWork (shape s.file) (spelling s.file) w) (rep : Represents s w) where
+    tests : PassesTests (shape s.file) (memory s).content
+    tests = subst (PassesTests (shape s.file)) (sym (ap (λ (m : Memory). m.content) rep)) work.view.checkpoint.tests
+
+    rest : 0 ∷ [] ≡ rest_of s.fields
+    rest = sym (zero_rest s.fields.boot s.fields.first_nonzero tests.rest)
+
+    -- the superblock is the machine's
+    content_is : content_of (content_with f) ≡ making.content_of (memory s) (course_of s.file s.blocks r) made
+    content_is = λ i. record {
+      checksum = made;
+      version = sym tests.version i;
+      cluster = sym tests.cluster i;
+      layout = sym tests.layout i;
+      sequence = course.sequence.0 i;
+      boot = 0;
+      op = r.op;
+      op_checksum = number_of r.op_checksum;
+      head = s.head;
+      replies = s.replies;
+      pin = r.op;
+      pin_checksum = number_of r.op_checksum;
+      answered = 0;
+      reply_checksums = [];
+      trailer = first_address s.blocks.written;
+      trailer_checksum = number i;
+      trailer_size = course.size i;
+      rest = rest i;
+    }
+
+    content_there : content_of (content_with f) ≡ (checkpoint_of (shape s.file) (spelling s.file) w (runs s r given running sum w rep).on given.checksum).content
+    content_there = content_is ∙ (λ i. making.content_of (rep i) (sym (runs s r given running sum w rep).course i) (sym sum_here i))
+
+    finishes : DoesFinish w.view (checkpoint_of (shape s.file) (spelling s.file) w (runs s r given running sum w rep).on given.checksum) given_steps
+    finishes =
+        let there = subst (λ (c : theory.Content). (puts : PutsCopies c) × (given_steps ≡ Syncs ∷ update_steps puts)) content_there (put_copies f, refl) in
+        record { puts = there.0; are = there.1 }
+
+    leaves : memory (finished s r) ≡ step_memory (memory s) given.checksum
+    leaves = last_memory s r running course.op_from course.op_to content_is left ∙ ap (step_memory (memory s)) (sym sum_here)
+
+  does : AreCalls given Advance s (last_events s r)
+  does g w t k = record {
+    steps = given_steps;
+    are = steps s.file.layout s.file.cluster;
+    does = does_step s r given running sum w k.stands [] given_steps left (finishes w (firmly g s w t.log k).sense k.stands);
+  }
+
+  ring : (g : Grade) (w : Work) (x y : Told) → IsKept g s w x.log → Some y ≡ after_all (last_events s r) (Some x) → ShowsRing s.file.layout s.file.cluster (now y.log) s.headers
+  ring g w x y k all =
+      ring_spared s.file.layout s.file.cluster s.headers (last_events s r) given_steps x y k.log_is (steps s.file.layout s.file.cluster)
+      (λ slot. refl, (λ slot. refl, (λ slot. refl, (λ slot. refl, tt)))) k.ring all
+
+  answers : (w : Work) → Represents s w → (next s.file w given Advance).1 ≡ ToAdvance (Ok (Done r.sequence))
+  answers w rep =
+      let after : sequence w.view + 1 ≡ r.sequence = ap (λ (m : Memory). m.content.sequence + 1) (sym rep) ∙ sym course.sequence.0 in
+      ap (λ (x : Work × Answer). x.1) (next_is s r given running sum w rep [] left) ∙ ap (λ (n : ℕ). ToAdvance (Ok (Done n))) after
+
+  pub last_call : s.live ≡ true → (old new : Option Told) → new ≡ after_all (last_events s r) old → IsCall given Advance s (finished s r) old new (Some (ToAdvance (Ok (Done r.sequence))))
+  last_call live old new all =
+      stepped_call s r given running sum (finished s r) (last_events s r) (Done r.sequence) refl live refl does (λ w work rep. leaves w work rep) answers ring old new sum all
+
+  pub last_fault : (old new : Option Told) (t : State) → t.live ≡ false → AddsPart (last_events s r) old new → IsCall given Advance s t old new None
+  last_fault old new t dead part = fault_call s r given running sum (last_events s r) does old new t sum dead part
+
+-- ---- of the state alone
+
+abbrev last_of : SuperFields → List Event
+last_of f = Sync ∷ update_events f
+
+module _ (s : State) (is : IsState s) (live : s.live ≡ true) (left : s.blocks.left ≡ []) (number : number_of (spelled 16 (first_sum s.blocks.written)) ≡ first_sum s.blocks.written)
+    (f : SuperFields) (fields : OfRunning s.running (λ r. f ≡ next_fields s r)) (steps : AreStepsOfCopies (update_events f) (update_steps (put_copies f))) (old new : Option Told) where
+  abbrev StepsOf : SuperFields → Type 0
+  StepsOf g = AreStepsOfCopies (update_events g) (update_steps (put_copies g))
+
+  pub last_serves : (t : State) (sequence : ℕ) → sequence ≡ f.sequence → OfRunning s.running (λ r. t ≡ finished s r) → IsMade {T = Unit {0}} f old new (Ok tt) → Serves Advance s t old new (Some (ToAdvance (Ok (Done sequence))))
+  last_serves t sequence same next all = go s.running refl is.course fields next
+    where
+      go : (o : Option Capture) → s.running ≡ o → IsCourse s.file s.fields s.head s.blocks o → OfRunning o (λ r. f ≡ next_fields s r) → OfRunning o (λ r. t ≡ finished s r) → Serves Advance s t old new (Some (ToAdvance (Ok (Done sequence))))
+      go None running course fields_are next_is = absurd fields_are
+      go (Some r) running course fields_are next_is = λ given supplied.
+          subst (λ (x : State). IsCall given Advance s x old new (Some (ToAdvance (Ok (Done sequence))))) (sym next_is)
+          (subst (λ (n : ℕ). IsCall given Advance s (finished s r) old new (Some (ToAdvance (Ok (Done n))))) (sym (same ∙ ap (λ (g : SuperFields). g.sequence) fields_are))
+          (last_call s r given is course running left number (subst StepsOf fields_are steps) supplied live old new (subst (λ (g : SuperFields). IsMade {T = Unit {0}} g old new (Ok tt)) fields_are all)))
+
+  stopped : (t : State) → t.live ≡ false → AddsPart (last_of f) old new → Serves Advance s t old new None
+  stopped t dead part = go s.running refl is.course fields
+    where
+      go : (o : Option Capture) → s.running ≡ o → IsCourse s.file s.fields s.head s.blocks o → OfRunning o (λ r. f ≡ next_fields s r) → Serves Advance s t old new None
+      go None running course fields_are = absurd fields_are
+      go (Some r) running course fields_are = λ given supplied.
+          last_fault s r given is course running left number (subst StepsOf fields_are steps) supplied old new t dead (subst (λ (g : SuperFields). AddsPart (last_of g) old new) fields_are part)
+
+  pub error_serves : (t : State) (e : StepError) → t.live ≡ false → IsMade {T = Unit {0}} f old new (Err e) → Serves Advance s t old new (step_answer (Err e))
+  error_serves t step.NotRunning dead made = absurd made
+  error_serves t (step.Damaged place kind) dead made = stopped t dead (all_are_part (last_of f) old new made.0)
+  error_serves t step.DiskFault dead made = stopped t dead made

@@ -1,0 +1,14 @@
+-- The step is the machine's.
+use Rattle.std.proofs.Common.{refl}
+use Rattle.df_replica.proofs.BlockSteps.{block_fault_serves, block_serves}
+use Rattle.df_replica.proofs.replica.Replica.trailer_step.Goals as goal
+
+pub returns-in-Ok-clause-call : goal.returns-in-Ok-clause-call
+returns-in-Ok-clause-call g c =
+    block_serves c.args.self.now c.requires.state c.requires.live c.requires.may.some c.write_trailer_block.ensures.unit c.write_trailer_block.ensures.steps
+    c.write_trailer_block.new.self c.args.left (g.D.Disk.told c.args.disk.now) (g.D.Disk.told c.write_trailer_block.new.disk) c.requires.left c.in-Ok.ensures.written c.in-Ok.ensures.events
+
+pub returns-in-Err-clause-call : goal.returns-in-Err-clause-call
+returns-in-Err-clause-call g c =
+    block_fault_serves c.args.self.now c.requires.state c.requires.live c.requires.may.some c.write_trailer_block.ensures.unit c.write_trailer_block.ensures.steps
+    _ (g.D.Disk.told c.args.disk.now) (g.D.Disk.told c.write_trailer_block.new.disk) refl c.in-Err.ensures.events

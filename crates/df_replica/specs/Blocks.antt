@@ -1,0 +1,99 @@
+-- The calls that write a block and let one go: what a write makes, what it asks of the disk, and the states that they lead to. No state of the machine is in sight.
+use Rattle.std.specs.Prelude.{◌≡◌, ◌<◌, ◌≤◌, ◌+◌, ℕ, false, List, Option, Some, None, Result, Ok, Err}
+use Rattle.df_base.specs.Causes.{Rose}
+use Rattle.df_base.specs.Log.{Event}
+use Rattle.df_disk.specs.Told.{Told}
+use Rattle.df_disk.specs.Adds.{AddsPart, after_all}
+use Rattle.df_format.specs.declared.header.Header.{Header}
+use Rattle.df_format.specs.declared.kind.Kind.TheVariants.{Block as AsBlock}
+use Rattle.df_format.specs.declared.reference.Reference.{Reference}
+use Rattle.df_format.specs.Message.{Message}
+use Rattle.df_format.specs.Spelling.{no_checksum}
+use Rattle.df_units.specs.Meaning.{number_of}
+use Rattle.df_grid.specs.Grid.{IsUnheld}
+use Rattle.df_grid.specs.Writes.{made_events}
+use Rattle.df_model.specs.Blocks.{Blocks, block_released, block_written}
+use Rattle.df_model.specs.Making.{next_address}
+use Rattle.df_model.specs.Refusals.{block_refusals, first_refusal, release_refusals}
+use Rattle.df_model.specs.declared.errors.BlockError.{BlockError}
+use Rattle.df_model.specs.declared.errors.BlockError.TheVariants as block
+use Rattle.df_model.specs.declared.errors.NotLive.{NotLive}
+use Rattle.df_state.specs.State.{State, grid_with, memory}
+use Rattle.df_replica.specs.Appending.{unit_of}
+
+-- ---- a write
+
+-- what the maker of a block at an address says of it: its cluster, its address and its kind alone
+abbrev pub block_given : State → (address kind : ℕ) → Header
+block_given s address kind = record {
+  checksum = no_checksum;
+  checksum_body = no_checksum;
+  cluster = s.file.cluster;
+  parent = no_checksum;
+  client = 0;
+  op = address;
+  request = 0;
+  mark = 0;
+  checkpoint = 0;
+  size = 0;
+  slot = 0;
+  kind = AsBlock;
+  block_kind = kind;
+}
+
+-- the next block: it goes to the least address that isn't held
+abbrev pub next_block : State → (kind : ℕ) → List ℕ → Message
+next_block s kind body = unit_of (block_given s (next_address (memory s)) kind) body
+
+-- one write into its place, and no sync
+abbrev pub block_events : State → Message → List Event
+block_events s u = made_events s.file.layout u
+
+-- the state with these blocks
+abbrev pub with_blocks : State → Blocks → State
+with_blocks s b = record s { blocks = b }
+
+-- the state with a live block more
+abbrev pub written : State → Header → State
+written s h = with_blocks s (block_written s.blocks h.op (number_of h.checksum))
+
+abbrev pub reference_of : Header → Reference
+reference_of h = record { address = h.op; checksum = h.checksum }
+
+-- a block that isn't refused, as far as the code needs it
+pub record MayWriteNext (s : State) (kind size : ℕ) : Type 0 where
+  pub named : 0 < kind
+  pub fits : 256 + size ≤ s.file.layout.block_size
+  pub free : IsUnheld (grid_with s.file s.blocks) (next_address (memory s))
+
+-- the first refusal, or else the address
+abbrev pub address_or : Option BlockError → ℕ → Result ℕ BlockError
+address_or None address = Ok address
+address_or (Some e) address = Err e
+
+-- what a write of a block answers, with the state after it and what the disk then tells: exact for a reference and for each refusal; after a fault the replica isn't live,
+-- nothing else in memory moved, and the write was made or not
+abbrev pub IsWriteBlock : (kind : ℕ) → List ℕ → (s t : State) → (old new : Option Told) → Result Reference BlockError → Type 0
+IsWriteBlock kind body s t old new (Ok reference) =
+    let u = next_block s kind body in
+    (first_refusal (block_refusals (memory s) kind body) ≡ None) × (reference ≡ reference_of u.header) × (t ≡ written s u.header) × (new ≡ after_all (block_events s u) old)
+IsWriteBlock kind body s t old new (Err block.DiskFault) =
+    (first_refusal (block_refusals (memory s) kind body) ≡ None) × (t ≡ record s { live = false }) × AddsPart (block_events s (next_block s kind body)) old new
+IsWriteBlock kind body s t old new (Err e) = (first_refusal (block_refusals (memory s) kind body) ≡ Some e) × (t ≡ s) × (new ≡ old)
+
+-- the count of faults rose where the disk is blamed, and is the same at every other answer
+abbrev pub BlamesWriteBlock : (before now : ℕ) → Result Reference BlockError → Type 0
+BlamesWriteBlock before now (Ok reference) = now ≡ before
+BlamesWriteBlock before now (Err block.DiskFault) = (before ≤ now) × Rose before now
+BlamesWriteBlock before now (Err e) = now ≡ before
+
+-- ---- a release
+
+-- the state with a live block less
+abbrev pub released : State → (address : ℕ) → State
+released s address = with_blocks s (block_released s.blocks address)
+
+-- what a release answers, with the state after it: it is refused exactly where the address isn't live, and changes nothing then
+abbrev pub IsRelease : {A : Type 0} → (address : ℕ) → (s t : State) → Result A NotLive → Type 0
+IsRelease address s t (Ok done) = (first_refusal (release_refusals (memory s) address) ≡ None) × (t ≡ released s address)
+IsRelease address s t (Err e) = (first_refusal (release_refusals (memory s) address) ≡ Some e) × (t ≡ s)

@@ -1,0 +1,146 @@
+-- The steps of a running checkpoint: a trailer block each, and at last the superblock that ends it. No state of the machine is in sight.
+use Rattle.std.specs.Prelude.{◌≡◌, ◌≢◌, ◌≤◌, ◌+◌, ◌-◌, ℕ, false, List, [], ◌∷◌, length, Option, Some, None, Result, Ok, Err}
+use Rattle.df_base.specs.Causes.{Rose}
+use Rattle.df_base.specs.Fields.{spelled}
+use Rattle.df_base.specs.Log.{Event, Sync}
+use Rattle.df_disk.specs.Told.{Told}
+use Rattle.df_disk.specs.Adds.{AddsPart, after_all}
+use Rattle.df_format.specs.declared.superblock.SuperFields.{SuperFields}
+use Rattle.df_format.specs.Copies.{content_with}
+use Rattle.df_format.specs.Message.{Message}
+use Rattle.df_theory.specs.Units
+use Rattle.df_units.specs.Meaning.{number_of}
+use Rattle.df_superblock.specs.Events.{update_events}
+use Rattle.df_trailer.specs.Writing.{piece_of}
+use Rattle.df_grid.specs.Table.{next_written}
+use Rattle.df_grid.specs.Writes.{first_address, first_sum, made_events, next_block, next_unit}
+use Rattle.df_model.specs.Blocks.{capture_finished}
+use Rattle.df_model.specs.declared.answers.Progress.{Progress}
+use Rattle.df_model.specs.declared.answers.Progress.TheVariants.{Working, Done}
+use Rattle.df_model.specs.declared.errors.StepError.{StepError}
+use Rattle.df_model.specs.declared.errors.StepError.TheVariants as step
+use Rattle.df_state.specs.declared.file.DataFile.{DataFile}
+use Rattle.df_state.specs.State.{Capture, State, captured_text, grid_with}
+
+-- a fact of the running checkpoint
+abbrev pub OfRunning : Option Capture → (Capture → Type 0) → Type 0
+OfRunning None P = ⊥
+OfRunning (Some r) P = P r
+
+-- ---- a trailer block
+
+-- the next one, over the next piece of the text
+abbrev pub trailer_unit : State → Capture → Message
+trailer_unit s r = next_unit (grid_with s.file s.blocks) r.sequence (piece_of (s.file.layout.block_size - 256) r.written (captured_text s.file s.blocks r))
+
+-- it is written, without a sync
+abbrev pub block_events : State → Capture → List Event
+block_events s r = made_events s.file.layout (trailer_unit s r)
+
+abbrev pub block_sum : State → Capture → ℕ
+block_sum s r = number_of (trailer_unit s r).header.checksum
+
+-- in the machine's words, with this checksum
+abbrev pub block_to_write : State → Capture → (sum : ℕ) → Units.Block
+block_to_write s r sum = next_block (grid_with s.file s.blocks) r.sequence (piece_of (s.file.layout.block_size - 256) r.written (captured_text s.file s.blocks r)) sum
+
+-- the state with a trailer block more
+abbrev pub advanced : State → Capture → State
+advanced s r = record s { blocks = next_written s.blocks (block_sum s r); running = Some (record r { written = r.written + 1 }) }
+
+-- ---- the last step
+
+-- what a superblock says of a checkpoint, where its trailer ends with this block
+abbrev pub fields_for : DataFile → Capture → (head replies address : ℕ) → List ℕ → SuperFields
+fields_for file r head replies address checksum = record {
+  version = 1;
+  slots = file.layout.slots;
+  message_size = file.layout.message_size;
+  clients = file.layout.clients;
+  block_size = file.layout.block_size;
+  blocks = file.layout.blocks;
+  cluster = file.cluster;
+  sequence = r.sequence;
+  op = r.op;
+  op_checksum = r.op_checksum;
+  head = head;
+  replies = replies;
+  trailer_address = address;
+  trailer_checksum = checksum;
+  trailer_size = r.size;
+  boot = 0;
+  first_nonzero = None;
+}
+
+-- what the one that ends it says: the checkpoint reaches the op that was captured, and the head and the replies are those of the moment
+abbrev pub next_fields : State → Capture → SuperFields
+next_fields s r = fields_for s.file r s.head s.replies (first_address s.blocks.written) (spelled 16 (first_sum s.blocks.written))
+
+-- a sync, which makes all that was written durable, and then the four copies
+abbrev pub last_events : State → Capture → List Event
+last_events s r = Sync ∷ update_events (next_fields s r)
+
+-- the state in which it is the durable checkpoint
+abbrev pub finished : State → Capture → State
+finished s r = record s { fields = next_fields s r; root = r.root; blocks = capture_finished s.blocks; running = None }
+
+-- ---- any step
+
+-- the checksum of what it makes, where these addresses are to come: of the trailer block, or of the superblock
+abbrev pub made_for : State → Capture → List ℕ → ℕ
+made_for s r [] = number_of (content_with (next_fields s r)).checksum
+made_for s r (a ∷ more) = block_sum s r
+
+abbrev pub made_by : State → Option Capture → ℕ
+made_by s None = 0
+made_by s (Some r) = made_for s r s.blocks.left
+
+abbrev pub events_for : State → Capture → List ℕ → List Event
+events_for s r [] = last_events s r
+events_for s r (a ∷ more) = block_events s r
+
+abbrev pub step_events : State → Capture → List Event
+step_events s r = events_for s r s.blocks.left
+
+-- a disk that tells what it shows
+abbrev pub Tells : Option Told → Type 0
+Tells None = ⊥
+Tells (Some t) = Unit {0}
+
+-- what a step answers, with the state after it and what the disk then tells: exact for each answer; after a fault, or where copies of the new superblock were not read back, the replica isn't live, and nothing else in memory moved
+abbrev pub IsStep : (s t : State) → (old new : Option Told) → Result Progress StepError → Type 0
+IsStep s t old new (Ok (Working left)) = OfRunning s.running (λ r. (s.blocks.left ≢ []) × (left ≡ length s.blocks.left) × (t ≡ advanced s r) × (new ≡ after_all (block_events s r) old))
+IsStep s t old new (Ok (Done sequence)) = OfRunning s.running (λ r. (s.blocks.left ≡ []) × (sequence ≡ r.sequence) × (t ≡ finished s r) × (new ≡ after_all (last_events s r) old))
+IsStep s t old new (Err step.NotRunning) = (s.running ≡ None) × (t ≡ s) × (new ≡ old)
+IsStep s t old new (Err (step.Damaged place kind)) = OfRunning s.running (λ r. (s.blocks.left ≡ []) × (t ≡ record s { live = false }) × (new ≡ after_all (last_events s r) old) × (Tells new → ⊥))
+IsStep s t old new (Err step.DiskFault) = OfRunning s.running (λ r. (t ≡ record s { live = false }) × AddsPart (step_events s r) old new)
+
+-- the count of faults rose where the disk is blamed, and is the same at every other answer
+abbrev pub BlamesStep : {T : Type 0} → (before now : ℕ) → Result T StepError → Type 0
+BlamesStep before now (Ok x) = now ≡ before
+BlamesStep before now (Err step.DiskFault) = (before ≤ now) × Rose before now
+BlamesStep before now (Err e) = now ≡ before
+
+-- ---- its parts
+
+-- how many trailer blocks are to come, where a checkpoint runs
+abbrev pub pending : Option Capture → List ℕ → Option ℕ
+pending None left = None
+pending (Some r) left = Some (length left)
+
+-- a checkpoint runs, and there is a trailer block to come
+pub record MayAdvance (s : State) : Type 0 where
+  pub runs : OfRunning s.running (λ r. Unit {0})
+  pub some : s.blocks.left ≢ []
+
+-- a checkpoint runs, and its trailer is written
+pub record MayFinish (s : State) : Type 0 where
+  pub runs : OfRunning s.running (λ r. Unit {0})
+  pub done : s.blocks.left ≡ []
+
+-- what became of a superblock of these fields, before which all that was written is synced
+abbrev pub IsMade : {T : Type 0} → SuperFields → (old new : Option Told) → Result T StepError → Type 0
+IsMade f old new (Ok x) = new ≡ after_all (Sync ∷ update_events f) old
+IsMade f old new (Err step.NotRunning) = ⊥
+IsMade f old new (Err (step.Damaged place kind)) = (new ≡ after_all (Sync ∷ update_events f) old) × (Tells new → ⊥)
+IsMade f old new (Err step.DiskFault) = AddsPart (Sync ∷ update_events f) old new

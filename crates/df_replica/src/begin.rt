@@ -1,0 +1,151 @@
+// The begin of a checkpoint: the root, the sessions, the head and the live blocks are captured, and the addresses of the trailer's
+// blocks are set aside. It touches no disk.
+ghost use Rattle.std.specs.Prelude.{◌≡◌, ◌≤◌, ◌+◌, ◌-◌, true, Option, length};
+ghost use Rattle.df_base.specs.Fields.{AreBytes};
+ghost use Rattle.df_disk.specs.Told.{Told};
+ghost use Rattle.df_model.specs.Commands.{Begin};
+ghost use Rattle.df_sessions.specs.Table.{IsTable};
+ghost use Rattle.df_state.specs.State.{IsState};
+ghost use Rattle.df_replica.specs.Answering.{Serves, begin_answer};
+ghost use Rattle.df_replica.specs.Beginning.{IsBegin, IsPlan, IsTested, MayBegin, begun};
+
+use crate::Replica;
+use crate::reply::session_in;
+use arrayvec::ArrayVec;
+use df_checkpoint::Capture;
+use df_model::BeginError;
+use df_sessions::{Session, SessionTable};
+use df_state::Captured;
+use df_trailer::{blocks_needed, trailer_size};
+
+// The longest root, in bytes.
+const ROOT: usize = 1024;
+
+// The greatest sequence.
+const GREATEST: u64 = 1 << 62;
+
+/// How long a trailer is to be.
+#[derive(Clone, Copy)]
+pub(crate) struct Plan {
+    /// Bytes of its text.
+    pub(crate) size: u64,
+    pub(crate) blocks: u64,
+}
+
+// The sessions of a table, in a list of their own.
+fn sessions_in(table: &SessionTable) -> ArrayVec<Session, 64>
+    ensures items { result.items ≡ table.now.sessions }
+    ensures table { IsTable table.now }
+{
+    let mut sessions = ArrayVec::new();
+    let count = table.len();
+    let mut place = 0;
+    while place < count {
+        sessions.push(session_in(table, place));
+        place += 1;
+    }
+    sessions
+}
+
+// A root in a list of its own.
+fn root_of(root: &[u8]) -> ArrayVec<u8, 1024>
+    requires { length root.now ≤ 1024 }
+    ensures { result.items ≡ root.now }
+{
+    let mut copy = ArrayVec::new();
+    match copy.try_extend_from_slice(root) {
+        Ok(()) => copy,
+        Err(_) => unreachable!(),
+    }
+}
+
+// How many steps of a running checkpoint are still to come: one for each block of its trailer, and the last.
+pub(crate) fn steps_left(running: &Captured) -> u64
+    requires written { running.now.written ≤ running.now.blocks }
+    requires few { running.now.blocks ≤ 70 }
+    ensures { result ≡ running.now.blocks - running.now.written + 1 }
+{
+    running.blocks - running.written + 1
+}
+
+impl Replica {
+    // How long the trailer of a checkpoint is that is begun now.
+    fn plan(&self, root: &[u8]) -> Plan
+        requires { length root.now ≤ 1024 }
+        ensures { IsPlan self.now root.now result }
+    {
+        let root = root.len() as u64;
+        let sessions = self.sessions.len();
+        let blocks = self.grid.live_blocks();
+        Plan {
+            size: trailer_size(&self.file.layout, root, sessions, blocks),
+            blocks: blocks_needed(&self.file.layout, root, sessions, blocks),
+        }
+    }
+
+    // Why a checkpoint isn't begun, or else how long its trailer is to be.
+    fn test_begin(&self, root: &[u8]) -> Result<Plan, BeginError>
+        ensures tested { IsTested self.now root.now result }
+        ensures state { IsState self.now }
+        ensures bytes { AreBytes root.now }
+    {
+        if let Some(running) = &self.running {
+            return Err(BeginError::Running {
+                left: steps_left(running),
+            });
+        }
+        if root.len() > ROOT {
+            return Err(BeginError::RootTooLong { max: ROOT as u64 });
+        }
+        let plan = self.plan(root);
+        let free = self.grid.free();
+        if free < plan.blocks {
+            return Err(BeginError::GridFull {
+                needed: plan.blocks,
+                free,
+            });
+        }
+        if self.content.fields().sequence == GREATEST {
+            return Err(BeginError::SequenceSpent);
+        }
+        Ok(plan)
+    }
+
+    // Captures the state, for a checkpoint with a trailer of this length.
+    fn capture(&mut self, root: &[u8], plan: Plan)
+        requires { MayBegin self.old root.now plan }
+        ensures { self.new ≡ begun self.old root.now }
+    {
+        let capture = Capture {
+            root: root_of(root),
+            sessions: sessions_in(&self.sessions),
+            sequence: self.content.fields().sequence + 1,
+        };
+        self.grid.capture(plan.blocks);
+        self.running = Some(Captured {
+            op: self.head,
+            op_checksum: self.head_checksum,
+            capture,
+            size: plan.size,
+            blocks: plan.blocks,
+            written: 0,
+        });
+    }
+
+    /// Begins a checkpoint of the state as it is now, with a root of at most 1,024 bytes, which the replica keeps as it is. The
+    /// answer is how many blocks its trailer needs; so many steps and one more end it. The first reason of the order refuses
+    /// it: one runs already, the root is too long, fewer addresses are free, no sequence is left; a refusal changes nothing.
+    pub fn checkpoint_begin(&mut self, root: &[u8]) -> Result<u64, BeginError>
+        requires live { self.old.live ≡ true }
+        ensures exact { IsBegin root.now self.old self.new result }
+        ensures call { (told : Option Told) → Serves (Begin root.now) self.old self.new told told (begin_answer result) }
+    {
+        match self.test_begin(root) {
+            Ok(plan) => {
+                self.capture(root, plan);
+                Ok(plan.blocks)
+            }
+            Err(error) => Err(error),
+        }
+    }
+}

@@ -1,0 +1,203 @@
+// The calls that write a block and let one go. A block is made in its own room and written to the least address that isn't held,
+// without a sync: the next checkpoint makes it durable.
+ghost use Rattle.std.specs.Prelude.{◌≡◌, ◌+◌, ◌<◌, ◌≤◌, ℕ, List, Option, length, slice_get, false, true, Some, IfOk, IsSome, OnErr, OnOk};
+ghost use Rattle.df_base.specs.Causes.{HasCause};
+ghost use Rattle.df_disk.specs.Adds.{Adds};
+ghost use Rattle.df_disk.specs.Told.{Told};
+ghost use Rattle.df_layout.specs.declared.places.Zone.TheVariants.{Grid as InGrid};
+ghost use Rattle.df_format.specs.declared.kind.Kind.TheVariants.{Block as AsBlock};
+ghost use Rattle.df_format.specs.Making.{for_body};
+ghost use Rattle.df_format.specs.Own.{own_place};
+ghost use Rattle.df_format.specs.Rules.{ObeysRules};
+ghost use Rattle.df_theory.specs.Device.{AreSteps};
+ghost use Rattle.df_units.specs.Format.{format_of};
+ghost use Rattle.df_units.specs.Meaning.{number_of};
+ghost use Rattle.df_trailer.specs.Rooms.{number_in};
+ghost use Rattle.df_grid.specs.Grid.{IsUnheld, with_blocks as grid_of};
+ghost use Rattle.df_grid.specs.Writes.{block_steps, made_events};
+ghost use Rattle.df_model.specs.Blocks.{block_written, is_held_in, sum_at};
+ghost use Rattle.df_model.specs.Commands.{Release, WriteBlock};
+ghost use Rattle.df_model.specs.Making.{next_address};
+ghost use Rattle.df_model.specs.Memory.{Memory, block_room, free_of};
+ghost use Rattle.df_model.specs.Refusals.{block_refusals, first_refusal};
+ghost use Rattle.df_state.specs.State.{IsState, grid_with, memory};
+ghost use Rattle.df_replica.specs.Answering.{Serves, release_answer, write_block_answer};
+ghost use Rattle.df_replica.specs.Appending.{unit_of};
+ghost use Rattle.df_replica.specs.Blocks.{BlamesWriteBlock, IsRelease, IsWriteBlock, MayWriteNext, address_or, block_events, block_given, next_block, released, written};
+
+use crate::Replica;
+use df_base::{Check, Failed, HEADER};
+use df_buffers::Block;
+use df_disk::Disk;
+use df_format::{Header, Kind, Reference};
+use df_grid::Grid;
+use df_model::{BlockError, NotLive};
+use df_places::Shelf;
+
+// What stands in place of a checksum that is set later, or that there is none of.
+const NO_CHECKSUM: [u8; 16] = [0; 16];
+
+// The address of the next block, or why none is written: its kind is a trailer's, it has no room, or each address is held.
+fn address_or_refusal(
+    kind: u8,
+    size: u64,
+    room: u64,
+    next: Option<u64>,
+    blocks: u64,
+) -> Result<u64, BlockError>
+    ensures value { (m : Memory) (body : List ℕ) → block_room m.layout ≡ room → m.layout.blocks ≡ blocks → next ≡ slice_get (free_of m) 0 → size ≡ length body
+        → result ≡ address_or (first_refusal (block_refusals m kind body)) (next_address m) }
+    ensures next { IfOk result (λ address. next ≡ Some address) }
+{
+    if kind == 0 {
+        return Err(BlockError::KindZero);
+    }
+    if room < size {
+        return Err(BlockError::BodyTooLong { max: room });
+    }
+    match next {
+        Some(address) => Ok(address),
+        None => Err(BlockError::GridFull { blocks }),
+    }
+}
+
+// Makes a block in its room and writes it to its address, without a sync. It is live then.
+fn put_block<D: Disk>(
+    grid: &mut Grid,
+    room: &mut Shelf<Block>,
+    disk: &mut D,
+    header: Header,
+    body: &[u8],
+) -> Result<Check, Failed>
+    requires room { room.old.layout ≡ grid.old.layout }
+    requires rules { ObeysRules (for_body header body.now) }
+    requires kind { header.kind ≡ AsBlock }
+    requires own { IsSome (own_place grid.old.layout InGrid header) }
+    requires fits { 256 + length body.now ≤ grid.old.layout.block_size }
+    requires cluster { header.cluster ≡ grid.old.cluster }
+    requires free { is_held_in grid.old.blocks header.op ≡ false }
+    ensures room { room.new.layout ≡ room.old.layout }
+    ensures events { Adds (made_events grid.old.layout (unit_of header body.now)) (D.told disk.old) (D.told disk.new) result }
+    ensures steps { AreSteps (format_of grid.old.layout grid.old.cluster) (made_events grid.old.layout (unit_of header body.now)) (block_steps (unit_of header body.now)) }
+    ensures checksum { IfOk result (λ checksum. checksum ≡ (unit_of header body.now).header.checksum) }
+    ensures live { OnOk result (grid.new ≡ grid_of grid.old (block_written grid.old.blocks header.op (number_of (unit_of header body.now).header.checksum))) }
+    ensures failed { OnErr result (grid.new ≡ grid.old) }
+    ensures cause { HasCause (D.faults disk.old) (D.faults disk.new) result }
+{
+    room.make(header, body);
+    let unit = room.unit();
+    let checksum = unit.header().checksum;
+    match grid.write(disk, unit) {
+        Ok(()) => Ok(checksum),
+        Err(failed) => Err(failed),
+    }
+}
+
+impl Replica {
+    /// The checksum of a live block, None exactly where the address isn't live.
+    pub fn reference(&self, address: u64) -> Option<Check>
+        ensures { number_in result ≡ sum_at address self.now.blocks.live }
+    {
+        self.grid.live(address)
+    }
+
+    // The address of the next block, or why none is written.
+    fn address_for(&self, kind: u8, size: u64) -> Result<u64, BlockError>
+        ensures why { (body : List ℕ) → size ≡ length body → result ≡ address_or (first_refusal (block_refusals (memory self.now) kind body)) (next_address (memory self.now)) }
+        ensures free { IfOk result (IsUnheld (grid_with self.now.file self.now.blocks)) }
+        ensures state { IsState self.now }
+    {
+        let layout = &self.file.layout;
+        let room = u64::from(layout.block_size) - HEADER as u64;
+        let next = self.grid.next();
+        address_or_refusal(kind, size, room, next, u64::from(layout.blocks))
+    }
+
+    // What the maker of the next block says of it.
+    #[tactic(auto, unfolding(df_format::specs::Own::own_place, df_format::specs::Spelling::no_checksum))]
+    fn block_given(&self, address: u64, kind: u8, body: &[u8]) -> Header
+        requires may { MayWriteNext self.now kind (length body.now) }
+        requires address { address ≡ next_address (memory self.now) }
+        ensures value { result ≡ block_given self.now (next_address (memory self.now)) kind }
+        ensures rules { ObeysRules (for_body result body.now) }
+        ensures own { IsSome (own_place self.now.file.layout InGrid result) }
+    {
+        Header {
+            checksum: NO_CHECKSUM,
+            checksum_body: NO_CHECKSUM,
+            cluster: self.file.cluster,
+            parent: NO_CHECKSUM,
+            client: 0,
+            op: address,
+            request: 0,
+            mark: 0,
+            checkpoint: 0,
+            size: 0,
+            slot: 0,
+            kind: Kind::Block,
+            block_kind: kind,
+        }
+    }
+
+    // Writes the next block.
+    fn write_next_block<D: Disk>(
+        &mut self,
+        disk: &mut D,
+        address: u64,
+        kind: u8,
+        body: &[u8],
+    ) -> Result<Check, Failed>
+        requires may { MayWriteNext self.old kind (length body.now) }
+        requires address { address ≡ next_address (memory self.old) }
+        ensures events { Adds (block_events self.old (next_block self.old kind body.now)) (D.told disk.old) (D.told disk.new) result }
+        ensures steps { AreSteps (format_of self.old.file.layout self.old.file.cluster) (block_events self.old (next_block self.old kind body.now)) (block_steps (next_block self.old kind body.now)) }
+        ensures checksum { IfOk result (λ checksum. checksum ≡ (next_block self.old kind body.now).header.checksum) }
+        ensures live { OnOk result (self.new ≡ written self.old (next_block self.old kind body.now).header) }
+        ensures failed { OnErr result (self.new ≡ self.old) }
+        ensures cause { HasCause (D.faults disk.old) (D.faults disk.new) result }
+    {
+        let header = self.block_given(address, kind, body);
+        put_block(&mut self.grid, &mut self.trailer.block, disk, header, body)
+    }
+
+    /// Writes a block of this kind at the least address that isn't held, by one write and without a sync: it is live then, and the next
+    /// checkpoint makes it durable. The answer is its address and its checksum. The first reason of the order refuses it: the kind is
+    /// that of a trailer's block, the body is too long, each address is held; a refusal touches no disk and changes nothing. After a
+    /// fault the block may stand there or not, it isn't live, and no call may follow.
+    pub fn write_block<D: Disk>(
+        &mut self,
+        disk: &mut D,
+        kind: u8,
+        body: &[u8],
+    ) -> Result<Reference, BlockError>
+        requires live { self.old.live ≡ true }
+        ensures exact { IsWriteBlock kind body.now self.old self.new (D.told disk.old) (D.told disk.new) result }
+        ensures call { Serves (WriteBlock kind body.now) self.old self.new (D.told disk.old) (D.told disk.new) (write_block_answer result) }
+        ensures cause { BlamesWriteBlock (D.faults disk.old) (D.faults disk.new) result }
+    {
+        let address = match self.address_for(kind, body.len() as u64) {
+            Ok(address) => address,
+            Err(error) => return Err(error),
+        };
+        match self.write_next_block(disk, address, kind, body) {
+            Ok(checksum) => Ok(Reference { address, checksum }),
+            Err(_) => {
+                self.live = false;
+                Err(BlockError::DiskFault)
+            }
+        }
+    }
+
+    /// Lets a live block go; it is refused exactly where the address isn't live. An address that no checkpoint holds is free at once, and
+    /// one that a checkpoint holds is free when a later checkpoint without it is done. It touches no disk.
+    pub fn release(&mut self, address: u64) -> Result<(), NotLive>
+        requires live { self.old.live ≡ true }
+        ensures exact { IsRelease address self.old self.new result }
+        ensures call { (told : Option Told) → Serves (Release address) self.old self.new told told (release_answer result) }
+    {
+        if !self.grid.release(address) {
+            return Err(NotLive);
+        }
+        Ok(())
+    }
+}

@@ -1,0 +1,65 @@
+// The read of a block: it is lent from the room that it was read into, exactly where its address shows the one that is known.
+ghost use Rattle.std.specs.Prelude.{◌≡◌, true, IfOk};
+ghost use Rattle.std.specs.Borrow.{sem};
+ghost use Rattle.std.specs.Io.BufRead.{Rests};
+ghost use Rattle.df_format.specs.declared.kind.Kind.TheVariants.{Block as AsBlock};
+ghost use Rattle.df_format.specs.Own.{place_in};
+ghost use Rattle.df_layout.specs.declared.places.Zone.TheVariants.{Grid as InGrid};
+ghost use Rattle.df_grid.specs.Grid.{IsKnownUnit};
+ghost use Rattle.df_model.specs.Blocks.{sum_at};
+ghost use Rattle.df_model.specs.Commands.{ReadBlock};
+ghost use Rattle.df_replica.specs.Answering.{ServesBlockRead, read_block_answer};
+ghost use Rattle.df_replica.specs.BlockReads.{BlamesRead, IsReadBlock, block_leaves, block_words, what_block};
+ghost use Rattle.df_replica.specs.contracts.replica.Replica.{the_row};
+
+use crate::Replica;
+use df_buffers::{Block, Sound};
+use df_disk::Disk;
+use df_layout::{Place, Zone};
+use df_model::ReadError;
+
+// The place of a block.
+fn block_place(address: u64) -> Place
+    ensures { result ≡ place_in InGrid address }
+{
+    Place {
+        zone: Zone::Grid,
+        index: address,
+    }
+}
+
+impl Replica {
+    /// Lends a live block, from the room that its address is read into, by one device call. It is lent exactly where the address shows
+    /// the block that the replica knows, and no trailer's; else `Damaged` has the class of what is shown. After a fault no call may follow.
+    pub fn read_block<D: Disk>(
+        &mut self,
+        disk: &mut D,
+        address: u64,
+    ) -> Result<&Sound<Block>, ReadError>
+        requires live { self.old.live ≡ true }
+        ensures* after { sem 𝓛 (Rests the_row self.entry (λ s. s ≡ block_leaves self.entry.now result)) }
+        ensures exact { IsReadBlock address self.old (D.told disk.old) (block_words (λ u. u.now.unit) result) }
+        ensures lent { IfOk result (λ u. IsKnownUnit AsBlock self.old.file.layout self.old.file.cluster address (sum_at address self.old.blocks.live) u.now.unit) }
+        ensures call { ServesBlockRead (ReadBlock address) self.old (block_leaves self.old result) (D.told disk.old) (what_block (block_words (λ u. u.now.unit) result)) (read_block_answer (block_words (λ u. u.now.unit) result)) }
+        ensures same { D.told disk.new ≡ D.told disk.old }
+        ensures cause { BlamesRead (D.faults disk.old) (D.faults disk.new) result }
+    {
+        if self.grid.live(address).is_none() {
+            return Err(ReadError::NotLive);
+        }
+        let wrong = match self.grid.load(&mut self.trailer.block, disk, address) {
+            Ok(wrong) => wrong,
+            Err(_) => {
+                self.live = false;
+                return Err(ReadError::DiskFault);
+            }
+        };
+        match wrong {
+            Some(class) => Err(ReadError::Damaged {
+                place: block_place(address),
+                class,
+            }),
+            None => Ok(self.trailer.block.unit()),
+        }
+    }
+}

@@ -1,0 +1,254 @@
+// The steps of a running checkpoint: each writes a block of its trailer, without a sync, and the last one syncs once and writes the
+// superblock that makes the checkpoint durable.
+ghost use Rattle.std.specs.Prelude.{◌≡◌, true, length, OnErr, OnOk};
+ghost use Rattle.df_base.specs.Causes.{HasCause};
+ghost use Rattle.df_base.specs.Fields.{spelled};
+ghost use Rattle.df_disk.specs.Adds.{Adds};
+ghost use Rattle.df_format.specs.Spelling.{IsCheck};
+ghost use Rattle.df_format.specs.SuperRules.{fault_of};
+ghost use Rattle.df_superblock.specs.Events.{update_events};
+ghost use Rattle.df_superblock.specs.Steps.{AreStepsOfCopies};
+ghost use Rattle.df_theory.specs.CopyPuts.{update_steps};
+ghost use Rattle.df_theory.specs.Device.{AreSteps};
+ghost use Rattle.df_grid.specs.Writes.{block_steps, first_sum};
+ghost use Rattle.df_units.specs.Format.{format_of};
+ghost use Rattle.df_units.specs.Meaning.{block_of, number_of};
+ghost use Rattle.df_units.specs.Puts.{put_copies};
+ghost use Rattle.df_model.specs.Commands.{Advance};
+ghost use Rattle.df_state.specs.Captures.{capture_of};
+ghost use Rattle.df_state.specs.State.{IsState};
+ghost use Rattle.df_replica.specs.Answering.{Serves, step_answer};
+ghost use Rattle.df_replica.specs.Stepping.{BlamesStep, IsMade, IsStep, MayAdvance, MayFinish, OfRunning, advanced, block_events, block_sum, block_to_write, fields_for, finished, trailer_unit, next_fields, pending};
+
+use crate::Replica;
+use crate::reply::as_check;
+use df_base::Failed;
+use df_buffers::ProbeRoom;
+use df_checkpoint::{Capture, write_piece};
+use df_disk::Disk;
+use df_format::{Reference, Super, SuperFields, test_fields};
+use df_model::{Progress, StepError};
+use df_state::{Captured, DataFile};
+use df_superblock::{UpdateError, update};
+
+// What a superblock says of a checkpoint whose trailer ends with a block.
+fn fields_for(
+    file: &DataFile,
+    running: &Captured,
+    last: Reference,
+    head: u64,
+    replies: u64,
+) -> SuperFields
+    ensures fields { result ≡ fields_for file.now (capture_of running.now) head replies last.address last.checksum }
+    ensures check { IsCheck last.checksum }
+{
+    let layout = &file.layout;
+    let trailer_checksum = as_check(last.checksum);
+    SuperFields {
+        version: 1,
+        slots: layout.slots,
+        message_size: layout.message_size,
+        clients: layout.clients,
+        block_size: layout.block_size,
+        blocks: layout.blocks,
+        cluster: file.cluster,
+        sequence: running.capture.sequence,
+        op: running.op,
+        op_checksum: running.op_checksum,
+        head,
+        replies,
+        trailer_address: last.address,
+        trailer_checksum,
+        trailer_size: running.size,
+        boot: 0,
+        first_nonzero: None,
+    }
+}
+
+// Makes all that was written durable, and then a superblock.
+fn make_durable<D: Disk>(
+    disk: &mut D,
+    room: &mut ProbeRoom,
+    content: &Super,
+) -> Result<(), StepError>
+    ensures made { IsMade content.now (D.told disk.old) (D.told disk.new) result }
+    ensures steps { AreStepsOfCopies (update_events content.now) (update_steps (put_copies content.now)) }
+    ensures cause { BlamesStep (D.faults disk.old) (D.faults disk.new) result }
+{
+    // Its fields obey their rules.
+    let _fields = content.fields();
+    match disk.sync() {
+        Ok(()) => {}
+        Err(_) => return Err(StepError::DiskFault),
+    }
+    match update(disk, room, content) {
+        Ok(()) => Ok(()),
+        Err(UpdateError::Damaged { place, class }) => Err(StepError::Damaged { place, class }),
+        Err(UpdateError::DiskFault) => Err(StepError::DiskFault),
+    }
+}
+
+impl Replica {
+    // How many trailer blocks are to come; None where no checkpoint runs.
+    fn blocks_to_come(&self) -> Option<u64>
+        ensures pending { result ≡ pending self.now.running self.now.blocks.left }
+        ensures state { IsState self.now }
+    {
+        match &self.running {
+            Some(running) => Some(running.blocks - running.written),
+            None => None,
+        }
+    }
+
+    // Writes the next block of the trailer.
+    fn write_trailer_block<D: Disk>(&mut self, disk: &mut D) -> Result<(), Failed>
+        requires { MayAdvance self.old }
+        ensures events { OfRunning self.old.running (λ r. Adds (block_events self.old r) (D.told disk.old) (D.told disk.new) result) }
+        ensures steps { OfRunning self.old.running (λ r. AreSteps (format_of self.old.file.layout self.old.file.cluster) (block_events self.old r) (block_steps (trailer_unit self.old r))) }
+        ensures unit { OfRunning self.old.running (λ r. block_of (trailer_unit self.old r) ≡ block_to_write self.old r (block_sum self.old r)) }
+        ensures written { OnOk result (OfRunning self.old.running (λ r. self.new ≡ advanced self.old r)) }
+        ensures kept { OnErr result (self.new ≡ self.old) }
+        ensures cause { HasCause (D.faults disk.old) (D.faults disk.new) result }
+    {
+        let Some(mut running) = self.running.take() else {
+            unreachable!()
+        };
+        let done = write_piece(
+            disk,
+            &mut self.grid,
+            &running.capture,
+            &mut self.trailer.piece,
+            running.written,
+        );
+        match done {
+            Ok(()) => {
+                running.written += 1;
+                self.running = Some(running);
+                Ok(())
+            }
+            Err(failed) => {
+                self.running = Some(running);
+                Err(failed)
+            }
+        }
+    }
+
+    // A step that writes a trailer block.
+    fn trailer_step<D: Disk>(&mut self, disk: &mut D, left: u64) -> Result<Progress, StepError>
+        requires live { self.old.live ≡ true }
+        requires state { IsState self.old }
+        requires may { MayAdvance self.old }
+        requires left { left ≡ length self.old.blocks.left }
+        ensures exact { IsStep self.old self.new (D.told disk.old) (D.told disk.new) result }
+        ensures call { Serves Advance self.old self.new (D.told disk.old) (D.told disk.new) (step_answer result) }
+        ensures cause { BlamesStep (D.faults disk.old) (D.faults disk.new) result }
+    {
+        match self.write_trailer_block(disk) {
+            Ok(()) => Ok(Progress::Working { left }),
+            Err(_) => {
+                self.live = false;
+                Err(StepError::DiskFault)
+            }
+        }
+    }
+
+    // What the superblock says that ends the checkpoint: it obeys the rules.
+    fn next_fields(&self) -> SuperFields
+        requires { MayFinish self.now }
+        ensures fields { OfRunning self.now.running (λ r. result ≡ next_fields self.now r) }
+        ensures rules { fault_of result ≡ None }
+        ensures sum { number_of (spelled 16 (first_sum self.now.blocks.written)) ≡ first_sum self.now.blocks.written }
+    {
+        let Some(running) = &self.running else {
+            unreachable!()
+        };
+        let Some(last) = self.grid.trailer() else {
+            unreachable!()
+        };
+        fields_for(&self.file, running, last, self.head, self.replies)
+    }
+
+    // The superblock that ends the checkpoint.
+    fn next_superblock(&self) -> Super
+        requires { MayFinish self.now }
+        ensures fields { OfRunning self.now.running (λ r. result ≡ next_fields self.now r) }
+        ensures sum { number_of (spelled 16 (first_sum self.now.blocks.written)) ≡ first_sum self.now.blocks.written }
+    {
+        match test_fields(&self.next_fields()) {
+            Ok(content) => content,
+            Err(_) => unreachable!(),
+        }
+    }
+
+    // Makes it durable.
+    fn write_superblock<D: Disk>(&mut self, disk: &mut D, content: &Super) -> Result<(), StepError>
+        ensures made { IsMade content.now (D.told disk.old) (D.told disk.new) result }
+        ensures steps { AreStepsOfCopies (update_events content.now) (update_steps (put_copies content.now)) }
+        ensures kept { self.new ≡ self.old }
+        ensures cause { BlamesStep (D.faults disk.old) (D.faults disk.new) result }
+    {
+        let Some(mut rooms) = self.rooms.take() else {
+            unreachable!()
+        };
+        let done = make_durable(disk, &mut rooms.superblock, content);
+        self.rooms = Some(rooms);
+        done
+    }
+
+    // The checkpoint is the durable one.
+    fn finish(&mut self, content: Super)
+        requires may { MayFinish self.old }
+        requires content { OfRunning self.old.running (λ r. content ≡ next_fields self.old r) }
+        ensures { OfRunning self.old.running (λ r. self.new ≡ finished self.old r) }
+    {
+        let Some(running) = self.running.take() else {
+            unreachable!()
+        };
+        let Captured { capture, .. } = running;
+        let Capture { root, .. } = capture;
+        self.root = root;
+        self.content = content;
+        self.grid.finish();
+    }
+
+    // The step that ends the checkpoint.
+    fn last_step<D: Disk>(&mut self, disk: &mut D) -> Result<Progress, StepError>
+        requires live { self.old.live ≡ true }
+        requires state { IsState self.old }
+        requires may { MayFinish self.old }
+        ensures exact { IsStep self.old self.new (D.told disk.old) (D.told disk.new) result }
+        ensures call { Serves Advance self.old self.new (D.told disk.old) (D.told disk.new) (step_answer result) }
+        ensures cause { BlamesStep (D.faults disk.old) (D.faults disk.new) result }
+    {
+        let content = self.next_superblock();
+        match self.write_superblock(disk, &content) {
+            Ok(()) => {
+                self.finish(content);
+                Ok(Progress::Done {
+                    sequence: content.fields().sequence,
+                })
+            }
+            Err(error) => {
+                self.live = false;
+                Err(error)
+            }
+        }
+    }
+
+    /// Does the next step of the running checkpoint. While blocks of its trailer are to come, it writes the next one, without a
+    /// sync, and answers how many steps are left. The last step syncs once, writes the superblock's four copies, each durable
+    /// before the next, and answers the new sequence: the checkpoint is durable then. Without a running checkpoint nothing is
+    /// done. After a fault, and where fewer than three copies were read back as they were written, no call may follow.
+    pub fn checkpoint_step<D: Disk>(&mut self, disk: &mut D) -> Result<Progress, StepError>
+        requires live { self.old.live ≡ true }
+        ensures exact { IsStep self.old self.new (D.told disk.old) (D.told disk.new) result }
+        ensures call { Serves Advance self.old self.new (D.told disk.old) (D.told disk.new) (step_answer result) }
+        ensures cause { BlamesStep (D.faults disk.old) (D.faults disk.new) result }
+    {
+        match self.blocks_to_come() {
+            None => Err(StepError::NotRunning),
+            Some(0) => self.last_step(disk),
+            Some(left) => self.trailer_step(disk, left),
+        }
+    }
+}
