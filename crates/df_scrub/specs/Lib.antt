@@ -1,0 +1,3 @@
+pub mod Scrubber
+pub mod Machine
+pub mod Tours
