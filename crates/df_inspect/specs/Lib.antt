@@ -1,3 +1,4 @@
 pub mod Prints
 pub mod Opening
 pub mod Messages
+pub mod Reports

@@ -97,8 +97,8 @@ fn scrubbed_line(scrubbed: Scrubbed) -> Line
     }
 }
 
-// The line on a tour that is at its end.
-fn tour_line(checked: u64, failing: u64) -> Line
+/// The line on a tour that is at its end.
+pub(crate) fn tour_line(checked: u64, failing: u64) -> Line
     ensures { result.items ≡ scrubbed_text (scrubs.TourEnd checked failing) }
 {
     let mut line = ArrayVec::new();
@@ -123,7 +123,7 @@ fn checked_line(address: u64, verdict: Verdict) -> Line
 
 // Puts what a check found at the end of the line.
 fn put_verdict(line: &mut Line, verdict: Verdict)
-    requires { length line.old.items + 64 ≤ 512 }
+    requires { length line.old.items + 64 ≤ 640 }
     ensures put { line.new.items ≡ line.old.items ++ verdict_text verdict }
     ensures room { length line.new.items ≤ length line.old.items + 64 }
 {

@@ -6,6 +6,9 @@ mod block_refusals;
 #[cfg(test)]
 mod block_tests;
 mod blocks;
+mod counts;
+mod findings;
+mod inspection;
 mod line;
 mod messages;
 mod names;
@@ -13,6 +16,8 @@ mod opening;
 #[cfg(test)]
 mod opening_tests;
 mod refusals;
+#[cfg(test)]
+mod report_tests;
 #[cfg(test)]
 mod tests;
 
@@ -24,6 +29,9 @@ pub use block_refusals::{
 pub use blocks::{
     print_begun, print_block, print_progress, print_released, print_scrubbed, print_wrote,
 };
+pub use counts::{Workload, print_summary, print_workload};
+pub use findings::{print_failing, print_recent, print_tour};
+pub use inspection::print_inspection;
 pub use messages::{print_prepare, print_reply};
 pub use opening::{print_format_refusal, print_open_refusal};
 pub use refusals::{

@@ -8,15 +8,16 @@ use arrayvec::ArrayVec;
 use df_base::{Failed, Sink};
 use itoa::Buffer;
 
-/// Bytes that each line fits whose body isn't shown: ten numbers of at most 40 digits, or four classes with a place each.
-pub(crate) const LINE: usize = 512;
+/// Bytes that each line fits whose body isn't shown, and each report of numbers: twelve numbers of at most 40 digits with
+/// their words, or four classes with a place each.
+pub(crate) const LINE: usize = 640;
 
 /// A line, or the front of one.
 pub(crate) type Line = ArrayVec<u8, LINE>;
 
 /// Puts a text at the end of the line.
 pub(crate) fn put(line: &mut Line, text: &str)
-    requires { length line.old.items + length text.now ≤ 512 }
+    requires { length line.old.items + length text.now ≤ 640 }
     ensures put { line.new.items ≡ line.old.items ++ text.now }
     ensures room { length line.new.items ≡ length line.old.items + length text.now }
 {
@@ -25,7 +26,7 @@ pub(crate) fn put(line: &mut Line, text: &str)
 
 /// Puts a number at the end of the line.
 pub(crate) fn put_number(line: &mut Line, number: u128)
-    requires { length line.old.items + 40 ≤ 512 }
+    requires { length line.old.items + 40 ≤ 640 }
     ensures put { line.new.items ≡ line.old.items ++ decimal number }
     ensures room { length line.new.items ≤ length line.old.items + 40 }
 {
@@ -36,7 +37,7 @@ pub(crate) fn put_number(line: &mut Line, number: u128)
 
 /// Puts a word, a space and a number at the end of the line.
 pub(crate) fn put_numbered(line: &mut Line, word: &str, number: u128)
-    requires { length line.old.items + length word.now + 41 ≤ 512 }
+    requires { length line.old.items + length word.now + 41 ≤ 640 }
     ensures put { line.new.items ≡ line.old.items ++ numbered word.now number }
     ensures room { length line.new.items ≤ length line.old.items + length word.now + 41 }
 {
@@ -47,12 +48,22 @@ pub(crate) fn put_numbered(line: &mut Line, word: &str, number: u128)
 
 /// Puts a space, a word, a space and a number at the end of the line.
 pub(crate) fn put_field(line: &mut Line, word: &str, number: u128)
-    requires { length line.old.items + length word.now + 42 ≤ 512 }
+    requires { length line.old.items + length word.now + 42 ≤ 640 }
     ensures put { line.new.items ≡ spaced line.old.items (numbered word.now number) }
     ensures room { length line.new.items ≤ length line.old.items + length word.now + 42 }
 {
     put(line, " ");
     put_numbered(line, word, number);
+}
+
+/// Puts a line of a word and a number at the end of the lines.
+pub(crate) fn put_row(line: &mut Line, word: &str, number: u128)
+    requires { length line.old.items + length word.now + 42 ≤ 640 }
+    ensures put { line.new.items ≡ line.old.items ++ line_of (numbered word.now number) }
+    ensures room { length line.new.items ≤ length line.old.items + length word.now + 42 }
+{
+    put_numbered(line, word, number);
+    put(line, "\n");
 }
 
 /// A line that is said already.

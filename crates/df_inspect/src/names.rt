@@ -22,7 +22,7 @@ pub(crate) fn damaged_line(place: Place, class: Class) -> Line
 
 /// Puts a place at the end of the line: its zone and its number in it.
 pub(crate) fn put_place(line: &mut Line, place: Place)
-    requires { length line.old.items + 54 ≤ 512 }
+    requires { length line.old.items + 54 ≤ 640 }
     ensures put { line.new.items ≡ line.old.items ++ place_text place }
     ensures room { length line.new.items ≤ length line.old.items + 54 }
 {
@@ -31,7 +31,7 @@ pub(crate) fn put_place(line: &mut Line, place: Place)
 
 /// Puts a class at the end of the line.
 pub(crate) fn put_class(line: &mut Line, class: Class)
-    requires { length line.old.items + 64 ≤ 512 }
+    requires { length line.old.items + 64 ≤ 640 }
     ensures put { line.new.items ≡ line.old.items ++ class_text class }
     ensures room { length line.new.items ≤ length line.old.items + 64 }
 {
@@ -48,7 +48,7 @@ pub(crate) fn put_class(line: &mut Line, class: Class)
 
 /// Puts classes at the end of the line, each behind a space.
 pub(crate) fn put_classes(line: &mut Line, classes: &[Class])
-    requires { length line.old.items + 65 * length classes.now ≤ 512 }
+    requires { length line.old.items + 65 * length classes.now ≤ 640 }
     ensures put { line.new.items ≡ line.old.items ++ classes_text classes.now }
     ensures room { length line.new.items ≤ length line.old.items + 65 * length classes.now }
 {

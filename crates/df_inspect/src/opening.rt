@@ -91,9 +91,9 @@ fn layout_differs_line(reserved: &Layout, found: &Layout) -> Line
     line
 }
 
-// Puts the five numbers of a layout at the end of the line.
-fn put_layout(line: &mut Line, layout: &Layout)
-    requires { length line.old.items + 204 ≤ 512 }
+/// Puts the five numbers of a layout at the end of the line.
+pub(crate) fn put_layout(line: &mut Line, layout: &Layout)
+    requires { length line.old.items + 204 ≤ 640 }
     ensures put { line.new.items ≡ line.old.items ++ layout_text layout.now }
     ensures room { length line.new.items ≤ length line.old.items + 204 }
 {
@@ -106,7 +106,7 @@ fn put_layout(line: &mut Line, layout: &Layout)
 
 // Puts a space and a number at the end of the line.
 fn put_spaced(line: &mut Line, number: u32)
-    requires { length line.old.items + 41 ≤ 512 }
+    requires { length line.old.items + 41 ≤ 640 }
     ensures put { line.new.items ≡ spaced line.old.items (decimal number) }
     ensures room { length line.new.items ≤ length line.old.items + 41 }
 {

@@ -1,9 +1,11 @@
 -- What a line says, from its words.
-use Rattle.std.proofs.Common.{◌≡◌, ℕ, ◌^◌, ◌<◌, List, [], ◌∷◌, ◌++◌, length, refl, sym, ap, subst, ◌∙◌, arith, length-append}
-use Rattle.std.specs.Prelude.{decimal, codes, Option, None, Some, IfNone}
-use Rattle.df_lines.specs.Grammar.{IsBody, Said, Append, Reply, Prepare, Lookup, Says}
+use Rattle.std.proofs.Common.{◌≡◌, ◌⊎◌, inl, inr, ℕ, ◌<◌, if◌then◌else◌, List, [], ◌∷◌, ◌++◌, length, take, refl, sym, ap, subst, ◌∙◌, arith, length-append}
+use Rattle.std.specs.Prelude.{codes, Option, None, Some, IfNone}
+use Rattle.std.specs.Str.{bytes_eq}
+use Rattle.std.proofs.lemmas.List.{take_all}
+use Rattle.df_lines.specs.Grammar.{Said, Append, Reply, Block, Release, Checkpoint, Step, Prepare, Lookup, Read, Says}
 use Rattle.df_lines.specs.Words.{HasNoSpace, Cuts}
-use Rattle.df_lines.proofs.Cutting.{decimal_no_space, no_cut, one_cut, one_split}
+use Rattle.df_lines.proofs.Cutting.{no_cut, one_cut, one_split}
 
 -- ---- the first word
 
@@ -11,149 +13,147 @@ use Rattle.df_lines.proofs.Cutting.{decimal_no_space, no_cut, one_cut, one_split
 abbrev pub name_of : Said → List ℕ
 name_of (Append client request body) = codes "append"
 name_of (Reply op body) = codes "reply"
+name_of (Block kind body) = codes "block"
+name_of (Release address) = codes "release"
+name_of (Checkpoint body) = codes "checkpoint"
+name_of Step = codes "step"
 name_of (Prepare op) = codes "prepare"
 name_of (Lookup client) = codes "lookup"
+name_of (Read address) = codes "read"
 
--- the byte that tells two names apart
-abbrev pub first : List ℕ → ℕ
-first [] = 0
-first (byte ∷ bytes) = byte
+-- the first number of a line, the second one, and its body
+abbrev pub first_of : Said → ℕ
+first_of (Append client request body) = client
+first_of (Reply op body) = op
+first_of (Block kind body) = kind
+first_of (Release address) = address
+first_of (Prepare op) = op
+first_of (Lookup client) = client
+first_of (Read address) = address
+first_of said = 0
 
--- the line begins with its name and a space
+abbrev pub second_of : Said → ℕ
+second_of (Append client request body) = request
+second_of said = 0
+
+abbrev pub body_of : Said → List ℕ
+body_of (Append client request body) = body
+body_of (Reply op body) = body
+body_of (Block kind body) = body
+body_of (Checkpoint body) = body
+body_of said = []
+
+-- the line of this name with these numbers and this body
+abbrev pub line_named : List ℕ → ℕ → ℕ → List ℕ → Said
+line_named name first second body =
+    if bytes_eq name (codes "append") then Append first second body
+    else if bytes_eq name (codes "reply") then Reply first body
+    else if bytes_eq name (codes "block") then Block first body
+    else if bytes_eq name (codes "release") then Release first
+    else if bytes_eq name (codes "checkpoint") then Checkpoint body
+    else if bytes_eq name (codes "prepare") then Prepare first
+    else if bytes_eq name (codes "lookup") then Lookup first
+    else if bytes_eq name (codes "read") then Read first
+    else Step
+
+-- a line's name says which line it is
+pub as_named : (said : Said) → line_named (name_of said) (first_of said) (second_of said) (body_of said) ≡ said
+as_named (Append client request body) = refl
+as_named (Reply op body) = refl
+as_named (Block kind body) = refl
+as_named (Release address) = refl
+as_named (Checkpoint body) = refl
+as_named Step = refl
+as_named (Prepare op) = refl
+as_named (Lookup client) = refl
+as_named (Read address) = refl
+
+pub is_named : (said : Said) (name : List ℕ) → name ≡ name_of said → said ≡ line_named name (first_of said) (second_of said) (body_of said)
+is_named said name is = sym (as_named said) ∙ ap (λ (n : List ℕ). line_named n (first_of said) (second_of said) (body_of said)) (sym is)
+
+-- the line is its name, or begins with it and a space
 pub record Begun (line : List ℕ) (said : Said) : Type 0 where
   pub rest : List ℕ
-  pub is : line ≡ name_of said ++ (32 ∷ rest)
+  pub is : (line ≡ name_of said) ⊎ (line ≡ name_of said ++ (32 ∷ rest))
   pub name : HasNoSpace (name_of said)
 
 pub begun : (line : List ℕ) (said : Said) → Says line said → Begun line said
-begun line (Append client request body) says = record { rest = _; is = says.is; name = refl }
-begun line (Reply op body) says = record { rest = _; is = says.is; name = refl }
-begun line (Prepare op) says = record { rest = _; is = says.is; name = refl }
-begun line (Lookup client) says = record { rest = _; is = says.is; name = refl }
+begun line (Append client request body) says = record { rest = _; is = inr says.is; name = refl }
+begun line (Reply op body) says = record { rest = _; is = inr says.is; name = refl }
+begun line (Block kind body) says = record { rest = _; is = inr says.is; name = refl }
+begun line (Release address) says = record { rest = _; is = inr says.is; name = refl }
+begun line (Checkpoint body) says = record { rest = _; is = inr says.is; name = refl }
+begun line Step says = record { rest = []; is = inl says.is; name = refl }
+begun line (Prepare op) says = record { rest = _; is = inr says.is; name = refl }
+begun line (Lookup client) says = record { rest = _; is = inr says.is; name = refl }
+begun line (Read address) says = record { rest = _; is = inr says.is; name = refl }
 
-pub no_name : (line : List ℕ) → HasNoSpace line → (said : Said) → Says line said → ⊥
-no_name line none said says = let b = begun line said says in no_cut line (name_of said) b.rest none b.is b.name
+-- a line of one word is its name
+pub alone_as : (line : List ℕ) → HasNoSpace line → (said : Said) → Says line said → line ≡ name_of said
+alone_as line none said says =
+    let b = begun line said says in
+    elim b.is [ inl bare ↦ bare | inr worded ↦ absurd (no_cut line (name_of said) b.rest none worded b.name) ]
+
+-- a line that has a space isn't one without
+cut_has_space : (line name words : List ℕ) → Cuts line name words → HasNoSpace line → ⊥
+cut_has_space line name words cuts none =
+    let all : name ≡ line = cuts.front ∙ ap (λ (n : ℕ). take n line) none ∙ take_all (length line) line (omega arith) in
+    omega (arith, ap length cuts.whole, length-append name (32 ∷ words), ap length all)
 
 pub named_as : (line name words : List ℕ) → Cuts line name words → (said : Said) → Says line said → name ≡ name_of said
-named_as line name words cuts said says = let b = begun line said says in (one_cut line name words (name_of said) b.rest cuts b.is b.name).0
+named_as line name words cuts said says =
+    let b = begun line said says in
+    elim b.is [
+      | inl bare ↦ absurd (cut_has_space line name words cuts (subst HasNoSpace (sym bare) b.name))
+      | inr worded ↦ (one_cut line name words (name_of said) b.rest cuts worded b.name).0
+    ]
 
 pub same_name : (line : List ℕ) (a b : Said) → Says line a → Says line b → name_of a ≡ name_of b
 same_name line a b one other =
     let x = begun line a one in
     let y = begun line b other in
-    (one_split (name_of a) x.rest (name_of b) y.rest x.name y.name (sym x.is ∙ y.is)).0
+    elim x.is [
+      | inl bare ↦ sym bare ∙ alone_as line (subst HasNoSpace (sym bare) x.name) b other
+      | inr worded ↦ elim y.is [
+        | inl bare ↦ absurd (no_cut line (name_of a) x.rest (subst HasNoSpace (sym bare) y.name) worded x.name)
+        | inr words ↦ (one_split (name_of a) x.rest (name_of b) y.rest x.name y.name (sym worded ∙ words)).0
+      ]
+    ]
+
+some_name : (said : Said) → 0 < length (name_of said)
+some_name (Append client request body) = omega arith
+some_name said = omega arith
 
 pub nothing_said : (said : Said) → Says [] said → ⊥
-nothing_said said says = let b = begun [] said says in omega (arith, ap length b.is, length-append (name_of said) (32 ∷ b.rest))
+nothing_said said says = omega (arith, ap length (alone_as [] refl said says), some_name said)
 
 -- a line's bytes, where its first word is known
 pub named : (line name words known : List ℕ) → Cuts line name words → name ≡ known → line ≡ known ++ (32 ∷ words)
 named line name words known cuts is = cuts.whole ∙ ap (λ (l : List ℕ). l ++ (32 ∷ words)) is
 
-pub other_name : (line name words : List ℕ) → Cuts line name words → (name ≡ codes "append" → ⊥) → (name ≡ codes "reply" → ⊥) → (name ≡ codes "prepare" → ⊥) → (name ≡ codes "lookup" → ⊥) → (said : Said) → Says line said → ⊥
-other_name line name words cuts a r p l (Append client request body) says = a (named_as line name words cuts _ says)
-other_name line name words cuts a r p l (Reply op body) says = r (named_as line name words cuts _ says)
-other_name line name words cuts a r p l (Prepare op) says = p (named_as line name words cuts _ says)
-other_name line name words cuts a r p l (Lookup client) says = l (named_as line name words cuts _ says)
+-- a line of this name is the one that the name stands for
+pub only : (line name words known : List ℕ) → Cuts line name words → name ≡ known → ((first second : ℕ) (body : List ℕ) → Says (known ++ (32 ∷ words)) (line_named known first second body) → ⊥) → (said : Said) → Says line said → ⊥
+only line name words known cuts is none said says =
+    let same = is_named said known (sym is ∙ named_as line name words cuts said says) in
+    none (first_of said) (second_of said) (body_of said) (subst (λ (s : Said). Says (known ++ (32 ∷ words)) s) same (subst (λ (l : List ℕ). Says l said) (named line name words known cuts is) says))
 
-pub append_only : (line name words : List ℕ) → Cuts line name words → name ≡ codes "append" → ((client request : ℕ) (body : List ℕ) → Says (codes "append " ++ words) (Append client request body) → ⊥) → (said : Said) → Says line said → ⊥
-append_only line name words cuts is none (Append client request body) says = none client request body (subst (λ (l : List ℕ). Says l (Append client request body)) (named line name words _ cuts is) says)
-append_only line name words cuts is none (Reply op body) says = let letters : ◌≡◌ {A = ℕ} 97 114 = ap first (sym is ∙ named_as line name words cuts (Reply op body) says) in omega arith
-append_only line name words cuts is none (Prepare op) says = let letters : ◌≡◌ {A = ℕ} 97 112 = ap first (sym is ∙ named_as line name words cuts (Prepare op) says) in omega arith
-append_only line name words cuts is none (Lookup client) says = let letters : ◌≡◌ {A = ℕ} 97 108 = ap first (sym is ∙ named_as line name words cuts (Lookup client) says) in omega arith
+pub other_name : (line name words : List ℕ) → Cuts line name words → (name ≡ codes "append" → ⊥) → (name ≡ codes "reply" → ⊥) → (name ≡ codes "block" → ⊥) → (name ≡ codes "release" → ⊥) → (name ≡ codes "checkpoint" → ⊥) → (name ≡ codes "prepare" → ⊥) → (name ≡ codes "lookup" → ⊥) → (name ≡ codes "read" → ⊥) → (said : Said) → Says line said → ⊥
+other_name line name words cuts a r b e c p l d (Append client request body) says = a (named_as line name words cuts _ says)
+other_name line name words cuts a r b e c p l d (Reply op body) says = r (named_as line name words cuts _ says)
+other_name line name words cuts a r b e c p l d (Block kind body) says = b (named_as line name words cuts _ says)
+other_name line name words cuts a r b e c p l d (Release address) says = e (named_as line name words cuts _ says)
+other_name line name words cuts a r b e c p l d (Checkpoint body) says = c (named_as line name words cuts _ says)
+other_name line name words cuts a r b e c p l d Step says = cut_has_space line name words cuts (subst HasNoSpace (sym says.is) refl)
+other_name line name words cuts a r b e c p l d (Prepare op) says = p (named_as line name words cuts _ says)
+other_name line name words cuts a r b e c p l d (Lookup client) says = l (named_as line name words cuts _ says)
+other_name line name words cuts a r b e c p l d (Read address) says = d (named_as line name words cuts _ says)
 
-pub reply_only : (line name words : List ℕ) → Cuts line name words → name ≡ codes "reply" → ((op : ℕ) (body : List ℕ) → Says (codes "reply " ++ words) (Reply op body) → ⊥) → (said : Said) → Says line said → ⊥
-reply_only line name words cuts is none (Append client request body) says = let letters : ◌≡◌ {A = ℕ} 114 97 = ap first (sym is ∙ named_as line name words cuts (Append client request body) says) in omega arith
-reply_only line name words cuts is none (Reply op body) says = none op body (subst (λ (l : List ℕ). Says l (Reply op body)) (named line name words _ cuts is) says)
-reply_only line name words cuts is none (Prepare op) says = let letters : ◌≡◌ {A = ℕ} 114 112 = ap first (sym is ∙ named_as line name words cuts (Prepare op) says) in omega arith
-reply_only line name words cuts is none (Lookup client) says = let letters : ◌≡◌ {A = ℕ} 114 108 = ap first (sym is ∙ named_as line name words cuts (Lookup client) says) in omega arith
-
-pub prepare_only : (line name words : List ℕ) → Cuts line name words → name ≡ codes "prepare" → ((op : ℕ) → Says (codes "prepare " ++ words) (Prepare op) → ⊥) → (said : Said) → Says line said → ⊥
-prepare_only line name words cuts is none (Append client request body) says = let letters : ◌≡◌ {A = ℕ} 112 97 = ap first (sym is ∙ named_as line name words cuts (Append client request body) says) in omega arith
-prepare_only line name words cuts is none (Reply op body) says = let letters : ◌≡◌ {A = ℕ} 112 114 = ap first (sym is ∙ named_as line name words cuts (Reply op body) says) in omega arith
-prepare_only line name words cuts is none (Prepare op) says = none op (subst (λ (l : List ℕ). Says l (Prepare op)) (named line name words _ cuts is) says)
-prepare_only line name words cuts is none (Lookup client) says = let letters : ◌≡◌ {A = ℕ} 112 108 = ap first (sym is ∙ named_as line name words cuts (Lookup client) says) in omega arith
-
-pub lookup_only : (line name words : List ℕ) → Cuts line name words → name ≡ codes "lookup" → ((client : ℕ) → Says (codes "lookup " ++ words) (Lookup client) → ⊥) → (said : Said) → Says line said → ⊥
-lookup_only line name words cuts is none (Append client request body) says = let letters : ◌≡◌ {A = ℕ} 108 97 = ap first (sym is ∙ named_as line name words cuts (Append client request body) says) in omega arith
-lookup_only line name words cuts is none (Reply op body) says = let letters : ◌≡◌ {A = ℕ} 108 114 = ap first (sym is ∙ named_as line name words cuts (Reply op body) says) in omega arith
-lookup_only line name words cuts is none (Prepare op) says = let letters : ◌≡◌ {A = ℕ} 108 112 = ap first (sym is ∙ named_as line name words cuts (Prepare op) says) in omega arith
-lookup_only line name words cuts is none (Lookup client) says = none client (subst (λ (l : List ℕ). Says l (Lookup client)) (named line name words _ cuts is) says)
+-- the other lines have a space
+pub other_alone : (line : List ℕ) → HasNoSpace line → (line ≡ codes "step" → ⊥) → (said : Said) → Says line said → ⊥
+other_alone line none s Step says = s says.is
+other_alone line none s said says = no_cut line (name_of said) _ none says.is refl
 
 -- what stands behind a call that found nothing
 pub if_none : {A : Type 0} (found : Option A) (P Q : Type 0) → IfNone found P → (P → Q) → IfNone found Q
 if_none None P Q none more = more none
 if_none (Some x) P Q none more = tt
-
--- ---- the words behind it
-
-pub same_rest : (front a b : List ℕ) → front ++ a ≡ front ++ b → a ≡ b
-same_rest [] a b same = same
-same_rest (x ∷ front) a b same = same_rest front a b (cc same)
-
--- a number that ends before a space
-pub record NumberFirst (words : List ℕ) (bound n : ℕ) (rest : List ℕ) : Type 0 where
-  pub is : words ≡ decimal n ++ (32 ∷ rest)
-  pub fits : n < bound
-  pub wide : n < 2 ^ 128
-
-pub number_word : (words before after : List ℕ) (bound n : ℕ) (rest : List ℕ) → NumberFirst words bound n rest → Cuts words before after → (before ≡ decimal n) × (after ≡ rest)
-number_word words before after bound n rest first cuts = one_cut words before after (decimal n) rest cuts first.is (decimal_no_space n first.wide)
-
-no_number : (words : List ℕ) (bound n : ℕ) (rest : List ℕ) → NumberFirst words bound n rest → HasNoSpace words → ⊥
-no_number words bound n rest first none = no_cut words (decimal n) rest none first.is (decimal_no_space n first.wide)
-
--- ---- append
-
-first_of_append : (words : List ℕ) (client request : ℕ) (body : List ℕ) → (says : Says (codes "append " ++ words) (Append client request body)) → NumberFirst words (2 ^ 128) client (decimal request ++ (32 ∷ says.word))
-first_of_append words client request body says = record { is = same_rest (codes "append ") words _ says.is; fits = says.fits.0; wide = says.fits.0 }
-
-second_of_append : (words before rest : List ℕ) (client request : ℕ) (body : List ℕ) → (says : Says (codes "append " ++ words) (Append client request body)) → Cuts words before rest → NumberFirst rest (2 ^ 64) request says.word
-second_of_append words before rest client request body says cuts = record {
-  is = (number_word words before rest _ client _ (first_of_append words client request body says) cuts).1;
-  fits = says.fits.1;
-  wide = omega (arith, says.fits.1);
-}
-
-pub no_client : (words : List ℕ) → HasNoSpace words → (client request : ℕ) (body : List ℕ) → Says (codes "append " ++ words) (Append client request body) → ⊥
-no_client words none client request body says = no_number words _ client _ (first_of_append words client request body says) none
-
-pub no_request : (words before rest : List ℕ) → Cuts words before rest → HasNoSpace rest → (client request : ℕ) (body : List ℕ) → Says (codes "append " ++ words) (Append client request body) → ⊥
-no_request words before rest cuts none client request body says = no_number rest _ request _ (second_of_append words before rest client request body says cuts) none
-
-pub bad_client : (words before rest : List ℕ) → Cuts words before rest → ((n : ℕ) → n < 2 ^ 128 → before ≡ decimal n → ⊥) → (client request : ℕ) (body : List ℕ) → Says (codes "append " ++ words) (Append client request body) → ⊥
-bad_client words before rest cuts none client request body says =
-    none client says.fits.0 (number_word words before rest _ client _ (first_of_append words client request body says) cuts).0
-
-pub bad_request : (words before rest second last : List ℕ) → Cuts words before rest → Cuts rest second last → ((n : ℕ) → n < 2 ^ 64 → second ≡ decimal n → ⊥) → (client request : ℕ) (body : List ℕ) → Says (codes "append " ++ words) (Append client request body) → ⊥
-bad_request words before rest second last cuts again none client request body says =
-    none request says.fits.1 (number_word rest second last _ request _ (second_of_append words before rest client request body says cuts) again).0
-
-pub bad_body : (words before rest second last : List ℕ) → Cuts words before rest → Cuts rest second last → ((bytes : List ℕ) → IsBody last bytes → ⊥) → (client request : ℕ) (body : List ℕ) → Says (codes "append " ++ words) (Append client request body) → ⊥
-bad_body words before rest second last cuts again none client request body says =
-    let same = (number_word rest second last _ request _ (second_of_append words before rest client request body says cuts) again).1 in
-    none body (subst (λ (w : List ℕ). IsBody w body) (sym same) says.fits.2)
-
--- ---- reply
-
-first_of_reply : (words : List ℕ) (op : ℕ) (body : List ℕ) → (says : Says (codes "reply " ++ words) (Reply op body)) → NumberFirst words (2 ^ 64) op says.word
-first_of_reply words op body says = record { is = same_rest (codes "reply ") words _ says.is; fits = says.fits.0; wide = omega (arith, says.fits.0) }
-
-pub no_op : (words : List ℕ) → HasNoSpace words → (op : ℕ) (body : List ℕ) → Says (codes "reply " ++ words) (Reply op body) → ⊥
-no_op words none op body says = no_number words _ op _ (first_of_reply words op body says) none
-
-pub bad_op : (words before last : List ℕ) → Cuts words before last → ((n : ℕ) → n < 2 ^ 64 → before ≡ decimal n → ⊥) → (op : ℕ) (body : List ℕ) → Says (codes "reply " ++ words) (Reply op body) → ⊥
-bad_op words before last cuts none op body says = none op says.fits.0 (number_word words before last _ op _ (first_of_reply words op body says) cuts).0
-
-pub bad_reply_body : (words before last : List ℕ) → Cuts words before last → ((bytes : List ℕ) → IsBody last bytes → ⊥) → (op : ℕ) (body : List ℕ) → Says (codes "reply " ++ words) (Reply op body) → ⊥
-bad_reply_body words before last cuts none op body says =
-    let same = (number_word words before last _ op _ (first_of_reply words op body says) cuts).1 in
-    none body (subst (λ (w : List ℕ). IsBody w body) (sym same) says.fits.1)
-
--- ---- prepare and lookup
-
-pub bad_prepare : (word : List ℕ) → ((n : ℕ) → n < 2 ^ 64 → word ≡ decimal n → ⊥) → (op : ℕ) → Says (codes "prepare " ++ word) (Prepare op) → ⊥
-bad_prepare word none op says = none op says.fits (same_rest (codes "prepare ") word (decimal op) says.is)
-
-pub bad_lookup : (word : List ℕ) → ((n : ℕ) → n < 2 ^ 128 → word ≡ decimal n → ⊥) → (client : ℕ) → Says (codes "lookup " ++ word) (Lookup client) → ⊥
-bad_lookup word none client says = none client says.fits (same_rest (codes "lookup ") word (decimal client) says.is)

@@ -2,13 +2,14 @@
 use Rattle.std.proofs.Common.{◌≡◌, ◌⊎◌, ℕ, ◌-◌, ◌^◌, ◌<◌, inl, inr, List, [], ◌∷◌, ◌++◌, refl, sym, ap, subst, ◌∙◌, arith}
 use Rattle.std.specs.Prelude.{decimal, codes, Ok}
 use Rattle.hex.specs.Hex.{decode_of}
-use Rattle.df_lines.specs.Grammar.{IsBody, Said, Append, Reply, Prepare, Lookup, Says}
+use Rattle.df_lines.specs.Grammar.{IsBody, Said, Append, Reply, Block, Release, Checkpoint, Step, Prepare, Lookup, Read, Says}
 use Rattle.df_lines.specs.Laws.{OneMeaning, OneText, OneScript, WholeScript}
 use Rattle.df_lines.specs.Script.{Begins, IsLine, IsRefused}
 use Rattle.df_lines.specs.Text.{line_of, after_line, taken}
 use Rattle.df_lines.proofs.Cutting.{decimal_no_space, one_split}
 use Rattle.df_lines.proofs.Decimals.{one_number}
-use Rattle.df_lines.proofs.Meanings.{first, nothing_said, same_name, same_rest}
+use Rattle.df_lines.proofs.Arguments.{same_rest}
+use Rattle.df_lines.proofs.Meanings.{name_of, first_of, second_of, body_of, line_named, is_named, nothing_said, same_name}
 
 dash_is_no_hex : (bytes : List ℕ) → decode_of (codes "-") ≡ Ok bytes → ⊥
 dash_is_no_hex bytes is = cc is
@@ -31,8 +32,17 @@ body_split one other a b same x y = one_body one a b x (subst (λ (w : List ℕ)
 same_append : (c d r s : ℕ) (x y : List ℕ) → c ≡ d → r ≡ s → x ≡ y → Append c r x ≡ Append d s y
 same_append c d r s x y client request body = cc
 
-same_reply : (m n : ℕ) (x y : List ℕ) → m ≡ n → x ≡ y → Reply m x ≡ Reply n y
-same_reply m n x y op body = cc
+same_sized : (make : ℕ → List ℕ → Said) (m n : ℕ) (x y : List ℕ) → m ≡ n → x ≡ y → make m x ≡ make n y
+same_sized make m n x y number body = cc
+
+-- the number of a line that has nothing else, and the number and the body of a line
+one_word : (front : List ℕ) (m n : ℕ) (line : List ℕ) → line ≡ front ++ decimal m → line ≡ front ++ decimal n → m < 2 ^ 128 → n < 2 ^ 128 → m ≡ n
+one_word front m n line one other fits fits' = one_number m n fits fits' (same_rest front (decimal m) (decimal n) (sym one ∙ other))
+
+two_words : (front : List ℕ) (m n : ℕ) (line a b x y : List ℕ) → line ≡ front ++ (decimal m ++ (32 ∷ a)) → line ≡ front ++ (decimal n ++ (32 ∷ b)) → m < 2 ^ 128 → n < 2 ^ 128 → IsBody a x → IsBody b y → (m ≡ n) × (x ≡ y)
+two_words front m n line a b x y one other fits fits' body body' =
+    let parts = number_split m n a b fits fits' (same_rest front (decimal m ++ (32 ∷ a)) (decimal n ++ (32 ∷ b)) (sym one ∙ other)) in
+    (parts.0, body_split a b x y parts.1 body body')
 
 append_once : (line : List ℕ) (c r d s : ℕ) (x y : List ℕ) → Says line (Append c r x) → Says line (Append d s y) → Append c r x ≡ Append d s y
 append_once line c r d s x y one other =
@@ -41,29 +51,26 @@ append_once line c r d s x y one other =
     let second = number_split r s one.word other.word (omega (arith, one.fits.1)) (omega (arith, other.fits.1)) first.1 in
     same_append c d r s x y first.0 second.0 (body_split one.word other.word x y second.1 one.fits.2 other.fits.2)
 
-reply_once : (line : List ℕ) (m n : ℕ) (x y : List ℕ) → Says line (Reply m x) → Says line (Reply n y) → Reply m x ≡ Reply n y
-reply_once line m n x y one other =
-    let words = same_rest (codes "reply ") _ _ (sym one.is ∙ other.is) in
-    let first = number_split m n one.word other.word (omega (arith, one.fits.0)) (omega (arith, other.fits.0)) words in
-    same_reply m n x y first.0 (body_split one.word other.word x y first.1 one.fits.1 other.fits.1)
+-- two lines of one name say the same
+one_of_name : (line : List ℕ) (one : Said) (first second : ℕ) (body : List ℕ) → Says line one → Says line (line_named (name_of one) first second body) → one ≡ line_named (name_of one) first second body
+one_of_name line (Append c r x) m s y one other = append_once line c r m s x y one other
+one_of_name line (Reply n x) m s y one other =
+    let parts = two_words (codes "reply ") n m line one.word other.word x y one.is other.is (omega (arith, one.fits.0)) (omega (arith, other.fits.0)) one.fits.1 other.fits.1 in
+    same_sized Reply n m x y parts.0 parts.1
+one_of_name line (Block n x) m s y one other =
+    let parts = two_words (codes "block ") n m line one.word other.word x y one.is other.is (omega (arith, one.fits.0)) (omega (arith, other.fits.0)) one.fits.1 other.fits.1 in
+    same_sized Block n m x y parts.0 parts.1
+one_of_name line (Release n) m s y one other = ap Release (one_word (codes "release ") n m line one.is other.is (omega (arith, one.fits)) (omega (arith, other.fits)))
+one_of_name line (Checkpoint x) m s y one other = ap Checkpoint (body_split one.word other.word x y (same_rest (codes "checkpoint ") one.word other.word (sym one.is ∙ other.is)) one.fits other.fits)
+one_of_name line Step m s y one other = refl
+one_of_name line (Prepare n) m s y one other = ap Prepare (one_word (codes "prepare ") n m line one.is other.is (omega (arith, one.fits)) (omega (arith, other.fits)))
+one_of_name line (Lookup n) m s y one other = ap Lookup (one_word (codes "lookup ") n m line one.is other.is one.fits other.fits)
+one_of_name line (Read n) m s y one other = ap Read (one_word (codes "read ") n m line one.is other.is (omega (arith, one.fits)) (omega (arith, other.fits)))
 
 pub one_said : OneMeaning
-one_said line (Append c r x) (Append d s y) one other = append_once line c r d s x y one other
-one_said line (Append c r x) (Reply n y) one other = let letters : ◌≡◌ {A = ℕ} 97 114 = ap first (same_name line (Append c r x) (Reply n y) one other) in absurd (omega arith)
-one_said line (Append c r x) (Prepare n) one other = let letters : ◌≡◌ {A = ℕ} 97 112 = ap first (same_name line (Append c r x) (Prepare n) one other) in absurd (omega arith)
-one_said line (Append c r x) (Lookup n) one other = let letters : ◌≡◌ {A = ℕ} 97 108 = ap first (same_name line (Append c r x) (Lookup n) one other) in absurd (omega arith)
-one_said line (Reply m x) (Append d s y) one other = let letters : ◌≡◌ {A = ℕ} 114 97 = ap first (same_name line (Reply m x) (Append d s y) one other) in absurd (omega arith)
-one_said line (Reply m x) (Reply n y) one other = reply_once line m n x y one other
-one_said line (Reply m x) (Prepare n) one other = let letters : ◌≡◌ {A = ℕ} 114 112 = ap first (same_name line (Reply m x) (Prepare n) one other) in absurd (omega arith)
-one_said line (Reply m x) (Lookup n) one other = let letters : ◌≡◌ {A = ℕ} 114 108 = ap first (same_name line (Reply m x) (Lookup n) one other) in absurd (omega arith)
-one_said line (Prepare m) (Append d s y) one other = let letters : ◌≡◌ {A = ℕ} 112 97 = ap first (same_name line (Prepare m) (Append d s y) one other) in absurd (omega arith)
-one_said line (Prepare m) (Reply n y) one other = let letters : ◌≡◌ {A = ℕ} 112 114 = ap first (same_name line (Prepare m) (Reply n y) one other) in absurd (omega arith)
-one_said line (Prepare m) (Prepare n) one other = ap Prepare (one_number m n (omega (arith, one.fits)) (omega (arith, other.fits)) (same_rest (codes "prepare ") (decimal m) (decimal n) (sym one.is ∙ other.is)))
-one_said line (Prepare m) (Lookup n) one other = let letters : ◌≡◌ {A = ℕ} 112 108 = ap first (same_name line (Prepare m) (Lookup n) one other) in absurd (omega arith)
-one_said line (Lookup m) (Append d s y) one other = let letters : ◌≡◌ {A = ℕ} 108 97 = ap first (same_name line (Lookup m) (Append d s y) one other) in absurd (omega arith)
-one_said line (Lookup m) (Reply n y) one other = let letters : ◌≡◌ {A = ℕ} 108 114 = ap first (same_name line (Lookup m) (Reply n y) one other) in absurd (omega arith)
-one_said line (Lookup m) (Prepare n) one other = let letters : ◌≡◌ {A = ℕ} 108 112 = ap first (same_name line (Lookup m) (Prepare n) one other) in absurd (omega arith)
-one_said line (Lookup m) (Lookup n) one other = ap Lookup (one_number m n one.fits other.fits (same_rest (codes "lookup ") (decimal m) (decimal n) (sym one.is ∙ other.is)))
+one_said line one other says says' =
+    let named = is_named other (name_of one) (same_name line one other says says') in
+    one_of_name line one (first_of other) (second_of other) (body_of other) says (subst (Says line) named says') ∙ sym named
 
 -- ---- texts
 

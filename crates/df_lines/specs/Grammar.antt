@@ -1,5 +1,5 @@
 -- What one line of a script says.
-use Rattle.std.specs.Prelude.{◌≡◌, ◌⊎◌, ◌<◌, ◌^◌, ℕ, List, [], ◌∷◌, ◌++◌, length, take, codes, decimal, Ok}
+use Rattle.std.specs.Prelude.{◌≡◌, ◌⊎◌, ◌<◌, ◌^◌, ℕ, List, [], ◌∷◌, ◌++◌, length, take, codes, decimal, Ok, ⊤}
 use Rattle.hex.specs.Hex.{decode_of}
 use Rattle.df_lines.specs.declared.line.Line.{Line}
 use Rattle.df_lines.specs.declared.line.Line.TheVariants as lines
@@ -8,8 +8,13 @@ use Rattle.df_lines.specs.declared.line.Line.TheVariants as lines
 pub data Said : Type 0 where
   Append : (client request : ℕ) (body : List ℕ) → Said
   Reply : (op : ℕ) (body : List ℕ) → Said
+  Block : (kind : ℕ) (body : List ℕ) → Said
+  Release : (address : ℕ) → Said
+  Checkpoint : (body : List ℕ) → Said
+  Step : Said
   Prepare : (op : ℕ) → Said
   Lookup : (client : ℕ) → Said
+  Read : (address : ℕ) → Said
 
 -- the bytes that a body's word stands for: - for none, else two hexadecimal digits of either case for each byte
 abbrev pub IsBody : List ℕ → List ℕ → Type 0
@@ -19,8 +24,13 @@ IsBody word body = ((word ≡ codes "-") × (body ≡ [])) ⊎ ((0 < length word
 abbrev pub words_of : Said → List ℕ → List (List ℕ)
 words_of (Append client request body) word = codes "append" ∷ decimal client ∷ decimal request ∷ word ∷ []
 words_of (Reply op body) word = codes "reply" ∷ decimal op ∷ word ∷ []
+words_of (Block kind body) word = codes "block" ∷ decimal kind ∷ word ∷ []
+words_of (Release address) word = codes "release" ∷ decimal address ∷ []
+words_of (Checkpoint body) word = codes "checkpoint" ∷ word ∷ []
+words_of Step word = codes "step" ∷ []
 words_of (Prepare op) word = codes "prepare" ∷ decimal op ∷ []
 words_of (Lookup client) word = codes "lookup" ∷ decimal client ∷ []
+words_of (Read address) word = codes "read" ∷ decimal address ∷ []
 
 -- words, with exactly one space between two of them
 abbrev pub spaced : List (List ℕ) → List ℕ
@@ -28,12 +38,17 @@ spaced [] = []
 spaced (word ∷ []) = word
 spaced (word ∷ next ∷ more) = word ++ (32 ∷ spaced (next ∷ more))
 
--- a client is below 2^128, any other number below 2^64, and this word stands for the body
+-- a client is below 2^128, a block's kind below 2^8, any other number below 2^64, and this word stands for the body
 abbrev pub Fits : Said → List ℕ → Type 0
 Fits (Append client request body) word = (client < 2 ^ 128) × (request < 2 ^ 64) × IsBody word body
 Fits (Reply op body) word = (op < 2 ^ 64) × IsBody word body
+Fits (Block kind body) word = (kind < 2 ^ 8) × IsBody word body
+Fits (Release address) word = address < 2 ^ 64
+Fits (Checkpoint body) word = IsBody word body
+Fits Step word = ⊤
 Fits (Prepare op) word = op < 2 ^ 64
 Fits (Lookup client) word = client < 2 ^ 128
+Fits (Read address) word = address < 2 ^ 64
 
 -- The line says this. Only numbers' widths bound what a line may say; what a call takes is the call's own matter.
 pub record Says (line : List ℕ) (said : Said) : Type 0 where
@@ -45,12 +60,18 @@ pub record Says (line : List ℕ) (said : Said) : Type 0 where
 abbrev pub said_with : List ℕ → Line → Said
 said_with buffer (lines.Append client request n) = Append client request (take n buffer)
 said_with buffer (lines.Reply op n) = Reply op (take n buffer)
+said_with buffer (lines.Block kind n) = Block kind (take n buffer)
+said_with buffer (lines.Release address) = Release address
+said_with buffer (lines.Checkpoint n) = Checkpoint (take n buffer)
+said_with buffer lines.Step = Step
 said_with buffer (lines.Prepare op) = Prepare op
 said_with buffer (lines.Lookup client) = Lookup client
+said_with buffer (lines.Read address) = Read address
 
 -- how many bytes of the buffer are the line's body
 abbrev pub body_length : Line → ℕ
 body_length (lines.Append client request n) = n
 body_length (lines.Reply op n) = n
-body_length (lines.Prepare op) = 0
-body_length (lines.Lookup client) = 0
+body_length (lines.Block kind n) = n
+body_length (lines.Checkpoint n) = n
+body_length line = 0

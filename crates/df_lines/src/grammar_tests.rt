@@ -1,9 +1,10 @@
 // Worked lines, and lines that are none.
+use crate::number::u8_of;
 use crate::*;
 use std::process::Abort;
 
 #[test]
-fn script_lines_are_read_with_their_bodies(rt: HostRuntime) {
+fn lines_on_messages_are_read_with_their_bodies(rt: HostRuntime) {
     one_meaning();
     let rows = [
         (b"append 5 1 -".as_slice(), append(5, 1, 0), b"".as_slice()),
@@ -14,14 +15,11 @@ fn script_lines_are_read_with_their_bodies(rt: HostRuntime) {
             append(u128::MAX, u64::MAX, 1),
             b"\x7f",
         ),
-        (b"reply 1 aa", Line::Reply { op: 1, length: 1 }, b"\xaa"),
-        (b"reply 0 -", Line::Reply { op: 0, length: 0 }, b""),
+        (b"reply 1 aa", reply(1, 1), b"\xaa"),
+        (b"reply 0 -", reply(0, 0), b""),
         (
             b"reply 18446744073709551615 0102",
-            Line::Reply {
-                op: u64::MAX,
-                length: 2,
-            },
+            reply(u64::MAX, 2),
             b"\x01\x02",
         ),
         (b"prepare 2", Line::Prepare { op: 2 }, b""),
@@ -37,12 +35,45 @@ fn script_lines_are_read_with_their_bodies(rt: HostRuntime) {
             b"",
         ),
     ];
+    expect_lines(&rt, &rows);
+}
+
+#[test]
+fn lines_on_blocks_and_checkpoints_are_read_with_their_bodies(rt: HostRuntime) {
+    let rows = [
+        (b"block 1 aa".as_slice(), block(1, 1), b"\xaa".as_slice()),
+        (b"block 0 -", block(0, 0), b""),
+        (b"block 255 0aF0", block(255, 2), b"\x0a\xf0"),
+        (b"release 1", Line::Release { address: 1 }, b""),
+        (
+            b"release 18446744073709551615",
+            Line::Release { address: u64::MAX },
+            b"",
+        ),
+        (b"checkpoint -", Line::Checkpoint { length: 0 }, b""),
+        (
+            b"checkpoint 00fF10",
+            Line::Checkpoint { length: 3 },
+            b"\x00\xff\x10",
+        ),
+        (b"step", Line::Step, b""),
+        (b"read 0", Line::Read { address: 0 }, b""),
+        (
+            b"read 18446744073709551615",
+            Line::Read { address: u64::MAX },
+            b"",
+        ),
+    ];
+    expect_lines(&rt, &rows);
+}
+
+fn expect_lines(rt: &impl Abort, rows: &[(&[u8], Line, &[u8])]) {
     for (line, want, bytes) in rows {
         let mut body = [9u8; 40];
         assert!(rt; line.len() <= 80);
-        assert_eq!(rt; parse(line, &mut body), Some(want));
+        assert_eq!(rt; parse(line, &mut body), Some(*want));
         assert!(rt; bytes.len() <= body.len());
-        assert_eq!(rt; &body[..bytes.len()], bytes);
+        assert_eq!(rt; &body[..bytes.len()], *bytes);
     }
 }
 
@@ -52,6 +83,14 @@ fn append(client: u128, request: u64, length: u64) -> Line {
         request,
         length,
     }
+}
+
+fn reply(op: u64, length: u64) -> Line {
+    Line::Reply { op, length }
+}
+
+fn block(kind: u8, length: u64) -> Line {
+    Line::Block { kind, length }
 }
 
 fn expect_no_line(rt: &impl Abort, lines: &[&[u8]]) {
@@ -88,8 +127,6 @@ fn other_lines_than_appends_are_refused(rt: HostRuntime) {
         b"append 5 -1 -".as_slice(),
         b"append\t5 1 -".as_slice(),
         b"append 5 1 -\r".as_slice(),
-        b"step".as_slice(),
-        b"block 1 aa".as_slice(),
     ];
     expect_no_line(&rt, &lines);
 }
@@ -115,6 +152,59 @@ fn other_lines_than_replies_and_readings_are_refused(rt: HostRuntime) {
         b"lookup 340282366920938463463374607431768211456".as_slice(),
         b"lookup 5 ".as_slice(),
         b"lookup -".as_slice(),
+    ];
+    expect_no_line(&rt, &lines);
+}
+
+#[test]
+fn other_lines_than_those_of_the_grid_are_refused(rt: HostRuntime) {
+    let lines = [
+        b"block".as_slice(),
+        b"block 1".as_slice(),
+        b"block 1 ".as_slice(),
+        b"block - 1".as_slice(),
+        b"block 256 -".as_slice(),
+        b"block 01 -".as_slice(),
+        b"block 1  -".as_slice(),
+        b"block 1 abc".as_slice(),
+        b"block 1 aa ".as_slice(),
+        b"block 1 aa bb".as_slice(),
+        b"release".as_slice(),
+        b"release ".as_slice(),
+        b"release 00".as_slice(),
+        b"release 1 ".as_slice(),
+        b"release 1 2".as_slice(),
+        b"release 18446744073709551616".as_slice(),
+        b"read".as_slice(),
+        b"read -".as_slice(),
+        b"read 01".as_slice(),
+        b"read  1".as_slice(),
+        b"read 1 ".as_slice(),
+        b"read 18446744073709551616".as_slice(),
+    ];
+    expect_no_line(&rt, &lines);
+}
+
+#[test]
+fn other_lines_than_those_of_checkpoints_are_refused(rt: HostRuntime) {
+    let lines = [
+        b"checkpoint".as_slice(),
+        b"checkpoint ".as_slice(),
+        b"checkpoint  -".as_slice(),
+        b"checkpoint a".as_slice(),
+        b"checkpoint 0g".as_slice(),
+        b"checkpoint - ".as_slice(),
+        b"checkpoint aa bb".as_slice(),
+        b"Checkpoint -".as_slice(),
+        b"step ".as_slice(),
+        b"step x".as_slice(),
+        b"step -".as_slice(),
+        b" step".as_slice(),
+        b"steps".as_slice(),
+        b"Step".as_slice(),
+        b"ste".as_slice(),
+        b"scrub".as_slice(),
+        b"recent".as_slice(),
     ];
     expect_no_line(&rt, &lines);
 }
@@ -158,5 +248,18 @@ fn numbers_are_read_up_to_their_width(rt: HostRuntime) {
         assert_eq!(rt; u32_of(digits), small);
         assert_eq!(rt; u64_of(digits), middle);
         assert_eq!(rt; u128_of(digits), large);
+    }
+}
+
+#[test]
+fn a_byte_is_read_up_to_its_width(rt: HostRuntime) {
+    for (digits, byte) in [
+        (b"0".as_slice(), Some(0)),
+        (b"255", Some(255)),
+        (b"256", None),
+        (b"18446744073709551617", None),
+        (b"01", None),
+    ] {
+        assert_eq!(rt; u8_of(digits), byte);
     }
 }

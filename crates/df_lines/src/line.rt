@@ -15,6 +15,21 @@ pub enum Line {
         op: u64,
         length: u64,
     },
+    /// `block KIND BODY`
+    Block {
+        kind: u8,
+        length: u64,
+    },
+    /// `release ADDRESS`
+    Release {
+        address: u64,
+    },
+    /// `checkpoint BODY`: the body is the root.
+    Checkpoint {
+        length: u64,
+    },
+    /// `step`
+    Step,
     /// `prepare OP`
     Prepare {
         op: u64,
@@ -22,5 +37,9 @@ pub enum Line {
     /// `lookup CLIENT`
     Lookup {
         client: u128,
+    },
+    /// `read ADDRESS`
+    Read {
+        address: u64,
     },
 }

@@ -2,6 +2,14 @@
 ghost use Rattle.std.specs.Prelude.{◌≡◌, ◌<◌, ◌^◌, ℕ, List, [], ◌∷◌, ◌++◌};
 ghost use Rattle.std.specs.Prelude.{decimal, IfSome, IfNone};
 
+/// The number that the bytes spell, or None where they spell none below 2^8.
+pub(crate) fn u8_of(digits: &[u8]) -> Option<u8>
+    ensures found { IfSome result (λ n. digits.now ≡ decimal n) }
+    ensures none { IfNone result ((n : ℕ) → n < 2 ^ 8 → digits.now ≡ decimal n → ⊥) }
+{
+    u8::try_from(u64_of(digits)?).ok()
+}
+
 /// The number that the bytes spell, or None where they spell none below 2^32.
 pub fn u32_of(digits: &[u8]) -> Option<u32>
     ensures found { IfSome result (λ n. digits.now ≡ decimal n) }

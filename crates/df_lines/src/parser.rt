@@ -2,10 +2,12 @@
 ghost use Rattle.std.specs.Prelude.{◌≡◌, ◌≤◌, ◌*◌, ◌++◌, List, ℕ, length, take, codes};
 ghost use Rattle.std.specs.Prelude.{IfSome, IfNone};
 ghost use Rattle.df_lines.specs.Grammar.{IsBody, Said, Says, said_with, body_length};
-ghost use Rattle.df_lines.specs.Grammar.{Append, Lookup, Prepare, Reply};
+ghost use Rattle.df_lines.specs.Grammar.{Append, Block, Checkpoint, Lookup, Prepare, Read};
+ghost use Rattle.df_lines.specs.Grammar.{Release, Reply};
+ghost use Rattle.df_lines.specs.Words.{HasNoSpace};
 
 use crate::line::Line;
-use crate::number::{u64_of, u128_of};
+use crate::number::{u8_of, u64_of, u128_of};
 use crate::words::cut;
 use hex::decode_to_slice;
 
@@ -17,18 +19,45 @@ pub fn parse(line: &[u8], body: &mut [u8]) -> Option<Line>
     ensures none { IfNone result ((said : Said) → Says line.now said → ⊥) }
     ensures size { IfSome result (λ l. body_length l ≤ length body.new) }
 {
-    let (name, words) = cut(line)?;
+    let Some((name, words)) = cut(line) else {
+        return alone(line);
+    };
     if name == b"append".as_slice() {
         return append(words, body);
     }
     if name == b"reply".as_slice() {
         return reply(words, body);
     }
+    if name == b"block".as_slice() {
+        return block(words, body);
+    }
+    if name == b"release".as_slice() {
+        return release(words);
+    }
+    if name == b"checkpoint".as_slice() {
+        return checkpoint(words, body);
+    }
     if name == b"prepare".as_slice() {
         return prepare(words);
     }
     if name == b"lookup".as_slice() {
         return lookup(words);
+    }
+    if name == b"read".as_slice() {
+        return read(words);
+    }
+    None
+}
+
+/// What a line of one word says.
+fn alone(line: &[u8]) -> Option<Line>
+    requires { HasNoSpace line.now }
+    ensures found { IfSome result (λ l. (body : List ℕ) → Says line.now (said_with body l)) }
+    ensures none { IfNone result ((said : Said) → Says line.now said → ⊥) }
+    ensures size { IfSome result (λ l. body_length l ≡ 0) }
+{
+    if line == b"step".as_slice() {
+        return Some(Line::Step);
     }
     None
 }
@@ -69,6 +98,46 @@ fn reply(words: &[u8], body: &mut [u8]) -> Option<Line>
     Some(Line::Reply { op, length })
 }
 
+/// What the line `block ` with these words behind it says.
+fn block(words: &[u8], body: &mut [u8]) -> Option<Line>
+    requires { length words.now ≤ 2 * length body.old }
+    ensures found { IfSome result (λ l.
+        Says (codes "block " ++ words.now) (said_with body.new l)) }
+    ensures none { IfNone result ((kind : ℕ) (bytes : List ℕ) →
+        Says (codes "block " ++ words.now) (Block kind bytes) → ⊥) }
+    ensures size { IfSome result (λ l. body_length l ≤ length body.new) }
+{
+    let (kind, word) = cut(words)?;
+    let kind = u8_of(kind)?;
+    let length = decode(word, body)?;
+    Some(Line::Block { kind, length })
+}
+
+/// What the line `release ` with this word behind it says.
+fn release(word: &[u8]) -> Option<Line>
+    ensures found { IfSome result (λ l. (body : List ℕ) →
+        Says (codes "release " ++ word.now) (said_with body l)) }
+    ensures none { IfNone result ((address : ℕ) →
+        Says (codes "release " ++ word.now) (Release address) → ⊥) }
+    ensures size { IfSome result (λ l. body_length l ≡ 0) }
+{
+    let address = u64_of(word)?;
+    Some(Line::Release { address })
+}
+
+/// What the line `checkpoint ` with this word behind it says.
+fn checkpoint(word: &[u8], body: &mut [u8]) -> Option<Line>
+    requires { length word.now ≤ 2 * length body.old }
+    ensures found { IfSome result (λ l.
+        Says (codes "checkpoint " ++ word.now) (said_with body.new l)) }
+    ensures none { IfNone result ((bytes : List ℕ) →
+        Says (codes "checkpoint " ++ word.now) (Checkpoint bytes) → ⊥) }
+    ensures size { IfSome result (λ l. body_length l ≤ length body.new) }
+{
+    let length = decode(word, body)?;
+    Some(Line::Checkpoint { length })
+}
+
 /// What the line `prepare ` with this word behind it says.
 fn prepare(word: &[u8]) -> Option<Line>
     ensures found { IfSome result (λ l. (body : List ℕ) →
@@ -91,6 +160,18 @@ fn lookup(word: &[u8]) -> Option<Line>
 {
     let client = u128_of(word)?;
     Some(Line::Lookup { client })
+}
+
+/// What the line `read ` with this word behind it says.
+fn read(word: &[u8]) -> Option<Line>
+    ensures found { IfSome result (λ l. (body : List ℕ) →
+        Says (codes "read " ++ word.now) (said_with body l)) }
+    ensures none { IfNone result ((address : ℕ) →
+        Says (codes "read " ++ word.now) (Read address) → ⊥) }
+    ensures size { IfSome result (λ l. body_length l ≡ 0) }
+{
+    let address = u64_of(word)?;
+    Some(Line::Read { address })
 }
 
 /// Puts the bytes that a body's word stands for at the front of `body`, and says how many they are.

@@ -7,13 +7,14 @@ use Rattle.df_disk.specs.Told.{Told}
 use Rattle.df_disk.specs.Adds.{AddsPart}
 use Rattle.df_inspect.specs.Prints.{Prints}
 use Rattle.df_model.specs.Commands.{Answer, Command, Given}
-use Rattle.df_recovery.specs.State.{State as Replica}
+use Rattle.df_state.specs.State.{State as Replica}
 use Rattle.df_replica.specs.Answering.{Serves}
 use Rattle.df_replica.specs.Opened.{ToldBy}
 use Rattle.df_replica.specs.Supply.{IsSupplied}
 use Rattle.df_script_model.specs.Script.{answer_text}
 use Rattle.df_top.specs.Step.{Answers, Makes}
-use Rattle.df_top.specs.Turning.{BlamesIfEnds, IsPrinted, printed_turn}
+use Rattle.df_top.specs.Session.{IsDamaged}
+use Rattle.df_top.specs.Turning.{BlamesIfEnds, IsLastPrinted, IsPrinted, last_turn, printed_turn}
 use Rattle.df_top.specs.declared.turns.Turn.{Turn}
 use Rattle.df_top.specs.declared.turns.Turn.TheVariants.{GoesOn, Ends}
 use Rattle.df_top.specs.declared.status.Status.TheVariants.{Done, Words, Script, Refused, DiskFault, ReadFault, WriteFault, Memory}
@@ -26,6 +27,13 @@ prints_turn text old new (Err e) prints = prints.part
 
 pub not_fault : (text : List ℕ) (old new : Option (List ℕ)) (turn : Turn) → IsPrinted text old new turn → turn ≡ Ends DiskFault → ⊥
 not_fault text old new turn printed is = subst (λ (u : Turn). IsPrinted text old new u) is printed
+
+pub prints_last : {T E : Type 0} (text : List ℕ) (old new : Option (List ℕ)) (r : Result T E) → Prints text old new r → IsLastPrinted text old new (last_turn r)
+prints_last text old new (Ok x) prints = prints.whole
+prints_last text old new (Err e) prints = prints.part
+
+last_not_fault : (text : List ℕ) (old new : Option (List ℕ)) (turn : Turn) → IsLastPrinted text old new turn → turn ≡ Ends DiskFault → ⊥
+last_not_fault text old new turn printed is = subst (λ (u : Turn). IsLastPrinted text old new u) is printed
 
 -- ---- a call
 
@@ -48,7 +56,7 @@ module _ (command : Command) (s t : Replica) (old new : Option Told) (written to
   -- it was answered, and the answer was printed
   pub printed_is : (x : Answer) → Makes command s t old new (Some x) → (turn : Turn) → IsPrinted (answer_text command x) written took turn → Answers command s t old new written took turn
   printed_is x makes GoesOn printed = (x, makes, printed)
-  printed_is x makes (Ends WriteFault) printed = (x, makes, printed)
+  printed_is x makes (Ends WriteFault) printed = inl (x, makes, printed)
   printed_is x makes (Ends Done) printed = absurd printed
   printed_is x makes (Ends Words) printed = absurd printed
   printed_is x makes (Ends Script) printed = absurd printed
@@ -60,6 +68,18 @@ module _ (command : Command) (s t : Replica) (old new : Option Told) (written to
   -- the disk failed in it
   pub failed_is : Makes command s t old new None → (turn : Turn) → (turn ≡ Ends DiskFault) × (took ≡ written) → Answers command s t old new written took turn
   failed_is makes turn is = subst (λ (u : Turn). Answers command s t old new written took u) (sym is.0) (makes, is.1)
+
+  -- it is a step that is damaged, and its line was printed
+  pub damaged_is : (line : List ℕ) → Makes command s t old new None → IsDamaged command new line → (turn : Turn) → IsLastPrinted line written took turn → Answers command s t old new written took turn
+  damaged_is line makes damaged (Ends Refused) printed = (line, makes, damaged, printed)
+  damaged_is line makes damaged (Ends WriteFault) printed = inr (line, makes, damaged, printed)
+  damaged_is line makes damaged GoesOn printed = absurd printed
+  damaged_is line makes damaged (Ends Done) printed = absurd printed
+  damaged_is line makes damaged (Ends Words) printed = absurd printed
+  damaged_is line makes damaged (Ends Script) printed = absurd printed
+  damaged_is line makes damaged (Ends DiskFault) printed = absurd printed
+  damaged_is line makes damaged (Ends ReadFault) printed = absurd printed
+  damaged_is line makes damaged (Ends Memory) printed = absurd printed
 
 -- ---- causes
 
@@ -73,3 +93,28 @@ disk_rose before now turn is rose = subst (λ (u : Turn). BlamesIfEnds DiskFault
 pub sink_turn : {T E : Type 0} (before now : ℕ) (r : Result T E) → ((e : E) → r ≡ Err e → Rose before now) → ((x : T) → r ≡ Ok x → now ≡ before) → BlamesIfEnds WriteFault before now (printed_turn r)
 sink_turn before now (Ok x) rose same = same x refl
 sink_turn before now (Err e) rose same = record { rose = λ yes. rose e refl; same = λ no. absurd (no refl) }
+
+pub last_sink : {T E : Type 0} (before now : ℕ) (r : Result T E) → ((e : E) → r ≡ Err e → Rose before now) → ((x : T) → r ≡ Ok x → now ≡ before) → BlamesIfEnds WriteFault before now (last_turn r)
+last_sink before now (Ok x) rose same = record { rose = λ no. absurd (cc); same = λ no. same x refl }
+last_sink before now (Err e) rose same = record { rose = λ yes. rose e refl; same = λ no. absurd (no refl) }
+
+-- ---- what a call comes to
+
+module _ (command : Command) (s t : Replica) (old new : Option Told) (written took : Option (List ℕ)) (before now : ℕ) (turn : Turn) where
+  abbrev pub Comes : Type 0
+  Comes = Answers command s t old new written took turn × BlamesIfEnds DiskFault before now turn
+
+  pub comes_answered : (x : Answer) → Makes command s t old new (Some x) → now ≡ before → IsPrinted (answer_text command x) written took turn → Comes
+  comes_answered x makes same printed = (
+    printed_is command s t old new written took x makes turn printed,
+    disk_same before now turn same (not_fault (answer_text command x) written took turn printed),
+  )
+
+  pub comes_failed : Makes command s t old new None → (turn ≡ Ends DiskFault) × (took ≡ written) → Rose before now → Comes
+  comes_failed makes ended rose = (failed_is command s t old new written took makes turn ended, disk_rose before now turn ended.0 rose)
+
+  pub comes_damaged : (line : List ℕ) → Makes command s t old new None → IsDamaged command new line → now ≡ before → IsLastPrinted line written took turn → Comes
+  comes_damaged line makes damaged same printed = (
+    damaged_is command s t old new written took line makes damaged turn printed,
+    disk_same before now turn same (last_not_fault line written took turn printed),
+  )

@@ -1,18 +1,24 @@
 -- The causes of a file that isn't opened or made.
-use Rattle.std.proofs.Common.{◌≡◌, inl, inr, ℕ, List, Option, refl, sym, ◌∙◌, Err}
+use Rattle.std.proofs.Common.{◌≡◌, inl, inr, ℕ, Bool, List, Option, Some, None, refl, sym, ◌∙◌, subst, Err}
 use Rattle.df_base.specs.Causes.{Rose}
 use Rattle.df_model.specs.declared.errors.OpenError.{OpenError}
 use Rattle.df_model.specs.declared.errors.OpenError.TheVariants as opens
 use Rattle.df_recovery.specs.Scanning.{SurveysBy}
-use Rattle.df_top.specs.Outside.{Blames, HasCauses, PrintsLine}
+use Rattle.df_top.specs.Outside.{Blames, HasCauses, Outside, PrintsLine}
 use Rattle.df_top.specs.Refusing.{PrintsError}
+use Rattle.df_top.specs.Session.{Ended, EndsWith, State}
+use Rattle.df_model.specs.Commands.{Answer}
+use Rattle.df_replica.specs.Session.{Act}
 use Rattle.df_top.specs.declared.status.Status.{Status}
-use Rattle.df_top.specs.declared.status.Status.TheVariants.{Refused, DiskFault, ReadFault, WriteFault}
+use Rattle.df_top.specs.declared.status.Status.TheVariants.{Refused, DiskFault, Memory, ReadFault, Words, WriteFault}
 
 -- a line that was printed, or a part of it, ends with no other status
 pub line_ends : (line : List ℕ) (given other : Status) (old new : Option (List ℕ)) (status : Status) → PrintsLine line given old new status → (given ≡ other → ⊥) → (WriteFault ≡ other → ⊥) → status ≡ other → ⊥
 line_ends line given other old new status (inl printed) one two is = one (sym printed.0 ∙ is)
 line_ends line given other old new status (inr printed) one two is = two (sym printed.0 ∙ is)
+
+never_printed : (line : List ℕ) (old new : Option (List ℕ)) (status : Status) → PrintsLine line Refused old new status → (status ≡ Memory → ⊥) × (status ≡ Words → ⊥)
+never_printed line old new status prints = (line_ends line Refused Memory old new status prints (λ no. cc) (λ no. cc), line_ends line Refused Words old new status prints (λ no. cc) (λ no. cc))
 
 -- a fault that isn't answered is blamed on nothing
 pub no_blame : (fault : Status) (before now : ℕ) (status : Status) → now ≡ before → (status ≡ fault → ⊥) → Blames fault before now status
@@ -45,3 +51,30 @@ module _ (disk disk_now source sink sink_now : ℕ) (old new : Option (List ℕ)
   open_causes T (opens.BadField a b) by prints blame = line_causes _ by (prints.other (λ no. cc)) blame
   open_causes T (opens.LayoutDiffers a b) by prints blame = line_causes _ by (prints.other (λ no. cc)) blame
   open_causes T (opens.Damaged a b) by prints blame = line_causes _ by (prints.other (λ no. cc)) blame
+
+-- neither want of memory nor other words are answered of such a file
+pub refused_never : (e : OpenError) (old new : Option (List ℕ)) (status : Status) → PrintsError e old new status → (status ≡ Memory → ⊥) × (status ≡ Words → ⊥)
+refused_never opens.DiskFault old new status prints = (λ is. cc ((prints.fault refl).0, is), λ is. cc ((prints.fault refl).0, is))
+refused_never opens.NotFormatted old new status prints = never_printed _ old new status (prints.other (λ no. cc))
+refused_never (opens.NoQuorum a) old new status prints = never_printed _ old new status (prints.other (λ no. cc))
+refused_never (opens.Version a) old new status prints = never_printed _ old new status (prints.other (λ no. cc))
+refused_never (opens.BadField a b) old new status prints = never_printed _ old new status (prints.other (λ no. cc))
+refused_never (opens.LayoutDiffers a b) old new status prints = never_printed _ old new status (prints.other (λ no. cc))
+refused_never (opens.Damaged a b) old new status prints = never_printed _ old new status (prints.other (λ no. cc))
+
+-- ---- nor at the end of a session
+
+no_memory : (n : ℕ) (old new : Outside) (acts : List Act) (answers : List Answer) (failed : Option Act) (cut : Bool) → EndsWith n old new acts answers failed cut Memory → ⊥
+no_memory n old new acts answers None cut ends = ends
+no_memory n old new acts answers (Some a) cut ends = ends
+
+no_words : (n : ℕ) (old new : Outside) (acts : List Act) (answers : List Answer) (failed : Option Act) (cut : Bool) → EndsWith n old new acts answers failed cut Words → ⊥
+no_words n old new acts answers None cut ends = ends
+no_words n old new acts answers (Some a) cut ends = ends
+
+pub ended_never : (bound : ℕ) (origin now : State) (status : Status) → Ended bound origin now status → (status ≡ Memory → ⊥) × (status ≡ Words → ⊥)
+ended_never bound origin now status e =
+    let with : Status → Type 0 = EndsWith origin.lines origin.outside now.outside e.acts e.answers e.failed e.cut in (
+      λ is. no_memory origin.lines origin.outside now.outside e.acts e.answers e.failed e.cut (subst with is e.written),
+      λ is. no_words origin.lines origin.outside now.outside e.acts e.answers e.failed e.cut (subst with is e.written),
+    )

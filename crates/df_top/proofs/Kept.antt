@@ -7,17 +7,19 @@ use Rattle.df_base.specs.Moments.{EachMoment, Extends}
 use Rattle.df_base.proofs.Laws.{extends_self, weaker}
 use Rattle.df_disk.specs.Adds.{after_all}
 use Rattle.df_disk.specs.Told.{IsHonest, Told, did}
-use Rattle.df_theory.specs.Device.{IsGoodDisk, units_log}
+use Rattle.df_theory.specs.Device.{units_log}
+use Rattle.df_theory.specs.Shape.{Shape}
+use Rattle.df_theory.specs.UnitLog.{UnitLog}
 use Rattle.df_theory.specs.TidyLaws.{IsTidy}
 use Rattle.df_theory.specs.Units.{Parts}
 use Rattle.df_model.specs.Commands.{Answer}
 use Rattle.df_model.specs.Work.{Work, kept}
-use Rattle.df_recovery.specs.declared.file.DataFile.{DataFile}
-use Rattle.df_recovery.specs.State.{State as Replica, shape}
+use Rattle.df_state.specs.declared.file.DataFile.{DataFile}
+use Rattle.df_state.specs.State.{State as Replica, shape, spelling}
 use Rattle.df_replica.specs.Opened.{ToldBy}
-use Rattle.df_replica.specs.Serving.{Firm, IsKept, Keeps, Known, format}
+use Rattle.df_replica.specs.Serving.{Firm, Grade, IsGoodFor, IsKept, Keeps, KeptFor, Whole, format}
 use Rattle.df_replica.specs.Session.{Act, EachIsMidway, HasView, HoldsSome, IsMidway, IsServed, LeavesEither, LeavesView, answers_of, work_after}
-use Rattle.df_replica.proofs.Laws.{answered_is_there, extends_on, fault_stops_them, joined, keeps_alone, nothing_is_served, one_more_is_served}
+use Rattle.df_replica.proofs.Laws.{answered_is_there, extends_on, fault_stops_them, good_left, good_safe, joined, keeps_alone, nothing_is_served, one_more_is_served}
 use Rattle.df_top.specs.Run.{KeepsFile}
 use Rattle.df_top.specs.Session.{AreCalls, EndsCalls}
 
@@ -82,51 +84,49 @@ all_served s t old new acts answers live calls = serves_on s s t old old new [] 
 
 -- ---- what is kept
 
-some_first : (file : DataFile) (c : Known) (w : Work) (acts : List Act) (image : Image) → HasView file c w image → HoldsSome file c w acts image
-some_first file c w [] image has = has
-some_first file c w (a ∷ acts) image has = inl has
+some_first : (file : DataFile) (g : Grade) (w : Work) (acts : List Act) (image : Image) → HasView file g w image → HoldsSome file g w acts image
+some_first file g w [] image has = has
+some_first file g w (a ∷ acts) image has = inl has
 
 either_same : (A : Type 0) → A ⊎ A → A
 either_same A (inl a) = a
 either_same A (inr a) = a
 
--- what is known of a file whose blocks may be hurt
-abbrev pub firm : (parse : ℕ → List ℕ → Option Parts) → (Parts → List ℕ) → Known
-firm parse spell = record { parse = parse; spell = spell; grade = Firm }
+-- what is kept for a grade is tidy
+tidy_for : (g : Grade) (sh : Shape) (spell : Parts → List ℕ) (log : UnitLog) (w : Work) → KeptFor g sh spell log w → IsTidy sh log (kept w)
+tidy_for Firm sh spell log w by = by.tidy
+tidy_for Whole sh spell log w by = by.0.tidy
 
-module _ (s : Replica) (parse : ℕ → List ℕ → Option Parts) (spell : Parts → List ℕ) (w : Work) (t n0 : Told) (live : s.live ≡ true) (keeps : IsKept (firm parse spell) s w n0.log) (honest : IsHonest n0) (grew : Extends n0.log (did Sync t).log)
-    (good : EachMoment (did Sync t).log n0.log (IsGoodDisk (format s.file) (shape s.file parse) (kept w) (kept w))) where
-  abbrev c : Known
-  c = firm parse spell
-
-  good_midway : (acts : List Act) (log : Log) → IsGoodDisk (format s.file) (shape s.file parse) (kept w) (kept w) log → IsMidway s.file c w acts log
-  good_midway acts log is = record { safe = is.safe; left = λ image left chance. some_first s.file c w acts image (either_same _ (is.left image left chance)) }
+module _ (g : Grade) (s : Replica) (w : Work) (t n0 : Told) (live : s.live ≡ true) (keeps : IsKept g s w n0.log) (honest : IsHonest n0) (grew : Extends n0.log (did Sync t).log)
+    (good : EachMoment (did Sync t).log n0.log (IsGoodFor g (format s.file) (shape s.file) (kept w) (kept w))) where
+  good_midway : (acts : List Act) (log : Log) → IsGoodFor g (format s.file) (shape s.file) (kept w) (kept w) log → IsMidway s.file g w acts log
+  good_midway acts log is = record { safe = good_safe s.file g (kept w) (kept w) log is; left = λ image left chance. some_first s.file g w acts image (either_same _ (good_left s.file g (kept w) (kept w) log is image left chance)) }
 
   -- the moments of the opening, and those behind it
-  all_moments : (acts : List Act) (n : Told) → EachIsMidway s.file c w acts (Some n0) (Some n) → EachMoment (did Sync t).log n.log (IsMidway s.file c w acts)
-  all_moments acts n midway = joined (did Sync t).log n0.log n.log (IsMidway s.file c w acts) midway.0 (weaker (did Sync t).log n0.log _ (IsMidway s.file c w acts) (λ log is. good_midway acts log is) good) midway.1
+  all_moments : (acts : List Act) (n : Told) → EachIsMidway s.file g w acts (Some n0) (Some n) → EachMoment (did Sync t).log n.log (IsMidway s.file g w acts)
+  all_moments acts n midway = joined (did Sync t).log n0.log n.log (IsMidway s.file g w acts) midway.0 (weaker (did Sync t).log n0.log _ (IsMidway s.file g w acts) (λ log is. good_midway acts log is) good) midway.1
 
-  tidy_of : (u : Replica) (v : Work) (log : Log) → u.file ≡ s.file → IsKept c u v log → IsTidy (shape s.file parse) (units_log (format s.file) log) (kept v)
-  tidy_of u v log same k = subst (λ (f : DataFile). IsTidy (shape f parse) (units_log (format f) log) (kept v)) same k.kept_by.tidy
+  tidy_of : (u : Replica) (v : Work) (log : Log) → u.file ≡ s.file → IsKept g u v log → IsTidy (shape s.file) (units_log (format s.file) log) (kept v)
+  tidy_of u v log same k = subst (λ (f : DataFile). IsTidy (shape f) (units_log (format f) log) (kept v)) same (tidy_for g (shape u.file) (spelling u.file) (units_log (format u.file) log) v k.kept_by)
 
   -- every call was answered
-  kept_answered : (u : Replica) (new : Option Told) (acts : List Act) (answers : List Answer) (n : Told) → new ≡ Some n → Goes n0 n → AreCalls s (Some n0) acts answers u new → KeepsFile s.file c w t acts answers None new
+  kept_answered : (u : Replica) (new : Option Told) (acts : List Act) (answers : List Answer) (n : Told) → new ≡ Some n → Goes n0 n → AreCalls s (Some n0) acts answers u new → KeepsFile s.file g w t acts answers None new
   kept_answered u new acts answers n is goes calls =
       let served : IsServed s u (Some n0) new acts answers = all_served s u (Some n0) new acts answers live calls in
-      let on = served.kept_on c w keeps in
+      let on = served.kept_on g w keeps in
       record {
         after = n;
         is = is;
         honest = goes.honest honest;
         barrier = extends_on n.log n0.log (did Sync t).log goes.grew grew;
-        moments = subst (λ (l : List Act). EachMoment (did Sync t).log n.log (IsMidway s.file c w l)) (sym (append-nil acts)) (all_moments acts n (subst (λ (o : Option Told). EachIsMidway s.file c w acts (Some n0) o) is on.0));
-        left = subst (λ (o : Option Told). LeavesView s.file c (work_after s.file c w acts) o) is (answered_is_there s u (Some n0) new acts answers served c w keeps);
-        tidy = tidy_of u (work_after s.file c w acts) n.log served.file (subst (λ (o : Option Told). Keeps c u (work_after s.file c w acts) o) is on.1);
-        answered = (served.answered c w (keeps_alone c s w (Some n0) keeps)).0;
+        moments = subst (λ (l : List Act). EachMoment (did Sync t).log n.log (IsMidway s.file g w l)) (sym (append-nil acts)) (all_moments acts n (subst (λ (o : Option Told). EachIsMidway s.file g w acts (Some n0) o) is on.0));
+        left = subst (λ (o : Option Told). LeavesView s.file g (work_after s.file w acts) o) is (answered_is_there s u (Some n0) new acts answers served g w keeps);
+        tidy = tidy_of u (work_after s.file w acts) n.log served.file (subst (λ (o : Option Told). Keeps g u (work_after s.file w acts) o) is on.1);
+        answered = (served.answered g w (keeps_alone g s w (Some n0) keeps)).0;
       }
 
   -- the disk failed in the last one
-  kept_failed : (u : Replica) (new : Option Told) (acts : List Act) (answers : List Answer) (a : Act) (n : Told) → new ≡ Some n → Goes n0 n → EndsCalls s u (Some n0) new acts answers (Some a) → KeepsFile s.file c w t acts answers (Some a) new
+  kept_failed : (u : Replica) (new : Option Told) (acts : List Act) (answers : List Answer) (a : Act) (n : Told) → new ≡ Some n → Goes n0 n → EndsCalls s u (Some n0) new acts answers (Some a) → KeepsFile s.file g w t acts answers (Some a) new
   kept_failed u new acts answers a n is goes calls =
       let served : IsServed s calls.0 (Some n0) calls.1 acts answers = all_served s calls.0 (Some n0) calls.1 acts answers live calls.2 in
       let stopped = fault_stops_them s calls.0 u (Some n0) calls.1 new acts answers a served calls.3.call in
@@ -135,13 +135,13 @@ module _ (s : Replica) (parse : ℕ → List ℕ → Option Parts) (spell : Part
         is = is;
         honest = goes.honest honest;
         barrier = extends_on n.log n0.log (did Sync t).log goes.grew grew;
-        moments = all_moments (acts ++ a ∷ []) n (subst (λ (o : Option Told). EachIsMidway s.file c w (acts ++ a ∷ []) (Some n0) o) is (stopped.moments c w keeps));
-        left = subst (λ (o : Option Told). LeavesEither s.file c (work_after s.file c w acts) (work_after s.file c w (acts ++ a ∷ [])) o) is (stopped.left c w keeps);
+        moments = all_moments (acts ++ a ∷ []) n (subst (λ (o : Option Told). EachIsMidway s.file g w (acts ++ a ∷ []) (Some n0) o) is (stopped.moments g w keeps));
+        left = subst (λ (o : Option Told). LeavesEither s.file g (work_after s.file w acts) (work_after s.file w (acts ++ a ∷ [])) o) is (stopped.left g w keeps);
         tidy = tt;
-        answered = (served.answered c w (keeps_alone c s w (Some n0) keeps)).0;
+        answered = (served.answered g w (keeps_alone g s w (Some n0) keeps)).0;
       }
 
-  pub keeps_file : (u : Replica) (new : Option Told) (acts : List Act) (answers : List Answer) (failed : Option Act) → EndsCalls s u (Some n0) new acts answers failed → KeepsFile s.file c w t acts answers failed new
+  pub keeps_file : (u : Replica) (new : Option Told) (acts : List Act) (answers : List Answer) (failed : Option Act) → EndsCalls s u (Some n0) new acts answers failed → KeepsFile s.file g w t acts answers failed new
   keeps_file u new acts answers None calls =
       let goes = goes_told n0 new (ends_told s u (Some n0) new acts answers None calls) in
       kept_answered u new acts answers goes.0 goes.1 goes.2 calls
@@ -150,7 +150,7 @@ module _ (s : Replica) (parse : ℕ → List ℕ → Option Parts) (spell : Part
       kept_failed u new acts answers a goes.0 goes.1 goes.2 calls
 
 -- the answers, over whatever image
-pub answers_alone : (c : Known) (w : Work) (s u : Replica) (old new : Option Told) (acts : List Act) (answers : List Answer) (failed : Option Act) → s.live ≡ true → Keeps c s w None → EndsCalls s u old new acts answers failed
-    → answers ≡ answers_of s.file c w acts
-answers_alone c w s u old new acts answers None live keeps calls = ((all_served s u old new acts answers live calls).answered c w keeps).0
-answers_alone c w s u old new acts answers (Some a) live keeps calls = ((all_served s calls.0 old calls.1 acts answers live calls.2).answered c w keeps).0
+pub answers_alone : (g : Grade) (w : Work) (s u : Replica) (old new : Option Told) (acts : List Act) (answers : List Answer) (failed : Option Act) → s.live ≡ true → Keeps g s w None → EndsCalls s u old new acts answers failed
+    → answers ≡ answers_of s.file w acts
+answers_alone g w s u old new acts answers None live keeps calls = ((all_served s u old new acts answers live calls).answered g w keeps).0
+answers_alone g w s u old new acts answers (Some a) live keeps calls = ((all_served s calls.0 old calls.1 acts answers live calls.2).answered g w keeps).0

@@ -7,6 +7,9 @@ mod LineEnds
 mod Answered
 mod AppendTurns
 mod ReplyTurns
+mod BlockTurns
+mod BlockReadTurns
+mod CheckpointTurns
 mod Kept
 mod Served
 mod ReadTurns

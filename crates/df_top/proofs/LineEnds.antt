@@ -1,5 +1,5 @@
 -- What one line does to a session: it goes on with the call that the line asks for, or ends.
-use Rattle.std.proofs.Common.{◌≡◌, ℕ, ◌+◌, List, Option, Some, ◌∙◌, ap}
+use Rattle.std.proofs.Common.{◌≡◌, inl, inr, ℕ, ◌+◌, List, Option, Some, ◌∙◌, ap}
 use Rattle.df_lines.specs.declared.line.Line.{Line}
 use Rattle.df_lines.specs.Grammar.{Said, said_with}
 use Rattle.df_lines.specs.Reads.{RefusesNext, TakesLine}
@@ -16,7 +16,7 @@ use Rattle.df_top.specs.declared.turns.Turn.{Turn}
 use Rattle.df_top.specs.declared.turns.Turn.TheVariants.{GoesOn, Ends}
 use Rattle.df_top.specs.declared.status.Status.{Status}
 use Rattle.df_top.specs.declared.status.Status.TheVariants.{Done, Words, Script, Refused, DiskFault, ReadFault, WriteFault, Memory}
-use Rattle.df_top.proofs.Progress.{ends_answer, ends_disk, ends_script, ends_script_fault, goes_on}
+use Rattle.df_top.proofs.Progress.{ends_answer, ends_damaged, ends_damaged_fault, ends_disk, ends_script, ends_script_fault, goes_on}
 
 -- the line that refuses the next line ends the session
 pub ends_refused : (bound : ℕ) (old new : State) → new.outside.told ≡ old.outside.told → new.replica ≡ old.replica → ((rest : List ℕ) → old.text ≡ Some rest → IsRefused bound old.budget rest) → (status : Status)
@@ -56,10 +56,11 @@ module _ (before after : Outside) (old : Session) (room : Room) (line : Line) (e
         → Turns old.lines.reading.bound (state before old) (state after new) turn
     line_turns GoesOn did count = goes_on old.lines.reading.bound (state before old) (state after new) said did.0 takes did.1 did.2 count
     line_turns (Ends DiskFault) did count = ends_disk old.lines.reading.bound (state before old) (state after new) said takes did.1 did.0
-    line_turns (Ends WriteFault) did count = ends_answer old.lines.reading.bound (state before old) (state after new) said takes did.0 did.1 did.2
+    line_turns (Ends WriteFault) (inl did) count = ends_answer old.lines.reading.bound (state before old) (state after new) said takes did.0 did.1 did.2
+    line_turns (Ends WriteFault) (inr did) count = ends_damaged_fault old.lines.reading.bound (state before old) (state after new) said takes did.0 did.1 did.2 did.3
+    line_turns (Ends Refused) did count = ends_damaged old.lines.reading.bound (state before old) (state after new) said takes did.0 did.1 did.2 did.3
     line_turns (Ends Done) did count = absurd did
     line_turns (Ends Words) did count = absurd did
-    line_turns (Ends Refused) did count = absurd did
     line_turns (Ends Script) did count = absurd did
     line_turns (Ends ReadFault) did count = absurd did
     line_turns (Ends Memory) did count = absurd did

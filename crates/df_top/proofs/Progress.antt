@@ -8,14 +8,14 @@ use Rattle.df_lines.specs.Grammar.{Said}
 use Rattle.df_lines.specs.Script.{Begins, IsRefused}
 use Rattle.df_lines.specs.Text.{after_line}
 use Rattle.df_model.specs.Commands.{Answer, Command}
-use Rattle.df_recovery.specs.State.{State as Replica}
+use Rattle.df_state.specs.State.{State as Replica}
 use Rattle.df_replica.specs.Session.{Act}
 use Rattle.df_script_model.specs.Script.{answer_text}
 use Rattle.df_top.specs.Lines.{AreAsked, answers_text, command_of}
-use Rattle.df_top.specs.Session.{AreCalls, Calls, EndsText, Executed, State}
+use Rattle.df_top.specs.Session.{AreCalls, Calls, EndsText, Executed, IsDamaged, State}
 use Rattle.df_top.specs.Step.{EndsIn, GoesOn, Makes, Takes}
 use Rattle.df_top.specs.declared.status.Status.{Status}
-use Rattle.df_top.specs.declared.status.Status.TheVariants.{Done, Script, DiskFault, ReadFault, WriteFault}
+use Rattle.df_top.specs.declared.status.Status.TheVariants.{Done, Script, Refused, DiskFault, ReadFault, WriteFault}
 use Rattle.df_top.proofs.Written.{answers_more, appends_more, appends_none, appends_part, asked_more, begins_more}
 
 -- ---- calls
@@ -200,3 +200,34 @@ module _ (bound : ℕ) (old new : State) (said : Said) (takes : Takes bound old 
         (subst (λ (c : Command). AppendsPart old.outside.written new.outside.written (answer_text c x)) (sym made.is) wrote));
     calls = calls_more origin.replica old.replica new.replica origin.outside.told old.outside.told new.outside.told acts answers made.act x so_far.calls made.calls;
   }
+
+  -- the step is damaged, and the line that says so is written, or a front of it
+  module _ (line : List ℕ) (made : Makes (command_of said) old.replica new.replica old.outside.told new.outside.told None) (damaged : IsDamaged (command_of said) new.outside.told line) where
+    is_damaged : IsDamaged made.act.command new.outside.told line
+    is_damaged = subst (λ (c : Command). IsDamaged c new.outside.told line) (sym made.is) damaged
+
+    pub ends_damaged : Appends old.outside.written new.outside.written line → EndsIn bound old new Refused
+    ends_damaged wrote origin asked acts answers so_far = record {
+      asked = asked ++ said ∷ [];
+      acts = acts;
+      answers = answers;
+      failed = Some made.act;
+      cut = false;
+      text = last_text origin asked acts answers Refused (λ no. cc) so_far;
+      are = asked_more asked acts said made.act so_far.are made.is;
+      written = (refl, line, is_damaged, appends_more origin.outside.written old.outside.written new.outside.written (answers_text acts answers) line so_far.written wrote);
+      calls = (old.replica, old.outside.told, so_far.calls, made.calls);
+    }
+
+    pub ends_damaged_fault : AppendsPart old.outside.written new.outside.written line → EndsIn bound old new WriteFault
+    ends_damaged_fault wrote origin asked acts answers so_far = record {
+      asked = asked ++ said ∷ [];
+      acts = acts;
+      answers = answers;
+      failed = Some made.act;
+      cut = false;
+      text = last_text origin asked acts answers WriteFault (λ no. cc) so_far;
+      are = asked_more asked acts said made.act so_far.are made.is;
+      written = (refl, line, is_damaged, appends_part origin.outside.written old.outside.written new.outside.written (answers_text acts answers) line so_far.written wrote);
+      calls = (old.replica, old.outside.told, so_far.calls, made.calls);
+    }

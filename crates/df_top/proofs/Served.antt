@@ -1,5 +1,5 @@
 -- A file that was opened is served, and one that wasn't is refused.
-use Rattle.std.proofs.Common.{◌≡◌, ◌⊎◌, inl, inr, ℕ, true, List, [], Option, Some, None, refl, sym, ◌∙◌, ap, subst, Err}
+use Rattle.std.proofs.Common.{◌≡◌, ◌⊎◌, inl, inr, ℕ, Bool, true, List, [], Option, Some, None, refl, sym, ◌∙◌, ap, subst, Err}
 use Rattle.df_base.specs.Image.{IsImage}
 use Rattle.df_base.specs.Log.{Sync}
 use Rattle.df_base.specs.Moments.{EachMoment}
@@ -7,29 +7,29 @@ use Rattle.df_disk.specs.Told.{Told, after, did}
 use Rattle.df_layout.specs.declared.layout.Layout.{Layout}
 use Rattle.df_lines.specs.Room.{IsFresh, line_bound}
 use Rattle.df_lines.specs.Text.{Reading, unread}
-use Rattle.df_theory.specs.Device.{IsGoodDisk}
-use Rattle.df_theory.specs.Units.{Parts}
 use Rattle.df_theory.specs.View.{View}
 use Rattle.df_units.specs.Bytes.{unit_at}
-use Rattle.df_model.specs.Codec.{IsCodec}
 use Rattle.df_model.specs.Work.{opened}
 use Rattle.df_model.specs.declared.errors.OpenError.{OpenError}
 use Rattle.df_model.specs.declared.errors.OpenError.TheVariants as opens
-use Rattle.df_recovery.specs.State.{State as Replica, shape}
+use Rattle.df_state.specs.State.{State as Replica, shape}
 use Rattle.df_recovery.specs.Surveys.{IsOpened}
-use Rattle.df_replica.specs.Mending.{MayOpen}
+use Rattle.df_replica.specs.Following.{MayOpen}
 use Rattle.df_replica.specs.Opened.{StopsOpening, ToldBy}
-use Rattle.df_replica.specs.Serving.{IsKept, format}
+use Rattle.df_replica.specs.Serving.{Firm, Grade, IsGoodFor, IsKept, StandsFor, format}
 use Rattle.df_replica.specs.Surveying.{TellsSurvey}
 use Rattle.df_replica.proofs.Laws.{found_keeps}
 use Rattle.df_top.specs.Opening.{FailsToOpen, RefusesFile}
 use Rattle.df_top.specs.Outside.{Outside}
 use Rattle.df_top.specs.Refusing.{PrintsError}
 use Rattle.df_top.specs.Run.{ServesScript, start}
-use Rattle.df_top.specs.Session.{Ended, EndsCalls, State, state}
+use Rattle.df_model.specs.Commands.{Answer}
+use Rattle.df_replica.specs.Session.{Act}
+use Rattle.df_top.specs.Session.{Ended, EndsCalls, EndsWith, State, state}
 use Rattle.df_top.specs.declared.session.Session.{Session}
 use Rattle.df_top.specs.declared.status.Status.{Status}
-use Rattle.df_top.proofs.Kept.{answers_alone, firm, goes_told, keeps_file}
+use Rattle.df_top.specs.declared.status.Status.TheVariants.{Refused}
+use Rattle.df_top.proofs.Kept.{answers_alone, ends_told, goes_told, keeps_file}
 
 -- ---- a session that was just opened
 
@@ -52,13 +52,24 @@ from_start told old s layout last status fresh none ended =
     subst (λ (n : ℕ). Ended n (start told old s.replica) last status) (ap (λ (r : Reading). r.bound) fresh.reading)
     (subst (λ (o : State). Ended s.lines.reading.bound o last status) (begins_so told old s (line_bound layout) fresh none) ended)
 
+-- ---- a disk that tells what it shows
+
+untold_is_none : (u : Told) → None ≡ Some u → ⊥
+untold_is_none u is = cc
+
+-- no session ends there by a step that is damaged
+refused_never : (n : ℕ) (old new : Outside) (acts : List Act) (answers : List Answer) (failed : Option Act) (cut : Bool) (u : Told) → new.told ≡ Some u → EndsWith n old new acts answers failed cut Refused → ⊥
+refused_never n old new acts answers None cut u is ends = ends
+refused_never n old new acts answers (Some a) cut u is ends = untold_is_none u (sym ends.2.untold ∙ is)
+
 -- ---- it is served
 
 module _ (layout : Layout) (t : Told) (old new : Outside) (status : Status) (s : Replica) (mended : Option Told) (whole : IsImage t.shown) (told : old.told ≡ Some t) (live : s.live ≡ true) (of : s.file.layout ≡ layout) (is_opened : IsOpened layout t.shown s)
     (by : ToldBy (after Sync old.told) mended)
-    (kept_for : (n : Told) → mended ≡ Some n → (parse : ℕ → List ℕ → Option Parts) (spell : Parts → List ℕ) (view : View) → IsCodec (shape s.file parse) spell → MayOpen s.file parse view t
-    → IsKept (firm parse spell) s (opened (shape s.file parse) (unit_at s.file.layout s.file.cluster t.shown) view) n.log)
-    (good : (n : Told) → mended ≡ Some n → (parse : ℕ → List ℕ → Option Parts) (view : View) → MayOpen s.file parse view t → EachMoment (did Sync t).log n.log (IsGoodDisk (format s.file) (shape s.file parse) view view))
+    (kept_for : (n : Told) → mended ≡ Some n → (g : Grade) (view : View) → MayOpen s.file view t → StandsFor g (unit_at s.file.layout s.file.cluster t.shown) view
+    → IsKept g s (opened (shape s.file) (unit_at s.file.layout s.file.cluster t.shown) view) n.log)
+    (good : (n : Told) → mended ≡ Some n → (g : Grade) (view : View) → MayOpen s.file view t → StandsFor g (unit_at s.file.layout s.file.cluster t.shown) view
+    → EachMoment (did Sync t).log n.log (IsGoodFor g (format s.file) (shape s.file) view view))
     (last : State) (last_is : last.outside ≡ new) (ended : Ended (line_bound layout) (start mended old s) last status) where
   last_told : last.outside.told ≡ new.told
   last_told = ap (λ (o : Outside). o.told) last_is
@@ -69,6 +80,20 @@ module _ (layout : Layout) (t : Told) (old new : Outside) (status : Status) (s :
   opened_here : IsOpened s.file.layout t.shown s
   opened_here = subst (λ (l : Layout). IsOpened l t.shown s) (sym of) is_opened
 
+  -- the disk goes on telling what it shows
+  tells_on : (u : Told) × (last.outside.told ≡ Some u)
+  tells_on =
+      let goes = goes_told (did Sync t) mended synced in
+      let by_calls = ends_told s last.replica mended last.outside.told ended.acts ended.answers ended.failed ended.calls in
+      let more = goes_told goes.0 last.outside.told (subst (λ (o : Option Told). ToldBy o last.outside.told) goes.1 by_calls) in
+      (more.0, more.1)
+
+  undamaged : status ≡ Refused → ⊥
+  undamaged is =
+      let origin : State = start mended old s in
+      refused_never origin.lines origin.outside last.outside ended.acts ended.answers ended.failed ended.cut tells_on.0 tells_on.1
+      (subst (λ (x : Status). EndsWith origin.lines origin.outside last.outside ended.acts ended.answers ended.failed ended.cut x) is ended.written)
+
   pub serves : ServesScript layout t old new status
   serves = record {
     replica = s;
@@ -77,15 +102,16 @@ module _ (layout : Layout) (t : Told) (old new : Outside) (status : Status) (s :
     last = last;
     last_is = last_is;
     session = ended;
-    answered = λ parse spell view codec found.
-        answers_alone (firm parse spell) (opened (shape s.file parse) (unit_at s.file.layout s.file.cluster t.shown) view) s last.replica mended last.outside.told ended.acts ended.answers ended.failed live
-        (found_keeps s t.shown parse spell view whole opened_here codec found) ended.calls;
-    keeps = λ parse spell view codec may.
+    answered = λ view found.
+        answers_alone Firm (opened (shape s.file) (unit_at s.file.layout s.file.cluster t.shown) view) s last.replica mended last.outside.told ended.acts ended.answers ended.failed live
+        (found_keeps s t.shown view whole opened_here found) ended.calls;
+    keeps = λ g view may stands.
         let goes = goes_told (did Sync t) mended synced in
         let n = goes.0 in
         let calls = subst (λ (o : Option Told). EndsCalls s last.replica (Some n) o ended.acts ended.answers ended.failed) last_told (subst (λ (o : Option Told). EndsCalls s last.replica o last.outside.told ended.acts ended.answers ended.failed) goes.1 ended.calls) in
-        keeps_file s parse spell (opened (shape s.file parse) (unit_at s.file.layout s.file.cluster t.shown) view) t n live (kept_for n goes.1 parse spell view codec may) (goes.2.honest (record { shows = may.honest.shows })) goes.2.grew
-        (good n goes.1 parse view may) last.replica new.told ended.acts ended.answers ended.failed calls;
+        keeps_file g s (opened (shape s.file) (unit_at s.file.layout s.file.cluster t.shown) view) t n live (kept_for n goes.1 g view may stands) (goes.2.honest (record { shows = may.honest.shows })) goes.2.grew
+        (good n goes.1 g view may stands) last.replica new.told ended.acts ended.answers ended.failed calls;
+    undamaged = undamaged;
   }
 
 -- ---- it isn't

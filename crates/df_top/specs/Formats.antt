@@ -8,14 +8,15 @@ use Rattle.df_inspect.specs.Opening.{format_refusal, formatted_text}
 use Rattle.df_layout.specs.Zones.{file_sectors}
 use Rattle.df_layout.specs.declared.layout.Layout.{Layout}
 use Rattle.df_theory.specs.Device.{IsSafeDisk}
-use Rattle.df_units.specs.Format.{format_of, shape_of}
+use Rattle.df_units.specs.Format.{format_of}
 use Rattle.df_units.specs.Making.{IsMadeOnDisk, first_view}
 use Rattle.df_model.specs.declared.errors.FormatError.{FormatError}
 use Rattle.df_model.specs.declared.errors.FormatError.TheVariants.{ClusterZero, NotBlank}
 use Rattle.df_model.specs.declared.errors.FormatError.TheVariants as formats
 use Rattle.df_recovery.specs.Opening.{IsUnformatted}
+use Rattle.df_state.specs.State.{shape}
 use Rattle.df_replica.specs.Formatting.{IsFirstWritten}
-use Rattle.df_replica.specs.Making.{MayMakeOn, making_events}
+use Rattle.df_replica.specs.Making.{MayMakeOn, file_of, making_events}
 use Rattle.df_top.specs.declared.status.Status.{Status}
 use Rattle.df_top.specs.declared.status.Status.TheVariants.{Done, Refused, DiskFault, WriteFault, Memory}
 
@@ -58,8 +59,8 @@ pub record MakesOn (layout : Layout) (cluster : ℕ) (before : Told) (may : MayM
   pub after : Told
   pub is : told ≡ Some after
   pub honest : IsHonest after
-  pub moments : EachMoment before.log after.log (IsSafeDisk (format_of layout cluster) (shape_of layout cluster may.named may.parse))
-  pub made : status ≡ Done → IsMadeOnDisk (format_of layout cluster) (shape_of layout cluster may.named may.parse) before.log after.log (first_view layout cluster)
+  pub moments : EachMoment before.log after.log (IsSafeDisk (format_of layout cluster) (shape (file_of layout cluster may.named)))
+  pub made : status ≡ Done → IsMadeOnDisk (format_of layout cluster) (shape (file_of layout cluster may.named)) before.log after.log (first_view layout cluster)
 
 abbrev pub MakesFile : Layout → (cluster : ℕ) → (told later : Option Told) → Status → Type 0
 MakesFile layout cluster told later status = (before : Told) (may : MayMakeOn layout cluster before) → (status ≡ Memory → ⊥) → told ≡ Some before → IsHonest before → MakesOn layout cluster before may later status

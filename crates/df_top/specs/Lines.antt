@@ -3,7 +3,7 @@ use Rattle.std.specs.Prelude.{◌≡◌, ◌+◌, ℕ, Bool, true, false, List, 
 use Rattle.df_inspect.specs.Opening.{script_text}
 use Rattle.df_lines.specs.Grammar.{Said}
 use Rattle.df_lines.specs.Grammar as lines
-use Rattle.df_model.specs.Commands.{Answer, Append, Command, ReadPrepare, ReadReply, Reply}
+use Rattle.df_model.specs.Commands.{Advance, Answer, Append, Begin, Command, ReadBlock, ReadPrepare, ReadReply, Release, Reply, WriteBlock}
 use Rattle.df_replica.specs.Session.{Act}
 use Rattle.df_script_model.specs.Script.{answer_text}
 
@@ -11,8 +11,13 @@ use Rattle.df_script_model.specs.Script.{answer_text}
 abbrev pub command_of : Said → Command
 command_of (lines.Append client request body) = Append client request body
 command_of (lines.Reply op body) = Reply op body
+command_of (lines.Block kind body) = WriteBlock kind body
+command_of (lines.Release address) = Release address
+command_of (lines.Checkpoint root) = Begin root
+command_of lines.Step = Advance
 command_of (lines.Prepare op) = ReadPrepare op
 command_of (lines.Lookup client) = ReadReply client
+command_of (lines.Read address) = ReadBlock address
 
 abbrev pub command_in : Act → Command
 command_in a = a.command

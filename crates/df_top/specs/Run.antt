@@ -10,27 +10,25 @@ use Rattle.df_lines.specs.Room.{line_bound}
 use Rattle.df_theory.specs.Device.{units_log}
 use Rattle.df_theory.specs.Found.{IsFound}
 use Rattle.df_theory.specs.TidyLaws.{IsTidy}
-use Rattle.df_theory.specs.Units.{Parts}
 use Rattle.df_theory.specs.View.{View}
 use Rattle.df_units.specs.Bytes.{unit_at}
-use Rattle.df_model.specs.Codec.{IsCodec}
 use Rattle.df_model.specs.Commands.{Answer}
 use Rattle.df_model.specs.Work.{Work, kept, opened}
 use Rattle.df_model.specs.declared.errors.OpenError.{OpenError}
-use Rattle.df_recovery.specs.declared.file.DataFile.{DataFile}
+use Rattle.df_state.specs.declared.file.DataFile.{DataFile}
 use Rattle.df_recovery.specs.Found.{IsLayoutShown}
 use Rattle.df_recovery.specs.Opening.{Refuses}
-use Rattle.df_recovery.specs.State.{State as Replica, shape}
+use Rattle.df_state.specs.State.{State as Replica, shape}
 use Rattle.df_recovery.specs.Surveys.{IsOpened}
-use Rattle.df_replica.specs.Mending.{MayOpen}
-use Rattle.df_replica.specs.Serving.{Firm, Known, format}
+use Rattle.df_replica.specs.Following.{MayOpen}
+use Rattle.df_replica.specs.Serving.{Grade, StandsFor, format}
 use Rattle.df_replica.specs.Session.{Act, IsMidway, LeavesEither, LeavesView, answers_of, work_after}
 use Rattle.df_top.specs.Opening.{FailsToOpen, IsSilent, PrintsRefusal, RefusesFile}
 use Rattle.df_top.specs.Outside.{Outside}
 use Rattle.df_top.specs.Session.{Ended, State, list_of}
 use Rattle.df_top.specs.Usage.{usage}
 use Rattle.df_top.specs.declared.status.Status.{Status}
-use Rattle.df_top.specs.declared.status.Status.TheVariants.{DiskFault, Memory, Words, WriteFault}
+use Rattle.df_top.specs.declared.status.Status.TheVariants.{DiskFault, Memory, Refused, Words, WriteFault}
 
 -- all that other words do: the usage line is printed, or a front of it where the sink fails
 abbrev pub PrintsUsage : Option (List ℕ) → Option (List ℕ) → Status → Type 0
@@ -43,26 +41,26 @@ script_budget = 2 ^ 32
 -- ---- what is kept of a file
 
 -- whatever a stop leaves at the end has all the acts that were answered; one more only where the disk failed in it
-abbrev pub LeavesAll : DataFile → Known → Work → List Act → Option Act → Told → Type 0
-LeavesAll file c w acts None n = LeavesView file c (work_after file c w acts) (Some n)
-LeavesAll file c w acts (Some a) n = LeavesEither file c (work_after file c w acts) (work_after file c w (acts ++ a ∷ [])) (Some n)
+abbrev pub LeavesAll : DataFile → Grade → Work → List Act → Option Act → Told → Type 0
+LeavesAll file g w acts None n = LeavesView file g (work_after file w acts) (Some n)
+LeavesAll file g w acts (Some a) n = LeavesEither file g (work_after file w acts) (work_after file w (acts ++ a ∷ [])) (Some n)
 
--- where the disk didn't fail nothing of the file is loose, and nothing of it is left to mend
-abbrev pub EndsTidy : DataFile → Known → Work → List Act → Option Act → Told → Type 0
-EndsTidy file c w acts None n = IsTidy (shape file c.parse) (units_log (format file) n.log) (kept (work_after file c w acts))
-EndsTidy file c w acts (Some a) n = Unit {0}
+-- where the disk didn't fail nothing of the file is loose but blocks of the grid, and nothing of it is left to mend
+abbrev pub EndsTidy : DataFile → Work → List Act → Option Act → Told → Type 0
+EndsTidy file w acts None n = IsTidy (shape file) (units_log (format file) n.log) (kept (work_after file w acts))
+EndsTidy file w acts (Some a) n = Unit {0}
 
 -- From the barrier on, where the machine began with this state: at each moment the log is safe, and whatever a stop leaves has the view after some of the
 -- acts, from the first on. At the end it has all that were answered.
-pub record KeepsFile (file : DataFile) (c : Known) (w : Work) (t : Told) (acts : List Act) (answers : List Answer) (failed : Option Act) (told : Option Told) : Type 0 where
+pub record KeepsFile (file : DataFile) (g : Grade) (w : Work) (t : Told) (acts : List Act) (answers : List Answer) (failed : Option Act) (told : Option Told) : Type 0 where
   pub after : Told
   pub is : told ≡ Some after
   pub honest : IsHonest after
   pub barrier : Extends after.log (did Sync t).log
-  pub moments : EachMoment (did Sync t).log after.log (IsMidway file c w (acts ++ list_of failed))
-  pub left : LeavesAll file c w acts failed after
-  pub tidy : EndsTidy file c w acts failed after
-  pub answered : answers ≡ answers_of file c w acts
+  pub moments : EachMoment (did Sync t).log after.log (IsMidway file g w (acts ++ list_of failed))
+  pub left : LeavesAll file g w acts failed after
+  pub tidy : EndsTidy file w acts failed after
+  pub answered : answers ≡ answers_of file w acts
 
 -- ---- a session
 
@@ -71,7 +69,8 @@ abbrev pub start : (told : Option Told) → Outside → Replica → State
 start told old replica = record { outside = record { told = told; left = old.left; written = old.written }; text = old.left; budget = script_budget; lines = 0; replica = replica }
 
 -- the file that the disk shows is opened, and the script is served: what is answered is what the machine answers from the state that is found, on whatever
--- image; and over an honest disk whose log is safe, all that was answered is kept
+-- image; and over an honest disk whose log is safe, all that was answered is kept. No step finds the superblock damaged that it wrote, since the disk tells what
+-- it shows.
 pub record ServesScript (layout : Layout) (t : Told) (old new : Outside) (status : Status) : Type 0 where
   pub replica : Replica
   pub is_opened : IsOpened layout t.shown replica
@@ -79,11 +78,11 @@ pub record ServesScript (layout : Layout) (t : Told) (old new : Outside) (status
   pub last : State
   pub last_is : last.outside ≡ new
   pub session : Ended (line_bound layout) (start mended old replica) last status
-  pub answered : (parse : ℕ → List ℕ → Option Parts) (spell : Parts → List ℕ) (view : View) → IsCodec (shape replica.file parse) spell
-      → IsFound (shape replica.file parse) (unit_at replica.file.layout replica.file.cluster t.shown) view
-      → session.answers ≡ answers_of replica.file (record { parse = parse; spell = spell; grade = Firm }) (opened (shape replica.file parse) (unit_at replica.file.layout replica.file.cluster t.shown) view) session.acts
-  pub keeps : (parse : ℕ → List ℕ → Option Parts) (spell : Parts → List ℕ) (view : View) → IsCodec (shape replica.file parse) spell → MayOpen replica.file parse view t
-      → KeepsFile replica.file (record { parse = parse; spell = spell; grade = Firm }) (opened (shape replica.file parse) (unit_at replica.file.layout replica.file.cluster t.shown) view) t session.acts session.answers session.failed new.told
+  pub answered : (view : View) → IsFound (shape replica.file) (unit_at replica.file.layout replica.file.cluster t.shown) view
+      → session.answers ≡ answers_of replica.file (opened (shape replica.file) (unit_at replica.file.layout replica.file.cluster t.shown) view) session.acts
+  pub keeps : (g : Grade) (view : View) → MayOpen replica.file view t → StandsFor g (unit_at replica.file.layout replica.file.cluster t.shown) view
+      → KeepsFile replica.file g (opened (shape replica.file) (unit_at replica.file.layout replica.file.cluster t.shown) view) t session.acts session.answers session.failed new.told
+  pub undamaged : status ≡ Refused → ⊥
 
 -- a file is served in rooms of a layout: it is refused, the disk fails before a session begins, or the script is served
 abbrev pub ServesIn : Layout → Outside → Outside → Status → Type 0

@@ -2,20 +2,23 @@
 use Rattle.std.specs.Prelude.{◌≡◌, ◌+◌, ℕ, Bool, true, false, IsTrue, List, [], ◌∷◌, ◌++◌, length, Option, Some, None}
 use Rattle.df_base.specs.Streams.{Appends, AppendsPart}
 use Rattle.df_disk.specs.Told.{Told}
+use Rattle.df_layout.specs.declared.damage.Class.{Class}
+use Rattle.df_layout.specs.declared.places.Place.{Place}
 use Rattle.df_lines.specs.Grammar.{Said}
 use Rattle.df_lines.specs.Room.{IsAtEnd}
 use Rattle.df_lines.specs.Script.{Begins, IsRefused}
 use Rattle.df_lines.specs.Text.{unread}
-use Rattle.df_model.specs.Commands.{Answer}
-use Rattle.df_recovery.specs.State.{State as Replica}
+use Rattle.df_model.specs.Commands.{Advance, Answer, Command}
+use Rattle.df_state.specs.State.{State as Replica}
 use Rattle.df_replica.specs.Opened.{ToldBy}
 use Rattle.df_replica.specs.Serving.{IsCall}
 use Rattle.df_replica.specs.Session.{Act}
+use Rattle.df_script_model.specs.Texts.{damaged_text}
 use Rattle.df_top.specs.Lines.{AreAsked, printed}
 use Rattle.df_top.specs.Outside.{Outside}
 use Rattle.df_top.specs.declared.session.Session.{Session}
 use Rattle.df_top.specs.declared.status.Status.{Status}
-use Rattle.df_top.specs.declared.status.Status.TheVariants.{Done, Script, DiskFault, ReadFault, WriteFault}
+use Rattle.df_top.specs.declared.status.Status.TheVariants.{Done, Script, Refused, DiskFault, ReadFault, WriteFault}
 
 -- What a session has before it: the outside, the text that is unread where the source tells it, how many bytes may still be taken, how many lines were
 -- executed, and the replica.
@@ -47,12 +50,12 @@ AreCalls s old [] (x ∷ answers) t new = ⊥
 AreCalls s old (a ∷ acts) [] t new = ⊥
 AreCalls s old (a ∷ acts) (x ∷ answers) t new = (u : Replica) × (mid : Option Told) × Calls a s u old mid (Some x) × AreCalls u mid acts answers t new
 
--- the act in which the disk failed, if there is one
+-- the act that was not answered, if there is one
 abbrev pub list_of : Option Act → List Act
 list_of None = []
 list_of (Some a) = a ∷ []
 
--- the calls were made, and the disk failed in the last one, if there is one
+-- the calls were made, and the last one was not answered, if there is one
 abbrev pub EndsCalls : (s t : Replica) → (old new : Option Told) → List Act → List Answer → Option Act → Type 0
 EndsCalls s t old new acts answers None = AreCalls s old acts answers t new
 EndsCalls s t old new acts answers (Some a) = (u : Replica) × (mid : Option Told) × AreCalls s old acts answers u mid × Calls a u t mid new None
@@ -73,17 +76,28 @@ pub record EndsText (bound budget : ℕ) (rest : List ℕ) (left : Option (List 
   pub refused : cut ≡ true → IsRefused bound budget rest
   pub finished : status ≡ Done → (rest ≡ []) × (left ≡ Some [])
 
--- what is written at the end, and whether the disk failed: all that is to be printed, or a front of it where the sink failed
-abbrev pub EndsWith : (n : ℕ) → (old new : Option (List ℕ)) → List Act → List Answer → (failed : Option Act) → (cut : Bool) → Status → Type 0
-EndsWith n old new acts answers None cut Done = (cut ≡ false) × Appends old new (printed n acts answers cut)
-EndsWith n old new acts answers None cut Script = (cut ≡ true) × Appends old new (printed n acts answers cut)
-EndsWith n old new acts answers None cut ReadFault = (cut ≡ false) × Appends old new (printed n acts answers cut)
-EndsWith n old new acts answers None cut WriteFault = AppendsPart old new (printed n acts answers cut)
-EndsWith n old new acts answers (Some a) cut DiskFault = (cut ≡ false) × Appends old new (printed n acts answers cut)
+-- The line of a step that is damaged: a copy of the superblock that it wrote is not read back as it was written. Over a disk that tells what it shows it never comes.
+pub record IsDamaged (command : Command) (told : Option Told) (line : List ℕ) : Type 0 where
+  pub step : command ≡ Advance
+  pub place : Place
+  pub class : Class
+  pub is : line ≡ damaged_text place class
+  pub untold : told ≡ None
+
+-- What is written at the end, and which call was not answered: all that is to be printed, or a front of it where the sink failed. Behind a step that is
+-- damaged comes its line.
+abbrev pub EndsWith : (n : ℕ) → (old new : Outside) → List Act → List Answer → (failed : Option Act) → (cut : Bool) → Status → Type 0
+EndsWith n old new acts answers None cut Done = (cut ≡ false) × Appends old.written new.written (printed n acts answers cut)
+EndsWith n old new acts answers None cut Script = (cut ≡ true) × Appends old.written new.written (printed n acts answers cut)
+EndsWith n old new acts answers None cut ReadFault = (cut ≡ false) × Appends old.written new.written (printed n acts answers cut)
+EndsWith n old new acts answers None cut WriteFault = AppendsPart old.written new.written (printed n acts answers cut)
+EndsWith n old new acts answers (Some a) cut DiskFault = (cut ≡ false) × Appends old.written new.written (printed n acts answers cut)
+EndsWith n old new acts answers (Some a) cut Refused = (cut ≡ false) × (line : List ℕ) × IsDamaged a.command new.told line × Appends old.written new.written (printed n acts answers cut ++ line)
+EndsWith n old new acts answers (Some a) cut WriteFault = (cut ≡ false) × (line : List ℕ) × IsDamaged a.command new.told line × AppendsPart old.written new.written (printed n acts answers cut ++ line)
 EndsWith n old new acts answers failed cut status = ⊥
 
--- from origin to now a session was executed to its end: these lines are the first ones of the text, each was answered, and then the disk failed in one
--- more, or not
+-- from origin to now a session was executed to its end: these lines are the first ones of the text, each was answered, and then one more was not, or there
+-- was none
 pub record Ended (bound : ℕ) (origin now : State) (status : Status) : Type 0 where
   pub asked : List Said
   pub acts : List Act
@@ -93,5 +107,5 @@ pub record Ended (bound : ℕ) (origin now : State) (status : Status) : Type 0 w
   pub text : (text : List ℕ) → origin.text ≡ Some text
       → (budget : ℕ) × (rest : List ℕ) × Begins bound origin.budget text asked budget rest × EndsText bound budget rest now.outside.left cut status
   pub are : AreAsked asked (acts ++ list_of failed)
-  pub written : EndsWith origin.lines origin.outside.written now.outside.written acts answers failed cut status
+  pub written : EndsWith origin.lines origin.outside now.outside acts answers failed cut status
   pub calls : EndsCalls origin.replica now.replica origin.outside.told now.outside.told acts answers failed

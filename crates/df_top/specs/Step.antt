@@ -1,5 +1,5 @@
 -- What one line of a script does to a session, whatever was executed before it.
-use Rattle.std.specs.Prelude.{◌≡◌, ◌+◌, ◌-◌, ℕ, List, [], ◌∷◌, ◌++◌, Option, Some, None}
+use Rattle.std.specs.Prelude.{◌≡◌, ◌⊎◌, ◌+◌, ◌-◌, ℕ, List, [], ◌∷◌, ◌++◌, Option, Some, None}
 use Rattle.df_base.specs.Streams.{Appends, AppendsPart}
 use Rattle.df_disk.specs.Told.{Told}
 use Rattle.df_inspect.specs.Opening.{script_text}
@@ -7,14 +7,14 @@ use Rattle.df_lines.specs.Grammar.{Said}
 use Rattle.df_lines.specs.Script.{IsLine}
 use Rattle.df_lines.specs.Text.{after_line, taken}
 use Rattle.df_model.specs.Commands.{Answer, Command}
-use Rattle.df_recovery.specs.State.{State as Replica}
+use Rattle.df_state.specs.State.{State as Replica}
 use Rattle.df_replica.specs.Session.{Act}
 use Rattle.df_script_model.specs.Script.{answer_text}
-use Rattle.df_top.specs.Session.{Calls, Ended, Executed, State}
+use Rattle.df_top.specs.Session.{Calls, Ended, Executed, IsDamaged, State}
 use Rattle.df_top.specs.declared.turns.Turn.{Turn}
 use Rattle.df_top.specs.declared.turns.Turn.TheVariants.{GoesOn as Goes, Ends as EndsBy}
 use Rattle.df_top.specs.declared.status.Status.{Status}
-use Rattle.df_top.specs.declared.status.Status.TheVariants.{Script, DiskFault, WriteFault}
+use Rattle.df_top.specs.declared.status.Status.TheVariants.{Script, Refused, DiskFault, WriteFault}
 
 -- the call that a command asks for
 pub record Makes (command : Command) (s t : Replica) (old new : Option Told) (answer : Option Answer) : Type 0 where
@@ -22,11 +22,20 @@ pub record Makes (command : Command) (s t : Replica) (old new : Option Told) (an
   pub is : act.command ≡ command
   pub calls : Calls act s t old new answer
 
--- the call was made and its answer is printed; or the disk failed in it; or the sink with its answer
+-- the call was made and was answered
+abbrev pub IsAnswered : Command → (s t : Replica) → (old new : Option Told) → (List ℕ → Type 0) → Type 0
+IsAnswered command s t old new Printed = (x : Answer) × Makes command s t old new (Some x) × Printed (answer_text command x)
+
+-- it is a step that is damaged, and has no answer but the line that ends the session
+abbrev pub EndsDamaged : Command → (s t : Replica) → (old new : Option Told) → (List ℕ → Type 0) → Type 0
+EndsDamaged command s t old new Printed = (line : List ℕ) × Makes command s t old new None × IsDamaged command new line × Printed line
+
+-- the call was made and its answer is printed; or the disk failed in it; or it is a step that is damaged; or the sink failed with its line
 abbrev pub Answers : Command → (s t : Replica) → (old new : Option Told) → (written took : Option (List ℕ)) → Turn → Type 0
-Answers command s t old new written took Goes = (x : Answer) × Makes command s t old new (Some x) × Appends written took (answer_text command x)
+Answers command s t old new written took Goes = IsAnswered command s t old new (λ line. Appends written took line)
 Answers command s t old new written took (EndsBy DiskFault) = Makes command s t old new None × (took ≡ written)
-Answers command s t old new written took (EndsBy WriteFault) = (x : Answer) × Makes command s t old new (Some x) × AppendsPart written took (answer_text command x)
+Answers command s t old new written took (EndsBy Refused) = EndsDamaged command s t old new (λ line. Appends written took line)
+Answers command s t old new written took (EndsBy WriteFault) = IsAnswered command s t old new (λ line. AppendsPart written took line) ⊎ EndsDamaged command s t old new (λ line. AppendsPart written took line)
 Answers command s t old new written took (EndsBy status) = ⊥
 
 -- the line that refuses the next line was written, or a front of it where the sink failed

@@ -1,4 +1,4 @@
-// One line of a script: the call that it asks for, and the line that its answer prints.
+// One line of a script on the log: the call that it asks for, and the line that its answer prints.
 ghost use Rattle.std.specs.Prelude.{◌≡◌, true};
 ghost use Rattle.df_model.specs.Commands.{Append, ReadPrepare, ReadReply, Reply};
 ghost use Rattle.df_model.specs.declared.errors.AppendError.{AppendError as AppendErrors};
@@ -20,8 +20,8 @@ use df_inspect::{
 use df_model::{AppendError, LookupError, PrepareError, ReplyError};
 use df_replica::Replica;
 
-// Goes on where the answer was printed.
-fn printed(done: Result<(), Failed>) -> Turn
+/// Goes on where the answer was printed.
+pub fn printed(done: Result<(), Failed>) -> Turn
     ensures { result ≡ printed_turn done }
 {
     match done {

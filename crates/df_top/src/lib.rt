@@ -1,7 +1,9 @@
 //! What the program does: its words, its script, its answers and its status.
 #![tactic(auto)]
 
+mod block_calls;
 mod calls;
+mod checkpoint_calls;
 mod engine;
 mod making;
 mod mode;

@@ -7,7 +7,9 @@ ghost use Rattle.df_top.specs.Session.{Ended, EndedIsEnd, state};
 ghost use Rattle.df_top.specs.Step.{Answers, RefusesLine, Turns};
 ghost use Rattle.df_top.specs.Turning.{BlamesIfEnds, IsReady, OnGoing};
 
+use crate::block_calls::{read_block, release, write_block};
 use crate::calls::{append, lookup, prepare, reply};
+use crate::checkpoint_calls::{begin, step};
 use crate::session::Session;
 use crate::status::Status;
 use df_base::{Sink, Source};
@@ -59,8 +61,15 @@ fn call<D: Disk, W: Sink>(disk: &mut D, sink: &mut W, session: &mut Session, lin
             session.lines.body(length),
         ),
         Line::Reply { op, length } => reply(disk, sink, replica, op, session.lines.body(length)),
+        Line::Block { kind, length } => {
+            write_block(disk, sink, replica, kind, session.lines.body(length))
+        }
+        Line::Release { address } => release(sink, replica, address),
+        Line::Checkpoint { length } => begin(sink, replica, session.lines.body(length)),
+        Line::Step => step(disk, sink, replica),
         Line::Prepare { op } => prepare(disk, sink, replica, op),
         Line::Lookup { client } => lookup(disk, sink, replica, client),
+        Line::Read { address } => read_block(disk, sink, replica, address),
     }
 }
 

@@ -1,12 +1,13 @@
 -- The file is opened and served, or it isn't.
-use Rattle.std.proofs.Common.{refl, inr, subst}
+use Rattle.std.proofs.Common.{ℕ, refl, inr, subst}
 use Rattle.std.specs.Prelude.{Option, Ok}
 use Rattle.df_disk.specs.Told.{Told}
-use Rattle.df_recovery.specs.State.{State}
+use Rattle.df_state.specs.State.{State}
 use Rattle.df_replica.specs.Surveying.{TellsSurvey}
-use Rattle.df_top.specs.Outside.{Outside}
+use Rattle.df_top.specs.Outside.{Blames, Outside}
+use Rattle.df_top.specs.declared.status.Status.TheVariants.{DiskFault}
 use Rattle.df_top.specs.Session.{state}
-use Rattle.df_top.proofs.Causes.{open_causes}
+use Rattle.df_top.proofs.Causes.{ended_never, open_causes, refused_never}
 use Rattle.df_top.proofs.Served.{from_start, not_served, serves}
 use Rattle.df_top.proofs.serving.serve_file.Goals as goal
 
@@ -16,7 +17,7 @@ returns-in-Ok-clause-serves g c = λ t told whole.
     let new : Outside = record { told = g.D.Disk.told c.serve_script.new.disk; left = g.S.Source.left c.serve_script.new.source; written = g.W.Sink.written c.serve_script.new.sink } in
     inr (inr (serves c.args.rooms.layout t old new c.serve_script.result c.in-Ok.replica (g.D.Disk.told c.open.new.disk) whole told c.in-Ok.ensures.live c.in-Ok.ensures.kept
     ((subst (λ (o : Option Told). TellsSurvey c.args.rooms.layout o (Ok c.in-Ok.replica)) told c.in-Ok.ensures.answer) whole) c.in-Ok.ensures.told
-    (λ n is parse spell view codec may. c.in-Ok.ensures.kept_for t n told is parse spell view codec may) (λ n is parse view may. c.in-Ok.ensures.moments t n told is parse view may)
+    (λ n is. c.in-Ok.ensures.kept_for t n told is) (λ n is. c.in-Ok.ensures.moments t n told is)
     (state new c.serve_script.new.session) refl (from_start (g.D.Disk.told c.open.new.disk) old _ c.args.rooms.layout (state new c.serve_script.new.session) c.serve_script.result c.requires.lines refl c.serve_script.ensures.session)))
 
 pub returns-in-Err-clause-serves : goal.returns-in-Err-clause-serves
@@ -29,3 +30,22 @@ pub returns-in-Err-clause-causes : goal.returns-in-Err-clause-causes
 returns-in-Err-clause-causes g c =
     open_causes (g.D.Disk.faults c.args.disk.now) (g.D.Disk.faults c.open.new.disk) (g.S.Source.faults c.args.source.now) (g.W.Sink.faults c.args.sink.now) (g.W.Sink.faults c.refuse_file.new.sink) (g.W.Sink.written c.args.sink.now) (g.W.Sink.written c.refuse_file.new.sink)
     c.refuse_file.result State c.in-Err.error c.in-Err.ensures.cause c.refuse_file.ensures.prints c.refuse_file.ensures.sink
+
+pub returns-in-Ok-clause-causes : goal.returns-in-Ok-clause-causes
+returns-in-Ok-clause-causes g c = record {
+  disk = subst (λ (n : ℕ). Blames DiskFault n (g.D.Disk.faults c.serve_script.new.disk) c.serve_script.result) c.in-Ok.ensures.cause c.serve_script.ensures.disk;
+  source = c.serve_script.ensures.source;
+  sink = c.serve_script.ensures.sink;
+}
+
+pub returns-in-Ok-clause-memory : goal.returns-in-Ok-clause-memory
+returns-in-Ok-clause-memory g c = (ended_never _ _ _ c.serve_script.result c.serve_script.ensures.session).0
+
+pub returns-in-Ok-clause-words : goal.returns-in-Ok-clause-words
+returns-in-Ok-clause-words g c = (ended_never _ _ _ c.serve_script.result c.serve_script.ensures.session).1
+
+pub returns-in-Err-clause-memory : goal.returns-in-Err-clause-memory
+returns-in-Err-clause-memory g c = (refused_never c.in-Err.error (g.W.Sink.written c.args.sink.now) (g.W.Sink.written c.refuse_file.new.sink) c.refuse_file.result c.refuse_file.ensures.prints).0
+
+pub returns-in-Err-clause-words : goal.returns-in-Err-clause-words
+returns-in-Err-clause-words g c = (refused_never c.in-Err.error (g.W.Sink.written c.args.sink.now) (g.W.Sink.written c.refuse_file.new.sink) c.refuse_file.result c.refuse_file.ensures.prints).1

@@ -1,0 +1,11 @@
+-- The items gone over are printed, and nothing failed.
+use Rattle.std.proofs.Common.{take, ◌≡◌}
+use Rattle.df_base.specs.Streams.{Appends}
+use Rattle.df_inspect.specs.Reports.{each_text, failing_text}
+use Rattle.df_inspect.proofs.findings.print_failing.Given as goal
+
+abbrev pub invariant-loop-finding : goal.invariant-loop-finding
+invariant-loop-finding g l = record {
+  printed : Appends (g.W.Sink.written l.initial.sink) (g.W.Sink.written l.sink) (each_text (λ place f. failing_text f) 0 (take l.finding-index l.findings));
+  quiet : g.W.Sink.faults l.sink ≡ g.W.Sink.faults l.initial.sink;
+}

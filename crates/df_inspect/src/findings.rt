@@ -1,0 +1,100 @@
+// What the scrubber found: its ring, the blocks that fail in a tour, and how many these are.
+ghost use Rattle.std.specs.Prelude.{◌≡◌, codes};
+ghost use Rattle.df_base.specs.Causes.{HasCause};
+ghost use Rattle.df_model.specs.declared.answers.Scrubbed.TheVariants as scrubs;
+ghost use Rattle.df_script_model.specs.Texts.{numbered, recent_text, scrubbed_text};
+ghost use Rattle.df_inspect.specs.Prints.{Prints};
+ghost use Rattle.df_inspect.specs.Reports.{each_text, failing_text, failing_texts, finding_text};
+
+use crate::blocks::tour_line;
+use crate::line::{Line, put, put_number, put_numbered, write_line};
+use crate::names::put_class;
+use arrayvec::ArrayVec;
+use df_base::{Failed, Sink};
+use df_layout::Finding;
+
+/// `recent COUNT` and ` ADDRESS CLASS` for each of these findings, the oldest first.
+pub fn print_recent<W: Sink>(sink: &mut W, findings: &[Finding]) -> Result<(), Failed>
+    ensures prints { Prints (recent_text findings.now) (W.written sink.old) (W.written sink.new) result }
+    ensures cause { HasCause (W.faults sink.old) (W.faults sink.new) result }
+{
+    print_count(sink, findings.len() as u128)?;
+    print_findings(sink, findings)?;
+    sink.write(b"\n")
+}
+
+// The front of the line, up to the first finding.
+fn print_count<W: Sink>(sink: &mut W, count: u128) -> Result<(), Failed>
+    ensures prints { Prints (numbered (codes "recent") count) (W.written sink.old) (W.written sink.new) result }
+    ensures cause { HasCause (W.faults sink.old) (W.faults sink.new) result }
+{
+    let mut line = ArrayVec::new();
+    put_numbered(&mut line, "recent", count);
+    write_line(sink, &line)
+}
+
+// Each finding behind a space.
+fn print_findings<W: Sink>(sink: &mut W, findings: &[Finding]) -> Result<(), Failed>
+    ensures prints { Prints (each_text (λ place f. finding_text f) 0 findings.now) (W.written sink.old) (W.written sink.new) result }
+    ensures cause { HasCause (W.faults sink.old) (W.faults sink.new) result }
+{
+    for finding in findings {
+        print_finding(sink, *finding)?;
+    }
+    Ok(())
+}
+
+fn print_finding<W: Sink>(sink: &mut W, finding: Finding) -> Result<(), Failed>
+    ensures prints { Prints (finding_text finding) (W.written sink.old) (W.written sink.new) result }
+    ensures cause { HasCause (W.faults sink.old) (W.faults sink.new) result }
+{
+    write_line(sink, &finding_piece(finding))
+}
+
+fn finding_piece(finding: Finding) -> Line
+    ensures { result.items ≡ finding_text finding }
+{
+    let mut line = ArrayVec::new();
+    put(&mut line, " ");
+    put_number(&mut line, u128::from(finding.address));
+    put(&mut line, " ");
+    put_class(&mut line, finding.class);
+    line
+}
+
+/// `failing ADDRESS CLASS`, a line for each of these blocks.
+pub fn print_failing<W: Sink>(sink: &mut W, findings: &[Finding]) -> Result<(), Failed>
+    ensures prints { Prints (failing_texts findings.now) (W.written sink.old) (W.written sink.new) result }
+    ensures cause { HasCause (W.faults sink.old) (W.faults sink.new) result }
+{
+    for finding in findings {
+        print_failing_block(sink, *finding)?;
+    }
+    Ok(())
+}
+
+fn print_failing_block<W: Sink>(sink: &mut W, finding: Finding) -> Result<(), Failed>
+    ensures prints { Prints (failing_text finding) (W.written sink.old) (W.written sink.new) result }
+    ensures cause { HasCause (W.faults sink.old) (W.faults sink.new) result }
+{
+    write_line(sink, &failing_line(finding))
+}
+
+fn failing_line(finding: Finding) -> Line
+    ensures { result.items ≡ failing_text finding }
+{
+    let mut line = ArrayVec::new();
+    put_numbered(&mut line, "failing", u128::from(finding.address));
+    put(&mut line, " ");
+    put_class(&mut line, finding.class);
+    put(&mut line, "\n");
+    line
+}
+
+/// `tour CHECKED FAILING`: how many blocks a tour checked, and how many of them fail.
+pub fn print_tour<W: Sink>(sink: &mut W, checked: u64, failing: u64) -> Result<(), Failed>
+    ensures prints { Prints (scrubbed_text (scrubs.TourEnd checked failing)) (W.written sink.old) (W.written sink.new) result }
+    ensures cause { HasCause (W.faults sink.old) (W.faults sink.new) result }
+{
+    write_line(sink, &tour_line(checked, failing))
+}
