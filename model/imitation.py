@@ -14,88 +14,24 @@ import os
 
 sys.path.insert(0, os.path.dirname(os.path.abspath(__file__)))
 
-from tries import form, recovery, script, superblock
+from device import DONE, FOUND, SCRIPT, WORDS, End, File, fill_streams, lines_of, refuse, tell
+from tries import form, recovery, reports, script, superblock
 from tries.bugs import has, refuse_unknown
 from tries.form import COPIES, SECTOR, Place
+from tries.knows import knows
+from tries.words import USAGE, meaning
 from wrong import Machine, Rules, choose, read, seen_copies
-
-DONE, WORDS, SCRIPT, REFUSED, DISK, READ, WRITE = 0, 2, 3, 4, 5, 6, 7
-
-
-class End(Exception):
-    """The run ends with this status."""
-
-
-class File:
-    """The data file, opened on first use."""
-
-    def __init__(self, path: bytes):
-        self.path, self.fd, self.new = path, None, False
-
-    def opened(self) -> int:
-        if self.fd is None:
-            self.fd = self.asked(os.open, self.path, os.O_RDWR | os.O_CREAT | os.O_CLOEXEC, 0o666)
-            self.new = os.fstat(self.fd).st_size == 0
-        return self.fd
-
-    def asked(self, call, *arguments):
-        """A call; one that fails ends the run."""
-        try:
-            return call(*arguments)
-        except (OSError, ValueError):
-            raise End(DISK) from None
-
-    def read(self, at: int, length: int) -> bytes:
-        data = b""
-        while len(data) < length:
-            piece = self.asked(os.pread, self.opened(), length - len(data), at + len(data))
-            if not piece:
-                break
-            data += piece
-        return data + bytes(length - len(data))
-
-    def write(self, at: int, data: bytes) -> None:
-        while data:
-            taken = self.asked(os.pwrite, self.opened(), data, at)
-            if not taken:
-                raise End(DISK)
-            if has("a short write isn't gone on with"):
-                return
-            at, data = at + taken, data[taken:]
-
-    def sync(self) -> None:
-        try:
-            os.fdatasync(self.opened())
-        except OSError:
-            if not has("a fault of a sync is passed over"):
-                raise End(DISK) from None
-        if self.new and not has("the folder isn't synced"):
-            folder = self.asked(os.open, os.path.dirname(self.path) or b".", os.O_RDONLY | os.O_CLOEXEC)
-            self.asked(os.fsync, folder)
-            os.close(folder)
-        self.new = False
-
-
-def tell(text: bytes) -> None:
-    """Writes one answer."""
-    while text:
-        try:
-            taken = os.write(1, text)
-        except OSError:
-            raise End(WRITE) from None
-        if not taken:
-            raise End(WRITE)
-        text = text[taken:]
-
-
-def refuse(words: str) -> None:
-    tell(b"refused " + words.encode() + b"\n")
-    raise End(REFUSED)
+from wrong_scrub import counted, inspection, tour
 
 
 def copies_of(file: File) -> list:
     """The four copies."""
     return seen_copies([file.read(SECTOR * place, SECTOR) for place in range(COPIES)])
+
+
+def classes_of(copies: list) -> list:
+    """The class of each copy, were it not the one wanted."""
+    return [copy if isinstance(copy, str) else "Stale" for copy in copies]
 
 
 def tested(file: File) -> tuple:
@@ -105,7 +41,7 @@ def tested(file: File) -> tuple:
     if all(copy == superblock.BLANK for copy in copies):
         refuse("NotFormatted")
     if content is None:
-        refuse("NoQuorum " + " ".join("Stale" if isinstance(copy, superblock.Content) else copy for copy in copies))
+        refuse("NoQuorum " + " ".join(classes_of(copies)))
     test_fields(content)
     return copies, content
 
@@ -149,7 +85,7 @@ def mend_headers(file: File, machine: Machine, slots: list) -> None:
         file.sync()
 
 
-def make(file: File, home: form.Home) -> None:
+def make(file: File, home: form.Home) -> int:
     """The word `format`."""
     if home.cluster == 0 and not has("cluster 0 is taken"):
         refuse("ClusterZero")
@@ -163,6 +99,7 @@ def make(file: File, home: form.Home) -> None:
     for part in parts[::-1] if has("format writes the copies first") else parts:
         part(file, home)
     tell(b"formatted %d\n" % home.layout.sectors())
+    return DONE
 
 
 def make_headers(file: File, home: form.Home) -> None:
@@ -182,26 +119,6 @@ def make_copies(file: File, home: form.Home) -> None:
             file.sync()
 
 
-def lines_of(longest: int):
-    """Each line of standard input, with whether it had its byte 10; a line that grows too long comes early."""
-    kept, ended = b"", False
-    while True:
-        at = kept.find(b"\n")
-        if at >= 0:
-            yield kept[:at]
-            kept = kept[at + 1 :]
-        elif ended or len(kept) > longest:
-            if kept:
-                yield kept
-            return
-        else:
-            try:
-                piece = os.read(0, 65536)
-            except OSError:
-                raise End(READ) from None
-            kept, ended = kept + piece, not piece
-
-
 def slots_of(file: File, home: form.Home) -> recovery.Rings:
     """What each slot shows, each of them read once."""
     layout, headers = home.layout, []
@@ -216,13 +133,30 @@ def slots_of(file: File, home: form.Home) -> recovery.Rings:
     return recovery.Rings(headers, *others)
 
 
-def run(file: File) -> None:
-    """The word `run`."""
+def block_of(file: File, home: form.Home, address: int):
+    """What an address of the grid shows."""
+    place = Place(form.GRID, address)
+    return read(file.read(home.layout.at(place), home.layout.block_size), home, place)
+
+
+def read_back(file: File, machine: Machine) -> None:
+    """Looks whether three copies at least are as the last step wrote them; else the run is refused."""
+    if has("copies aren't read back"):
+        return
+    content, copies = machine.durable.content(machine.home), copies_of(file)
+    bad = [place for place, copy in enumerate(copies) if copy != content]
+    if len(bad) > 1 + has("two copies are enough") - has("one lost copy is damage"):
+        what = copies[bad[0]]
+        refuse(f"Damaged Superblock {bad[0]} {what if isinstance(what, str) else 'Stale'}")
+
+
+def survey(file: File) -> tuple:
+    """What an open finds: the copies, and what is in the slots; a refusal ends the run."""
     tested(file)
     if not has("there is no barrier"):
         file.sync()
     copies, content = tested(file)
-    if content.trailer_address:
+    if content.trailer_address and not knows("blocks"):
         refuse(f"BadField TrailerAddress {content.trailer_address}")
     if has("the layout is always small"):
         content = content._replace(**dict(zip(form.Layout._fields, form.SMALL)))
@@ -231,19 +165,37 @@ def run(file: File) -> None:
     members = [place for place, copy in enumerate(copies) if copy == content] or [0]
     members = [0, *members] if has("behind blames copy 0") else members
     opened = superblock.Opened(content, None, False, members)
-    found = recovery.found_in(slots_of(file, content.home()), opened, copies, Rules())
+    rules, home = Rules(), content.home()
+    checkpoint = rules.checkpoint(lambda address: block_of(file, home, address), content)
+    if isinstance(checkpoint, str):
+        refuse(checkpoint)
+    found = recovery.found_in(slots_of(file, home), opened, classes_of(copies), rules, checkpoint)
     if found.refusal:
         refuse(found.refusal)
-    machine = Machine(found)
+    return copies, found
+
+
+def opened(file: File) -> Machine:
+    """Finds the state of the file, and mends it."""
+    copies, found = survey(file)
+    machine = Machine(found, form.Image(b""))
+    machine.file = file
     slots = [place.index for place, _ in found.to_mend if place.zone == form.WAL_HEADERS]
     if has("copies are mended before headers"):
-        repair(file, copies, content)
+        repair(file, copies, found.content)
     mend_headers(file, machine, slots)
     if not has("repairs come last"):
-        repair(file, copies, content)
+        repair(file, copies, found.content)
+    return machine
+
+
+def run(file: File) -> int:
+    """The word `run`."""
+    machine = opened(file)
     execute(file, machine)
     if has("repairs come last"):
-        repair(file, copies, content)
+        repair(file, copies_of(file), machine.durable.content(machine.home))
+    return DONE
 
 
 def execute(file: File, machine: Machine) -> None:
@@ -253,23 +205,70 @@ def execute(file: File, machine: Machine) -> None:
         if parsed is None:
             tell(b"script %d\n" % index)
             raise End(SCRIPT)
-        machine.file = file
-        for event in machine.line(parsed):
-            if event.kind == "write":
-                file.write(event.at, event.data)
-            elif event.kind == "sync":
-                file.sync()
-            else:
-                tell(event.data)
+        perform(file, machine, machine.line(parsed))
 
 
-def fill_streams() -> None:
-    """Closed standard streams are filled, so that the data file never stands in for one."""
-    for fd in (0, 1, 2):
-        try:
-            os.fstat(fd)
-        except OSError:
-            os.open("/", os.O_RDONLY)
+def tell_all(lines: list) -> None:
+    for line in lines:
+        tell(line.encode() + b"\n")
+
+
+def recover(file: File) -> int:
+    """The word `recover`."""
+    tell_all(reports.summary(opened(file).view()))
+    return DONE
+
+
+def inspect(file: File) -> int:
+    """The word `inspect`, which writes nothing."""
+    _, found = survey(file)
+    if has("inspect mends"):
+        opened(file)
+    lines = inspection(found)
+    tell_all(lines)
+    return FOUND if found.to_mend and not has("findings don't count for the status") else DONE
+
+
+def scrub(file: File) -> int:
+    """The word `scrub`."""
+    lines = tour(opened(file))
+    tell_all(lines)
+    return FOUND if len(lines) > 1 and not has("findings don't count for the status") else DONE
+
+
+def work(file: File, seed: int, count: int) -> int:
+    """The word `workload`."""
+    machine = opened(file)
+    tell_all(counted(machine, seed, count, Performed(file, machine), []))
+    return DONE
+
+
+class Performed(list):
+    """Events that are done when they are added, but for their answer, which is the last one's to take."""
+
+    def __init__(self, file: File, machine: Machine):
+        super().__init__()
+        self.file, self.machine = file, machine
+
+    def __iadd__(self, events: list):
+        perform(self.file, self.machine, events[:-1])
+        self[:] = events[-1:]
+        return self
+
+
+def perform(file: File, machine: Machine, events: list) -> None:
+    """Does what a line asks for. Copies that it wrote are read back."""
+    updates = any(event.kind == "write" and event.at < SECTOR * COPIES for event in events)
+    last = max((at for at, event in enumerate(events) if event.kind != "answer"), default=None)
+    for at, event in enumerate(events):
+        if event.kind == "write":
+            file.write(event.at, event.data)
+        elif event.kind == "sync":
+            file.sync()
+        else:
+            tell(event.data)
+        if updates and at == last:
+            read_back(file, machine)
 
 
 def main() -> int:
@@ -278,23 +277,22 @@ def main() -> int:
     words = [os.fsencode(word) for word in sys.argv[1:]]
     try:
         words[0].decode() if words else None
-        asked = script.meaning(words[1:]) if words else None
+        asked = meaning(words[1:]) if words else None
     except UnicodeDecodeError:
         asked = None
+    if has("a workload may have no commands") and asked is None and words[1:2] == [b"workload"] and words[3:] == [b"0"]:
+        asked = meaning([words[1], words[2], b"1"])
     if has("leading zeros are taken") and asked is None and len(words) == 4:
-        asked = script.meaning([words[1], words[2], words[3].lstrip(b"0") or b"0"])
+        asked = meaning([words[1], words[2], words[3].lstrip(b"0") or b"0"])
     try:
         if asked is None:
-            tell(script.USAGE)
+            tell(USAGE)
             return WORDS
         file = File(words[0])
-        if asked == ("run",):
-            run(file)
-        else:
-            make(file, asked[1])
+        calls = {"run": run, "format": make, "recover": recover, "inspect": inspect, "scrub": scrub, "workload": work}
+        return calls[asked[0]](file, *asked[1:])
     except End as end:
         return end.args[0]
-    return DONE
 
 
 if __name__ == "__main__":

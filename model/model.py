@@ -1,6 +1,6 @@
 """Tries the built program against an independent model of its file and its words, that of docs/FORMAT.md and docs/SCRIPT.md.
 
-    python3 model/model.py PATH-TO-datafile [--seconds N] [--seed N] [--kind NAME] [--first N] [--folder PATH]
+    python3 model/model.py PATH-TO-datafile [--knows LEVEL] [--seconds N] [--seed N] [--kind NAME] ..
 
 Prints what was tried, with counts, or the first disagreement and the command that tries it again. Ends with status 1
 where the two disagree. See docs/MODEL-TRIES.md.
@@ -10,6 +10,11 @@ import sys
 
 sys.dont_write_bytecode = True
 
+from tries import knows
+
+# Worked rows and lines are made for what the program knows.
+knows.take(sys.argv[1:])
+
 import argparse
 import subprocess
 import tempfile
@@ -18,14 +23,15 @@ from collections import Counter
 from random import Random, SystemRandom
 
 from tries import (
-    arguments, budget, bugs, damage, faults, formats, hurt, reading, rows, scripts, stops, streams,
+    arguments, budget, bugs, checkpoints, damage, faults, formats, hurt, long, reading, reporting, rows, scripts, stops, streams,
+    tables,
 )
 from tries.binary import Binary, Disagreement, has_strace
 from tries.common import Try
 
-PARTS = (rows, formats, scripts, damage, hurt, reading, stops, streams, faults, budget)
+PARTS = (rows, formats, scripts, damage, hurt, reading, stops, checkpoints, reporting, streams, faults, tables, budget, long)
 KINDS = {name: kind for part in PARTS for name, kind in part.KINDS.items()}
-TRACED = {"killed", "stand_ins", *faults.KINDS}
+TRACED = {"killed", "long", "lost", "stand_ins", "fault_table", *faults.KINDS}
 
 
 def words() -> argparse.Namespace:
@@ -34,6 +40,10 @@ def words() -> argparse.Namespace:
     parser.add_argument("--seconds", type=arguments.seconds, default=60, help="how long to try (default 60)")
     parser.add_argument("--seed", type=int, help="the seed (default: a new one)")
     parser.add_argument("--kind", choices=sorted(KINDS), action="append", help="this kind alone; may be repeated")
+    parser.add_argument(
+        "--knows", choices=knows.LEVELS, default=knows.TODAY,
+        help=f"the lines and words that the program knows (default {knows.TODAY})",
+    )
     parser.add_argument("--first", type=arguments.at_least(0), default=0, help="the number of the first try")
     parser.add_argument(
         "--folder", type=arguments.folder, help="where the files stand (default: the folder for temporary files)"
@@ -77,7 +87,8 @@ def main() -> int:
                 print(f"DISAGREEMENT, {error}")
                 chosen = "".join(f" --kind {name}" for name in given.kind or ())
                 bug = f'BUG="{bugs.BUG}" ' if bugs.BUG else ""
-                print(f"again: {bug}python3 model/model.py {given.program} --seed {given.seed} --first {number}{chosen}")
+                known = "" if given.knows == knows.TODAY else f" --knows {given.knows}"
+                print(f"again: {bug}python3 model/model.py {given.program}{known} --seed {given.seed} --first {number}{chosen}")
                 return 1
             number += 1
     for name, count in sorted(counts.items()):

@@ -3,11 +3,13 @@
 
     python3 model/reader.py FILE
 
-Prints why the file is refused, or its layout, its cluster, each prepare and each stored reply. It writes nothing.
+Prints why the file is refused, or its layout, its cluster, its checkpoint, each prepare and each stored reply.
 """
 
 import hashlib
 import sys
+
+from reader_trailer import Refused, checkpoint_of, class_at, number
 
 SECTOR, HEADER, COPIES = 4096, 256, 4
 TOP = 2**62
@@ -25,16 +27,8 @@ HEADS = {  # field of a header: offset and bytes
 }
 
 
-class Refused(Exception):
-    """Why a file isn't read, in the words of the program's line."""
-
-
 def checksum(data):
     return hashlib.sha256(data).digest()[:16]
-
-
-def number(data, at, size):
-    return int.from_bytes(data[at : at + size], "little")
 
 
 def bytes_at(file, at, size):
@@ -103,7 +97,7 @@ def fields_of(copy):
     return f
 
 
-def superblock_of(file):
+def superblock_of(file, checkpoints):
     """The fields of the file's superblock, and the lowest copy that has it."""
     sectors = [bytes_at(file, SECTOR * place, SECTOR) for place in range(COPIES)]
     if not any(map(any, sectors)):
@@ -112,8 +106,7 @@ def superblock_of(file):
     if copy is None:
         raise Refused("NoQuorum " + " ".join(class_of_copy(sector, place) for place, sector in enumerate(sectors)))
     f = fields_of(copy)
-    if f["TrailerAddress"]:
-        # A checkpoint isn't read yet.
+    if f["TrailerAddress"] and not checkpoints:
         raise Refused(f"BadField TrailerAddress {f['TrailerAddress']}")
     f["Copy"] = number(copy, 16, 4)
     return f
@@ -145,12 +138,14 @@ def shown(file, f, zone, index):
     """The unit that a place shows, with its body; or the name of the class of what is there."""
     first = SECTOR * (COPIES + f["Slots"] // 16)
     starts = {"WalHeaders": SECTOR * COPIES, "WalPrepares": first, "ClientReplies": first + f["MessageSize"] * f["Slots"]}
-    length = HEADER if zone == "WalHeaders" else f["MessageSize"]
+    blocks = -(-(starts["ClientReplies"] + f["MessageSize"] * f["Clients"]) // f["BlockSize"])
+    starts["Grid"] = f["BlockSize"] * (blocks - 1)
+    length = {"WalHeaders": HEADER, "Grid": f["BlockSize"]}.get(zone, f["MessageSize"])
     raw = bytes_at(file, starts[zone] + length * index, length)
     if not any(raw[:HEADER]):
         return "Blank"
     h = header_of(raw[:HEADER])
-    if h is None or h["cluster"] != f["Cluster"] or h["size"] > f["MessageSize"]:
+    if h is None or h["cluster"] != f["Cluster"] or h["size"] > max(length, f["MessageSize"] if zone == "WalHeaders" else 0):
         return "Garbled"
     h["body"] = raw[HEADER : h["size"]]
     if zone != "WalHeaders" and checksum(h["body"]) != h["body_checksum"]:
@@ -168,17 +163,18 @@ def shown(file, f, zone, index):
     return h if (belongs, at) == (zone, index) else f"Elsewhere {belongs} {at}"
 
 
-def tail_of(f, headers, prepares):
-    """The longest list of prepares that are taken and fit; with each client's place and last prepare, in order of place."""
-    tail, sessions = [], {}
-    for op in range(1, f["Slots"] + 1):
+def tail_of(f, headers, prepares, known):
+    """The longest list of prepares that are taken and fit; with each client's last request, in order of place, the sessions
+    that are known first."""
+    tail, sessions = [], dict(known)
+    for op in range(f["Op"] + 1, f["Op"] + f["Slots"] + 1):
         header, one = headers[op % f["Slots"]], prepares[op % f["Slots"]]
         if isinstance(one, str) or one["op"] != op:
             break
         if not isinstance(header, str) and header["op"] >= op and header["checksum"] != one["checksum"]:
             break
         before, last = tail[-1] if tail else None, sessions.get(one["client"])
-        chained = one["parent"] == (number(before["checksum"], 0, 16) if before else 0)
+        chained = one["parent"] == (number(before["checksum"], 0, 16) if before else f["OpChecksum"])
         marked = one["mark"] >= (before["mark"] if before else 0) and one["mark"] + 8 >= op
         if last:
             follows = one["request"] == last["request"] + 1 and last["op"] <= one["mark"]
@@ -191,23 +187,21 @@ def tail_of(f, headers, prepares):
     return tail, sessions
 
 
-def class_at(what):
-    """The class of what is shown and isn't wanted."""
-    return what if isinstance(what, str) else "Stale"
-
-
-def state_of(file):
-    """The prepares of the file, how many replies are stored, and for each client its stored reply or its waiting prepare."""
-    f = superblock_of(file)
+def state_of(file, checkpoints=True):
+    """The prepares of the file, how many replies are stored, for each client its stored reply or what waits, and what its
+    checkpoint says. Without checkpoints a file that has one is refused, as by a program that knows none."""
+    f = superblock_of(file, checkpoints)
+    root, known, references = checkpoint_of(lambda address: shown(file, f, "Grid", address), f)
     headers = [shown(file, f, "WalHeaders", slot) for slot in range(f["Slots"])]
     prepares = [shown(file, f, "WalPrepares", slot) for slot in range(f["Slots"])]
     places = [shown(file, f, "ClientReplies", place) for place in range(f["Clients"])]
     logged = [one for one in headers + prepares if not isinstance(one, str)]
     replies = [one for one in places if not isinstance(one, str)]
-    if any(one["checkpoint"] > f["Sequence"] for one in logged + replies) or any(one["op"] > f["Slots"] for one in logged):
+    later = any(one["checkpoint"] > f["Sequence"] for one in logged + replies)
+    if later or any(one["op"] > f["Op"] + f["Slots"] for one in logged):
         raise Refused(f"Damaged Superblock {f['Copy']} Stale")
-    tail, sessions = tail_of(f, headers, prepares)
-    head = len(tail)
+    tail, sessions = tail_of(f, headers, prepares, known)
+    head = f["Op"] + len(tail)
     seen = [f["Head"], *(one["op"] for one in logged), *(max(one["op"], one["mark"]) for one in replies)]
     if max(seen) > head:
         slot = (head + 1) % f["Slots"]
@@ -221,7 +215,14 @@ def state_of(file):
             if isinstance(one, str) or any(one[name] != last[name] for name in ("client", "request", "op")):
                 raise Refused(f"Damaged ClientReplies {place} {class_at(one)}")
             kept[client] = one
-    return {"fields": f, "prepares": tail, "stored": stored, "replies": kept}
+    blocks = {address: block_of(file, f, address, checksum) for address, checksum in references.items()}
+    return {"fields": f, "head": head, "prepares": tail, "stored": stored, "replies": kept, "root": root, "blocks": blocks}
+
+
+def block_of(file, f, address, checksum):
+    """A referenced block, or the class of what is there."""
+    one = shown(file, f, "Grid", address)
+    return one if not isinstance(one, str) and one["kind"] == BLOCK and one["checksum"] == checksum else class_at(one)
 
 
 def text_of(one):
@@ -242,6 +243,10 @@ def main():
     f = state["fields"]
     print("layout", *(f[name] for name in ("Slots", "MessageSize", "Clients", "BlockSize", "Blocks")))
     print("cluster", f["Cluster"])
+    print("sequence", f["Sequence"])
+    print("root", state["root"].hex() or "-")
+    for address, one in state["blocks"].items():
+        print("block", address, one if isinstance(one, str) else f"kind {one['block_kind']} body {one['body'].hex() or '-'}")
     print("replies", state["stored"])
     for prepare in state["prepares"]:
         print("prepare", text_of(prepare))

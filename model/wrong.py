@@ -2,10 +2,12 @@
 
 from typing import Optional, Union
 
-from tries import form, machine, recovery, superblock, units
+import wrong_grid
+import wrong_scrub
+from tries import form, grid, recovery, superblock, units
 from tries.bugs import has
 from tries.form import HEADER, SECTOR, Place
-from tries.machine import SYNC, Event
+from tries.grid import SYNC, Event
 from tries.units import Unit
 
 
@@ -51,7 +53,7 @@ def choose(copies: list):
     return superblock.choose(copies)
 
 
-class Rules(recovery.Rules):
+class Rules(wrong_grid.Rules):
     """The rules of an open."""
 
     def decision(self, header, prepare, op: int) -> str:
@@ -87,8 +89,8 @@ class Rules(recovery.Rules):
             return one.request == 1
         return super().follows(one, sessions, content)
 
-    def tail(self, rings, content) -> tuple:
-        tail, sessions = super().tail(rings, content)
+    def tail(self, rings, content, sessions: tuple) -> tuple:
+        tail, sessions = super().tail(rings, content, sessions)
         return tail, sessions[: content.clients]
 
     def behind(self, rings, content) -> bool:
@@ -147,19 +149,23 @@ class Rules(recovery.Rules):
         return table, to_mend
 
 
-class Machine(machine.Machine):
+class Machine(wrong_scrub.Machine):
     """An opened file whose reads are those of the file."""
 
     file = None
 
-    def look(self, one: Unit, place: Place, data) -> Union[Unit, str]:
-        return read(self.file.read(self.layout.at(place), self.layout.message_size), self.home, place)
+    def look(self, place: Place) -> Union[Unit, str]:
+        if self.seen is not None:
+            # What a bug has looked at isn't read twice.
+            seen, self.seen = self.seen, None
+            return seen
+        return read(self.file.read(self.layout.at(place), units.length(place, self.layout)), self.home, place)
 
-    def told(self, word: str, one: Unit, place: Place, data) -> list:
+    def told(self, kind: int, one: Unit, place: Place) -> list:
         if has("a read doesn't look at the checksum"):
-            what = self.look(one, place, data)
+            what = self.seen = self.look(place)
             one = what if isinstance(what, Unit) else one
-        text = super().told(word, one, place, data)[0].data
+        text = super().told(kind, one, place)[0].data
         if has("bodies are printed in upper case"):
             front, space, body = text.rpartition(b" ")
             text = front + space + body.upper()
@@ -186,12 +192,12 @@ class Machine(machine.Machine):
         return None if skipped and has(skipped) else why
 
     def append(self, client: int, request: int, body: bytes) -> list:
-        marked, sequence = self.replies, self.sequence
+        marked, durable = self.replies, self.durable
         if has("a prepare's mark is 0") and not self.append_refusal(client, request, body):
             self.replies = 0
-        self.sequence = 1 if has("a stamp is always 1") else sequence
+        self.durable = durable._replace(sequence=1) if has("a stamp is always 1") else durable
         events = super().append(client, request, body)
-        self.replies, self.sequence = marked, sequence
+        self.replies, self.durable = marked, durable
         if len(events) == 1:
             return events
         prepare, first, header, second, answer = events
@@ -223,7 +229,7 @@ class Machine(machine.Machine):
     def reply(self, op: int, body: bytes) -> list:
         if self.reply_refusal(op, body):
             return super().reply(op, body)
-        place = self.place_of(self.tail[op - 1].client)
+        place = next(place for place, session in enumerate(self.sessions) if session.op == op)
         events = super().reply(op, body)
         one = dict(self.stored[place].fields())
         if has("a reply has the session's number for its mark"):
@@ -240,10 +246,10 @@ class Machine(machine.Machine):
         write = Event("write", at, form.whole_sectors(whole))
         return [write, events[-1]] if has("a reply isn't synced") else [write, SYNC, events[-1]]
 
-    def lookup(self, client: int, shown=None) -> list:
+    def lookup(self, client: int) -> list:
         place = self.place_of(client)
         waits = place is not None and self.sessions[place].op > self.replies
         if has("a lookup of what waits says no client") and waits:
-            return machine.refused("NoClient")
+            return grid.refused("NoClient")
         return super().lookup(client)
 

@@ -3,6 +3,8 @@
 import os
 import sys
 
+from .knows import knows
+
 FIELDS = (
     "Slots", "MessageSize", "Clients", "BlockSize", "Blocks", "Cluster", "Sequence", "Op", "OpChecksum", "Head", "Replies",
     "TrailerAddress", "TrailerChecksum", "TrailerSize", "Boot", "Zero",
@@ -105,16 +107,102 @@ NAMES = (
     "an empty body is printed as nothing",
     *(f"a field isn't tested: {field}" for field in FIELDS),
 )
+# Those of a program that knows blocks and checkpoints.
+BLOCKS = (
+    "a trailer block's index isn't compared",
+    "a trailer block's size isn't compared",
+    "a trailer block's sequence isn't compared",
+    "a chain may lead outside the grid",
+    "a trailer block's checksum isn't compared",
+    "a block may stand for a trailer block",
+    "a chain is read once",
+    "a session of client 0 is taken",
+    "a session's request isn't tested",
+    "a session's op isn't tested",
+    "two sessions of one client are taken",
+    "two sessions of one op are taken",
+    "a trailer may reference itself",
+    "ops that wait for nobody are taken",
+    "sessions of a trailer are forgotten",
+    "references of a trailer are forgotten",
+    "a parent after an open is zeros",
+    "an address that the checkpoint references is given out",
+    "an address of the checkpoint's trailer is given out",
+    "an address that is captured is given out",
+    "an address of the running trailer is given out",
+    "the greatest free address is given out",
+    "a block may have kind 0",
+    "a long block is cut",
+    "a block is synced",
+    "what isn't live may be released",
+    "released blocks stay referenced",
+    "the last step isn't counted as left",
+    "a long root comes before one that runs",
+    "a root may be longer",
+    "the ring is free at the begin",
+    "a trailer block is synced",
+    "the update comes before the last trailer block",
+    "sessions are those at the last step",
+    "the checkpoint's op has no checksum",
+    "the superblock's head is the captured op",
+    "the superblock's replies are the head",
+    "waiting ops are forgotten at a checkpoint",
+    "sequences rise by two",
+    "an update goes from the last copy to the first",
+    "an update writes three copies",
+    "an update syncs once",
+    "the last step isn't synced",
+    "a read of a block doesn't look at the checksum",
+    "a read takes a trailer block",
+    "a covered prepare is read",
+    "a root of any length is taken",
+    "any number of sessions is taken",
+    "unused bits aren't tested",
+    "the end of a trailer isn't tested",
+    "copies aren't read back",
+    "two copies are enough",
+    "one lost copy is damage",
+)
+# Those of a program that knows every line and word.
+WORDS = (
+    "trailer blocks aren't scrubbed",
+    "captured blocks aren't scrubbed",
+    "trailer blocks that aren't written are scrubbed",
+    "released blocks aren't scrubbed",
+    "the scrubber takes any unit",
+    "the scrubber wants a block",
+    "free blocks are scrubbed",
+    "sound blocks join the findings",
+    "the findings keep the first ones",
+    "the findings keep 63",
+    "a tour checks a block twice",
+    "a tour isn't begun anew",
+    "findings are forgotten with a tour",
+    "recent begins with the newest",
+    "scrub stops at the first failing block",
+    "copies are mended last in a report",
+    "what is mended is always garbled",
+    "sessions are always stored",
+    "a report leaves the root out",
+    "a workload has four clients",
+    "numbers of a workload have 4 bytes",
+    "a workload keeps nine blocks",
+    "refused commands aren't counted",
+    "inspect mends",
+    "findings don't count for the status",
+    "a workload may have no commands",
+)
 BUG = os.environ.get("BUG", "")
 
 
 def has(name: str) -> bool:
     """Whether this is the bug that was asked for."""
-    assert name in NAMES
+    assert name in (*NAMES, *BLOCKS, *WORDS), name
     return name == BUG
 
 
 def refuse_unknown() -> None:
     """Ends the program where the bug that is asked for isn't one of these."""
-    if BUG and BUG not in NAMES:
-        sys.exit(f"no such bug: {BUG}; those that there are:\n" + "\n".join(NAMES))
+    there = NAMES + (BLOCKS if knows("blocks") else ()) + (WORDS if knows("all") else ())
+    if BUG and BUG not in there:
+        sys.exit(f"no such bug: {BUG}; those that there are:\n" + "\n".join(there))

@@ -4,8 +4,11 @@ from collections import Counter
 from random import Random
 from typing import NamedTuple, Optional
 
-from . import form, generate, recovery, script
+from . import form, generate, recovery, script, units
 from .binary import Binary, Result, expect, require
+from .knows import knows
+from .machine import Machine
+from .words import command
 
 
 class Try(NamedTuple):
@@ -37,7 +40,7 @@ def same_run(what: str, wanted: script.Outcome, got: Result) -> None:
 
 def asked(t: Try, what: str, data: Optional[bytes], words: list, text: bytes = b"") -> script.Outcome:
     """Runs words over the file, which holds `data`, and compares text, status and bytes with the model."""
-    wanted = script.command(data, words, text)
+    wanted = command(data, words, text)
     same_run(what, wanted, t.binary.run(text, words))
     same_bytes(what, wanted.data, t.binary.get())
     t.counts["runs that were as the model's"] += 1
@@ -60,14 +63,31 @@ def keeps(what: str, views: list, data: Optional[bytes]) -> None:
         heads = [(view.head(), view.replies) for view in views]
         got = (found.view.head(), found.view.replies)
         require(f"{what}: the file has {got} prepares and replies, and should have one of {heads}", found.view in views)
+        bad = missing_blocks(data, found.view)
+        require(f"{what}: each block of the checkpoint is there, but not those at {bad}", not bad)
+
+
+def missing_blocks(data: bytes, view: recovery.View) -> list:
+    """The addresses of the checkpoint's references and chain that don't show the block of their checksum."""
+    def there(address: int, checksum: bytes) -> bool:
+        one = units.shown(data, view.home, form.Place(form.GRID, address))
+        return isinstance(one, units.Unit) and one.checksum == checksum
+    listed = (*view.checkpoint.references, *view.checkpoint.chain)
+    return [address for address, checksum in listed if not there(address, checksum)]
+
+
+def reads_of(m: Machine, prepares: int) -> list:
+    """Lines that read what is kept: so many of the last prepares, each client's reply, and each block up to twenty."""
+    ops = range(max(m.durable.op + 1, m.head() + 1 - prepares), m.head() + 1)
+    blocks = [b"read %d" % address for address in sorted(m.live)[:20]] if knows("blocks") else []
+    return [b"prepare %d" % op for op in ops] + [b"lookup %d" % one.client for one in m.sessions] + blocks
 
 
 def reopen(t: Try, what: str, views: list, data: Optional[bytes]) -> bytes:
     """Opens the file, which has one of these views, reads all that is kept and goes on with a few lines."""
     keeps(what, views, data)
     m = generate.machine_of(data)
-    ops = range(1, m.head() + 1) if m.layout.message_size <= 16384 else range(max(1, m.head()), m.head() + 1)
-    listed = [b"prepare %d" % op for op in ops] + [b"lookup %d" % one.client for one in m.sessions]
+    listed = reads_of(m, m.layout.slots if m.layout.message_size <= 16384 else 1)
     listed += generate.script_of(t.random, m, 2, 0.1)
     return session(t, what, data, generate.text_of(t.random, listed)).data
 

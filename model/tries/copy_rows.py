@@ -29,6 +29,9 @@ BLANK, C = bytes(SECTOR), [FIRST.encode(place) for place in range(4)]
 OTHER = superblock.first(Home(SMALL, 8))
 # The file, the words, the script; the text and the status. In these files nothing stands behind the copies.
 ROWS = (
+    # Two contents of equal sequence: that of copy 0 is chosen, and written over the other one.
+    (file_of(C[0], OTHER.encode(1), OTHER.encode(2), C[3]), "run", "append 1 1 -", "appended 1\n", 0),
+    (file_of(OTHER.encode(0), C[1], OTHER.encode(2), C[3]), "run", "append 1 1 -", "appended 1\n", 0),
     # Copies at rest that are struck.
     (file_of(C[0], A5, C[2], A5), "run", "append 1 1 -", "appended 1\n", 0),
     (file_of(A5, A5, A5, C[3]), "run", "", "refused NoQuorum Garbled Garbled Garbled Stale\n", 4),
@@ -72,9 +75,6 @@ ROWS = (
     (four(trailer_size=1), "run", "", "refused BadField TrailerSize 1\n", 4),
     (four(trailer_address=64), "run", "", "refused BadField TrailerSize 0\n", 4),
     (four(trailer_address=64, trailer_size=2193), "run", "", "refused BadField TrailerSize 2193\n", 4),
-    (four(trailer_address=64, trailer_size=2192), "run", "", "refused BadField TrailerAddress 64\n", 4),
-    (four(op=1, head=1, replies=1, trailer_address=1, trailer_size=1, op_checksum=A5[:16]), "run", "",
-     "refused BadField TrailerAddress 1\n", 4),
     (four(boot=1), "run", "", "refused BadField Boot 1\n", 4),
     (four(zero=bytes(3935) + b"\1"), "run", "", "refused BadField Zero 4095\n", 4),
     (four(zero=b"\0\1" + bytes(3933) + b"\1"), "run", "", "refused BadField Zero 161\n", 4),
@@ -94,4 +94,12 @@ ROWS = (
     (four(trailer_checksum=b"\1" + bytes(15), trailer_size=1), "run", "", "refused BadField TrailerChecksum 1\n", 4),
     (four(trailer_size=1, boot=1), "run", "", "refused BadField TrailerSize 1\n", 4),
     (four(boot=1, zero=b"\1" * 3936), "run", "", "refused BadField Boot 1\n", 4),
+)
+# What a program says that knows no checkpoints.
+WITHOUT_CHECKPOINTS = (
+    (four(), "run", "step\n", "script 1\n", 3),
+    (four(), "run", "checkpoint -\n", "script 1\n", 3),
+    (four(trailer_address=64, trailer_size=2192), "run", "", "refused BadField TrailerAddress 64\n", 4),
+    (four(op=1, head=1, replies=1, trailer_address=1, trailer_size=1, op_checksum=A5[:16]), "run", "",
+     "refused BadField TrailerAddress 1\n", 4),
 )

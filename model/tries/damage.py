@@ -1,15 +1,19 @@
 """Tries of damage: a file whose bytes were struck is opened as docs/FORMAT.md says, and nothing else changes."""
 
 from . import copies, form, generate, recovery, script, superblock
-from .common import Try, asked, session
+from .common import Try, asked, reads_of, session
 from .forge import forge, put
 from .form import COPIES, HEADER, SECTOR
+from .knows import knows
 
 
 def target(t: Try, layout: form.Layout, slots: bool) -> int:
-    """An offset in the file: in the ring of headers, in the ring of prepares or in the replies, most often near their begin;
-    or among the copies, where not only slots are struck."""
+    """An offset in the file: in the ring of headers, in the ring of prepares, in the replies or in the grid, most often near
+    their begin; or among the copies, where not only slots are struck."""
     random = t.random
+    if knows("blocks") and random.random() < 0.2:
+        return layout.grid() + layout.block_size * random.randrange(min(random.choice((2, 6)), layout.blocks)) + random.choice(
+            (random.randrange(HEADER), random.randrange(layout.block_size)))
     what = random.random()
     if what < 0.1 and not slots:
         return random.randrange(SECTOR * COPIES)
@@ -52,7 +56,10 @@ def strike(t: Try, data: bytearray, layout: form.Layout, slots: bool = False) ->
     elif what == "copy":
         put(data, other, form.part(data, sector, SECTOR))
     elif what == "slot":
-        one, two = (layout.first() + size * random.randrange(min(8, layout.slots + layout.clients)) for _ in range(2))
+        start, count = layout.first(), layout.slots + layout.clients
+        if knows("blocks") and random.random() < 0.3 and used > layout.grid():
+            start, size, count = layout.grid(), layout.block_size, layout.blocks
+        one, two = (start + size * random.randrange(min(8, count)) for _ in range(2))
         put(data, one, form.part(data, two, size))
     elif what == "header":
         one, two = (layout.header_sector(0) + HEADER * random.randrange(min(20, layout.slots)) for _ in range(2))
@@ -84,8 +91,7 @@ def struck(t: Try) -> None:
 def look(t: Try, data: bytes) -> bytes:
     """Lines that read what is there, and go on."""
     m = generate.machine_of(data)
-    listed = [b"lookup %d" % one.client for one in m.sessions] + [b"prepare %d" % op for op in range(m.head() + 1)][-4:]
-    return generate.text_of(t.random, listed + generate.script_of(t.random, m, 3, 0.1))
+    return generate.text_of(t.random, reads_of(m, 4) + generate.script_of(t.random, m, 3, 0.1))
 
 
 def garbage(t: Try) -> None:

@@ -25,9 +25,9 @@ def order(t: Try) -> None:
     allowed = {"openat", "fsync", "fdatasync", "pread64", "pwrite64", "read", "write", "close", "brk", "mmap"}
     expect("calls of no other kind", set(), {call.name for call in plan.calls} - allowed)
     order_of_reads(plan)
-    first = next((at for at, call in enumerate(plan.calls) if call.name in ("read", "pwrite64")), len(plan.calls))
+    first = next((at for at, call in enumerate(plan.calls) if call.name in ("read", "pwrite64", "write")), len(plan.calls))
     late = [call for call in plan.calls[first:] if call in takes(plan) and not t.binary.interpreted]
-    expect("no call takes memory after the first read of the script or the first write", [], late)
+    expect("no call takes memory after the first read of the script, write or answer", [], late)
     if plan.words != ["run"] or plan.wanted.status == script.REFUSED:
         expect("no read of a script that isn't executed", [], named(plan.calls, "read", 0))
     syncs = named(plan.calls, "fdatasync", plan.fd)
@@ -58,23 +58,32 @@ def order_of_reads(plan: Plan) -> None:
     barrier = changes[0] if changes else len(calls)
     early, others = reads_of(calls[:barrier], plan.fd, layout)
     expect("reads of slots before the first sync or write", [], others)
-    if plan.words != ["run"]:
+    if plan.words[0] == "format":
         require("format reads each copy at most once", len(early) == len(set(early)))
         expect("reads behind the first write of format", ([], []), reads_of(calls[barrier:], plan.fd, layout))
         return
     expect("the copies that are read first", [0, 1, 2, 3], early)
     behind = [at for at, call in enumerate(calls) if at > barrier and call.name in ("pwrite64", "read")]
-    opened = behind[0] if behind else len(calls)
+    # Without a script the calls don't say where the open ends.
+    opened = behind[0] if behind and plan.words == ["run"] else len(calls)
     again, slots = reads_of(calls[barrier:opened], plan.fd, layout)
-    found = recovery.found(plan.data)
-    expect("the copies that are read behind the barrier", [] if found.early else [0, 1, 2, 3], again)
+    found, front = recovery.found(plan.data), form.SECTOR * form.COPIES
+    late = [] if plan.words == ["run"] else plan.wanted.reads
+    wanted = ([] if found.early else [0, 1, 2, 3]) + [at // form.SECTOR for at in late if at < front]
+    expect("the copies that are read behind the barrier", wanted, again)
+    blocks, slots = [at for at in slots if at >= layout.grid()], [at for at in slots if at < layout.grid()]
     require("each slot is read at most once by an open", len(slots) == len(set(slots)))
-    if not found.refusal:
+    if found.refusal:
+        require("each trailer block is read at most twice by an open", all(blocks.count(at) <= 2 for at in blocks))
+    else:
+        chain = [layout.at(form.Place(form.GRID, address)) for address, _ in found.view.checkpoint.chain]
+        later = [at for at in late if at >= front]
+        expect("the trailer blocks that an open reads, back and forwards", chain[::-1] + chain + later, blocks)
         expect("the header sectors and slots that an open reads", every_slot(layout), sorted(slots))
-        # Each line that shows a unit has read its slot.
-        shown = sum(line.startswith((b"prepare ", b"reply ")) for line in plan.wanted.text.split(b"\n"))
-        copies, slots = reads_of(calls[opened:], plan.fd, layout)
-        expect("the copies and the number of slots that are read behind the open", ([], shown), (copies, len(slots)))
+        copies, others = reads_of(calls[opened:], plan.fd, layout)
+        listed = plan.wanted.reads if plan.words == ["run"] else []
+        expect("the copies that are read behind the open", [at // form.SECTOR for at in listed if at < front], copies)
+        expect("what else is read behind the open", [at for at in listed if at >= front], others)
 
 
 def with_one_failing(t: Try, plan: Plan, name: str, places: list) -> tuple:
@@ -175,7 +184,8 @@ def short(t: Try) -> None:
         rest = event._replace(at=event.at + taken, data=event.data[taken:])
         events = events[:at] + [rest] + events[at + 1 :]
         # What a line reads may be what was lost so.
-        text = script.answers(events) if b"\nprepare " not in text and b"\nreply " not in text else got.text
+        reads = (b"\nprepare ", b"\nreply ", b"\nblock ", b"\nchecked ")
+        text = got.text if any(word in text for word in reads) else script.answers(events)
     else:
         text = printed + text[len(printed) + taken :]
     expect(f"a short {name}: text", text, got.text)
@@ -270,7 +280,8 @@ def file_limit(t: Try) -> None:
     fits = event.data[: max(0, limit - event.at)]
     data = script.apply(data, event._replace(data=fits)) if fits else data
     same_bytes("a limit of the file", data, t.binary.get() or b"")
-    reopen(t, "a limit of the file", plan.wanted.kept(at), t.binary.get())
+    # The write that failed had begun: what fitted of it may be the whole unit.
+    reopen(t, "a limit of the file", plan.wanted.kept(at + 1), t.binary.get())
     t.counts["limits of the file's length"] += 1
 
 

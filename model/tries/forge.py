@@ -6,7 +6,7 @@ from . import form, generate, units
 from .form import LIMIT, SECTOR, Place
 from .machine import Machine
 from .recovery import Session
-from .units import PREPARE, REPLY, RESERVED
+from .units import PREPARE, RESERVED
 
 TOP = LIMIT
 
@@ -16,10 +16,9 @@ def next_prepare(random: Random, m: Machine) -> tuple:
     op, data = m.head() + 1, generate.body(random, m.layout)
     may = generate.appends(m) or [(0, 1)]
     client, request = random.choice(may)
-    parent = m.tail[-1].checksum if m.tail else bytes(16)
     fields = units.fields_of(
-        m.home, PREPARE, data, parent=parent, client=form.number(client or generate.new_client(random, m)), op=op,
-        request=request, mark=m.replies, checkpoint=m.sequence, slot=op % m.layout.slots,
+        m.home, PREPARE, data, parent=m.last_checksum(), client=form.number(client or generate.new_client(random, m)), op=op,
+        request=request, mark=m.replies, checkpoint=m.durable.sequence, slot=op % m.layout.slots,
     )
     return fields, data
 
@@ -27,11 +26,11 @@ def next_prepare(random: Random, m: Machine) -> tuple:
 def next_reply(random: Random, m: Machine) -> tuple:
     """The fields and the body of a reply that most often is the next one, or one that is stored."""
     data = generate.body(random, m.layout)
-    if not m.tail:
+    if not m.sessions:
         return next_prepare(random, m)
-    op = min(m.head(), max(1, m.replies + random.choice((0, 1, 1, 1, 2))))
-    to = m.tail[op - 1]
-    one = units.reply(m.home, to, m.place_of(to.client), data, m.head(), m.sequence)
+    op = m.replies + random.choice((0, 1, 1, 1, 2))
+    place = min(range(len(m.sessions)), key=lambda place: abs(m.sessions[place].op - op))
+    one = units.reply(m.home, m.waiting.get(op, bytes(16)), m.sessions[place], place, data, m.head(), m.durable.sequence)
     return dict(one.fields()), data
 
 
@@ -62,7 +61,7 @@ def changes(random: Random, m: Machine, f: dict, data: bytes) -> tuple:
         ("mark", 0), ("mark", max(0, op - 1)), ("mark", op), ("mark", op + 1), ("mark", 2**64 - 1), ("mark", last),
         ("mark", max(0, last - 1)), ("mark", max(0, op - 8)), ("mark", max(0, op - 9)), ("mark", m.head()),
         ("mark", m.head() + 1), ("mark", m.replies + 1), ("mark", max(0, m.replies - 1)), ("mark", TOP), ("mark", TOP + 1),
-        ("checkpoint", 0), ("checkpoint", 1), ("checkpoint", m.sequence), ("checkpoint", m.sequence + 1),
+        ("checkpoint", 0), ("checkpoint", 1), ("checkpoint", m.durable.sequence), ("checkpoint", m.durable.sequence + 1),
         ("checkpoint", TOP), ("checkpoint", TOP + 1), ("op", 0), ("op", op + 1), ("op", max(0, op - 1)),
         ("op", op + slots), ("op", slots), ("op", slots + 1), ("op", TOP), ("op", TOP + 1), ("op", 2**64 - 1),
         ("op and slot", op + slots), ("op and slot", op + 1), ("op and slot", TOP), ("cluster", form.number(0)),

@@ -98,6 +98,10 @@ class Layout(NamedTuple):
         """The bytes of the longest body of a prepare or a reply."""
         return self.message_size - HEADER
 
+    def block_max(self) -> int:
+        """The bytes of the longest body of a block, and of a trailer block but the last one."""
+        return self.block_size - HEADER
+
     def line_max(self) -> int:
         """The bytes of the longest line of a script."""
         return 2 * max(self.message_size, self.block_size) + 64
@@ -138,6 +142,22 @@ def part(data: bytes, start: int, length: int) -> bytes:
     """Bytes of a file, with zeros behind its end."""
     piece = bytes(data[start : start + length])
     return piece + bytes(length - len(piece))
+
+
+class Image:
+    """The bytes of a file with whole sectors written over them. A slice has just the bytes asked for, zeros behind the end."""
+
+    def __init__(self, data: bytes):
+        self.data, self.sectors = data, {}
+
+    def write(self, at: int, data: bytes) -> None:
+        for start in range(0, len(data), SECTOR):
+            self.sectors[(at + start) // SECTOR] = data[start : start + SECTOR]
+
+    def __getitem__(self, span: slice) -> bytes:
+        first, last = span.start // SECTOR, -(-span.stop // SECTOR)
+        whole = b"".join(self.sectors.get(at) or sector(self.data, at) for at in range(first, last))
+        return whole[span.start - SECTOR * first : span.stop - SECTOR * first]
 
 
 def sector(data: bytes, index: int) -> bytes:

@@ -8,7 +8,9 @@ from . import copies, form, generate, script, superblock
 from .binary import expect, require
 from .common import Try, asked, reopen, same_bytes, same_run, session
 from .form import COPIES, LIMITS, SECTOR
+from .knows import knows
 from .stops import Kept, stop
+from .words import command
 
 # A file that is made in a longer time, or that takes more bytes on its disk, isn't made by a few writes.
 QUICK_SECONDS, SPARSE_BYTES = 10, 2**20
@@ -60,6 +62,11 @@ def list_of_words(t: Try) -> list:
         elif change < 0.16:
             words[random.randrange(3)] = random.choice((b"\xff", b"run\xc3", b"small\xff", b"7\x80"))
         return words
+    if random.random() < 0.4:
+        # A word that stands alone, or a workload of few commands; most often with a meaning.
+        count = random.choice(("1", "2", "20", "0", "01", "1000001", "9" * 40, "-", "", "x", "\u0661"))
+        listed = random.choice((["recover"], ["inspect"], ["scrub"], ["workload", cluster_word(t), count]))
+        return listed + ["-"] if random.random() < 0.1 else listed
     choices = ("", "run", "RUN", "Run", "run ", " run", "runn", "ru", "-", "--", "--run", "-h", "--help", "format", "0",
                "small", "recover", "inspect", "scrub", "workload", b"\xff", b"run\xc3")
     return [random.choice(choices) for _ in range(random.randint(0, 4))]
@@ -107,15 +114,15 @@ def words(t: Try) -> None:
     source = os.path.join(t.binary.folder, "input")
     with open(source, "wb") as file:
         file.write(b"append 1 1 -\n")
-    wanted = script.command(data, given, b"append 1 1 -\n")
+    wanted = command(data, given, b"append 1 1 -\n")
     with open(source, "rb", buffering=0) as stdin:
         path = None
         if t.random.random() < 0.05:
-            wanted = script.command(data, [])
+            wanted = command(data, [])
             got = t.binary.call([t.binary.program], None, None, {"stdin": stdin})
         elif t.random.random() < 0.05:
             path = os.path.join(t.binary.folder.encode(), b"\xfe")
-            wanted = script.command(data, [path])
+            wanted = command(data, [path])
             got = t.binary.run(None, words=given, path=path, stdin=stdin)
             require("words: no file at a path that isn't UTF-8", not os.path.exists(path))
         else:
@@ -125,7 +132,7 @@ def words(t: Try) -> None:
     same_bytes(f"words {given}", wanted.data, t.binary.get())
     opened = wanted.status in (script.DONE, script.SCRIPT) and given == ["run"]
     require(f"words {given}: standard input is read where a script is executed alone", opened or read == 0)
-    first = "run" if given == ["run"] else "format"
+    first = given[0] if given else ""
     t.counts["lists of words without a meaning" if wanted.status == script.WORDS else f"words of a meaning: {first}"] += 1
 
 
@@ -213,6 +220,24 @@ def large_replies(t: Try, data: bytes) -> None:
     expect("replies in large, read by another run", (0, printed), (again.status, again.text))
     require("a file of large stays sparse", os.stat(t.binary.path).st_blocks * 512 < 64 * SPARSE_BYTES)
     t.counts["replies in large"] += len(listed)
+    if knows("blocks"):
+        large_blocks(t)
+
+
+def large_blocks(t: Try) -> None:
+    """Blocks and a checkpoint in the layout `large`, read again by another run."""
+    blocks = [t.random.randbytes(t.random.choice((0, 1, 3841, form.LARGE.block_max()))) for _ in range(3)]
+    lines = b"".join(b"block %d %s\n" % (at, one.hex().encode() or b"-") for at, one in enumerate(blocks, 1))
+    got = t.binary.run(lines + b"release 2\ncheckpoint 07\nstep\nstep\n")
+    told = b"wrote 1\nwrote 2\nwrote 3\nreleased 2\nbegun 1\nworking 1\ndone 2\n"
+    expect("blocks in large", (0, told), (got.status, got.text))
+    printed = [b"block %d kind %d body %s\n" % (at, at, blocks[at - 1].hex().encode() or b"-") for at in (1, 3)]
+    again = t.binary.run(b"read 1\nread 2\nread 3\nblock 9 -\n")
+    # The trailer took the address that was released.
+    wanted = printed[0] + b"refused NotLive\n" + printed[1] + b"wrote 4\n"
+    expect("blocks in large, read by another run", (0, wanted), (again.status, again.text))
+    require("a file of large with blocks stays sparse", os.stat(t.binary.path).st_blocks * 512 < 64 * SPARSE_BYTES)
+    t.counts["blocks in large"] += 3
 
 
 KINDS = {"words": (words, 8), "formats": (formats, 8), "format_stopped": (format_stopped, 3), "large": (large, 1)}

@@ -3,8 +3,9 @@
 from random import Random
 from typing import Optional
 
-from . import copies, form, recovery, script, superblock
-from .form import LIMITS, SECTOR, Home, Layout
+from . import copies, form, generate_grid, recovery, script, superblock
+from .form import LIMITS, SECTOR, Home, Image, Layout
+from .knows import knows
 from .machine import Machine
 
 SIZES = (0, 0, 1, 2, 127, 128, 2048, 3839, 3840, 3841, 5000, 7935, 7936, 12000)
@@ -34,6 +35,10 @@ def layout(random: Random) -> Layout:
     """A lawful layout: most often `small` or one with a small ring, now and then one with many or large slots."""
     if random.random() < 0.5:
         return form.SMALL
+    if knows("blocks") and random.random() < 0.3:
+        # Small blocks, so that trailers have several; many or few of them.
+        blocks = random.choice((8, 9, 12, 1024, 16384, 16384))
+        return Layout(random.choice((16, 32)), 4096, random.choice((1, 4, 64)), 4096, blocks)
     slots, message_size = limited(random, "Slots", 64), limited(random, "MessageSize", 16384)
     kind = random.random()
     clients = limited(random, "Clients")
@@ -79,7 +84,10 @@ def spelled(random: Random, data: bytes) -> bytes:
 def machine_of(data: Optional[bytes]) -> Machine:
     """The machine of a file that opens; that of a new file where it doesn't."""
     found = recovery.found(data)
-    return Machine(recovery.found(script.fresh(Home(form.SMALL, 7))) if found.refusal else found)
+    if found.refusal:
+        data = script.fresh(Home(form.SMALL, 7))
+        found = recovery.found(data)
+    return Machine(found, Image(data))
 
 
 def any_number(random: Random, high: int) -> int:
@@ -89,9 +97,9 @@ def any_number(random: Random, high: int) -> int:
 
 def appends(m: Machine) -> list:
     """The clients that may append now with their next requests; client 0 stands for one that is new."""
-    if m.head() - m.replies == recovery.PIPELINE or m.head() == m.layout.slots:
+    if m.head() - m.replies == recovery.PIPELINE or m.head() in (m.durable.op + m.layout.slots, form.LIMIT):
         return []
-    known = [(one.client, one.request + 1) for one in m.sessions if one.op <= m.replies]
+    known = [(one.client, one.request + 1) for one in m.sessions if one.op <= m.replies and one.request < form.LIMIT]
     return known + [(0, 1)] * (len(m.sessions) < m.layout.clients)
 
 
@@ -105,8 +113,12 @@ def new_client(random: Random, m: Machine) -> int:
 
 
 def good(random: Random, m: Machine, most: Optional[int] = None) -> bytes:
-    """An append or a reply that is accepted; a read where there is none."""
+    """A line that changes something and is accepted; a read where there is none."""
     may, waits = appends(m), m.replies < m.head()
+    # A ring that is full goes on behind a checkpoint alone.
+    more = generate_grid.good(random, m, most) if random.random() < (0.4 if may or waits else 1) else None
+    if more:
+        return more
     data = body(random, m.layout)[:most]
     if may and (not waits or random.random() < 0.55):
         client, request = random.choice(may)
@@ -116,16 +128,22 @@ def good(random: Random, m: Machine, most: Optional[int] = None) -> bytes:
 
 def reading(random: Random, m: Machine) -> bytes:
     """A read, most often of what is there."""
+    more = generate_grid.reading(random, m) if random.random() < 0.5 else None
+    if more:
+        return more
     if random.random() < 0.6:
-        there = m.head() and random.random() < 0.8
-        near = random.choice((0, m.head(), m.head() + 1, any_number(random, 2**64 - 1)))
-        return b"prepare %d" % (random.randint(1, m.head()) if there else near)
+        there = m.tail and random.random() < 0.8
+        near = random.choice((0, m.durable.op, m.head(), m.head() + 1, any_number(random, 2**64 - 1)))
+        return b"prepare %d" % (random.randint(m.durable.op + 1, m.head()) if there else near)
     known = m.sessions and random.random() < 0.8
     return b"lookup %d" % (random.choice(m.sessions).client if known else any_number(random, 2**128 - 1))
 
 
 def refused(random: Random, m: Machine) -> bytes:
     """A line of the grammar that is most often refused."""
+    more = generate_grid.refused(random, m) if random.random() < 0.4 else None
+    if more:
+        return more
     data = spelled(random, body(random, m.layout)[: random.choice((0, 1, 10000))])
     long = b"00" * (m.layout.body_max() + random.choice((0, 1, 2)))
     known = random.choice(m.sessions) if m.sessions else recovery.Session(5, 1, 1)
@@ -175,7 +193,7 @@ def odd(random: Random, of: Layout) -> bytes:
         b"append 1_0 1 -", b"append 1.0 1 -", b"append 1 1 0g", b"append 1 1 0x00", b"append 1 1 00 00", b"append 1 1 00,",
         b"append \xd9\xa1 1 -", b"append \xb2 1 -", b"append 1 1 \xef\xbc\x91\xef\xbc\x91", b"\xef\xbb\xbfappend 1 1 -",
         b"append - 1 -", b"append 1 - -", b"append 1 1 - append 2 2 -", b"appended 1", b"step", b"scrub", b"recent",
-        b"block 1 -", b"release 1", b"checkpoint -", b"read 1", b"stage 1 1 -", b"flush",
+        b"block 1 -", b"release 1", b"checkpoint -", b"read 1", b"stage 1 1 -", b"flush", *generate_grid.ODD,
         b"reply", b"reply ", b"reply 1", b"reply 1 ", b"reply -", b"reply - -", b"reply 01 -", b"reply 1  -", b"reply 1 1 -",
         b"Reply 1 -", b"reply 1 - ", b"reply 1 0", b"reply 1 -\r", b"reply +1 -", b"replied 1", b"repl 1 -", b"reply1 -",
         b"prepare", b"prepare ", b"prepare -", b"prepare 01", b"prepare 1 ", b"prepare 1 -", b"prepare 1 1", b"prepare  1",
@@ -235,17 +253,27 @@ def any_script(random: Random, data: Optional[bytes]) -> bytes:
     return text_of(random, listed)
 
 
+def headers_hurt(random: Random, data: bytes) -> bytes:
+    """The file with one sector of its ring of headers struck: what that had is known by the prepares."""
+    layout = home_of(data).layout
+    at = layout.header_sector(random.randrange(layout.slots))
+    return data[:at] + random.choice((b"\xa5" * SECTOR, bytes(SECTOR), random.randbytes(SECTOR))) + data[at + SECTOR :]
+
+
 def image(random: Random, most: int = 32, of: Optional[Home] = None, hurt: float = 0.3) -> bytes:
-    """A file that opens: what a script left, sometimes with other bytes behind the blocks' begin, or with copies hurt."""
+    """A file that opens: what a script left, sometimes with other bytes behind the blocks' begin, or with copies or headers hurt."""
     of = of or home(random)
     layout = of.layout
     most = min(most, max(2, 2**21 // layout.message_size))
     data = script.fresh(of)
     small = 1 if random.random() < 0.3 else None
     listed = script_of(random, machine_of(data), random.randint(0, most), 0, small)
-    if random.random() < 0.03 and layout.slots <= 64:
+    if random.random() < (0.1 if knows("blocks") else 0.03) and layout.slots <= 64:
         listed = script_of(random, machine_of(data), 3 * layout.slots, 0, 1)
+    if random.random() < 0.1:
+        listed += generate_grid.burst(random, machine_of(script.run(data, text_of(random, listed)).data))
     data = script.run(data, text_of(random, listed)).data
     if random.random() < 0.2 and layout.grid() <= 2**21:
         data = data + bytes(max(0, layout.grid() - len(data))) + random.randbytes(random.randint(1, 3 * SECTOR))
+    data = headers_hurt(random, data) if random.random() < hurt / 2 else data
     return copies.hurt(random, data) if random.random() < hurt else data

@@ -2,10 +2,11 @@
 
 from typing import NamedTuple
 
-from . import form, generate, recovery, script
+from . import form, generate, recovery, script, superblock
 from .binary import require
-from .common import Try, session
+from .common import Try, reads_of, session
 from .form import COPIES, SECTOR, Place
+from .knows import knows
 from .stops import moment, stop
 from .units import Unit
 
@@ -33,7 +34,7 @@ def history(t: Try) -> History:
         earlier += [script.state(data, wanted.events[: min(upto, moment(t, wanted.events))]) for _ in range(3)]
         data = stop(t, data, wanted.events, upto)
         # The line in flight may have stood on the disk whole before the stop took it back, and damage may bring it there again.
-        views.update(wanted.views[: 2 + sum(done <= upto for done in wanted.done)])
+        views.update(view for view, may, _ in wanted.spans if may <= upto)
         views.add(recovery.view_of(data))
     return History(home, data, views, earlier)
 
@@ -45,6 +46,7 @@ def zones(layout: form.Layout) -> dict:
     return {
         "copies": sectors(0, SECTOR * COPIES), "headers": sectors(SECTOR * COPIES, layout.first()),
         "prepares": sectors(layout.first(), layout.end()), "replies": sectors(layout.end(), layout.replies_end()),
+        "grid": range(layout.grid() // SECTOR, layout.sectors()),
     }
 
 
@@ -63,15 +65,15 @@ def struck(t: Try, past: History, index: int) -> tuple:
 
 def written(past: History) -> list:
     """The sectors in which something stands; the copies are among them."""
-    length = min(len(past.data), past.home.layout.replies_end())
-    return [at for at in range(length // SECTOR) if any(form.sector(past.data, at))] or [0]
+    return [at for at in range(-(-len(past.data) // SECTOR)) if any(form.sector(past.data, at))] or [0]
 
 
 def damage(t: Try, past: History) -> tuple:
     """The file with some sectors hurt, and the numbers of these. Sometimes one zone alone is hurt."""
     random, layout = t.random, past.home.layout
     parts = zones(layout)
-    only = random.choice((None, None, ("headers",), ("copies",), ("prepares",), ("replies",), ("prepares", "replies")))
+    only = random.choice((None, None, ("headers",), ("copies",), ("prepares",), ("replies",), ("prepares", "replies"),
+                          *([("grid",), ("grid", "copies")] if knows("blocks") else [])))
     there = set(written(past))
     choices = [at for name, part in parts.items() if only is None or name in only for at in part if at in there]
     chosen = set(random.sample(choices, min(len(choices), random.choice((1, 1, 1, 2, 2, 3, 5))))) if choices else set()
@@ -93,9 +95,9 @@ def place_is_hurt(past: History, words: list, hurt: set) -> bool:
 
     def touched(one: Place) -> bool:
         first = layout.at(one) // SECTOR
-        return bool(hurt & set(range(first, first + layout.message_size // SECTOR)))
+        return bool(hurt & set(range(first, first + layout.fits(one.zone) // SECTOR)))
 
-    if place.zone == form.WAL_PREPARES:
+    if place.zone in (form.WAL_PREPARES, form.GRID):
         return touched(place)
     view = recovery.view_of(past.data)
     client = view.sessions[place.index].client
@@ -103,22 +105,31 @@ def place_is_hurt(past: History, words: list, hurt: set) -> bool:
     return touched(place) or any(touched(Place(form.WAL_PREPARES, op % layout.slots)) for op in later)
 
 
+def at_rest(data: bytes) -> bool:
+    """Whether the four copies are equal, as they are but within an update that was stopped."""
+    copies = superblock.all_seen(data)
+    return not isinstance(copies[0], str) and copies.count(copies[0]) == form.COPIES
+
+
 def promised(what: str, past: History, image: bytes, hurt: set) -> None:
     """What an open of a hurt file may find."""
     parts, found = zones(past.home.layout), recovery.found(image)
-    before = recovery.view_of(past.data)
+    before, rests = recovery.view_of(past.data), at_rest(past.data)
     if found.refusal:
         words = found.refusal.split()
-        require(f"{what}: a refusal of damage: {found.refusal}", bool(hurt) and words[0] == "Damaged")
-        require(f"{what}: the superblock isn't blamed: {found.refusal}", words[1] != form.SUPERBLOCK)
-        require(f"{what}: the place that is named was hurt: {found.refusal}", place_is_hurt(past, words, hurt))
+        kinds = ("Damaged",) if rests else ("Damaged", "NoQuorum", "NotFormatted")
+        require(f"{what}: a refusal of damage: {found.refusal}", bool(hurt) and words[0] in kinds)
+        if rests:
+            require(f"{what}: the superblock isn't blamed: {found.refusal}", words[1] != form.SUPERBLOCK)
+            require(f"{what}: the place that is named was hurt: {found.refusal}", place_is_hurt(past, words, hurt))
     else:
         require(f"{what}: a state that the file had", found.view in past.views)
-    if hurt <= set(parts["headers"]) or hurt <= set(parts["copies"]):
+        require(f"{what}: at rest its checkpoint", not rests or found.view.checkpoint == before.checkpoint)
+    if hurt <= set(parts["headers"]) or rests and hurt <= set(parts["copies"]):
         require(f"{what}: headers or copies alone: the same state", found.view == before)
     if not hurt & {*parts["headers"], *parts["copies"]} and found.view:
         rings = recovery.rings_of(past.data, past.home)
-        known = [one.op for one in rings.headers if isinstance(one, Unit)]
+        known = [one.op for one in rings.headers if isinstance(one, Unit) and one.op > before.checkpoint.op]
         require(f"{what}: each prepare whose header is there", found.view.head() >= max(known, default=0))
 
 
@@ -136,8 +147,7 @@ def hurt(t: Try) -> None:
             # That the promise is kept is shown by the model alone; of some files the program is asked, too.
             continue
         m = generate.machine_of(image)
-        listed = [b"lookup %d" % one.client for one in m.sessions] + [b"prepare %d" % op for op in range(m.head() + 1)][-6:]
-        listed += generate.script_of(t.random, m, 3, 0.1)
+        listed = reads_of(m, 6) + generate.script_of(t.random, m, 3, 0.1)
         t.binary.put(image)
         session(t, what, image, generate.text_of(t.random, listed))
 

@@ -1,62 +1,59 @@
 """What each line of a script does to an opened file, as docs/SCRIPT.md has it: its answer or refusal, and what it writes."""
 
-from typing import NamedTuple, Optional, Union
+from typing import Optional, Union
 
 from . import form, recovery, units
-from .form import CLIENT_REPLIES, LIMIT, SECTOR, WAL_PREPARES, Place
+from .form import CLIENT_REPLIES, LIMIT, WAL_PREPARES, Image, Place
+from .grid import SYNC, Event, Grid, answer, copy_of, refused
 from .recovery import PIPELINE, Found, View
-from .units import Unit
+from .units import PREPARE, REPLY, Unit
 
 
-class Event(NamedTuple):
-    """One thing that the program does: a `sync`, a `write` to the file, or an `answer` on standard output."""
+class Machine(Grid):
+    """An opened file. Each line is a call that gives its events; what is read comes from `image`, and is noted in `reads`."""
 
-    kind: str
-    at: int = 0
-    data: bytes = b""
-
-
-SYNC = Event("sync")
-
-
-def answer(text: str) -> Event:
-    """One line on standard output."""
-    return Event("answer", data=text.encode() + b"\n")
-
-
-def refused(text: str) -> list:
-    return [answer(f"refused {text}")]
-
-
-class Machine:
-    """An opened file. `append` and `reply` are a line's calls and give their events; `prepare` and `lookup` read."""
-
-    def __init__(self, opened: Found):
+    def __init__(self, opened: Found, image: Image):
         view = opened.view
-        self.home, self.layout, self.sequence = view.home, view.home.layout, view.sequence
+        self.home, self.layout = view.home, view.home.layout
         self.tail, self.replies = list(view.tail), view.replies
         self.sessions, self.stored = list(view.sessions), dict(view.stored)
-        self.table = list(opened.table)
+        self.table, self.waiting = list(opened.table), dict(opened.waiting)
+        self.image = image
+        # The offsets that were read, in order.
+        self.reads: list = []
+        self.start(view.checkpoint)
 
     def view(self) -> View:
         """What is kept now."""
         stored = tuple((place, self.stored[place]) for place in self.places_stored())
-        return View(self.home, self.sequence, tuple(self.tail), self.replies, tuple(self.sessions), stored)
+        return View(self.home, self.durable, tuple(self.tail), self.replies, tuple(self.sessions), stored)
 
     def places_stored(self) -> list:
         """The places of the sessions whose last request has a stored reply."""
         return [place for place, session in enumerate(self.sessions) if session.op <= self.replies]
 
     def head(self) -> int:
-        return len(self.tail)
+        return self.durable.op + len(self.tail)
+
+    def last_checksum(self) -> bytes:
+        """The checksum of the last prepare, zeros where there is none."""
+        return self.tail[-1].checksum if self.tail else self.durable.op_checksum
 
     def place_of(self, client: int) -> Optional[int]:
         """The place of a client's session."""
         return next((place for place, session in enumerate(self.sessions) if session.client == client), None)
 
     def line(self, line: tuple) -> list:
-        """The events of one line; reads take what their slot showed when it was written."""
-        return getattr(self, line[0])(*line[1:])
+        """The events of one line."""
+        events = getattr(self, line[0])(*line[1:])
+        self.writes(events)
+        return events
+
+    def writes(self, events: list) -> None:
+        """The image shows from now on what these events write."""
+        for event in events:
+            if event.kind == "write":
+                self.image.write(event.at, event.data)
 
     def too_long(self, body: bytes) -> bool:
         return len(body) > self.layout.body_max()
@@ -80,8 +77,8 @@ class Machine:
             return f"RequestOrder expected {expected}"
         if head - self.replies == PIPELINE:
             return f"PipelineFull waiting {PIPELINE}"
-        if head + 1 > self.layout.slots:
-            return f"WalFull op {head + 1} checkpoint_op 0"
+        if head + 1 > self.durable.op + self.layout.slots:
+            return f"WalFull op {head + 1} checkpoint_op {self.durable.op}"
         return "OpsSpent" if head == LIMIT or request > LIMIT else None
 
     def append(self, client: int, request: int, body: bytes) -> list:
@@ -90,9 +87,11 @@ class Machine:
         if why:
             return refused(why)
         op = self.head() + 1
-        parent = self.tail[-1].checksum if self.tail else bytes(16)
-        one = units.prepare(self.home, parent, client, op, request, body, self.replies, self.sequence)
+        one = units.prepare(
+            self.home, self.last_checksum(), client, op, request, body, self.replies, self.durable.sequence
+        )
         self.tail.append(one)
+        self.waiting[op] = one.checksum
         self.sessions = recovery.after(self.sessions, one)
         slot = op % self.layout.slots
         self.table[slot] = one.header
@@ -117,38 +116,41 @@ class Machine:
         why = self.reply_refusal(op, body)
         if why:
             return refused(why)
-        to = self.tail[op - 1]
-        place = self.place_of(to.client)
-        one = units.reply(self.home, to, place, body, self.head(), self.sequence)
+        place = next(place for place, session in enumerate(self.sessions) if session.op == op)
+        parent, sequence = self.waiting.pop(op), self.durable.sequence
+        one = units.reply(self.home, parent, self.sessions[place], place, body, self.head(), sequence)
         self.replies, self.stored[place] = op, one
         at = self.layout.at(Place(CLIENT_REPLIES, place))
         return [Event("write", at, form.whole_sectors(one.encode())), SYNC, answer(f"replied {op}")]
 
-    def prepare(self, op: int, shown=None) -> list:
+    def prepare(self, op: int) -> list:
         """The prepare of an op is read."""
-        if not 1 <= op <= self.head():
-            return refused(f"NotKept first 1 last {self.head()}")
-        return self.told("prepare", self.tail[op - 1], Place(WAL_PREPARES, op % self.layout.slots), shown)
+        first = self.durable.op + 1
+        if not first <= op <= self.head():
+            return refused(f"NotKept first {first} last {self.head()}")
+        return self.told(PREPARE, self.tail[op - first], Place(WAL_PREPARES, op % self.layout.slots))
 
-    def lookup(self, client: int, shown=None) -> list:
+    def lookup(self, client: int) -> list:
         """The reply to a client's last request is read."""
         place = self.place_of(client)
         if place is None:
             return refused("NoClient")
         if self.sessions[place].op > self.replies:
             return refused(f"ReplyPending op {self.sessions[place].op}")
-        return self.told("reply", self.stored[place], Place(CLIENT_REPLIES, place), shown)
+        return self.told(REPLY, self.stored[place], Place(CLIENT_REPLIES, place))
 
-    def look(self, one: Unit, place: Place, data: Optional[bytes]) -> Union[Unit, str]:
-        """What a place shows: the unit that was written there, but in a file that was struck since."""
-        return one if data is None else units.shown(data, self.home, place)
+    def look(self, place: Place) -> Union[Unit, str]:
+        """What a place shows."""
+        self.reads.append(self.layout.at(place))
+        return units.shown(self.image, self.home, place)
 
-    def told(self, word: str, one: Unit, place: Place, data: Optional[bytes]) -> list:
+    def told(self, kind: int, one: Unit, place: Place) -> list:
         """The answer of a read: the unit that is known, or why it can't be had."""
-        what = self.look(one, place, data)
-        if isinstance(what, str) or what.checksum != one.checksum:
+        what = self.look(place)
+        if not units.known(what, kind, one.checksum):
             return refused(f"Damaged {place} {units.class_of(what)}")
         f = one.fields()
+        word = "prepare" if kind == PREPARE else "reply"
         return [answer(f"{word} {one.op} client {one.client} request {one.request} mark {one.mark} "
                        f"checkpoint {f['checkpoint']} body {one.body.hex() or '-'}")]
 
@@ -156,16 +158,10 @@ class Machine:
 def mends(opened: Found) -> list:
     """The events of mending: each header sector that is needed, one sync behind them, then each copy with its sync."""
     slots = [place.index for place, _ in opened.to_mend if place.zone == form.WAL_HEADERS]
-    machine = Machine(opened)
+    machine = Machine(opened, Image(b""))
     sectors = sorted({slot // form.HEADERS for slot in slots})
     events = [machine.header_sector(sector * form.HEADERS) for sector in sectors] + [SYNC] * bool(sectors)
     for place, _ in opened.to_mend:
         if place.zone == form.SUPERBLOCK:
             events += copy_of(opened.content, place.index)
     return events
-
-
-def copy_of(content, copy: int) -> list:
-    """The events that write one copy."""
-    return [Event("write", SECTOR * copy, content.encode(copy)), SYNC]
-

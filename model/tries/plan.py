@@ -6,12 +6,23 @@ from . import copies, form, generate, script, superblock
 from .binary import Call, expect
 from .common import Try, named, on_file, reopen, same_bytes, same_run
 from .form import COPIES, SECTOR
+from .knows import knows
+from .words import command
+
+
+def other_words(t: Try) -> list:
+    """Words that open a file and execute no script."""
+    word = t.random.choice(("recover", "inspect", "scrub", "scrub", "workload", "workload"))
+    seed = t.random.choice((0, 1, 42, 2**31, 2**64 - 1, t.random.getrandbits(64)))
+    count = t.random.choice((1, 2, 3, 8, 17, 33, t.random.randint(1, 60)))
+    return [word, str(seed), str(count)] if word == "workload" else [word]
 
 
 def words_for(t: Try) -> list:
-    """The words `run`, or less often `format`."""
-    if t.random.random() < 0.8:
-        return ["run"]
+    """The words `run`, less often others that open a file, or `format`."""
+    what = t.random.random()
+    if what < 0.8:
+        return other_words(t) if what < 0.2 and knows("all") else ["run"]
     home = generate.home(t.random)
     cluster = 0 if t.random.random() < 0.05 else home.cluster
     return ["format", home.layout.word(), str(cluster)]
@@ -21,7 +32,7 @@ def file_for(t: Try, words: list, most: int) -> Optional[bytes]:
     """A file for these words: most often one with which they are carried out."""
     random = t.random
     usual = random.random() < 0.9
-    if (words == ["run"]) == usual:
+    if (words[0] != "format") == usual:
         data = generate.image(random, most, hurt=0.4)
         if random.random() < 0.9:
             return data
@@ -40,7 +51,7 @@ class Plan:
         self.data = file_for(t, self.words, most) if data is None else data
         make = generate.any_script if t.random.random() < 0.3 else generate.good_script
         self.text = make(t.random, self.data)
-        self.wanted = script.command(self.data, self.words, self.text)
+        self.wanted = command(self.data, self.words, self.text)
         t.binary.put(self.data)
         got, calls = t.binary.trace(self.text, words=self.words)
         same_run("the run under strace", self.wanted, got)
@@ -74,8 +85,9 @@ class Plan:
         return reopen(t, f"{what}, then a stop", self.wanted.kept(upto), image)
 
     def keeps(self, what: str, image: bytes) -> None:
-        """A run doesn't change what the copies choose."""
-        if self.words == ["run"]:
+        """What finishes no checkpoint doesn't change what the copies choose."""
+        finishes = knows("blocks") and self.wanted.spans and self.words[0] in ("run", "workload")
+        if self.words[0] != "format" and not finishes:
             before, after = (superblock.opened(data or b"").content for data in (self.data, image))
             expect(f"{what}: the superblock", before, after)
 
@@ -133,7 +145,8 @@ def reads_of(calls: list, fd: Optional[int], layout: form.Layout) -> tuple:
         if goes_on:
             # The rest of a read that met the end of the file.
             continue
-        inside = at % SECTOR == 0 == length % SECTOR and at + length <= layout.replies_end()
+        in_grid = layout.grid() <= at and at + length <= SECTOR * layout.sectors()
+        inside = at % SECTOR == 0 == length % SECTOR and (in_grid or at + length <= layout.replies_end())
         if at < SECTOR * COPIES:
             sectors += range(at // SECTOR, (at + length) // SECTOR)
             inside = inside and at + length <= SECTOR * COPIES
@@ -141,9 +154,10 @@ def reads_of(calls: list, fd: Optional[int], layout: form.Layout) -> tuple:
             others.append(at)
             start = layout.header_sector(0)
             inside = inside and (at + length <= layout.first() or at >= layout.first())
-            whole = at < layout.first() or (at - layout.first()) % layout.message_size == 0
+            start_of, size = (layout.grid(), layout.block_size) if in_grid else (layout.first(), layout.message_size)
+            whole = at < layout.first() or (at - start_of) % size == 0 and length <= size
             inside = inside and at >= start and whole
-        expect(f"a read of {length} bytes at {at} is whole sectors of the copies, of headers or of one slot", True, inside)
+        expect(f"a read of {length} bytes at {at} is whole sectors of copies, headers, one slot or block", True, inside)
     return sectors, others
 
 

@@ -2,10 +2,11 @@
 
 import reader
 
-from . import copies, damage, form, generate, recovery, superblock, units
+from . import copies, damage, forge_checkpoint, form, generate, recovery, superblock, units
 from .binary import expect
 from .common import Try
 from .forge import forge, put
+from .knows import knows
 
 
 def tied(t: Try) -> bytes:
@@ -36,6 +37,8 @@ def forged(t: Try) -> bytes:
     random, home = t.random, generate.home(t.random)
     data = generate.image(random, 12, home, 0)
     own = superblock.first(home)
+    if knows("blocks") and random.random() < 0.5:
+        return forge_checkpoint.forge(random, data)[1]
     if random.random() < 0.4:
         contents = [damage.later(t, own, data), copies.odd(random, own), copies.odd(random, own)]
         return copies.forged(random, data, [own, *contents][: random.randint(1, 4)])
@@ -69,17 +72,21 @@ def read(t: Try) -> None:
     data = kind(t)
     lines, wanted = [], []
     try:
-        state = reader.state_of(data)
+        state = reader.state_of(data, knows("blocks"))
         for one in state["prepares"]:
             lines.append(f"prepare {one['op']}")
             wanted.append("prepare " + reader.text_of(one))
         for client, one in state["replies"].items():
             lines.append(f"lookup {client}")
             wanted.append("reply " + reader.text_of(one) if one["kind"] == 3 else f"refused ReplyPending op {one['op']}")
-        lines += [f"prepare {len(state['prepares']) + 1}", "reply 0 -"]
-        wanted.append(f"refused NotKept first 1 last {len(state['prepares'])}")
-        done = state["stored"] == len(state["prepares"])
-        wanted.append(f"refused NothingPending head {state['stored']}" if done else
+        for address, one in state["blocks"].items():
+            lines.append(f"read {address}")
+            wanted.append(f"refused Damaged Grid {address} {one}" if isinstance(one, str) else
+                          f"block {address} kind {one['block_kind']} body {one['body'].hex() or '-'}")
+        lines += [f"prepare {state['head'] + 1}", "reply 0 -"]
+        wanted.append(f"refused NotKept first {state['fields']['Op'] + 1} last {state['head']}")
+        done = state["stored"] == state["head"]
+        wanted.append(f"refused NothingPending head {state['head']}" if done else
                       f"refused ReplyOrder expected {state['stored'] + 1}")
     except reader.Refused as why:
         wanted = [f"refused {why}"]

@@ -5,27 +5,20 @@ The rules are methods of `Rules`, so that `imitation.py` can have one of them wr
 
 from typing import NamedTuple, Optional, Union
 
-from . import form, superblock, units
-from .form import CLIENT_REPLIES, SUPERBLOCK, WAL_HEADERS, WAL_PREPARES, Home, Place
-from .units import STALE, Unit
+from . import form, superblock, trailer, units
+from .form import CLIENT_REPLIES, GRID, SUPERBLOCK, WAL_HEADERS, WAL_PREPARES, Home, Place
+from .trailer import Checkpoint, Session
+from .units import NO_BYTES, STALE, Unit
 
 # How many prepares may wait for their replies.
 PIPELINE = 8
 
 
-class Session(NamedTuple):
-    """A client's last request, and the op that it has."""
-
-    client: int
-    request: int
-    op: int
-
-
 class View(NamedTuple):
-    """The state that a file stands for. There is no checkpoint yet, so the tail has every prepare from op 1 on."""
+    """The state that a file stands for. The tail has every prepare behind the checkpoint."""
 
     home: Home
-    sequence: int
+    checkpoint: Checkpoint
     tail: tuple
     replies: int
     sessions: tuple
@@ -33,7 +26,7 @@ class View(NamedTuple):
     stored: tuple
 
     def head(self) -> int:
-        return len(self.tail)
+        return self.checkpoint.op + len(self.tail)
 
 
 class Rings(NamedTuple):
@@ -64,6 +57,8 @@ class Found(NamedTuple):
     table: tuple = ()
     # The places that are mended, copies first, each with the class of what stands there.
     to_mend: tuple = ()
+    # The checksum of each waiting op's prepare, zeros where that isn't shown.
+    waiting: dict = {}
 
 
 def rings_of(data: bytes, home: Home) -> Rings:
@@ -86,7 +81,7 @@ def seen(what: Union[Unit, str], op: int) -> str:
     return "Now" if what.op == op else "Old" if what.op < op else "Far"
 
 
-class Rules:
+class Rules(trailer.Trailers):
     """The rules of an open."""
 
     def decision(self, header: Union[Unit, str], prepare: Union[Unit, str], op: int) -> str:
@@ -140,9 +135,9 @@ class Rules:
                 return place, units.class_of(one)
         return None
 
-    def tail(self, rings: Rings, content: superblock.Content) -> tuple:
-        """The tail, and the sessions after it."""
-        tail, sessions = [], []
+    def tail(self, rings: Rings, content: superblock.Content, sessions: tuple) -> tuple:
+        """The tail behind a checkpoint with these sessions, and the sessions after it."""
+        tail, sessions = [], list(sessions)
         for op in range(content.op + 1, content.op + content.slots + 1):
             slot = op % content.slots
             one = rings.prepares[slot]
@@ -183,7 +178,11 @@ def found(data: Optional[bytes], rules: Rules = Rules()) -> Found:
     opened = superblock.opened(data or b"")
     if opened.refusal:
         return Found(opened.refusal, opened.early, opened.content)
-    return found_in(rings_of(data, opened.content.home()), opened, copy_classes(data), rules)
+    home = opened.content.home()
+    checkpoint = rules.checkpoint(lambda address: units.shown(data, home, Place(GRID, address)), opened.content)
+    if isinstance(checkpoint, str):
+        return Found(checkpoint, False, opened.content)
+    return found_in(rings_of(data, home), opened, copy_classes(data), rules, checkpoint)
 
 
 def copy_classes(data: bytes) -> list:
@@ -192,13 +191,13 @@ def copy_classes(data: bytes) -> list:
     return [copy if isinstance(copy, str) else STALE for copy in copies]
 
 
-def found_in(rings: Rings, opened: superblock.Opened, classes: list, rules: Rules) -> Found:
-    """What an open finds in the slots, once the superblock has been chosen."""
+def found_in(rings: Rings, opened: superblock.Opened, classes: list, rules: Rules, checkpoint: Checkpoint) -> Found:
+    """What an open finds in the slots, once the superblock has been chosen and its checkpoint read."""
     content = opened.content
     home = content.home()
     if rules.behind(rings, content):
         return Found(f"Damaged Superblock {opened.members[0]} Stale", False, content)
-    tail, sessions = rules.tail(rings, content)
+    tail, sessions = rules.tail(rings, content, checkpoint.sessions)
     head = content.op + len(tail)
     if rules.lost(rings, content, head):
         slot = (head + 1) % content.slots
@@ -209,10 +208,17 @@ def found_in(rings: Rings, opened: superblock.Opened, classes: list, rules: Rule
     if missing:
         return Found(f"Damaged ClientReplies {missing[0]} {missing[1]}", False, content)
     stored = tuple((place, rings.replies[place]) for place, session in enumerate(sessions) if session.op <= replies)
-    view = View(home, content.sequence, tuple(tail), replies, tuple(sessions), stored)
+    view = View(home, checkpoint, tuple(tail), replies, tuple(sessions), stored)
     table, to_mend = rules.mended(rings, home, content, opened.members)
     to_mend = [(place, classes[place.index] if place.zone == SUPERBLOCK else name) for place, name in to_mend]
-    return Found(None, False, content, view, table, tuple(to_mend))
+    waiting = {op: waiting_checksum(rings, content, op) for op in range(replies + 1, head + 1)}
+    return Found(None, False, content, view, table, tuple(to_mend), waiting)
+
+
+def waiting_checksum(rings: Rings, content: superblock.Content, op: int) -> bytes:
+    """The checksum of a waiting op's prepare; one that a checkpoint covers may not be shown any more."""
+    one = rings.prepares[op % content.slots]
+    return one.checksum if isinstance(one, Unit) and one.op == op else NO_BYTES
 
 
 def view_of(data: Optional[bytes]) -> Optional[View]:

@@ -1,69 +1,18 @@
 """Worked rows: files, words and scripts whose answers are written out here, for the model and for the program."""
 
-from . import copy_rows, form, generate, recovery, script, superblock, units
+from functools import lru_cache
+
+from . import checkpoint_rows, copy_rows, form, recovery, report_rows, script, superblock, units
 from .binary import expect
 from .common import Try, asked, session
 from .copy_rows import A5, BLANK, FIRST, HOME, TOP, file_of, four
-from .form import SECTOR, SMALL, Home, Place
+from .form import SECTOR, SMALL, Home
+from .knows import knows
+from .worked import NEW, answers, followed, forged, ops, spoiled, struck, with_copies, with_headers
 
-USAGE = "usage: format LAYOUT CLUSTER | run\n"
+USAGE = report_rows.USAGE if knows("all") else "usage: format LAYOUT CLUSTER | run\n"
 ONE = "16,4096,1,4096"
-# A new file: header sectors with reserved headers stand behind the copies.
-NEW = script.fresh(HOME)
-
-
-def with_headers(copies: bytes) -> bytes:
-    """These copies in a new file."""
-    return form.part(copies, 0, 4 * SECTOR) + NEW[4 * SECTOR :]
-
-
-def ops(count: int) -> str:
-    """So many requests of client 1, each with its reply."""
-    return "".join(f"append 1 {op} -\nreply {op} -\n" for op in range(1, count + 1))
-
-
-def answers(count: int) -> str:
-    return "".join(f"appended {op}\nreplied {op}\n" for op in range(1, count + 1))
-
-
-def struck(data: bytes, text: str, *strikes) -> bytes:
-    """A file after a script, with sectors that show these bytes, or what another one showed after the script."""
-    after = script.run(data, text.encode()).data
-    events = [script.Event("write", SECTOR * at, form.sector(after, what) if isinstance(what, int) else what)
-              for at, what in strikes]
-    return script.state(after, events)
-
-
-def with_copies(data: bytes) -> bytes:
-    """A file with the copies of a new one."""
-    return NEW[: 4 * SECTOR] + data[4 * SECTOR :]
-
-
-def spoiled(data: bytes, text: str, at: int) -> bytes:
-    """A file after a script, with another byte at an offset."""
-    after = script.run(data, text.encode()).data
-    return script.state(after, [script.Event("write", at, bytes([after[at] ^ 1]))])
-
-
-def forged(data: bytes, text: str, unit: dict, zone: str, index: int, home: Home = HOME) -> bytes:
-    """A file after a script, with a unit of these fields at a place."""
-    after = script.run(data, text.encode()).data
-    whole = units.seal(units.fields_of(home, **unit))
-    return script.state(after, [script.Event("write", SMALL.at(Place(zone, index)), whole)])
-
-
-def followed(text: str, home: Home = HOME, **changes) -> bytes:
-    """A new file after a script, with one more prepare in both rings: that of client 1's next request, but for the changes."""
-    after = script.run(script.fresh(home), text.encode()).data
-    m = generate.machine_of(after)
-    place = m.place_of(1)
-    one = units.prepare(home, m.tail[-1].checksum, 1, m.head() + 1, m.sessions[place].request + 1, b"", m.replies, 1)
-    whole = units.seal(dict(one.fields(), **changes))
-    slot = one.op % home.layout.slots
-    places = (Place(form.WAL_PREPARES, slot), Place(form.WAL_HEADERS, slot))
-    return script.state(after, [script.Event("write", home.layout.at(place), whole) for place in places])
-
-
+NARROW, MANY = form.Layout(16, 4096, 1, 4096, 8), form.Layout(16, 4096, 1, 4096, 1024)
 WIDE = Home(form.Layout(32, 8192, 16, 16384, 64), 7)
 FOUR = "".join(f"append {client} 1 -\n" for client in range(1, 5)) + "reply 1 -\n"
 EIGHT = "".join(f"append {client} 1 -\n" for client in range(1, 9))
@@ -134,7 +83,6 @@ ROWS = (
     (four(), "run", "append 5 1 -\nappend 6 1 0102\n", "appended 1\nappended 2\n", 0),
     (NEW, "run", "append 5 1 -\nappend 6 1 0102\n", "appended 1\nappended 2\n", 0),
     (NEW, "run", "append 5 1 -\nappend 6 1 0102", "appended 1\nappended 2\n", 0),
-    (NEW, "run", "step\n", "script 1\n", 3),
     (NEW, "run", "append 4 1 -\n\n", "appended 1\nscript 2\n", 3),
     (NEW, "run", "append 4 1 -\nappend 5 1 abc", "appended 1\nscript 2\n", 3),
     (NEW, "run", "append 4 1 -\nappend 5 01 -", "appended 1\nscript 2\n", 3),
@@ -149,6 +97,15 @@ ROWS = (
     (NEW, "run", "append 1 1 " + "00" * 7936, "appended 1\n", 0),
     (NEW, "run", "append 1 1 " + "00" * 7937, "refused BodyTooLong max 7936\n", 0),
     (NEW, "run", "append 1 1 -\nreply 1 " + "00" * 7937, "appended 1\nrefused BodyTooLong max 7936\n", 0),
+    (NEW, "run", "append 1 1 -\nreply 2 " + "00" * 7937, "appended 1\nrefused ReplyOrder expected 1\n", 0),
+    # A layout's own bounds: of a line, and of its ring.
+    (script.fresh(Home(NARROW, 7)), "run", "append 11 1 " + "0" * 8244, "refused BodyTooLong max 3840\n", 0),
+    (script.fresh(Home(NARROW, 7)), "run", "append 1 1 " + "0" * 8246, "script 1\n", 3),
+    (script.fresh(Home(form.Layout(48, 4096, 1, 4096, 8), 7)), "run", ops(33), answers(33), 0),
+    # Which refusal comes first, and the mark of a reply to an op that isn't the last one.
+    (NEW, "run", "append 9 2 -\nappend 0 1 " + "00" * 7937, "refused RequestOrder expected 1\nrefused ClientZero\n", 0),
+    (NEW, "run", "append 1 1 -\nappend 2 1 -\nreply 1 -\nlookup 1\n",
+     "appended 1\nappended 2\nreplied 1\nreply 1 client 1 request 1 mark 2 checkpoint 1 body -\n", 0),
     # Many clients.
     (NEW, "run", "".join(f"append {client} 1 -\n" for client in range(1, 6)),
      "".join(f"appended {op}\n" for op in range(1, 5)) + "refused ClientsFull max 4\n", 0),
@@ -221,10 +178,17 @@ ROWS = (
 )
 
 
+@lru_cache
+def listed() -> list:
+    """The rows for what the program knows."""
+    more = [*(checkpoint_rows.rows() if knows("blocks") else copy_rows.WITHOUT_CHECKPOINTS)]
+    return [*ROWS, *more, *(report_rows.rows() if knows("all") else [])]
+
+
 def rows(t: Try) -> None:
     """Each row in turn, or one of them where many tries are made."""
     first = t.counts["tries: rows"] == 0
-    for data, words, text, printed, status in ROWS if first else [t.random.choice(ROWS)]:
+    for data, words, text, printed, status in listed() if first else [t.random.choice(listed())]:
         t.binary.put(data)
         got = asked(t, f"the row {words!r} {text[:60]!r} that prints {printed[:60]!r}", data, words.split(), text.encode())
         expect(f"the model's text of {words!r} {text[:60]!r}", printed.encode(), got.text)
@@ -279,12 +243,14 @@ def torn_headers() -> None:
     expect("what is mended", [f"WalHeaders {slot} Garbled" for slot in range(16, 32)],
            [f"{place} {name}" for place, name in found.to_mend])
     view = found.view
-    expect("sequence, head, replies, sessions", (1, 17, 16, 1), (view.sequence, view.head(), view.replies, len(view.sessions)))
+    got = (view.checkpoint.sequence, view.head(), view.replies, len(view.sessions))
+    expect("sequence, head, replies, sessions", (1, 17, 16, 1), got)
     mended = script.run(torn, b"")
     expect("what is mended afterwards", ((), view), (recovery.found(mended.data).to_mend, recovery.view_of(mended.data)))
     expect("mending", ["sync", "write", "sync"], [event.kind for event in mended.events])
 
 
-NARROW, MANY = form.Layout(16, 4096, 1, 4096, 8), form.Layout(16, 4096, 1, 4096, 1024)
 example()
+if knows("blocks"):
+    checkpoint_rows.events()
 KINDS = {"rows": (rows, 3)}

@@ -1,12 +1,14 @@
-"""What words and a script do to a file, as docs/SCRIPT.md has it: words, lines, outcomes, statuses."""
+"""What `format` and a script do to a file, as docs/SCRIPT.md has it: lines, outcomes, statuses."""
 
 import re
 from functools import cached_property
 from typing import Optional
 
 from . import form, recovery, superblock, units
-from .form import COPIES, SECTOR, Home, Layout
-from .machine import SYNC, Event, Machine, answer, copy_of, mends
+from .form import COPIES, Home, Image, Layout
+from .grid import SYNC, Event, answer, copy_of
+from .knows import knows
+from .machine import Machine, mends
 
 BUDGET = 2**32
 NUMBER_OF_LINE, BODY = rb"(0|[1-9][0-9]*)", rb"(-|(?:[0-9a-fA-F]{2})+)"
@@ -17,20 +19,33 @@ LINES = {
     "prepare": (re.compile(rb"prepare %s" % NUMBER_OF_LINE), (64,)),
     "lookup": (re.compile(rb"lookup %s" % NUMBER_OF_LINE), (128,)),
 }
-NUMBER = re.compile(r"0|[1-9][0-9]*", re.ASCII)
-USAGE = b"usage: format LAYOUT CLUSTER | run\n"
-DONE, WORDS, SCRIPT, REFUSED = 0, 2, 3, 4
+if knows("blocks"):
+    LINES |= {
+        "block": (re.compile(rb"block %s %s" % (NUMBER_OF_LINE, BODY)), (8,)),
+        "release": (re.compile(rb"release %s" % NUMBER_OF_LINE), (64,)),
+        "checkpoint": (re.compile(rb"checkpoint %s" % BODY), ()),
+        "step": (re.compile(rb"step"), ()),
+        "read": (re.compile(rb"read %s" % NUMBER_OF_LINE), (64,)),
+    }
+if knows("all"):
+    LINES |= {"scrub": (re.compile(rb"scrub"), ()), "recent": (re.compile(rb"recent"), ())}
+# For each line that changes what is kept, with how many of its events that may be found after a stop, and with how many it is
+# durable: a prepare or a reply with its own write and the sync behind it, a checkpoint with copy 1.
+KEEPS = {"append": (1, 2), "reply": (1, 2), "step": (4, 5)}
+DONE, FOUND, WORDS, SCRIPT, REFUSED = 0, 1, 2, 3, 4
 
 
 class Outcome:
     """What a list of words, perhaps with a script, came to over a file of these bytes, or over none."""
 
-    def __init__(self, before: Optional[bytes], status: int, events: list, views=(), done=()):
+    def __init__(self, before: Optional[bytes], status: int, events: list, spans=(), machine: Optional[Machine] = None):
         self.before, self.status, self.events = before, status, events
         self.text = answers(events)
-        # The view of the opening and that after each accepted line, and for each of these lines the number of events with
-        # which all that it writes is durable.
-        self.views, self.done = list(views), list(done)
+        # The view of the opening and that after each line that changes it, with the numbers of events from which it may be
+        # found after a stop, and from which it is durable.
+        self.spans = list(spans)
+        # What was read behind the open, as offsets.
+        self.reads = machine.reads if machine else []
 
     @cached_property
     def data(self) -> Optional[bytes]:
@@ -39,50 +54,14 @@ class Outcome:
         return state(self.before or b"", self.events) if made or self.before is not None else None
 
     def kept(self, upto: int) -> list:
-        """The views that a stop after the first `upto` events may leave: of all lines that are durable, or of one more."""
-        count = sum(done <= upto for done in self.done)
-        return self.views[count : count + 2]
+        """The views that a stop after the first `upto` events may leave: of all lines that are durable, or of the next one."""
+        return [view for at, (view, may, _) in enumerate(self.spans)
+                if may <= upto and (at + 1 == len(self.spans) or upto < self.spans[at + 1][2])]
 
-
-def number(word: str) -> Optional[int]:
-    """A number in decimal digits without a leading zero."""
-    # No number that means something has more than 39 digits.
-    return int(word) if NUMBER.fullmatch(word) and len(word) <= 39 else None
-
-
-def layout_of(word: str) -> Optional[Layout]:
-    """The layout that a word names."""
-    if word in form.NAMED:
-        return form.NAMED[word]
-    numbers = [number(piece) for piece in word.split(",")]
-    if len(numbers) != 5 or None in numbers:
-        return None
-    layout = Layout(*numbers)
-    return None if layout.broken() else layout
-
-
-def meaning(words: list) -> Optional[tuple]:
-    """What a list of words asks for: `("run",)`, or `("format", home)`; None where it has no meaning."""
-    try:
-        plain = [word.decode() if isinstance(word, bytes) else word for word in words]
-    except UnicodeDecodeError:
-        return None
-    if plain == ["run"]:
-        return ("run",)
-    if len(plain) != 3 or plain[0] != "format":
-        return None
-    layout, cluster = layout_of(plain[1]), number(plain[2])
-    if layout is None or cluster is None or cluster >= 2**128:
-        return None
-    return ("format", Home(layout, cluster))
-
-
-def command(data: Optional[bytes], words: list, text: bytes = b"") -> Outcome:
-    """`datafile FILE WORD..` over a file of these bytes, or none, where no call fails."""
-    asked = meaning(words)
-    if asked is None:
-        return Outcome(data, WORDS, [Event("answer", data=USAGE)])
-    return run(data, text) if asked == ("run",) else make(data, asked[1])
+    @property
+    def views(self) -> list:
+        """The view of the opening and that after each line that changes it."""
+        return [view for view, _, _ in self.spans]
 
 
 def refused(data: Optional[bytes], words: str, before: list) -> Outcome:
@@ -161,23 +140,30 @@ def run(data: Optional[bytes], text: bytes) -> Outcome:
     opened = recovery.found(data)
     if opened.refusal:
         return refused(data, opened.refusal, [] if opened.early else [SYNC])
-    return execute(data, [SYNC] + mends(opened), Machine(opened), text)
+    return execute(data, [SYNC] + mends(opened), Machine(opened, Image(data)), text)
 
 
 def execute(data: bytes, events: list, machine: Machine, text: bytes) -> Outcome:
     """A script behind the events of an open."""
-    views, done, taken = [machine.view()], [], 0
+    machine.writes(events)
+    spans, taken, events = [(machine.view(), 0, 0)], 0, list(events)
     for index, (line, ended) in enumerate(lines(text), 1):
         taken += len(line) + ended
         parsed = parse(line, machine.layout) if taken <= BUDGET else None
         if parsed is None:
-            return Outcome(data, SCRIPT, events + [answer(f"script {index}")], views, done)
-        more = machine.line(parsed)
-        events = events + more
-        if len(more) > 1:
-            views.append(machine.view())
-            done.append(len(events) - 1)
-    return Outcome(data, DONE, events, views, done)
+            return Outcome(data, SCRIPT, events + [answer(f"script {index}")], spans, machine)
+        does(machine, parsed, events, spans)
+    return Outcome(data, DONE, events, spans, machine)
+
+
+def does(machine: Machine, line: tuple, events: list, spans: list) -> list:
+    """One line: its events go behind those before it, and the view after it where it changes what is kept."""
+    more = machine.line(line)
+    if line[0] in KEEPS and len(more) > 2:
+        first, last = KEEPS[line[0]]
+        spans.append((machine.view(), len(events) + first, len(events) + last))
+    events += more
+    return more
 
 
 def partly(events: list, upto: int, printed: bytes) -> bool:

@@ -8,6 +8,9 @@ from .binary import expect, require
 from .common import Try, same_bytes, session
 
 
+READS = ("prepare", "lookup", "read", "scrub")
+
+
 def sessions(t: Try) -> None:
     """Sessions of good and bad lines over one file: text, status and every sector are the model's."""
     home = generate.home(t.random)
@@ -68,14 +71,16 @@ def answers_in_time(t: Try) -> None:
     home = generate.home(t.random)
     data = script.fresh(home)
     t.binary.put(data)
+    m = generate.machine_of(data)
     process = t.binary.start()
     try:
         for number in range(t.random.randint(1, min(34, 2 + 2**21 // home.layout.message_size))):
-            line = generate.script_of(t.random, generate.machine_of(data), 1, 0.15)[0] + b"\n"
-            wanted = script.run(data, line)
-            process.stdin.write(line)
-            expect(f"answer {number + 1}", wanted.text, awaited(process, wanted.text))
-            data = wanted.data
+            line = generate.line_of(t.random, m, 0.15)
+            events = m.line(script.parse(line, m.layout) or ("prepare", 0))
+            text = script.answers(events)
+            process.stdin.write(line + b"\n")
+            expect(f"answer {number + 1}", text, awaited(process, text))
+            data = script.state(data, events)
             same_bytes("at the answer", data, t.binary.get())
         process.stdin.close()
         process.stdin = None
@@ -113,7 +118,7 @@ def struck_within(t: Try) -> None:
         for number in range(t.random.randint(2, 12)):
             line = generate.line_of(t.random, m, 0.05) if number % 2 else generate.reading(t.random, m)
             parsed = script.parse(line, home.layout)
-            if parsed[0] in ("prepare", "lookup"):
+            if parsed[0] in READS:
                 data = bytearray(data)
                 start = home.layout.end()
                 if t.random.random() < 0.4 and len(data) > start:
@@ -122,7 +127,8 @@ def struck_within(t: Try) -> None:
                 else:
                     damage.strike(t, data, home.layout, True)
                 t.binary.overwrite(bytes(data))
-            events = m.line((*parsed, data)) if parsed[0] in ("prepare", "lookup") else m.line(parsed)
+                m.image = form.Image(bytes(data))
+            events = m.line(parsed)
             process.stdin.write(line + b"\n")
             text = script.answers(events)
             expect(f"answer {number + 1} to {line[:60]!r}", text, awaited(process, text))

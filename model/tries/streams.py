@@ -8,6 +8,7 @@ from .binary import expect
 from .common import Try, reopen, same_bytes, same_run
 from .plan import file_for
 from .script import REFUSED, state
+from .words import command
 
 DISK, READ, WRITE = 5, 6, 7
 
@@ -50,7 +51,7 @@ def format_without_output(t: Try) -> None:
     what = t.random.choice(("closed output", "full output", "unwritable output", "broken output"))
     got = run_without_output(t, what, b"", words)
     expect(f"format, {what}: status", WRITE, got.status)
-    same_bytes(f"format, {what}", script.command(data, words).data, t.binary.get())
+    same_bytes(f"format, {what}", command(data, words).data, t.binary.get())
     t.counts[f"format: {what}"] += 1
 
 
@@ -112,7 +113,7 @@ def stand_ins(t: Try) -> None:
         got = t.binary.run(text, words, before=closing(closed, 3 + left - len(closed)))
     what = f"{what}, {len(closed)} streams closed"
     if sure:
-        wanted = script.command(data, words, text)
+        wanted = command(data, words, text)
         same_run(what, wanted, got)
         same_bytes(what, wanted.data, t.binary.get())
     else:

@@ -5,6 +5,7 @@ from typing import Iterator, NamedTuple, Optional, Union
 
 from . import form
 from .form import COPIES, LIMIT, SECTOR, Home, Layout, check, number
+from .knows import knows
 from .units import BLANK, GARBLED, STALE
 
 # checksum, number, zero, then the content: version, slots, message_size, clients, cluster, block_size, blocks,
@@ -148,6 +149,6 @@ def opened(data: bytes) -> Opened:
     members = [place for place, copy in enumerate(copies) if copy == content]
     if fault(content):
         return Opened(content, fault(content), True, members)
-    # A superblock that names a trailer isn't read yet. That is found behind the barrier.
-    later = f"BadField TrailerAddress {content.trailer_address}" if content.trailer_address else None
-    return Opened(content, later, False, members)
+    # A program that knows no checkpoints refuses what names a trailer, which it finds behind the barrier.
+    later = content.trailer_address and not knows("blocks")
+    return Opened(content, f"BadField TrailerAddress {content.trailer_address}" if later else None, False, members)

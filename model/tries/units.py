@@ -93,6 +93,10 @@ class Unit(NamedTuple):
         return int.from_bytes(value, "little") if isinstance(value, bytes) else value
 
     @property
+    def kind(self) -> int:
+        return self.fields()["kind"]
+
+    @property
     def op(self) -> int:
         return self.fields()["op"]
 
@@ -140,12 +144,25 @@ def prepare(home: Home, parent: bytes, client: int, op: int, request: int, body:
     return Unit(whole[:HEADER], body)
 
 
-def reply(home: Home, to: Unit, place: int, body: bytes, mark: int, checkpoint: int) -> Unit:
-    """The reply to a prepare, for the session at this place."""
-    f = fields_of(home, REPLY, body, parent=to.checksum, client=number(to.client), op=to.op, request=to.request, mark=mark,
-                  checkpoint=checkpoint, slot=place)
+def reply(home: Home, parent: bytes, session, place: int, body: bytes, mark: int, checkpoint: int) -> Unit:
+    """The reply to the last request of the session at this place."""
+    f = fields_of(home, REPLY, body, parent=parent, client=number(session.client), op=session.op, request=session.request,
+                  mark=mark, checkpoint=checkpoint, slot=place)
     whole = seal(f, body)
     return Unit(whole[:HEADER], body)
+
+
+def block(home: Home, address: int, block_kind: int, body: bytes) -> Unit:
+    """A block of the grid."""
+    whole = seal(fields_of(home, BLOCK, body, op=address, block_kind=block_kind), body)
+    return Unit(whole[:HEADER], body)
+
+
+def trailer(home: Home, address: int, before: Optional[Unit], index: int, sequence: int, piece: bytes) -> Unit:
+    """The trailer block with this index, behind the one before it."""
+    linked = {"parent": before.checksum, "request": before.op} if before else {}
+    whole = seal(fields_of(home, TRAILER, piece, op=address, mark=index, checkpoint=sequence, **linked), piece)
+    return Unit(whole[:HEADER], piece)
 
 
 def reserved(home: Home, slot: int) -> bytes:
@@ -179,6 +196,11 @@ def length(place: Place, layout: Layout) -> int:
 def shown(data: bytes, home: Home, place: Place) -> Union[Unit, str]:
     """What a place of a file shows."""
     return read(part(data, home.layout.at(place), length(place, home.layout)), home, place)
+
+
+def known(what: Union[Unit, str], kind: int, checksum: bytes) -> bool:
+    """Whether what is shown is the unit of this kind that has this checksum."""
+    return isinstance(what, Unit) and what.kind == kind and what.checksum == checksum
 
 
 def class_of(what: Union[Unit, str]) -> str:
