@@ -8,10 +8,7 @@ use df_format::{Super, SuperFields, encode_copy, test_fields};
 use df_layout::{Class, Place, Zone};
 use df_memdisk::{DroppingDisk, MemoryDisk};
 use df_quorum::{Chosen, Slot, choose};
-use df_superblock::{
-    UpdateError, equal_copies_begin, four_copies_become_steady, new_disk_has_no_copies,
-    other_writes_keep, read_all, repair, steady_copies_are_kept, update, write_copy,
-};
+use df_superblock::{UpdateError, a_start_can_mislead, read_all, repair, update, write_copy};
 use std::alloc::Global;
 use std::test::Fail;
 
@@ -94,9 +91,6 @@ fn begun(alloc: Global, room: &mut ProbeRoom) -> Result<MemoryDisk, Fail> {
 
 #[test]
 fn an_update_leads_from_four_equal_copies_to_four(rt: HostRuntime) -> Result<(), Fail> {
-    new_disk_has_no_copies();
-    equal_copies_begin();
-    four_copies_become_steady();
     let mut room = probe_room(rt.alloc())?;
     let mut disk = begun(rt.alloc(), &mut room)?;
     for fields in [FIRST, SECOND] {
@@ -136,8 +130,7 @@ fn each_place_is_read_by_its_own_copy_alone(rt: HostRuntime) -> Result<(), Fail>
 
 #[test]
 fn a_repair_writes_the_copies_that_are_no_members(rt: HostRuntime) -> Result<(), Fail> {
-    steady_copies_are_kept();
-    other_writes_keep();
+    a_start_can_mislead();
     let mut room = probe_room(rt.alloc())?;
     let mut disk = begun(rt.alloc(), &mut room)?;
     for number in [1, 3] {
