@@ -6,11 +6,21 @@ use crate::bits::{WORD, clear_bit, lowest_zero, ones_in, set_bit};
 use std::marker::Model;
 
 /// Which of the addresses 1 to `blocks` are taken; contracts see a Bool for each address in order.
-#[derive(Drop)]
 pub struct FreeSet {
     words: Vec<u64>,
     summary: Vec<u64>,
     blocks: u32,
+}
+
+// Its owner lets go of it in one call, and not field by field.
+impl Drop for FreeSet {
+    fn drop(self) {
+        let FreeSet {
+            words: _,
+            summary: _,
+            blocks: _,
+        } = self;
+    }
 }
 
 impl Model for FreeSet {
@@ -46,7 +56,12 @@ impl FreeSet {
         ensures room { vec_len result.0 ≡ (length self + 63) / 64 }
         ensures summary_room { vec_len result.1 ≡ (vec_len result.0 + 63) / 64 }
     {
-        (self.words, self.summary)
+        let FreeSet {
+            words,
+            summary,
+            blocks: _,
+        } = self;
+        (words, summary)
     }
 
     /// Takes an address; one that is taken stays so.

@@ -22,13 +22,25 @@ use std::marker::Model;
 
 /// The blocks of a file. An address is held where it is live (written and not released), captured by the running checkpoint, a block
 /// of its trailer, referenced by the durable checkpoint, or a block of its trailer; all other addresses are free.
-#[derive(Drop)]
 pub struct Grid {
     pub(crate) layout: Layout,
     pub(crate) cluster: u128,
     pub(crate) table: Table,
     pub(crate) block: Shelf<Block>,
     pub(crate) trailer: Shelf<Trailer>,
+}
+
+// Its owner lets go of it in one call, and not field by field.
+impl Drop for Grid {
+    fn drop(self) {
+        let Grid {
+            layout: _,
+            cluster: _,
+            table: _,
+            block: _,
+            trailer: _,
+        } = self;
+    }
 }
 
 impl Model for Grid {

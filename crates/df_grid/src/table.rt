@@ -23,13 +23,25 @@ use std::marker::Model;
 
 /// The table of blocks. Both parts of the running trailer and the durable one's chain are lists of addresses, the chains from the last
 /// block to the first; no layout has a trailer of more than 70 blocks.
-#[derive(Drop)]
 pub struct Table {
     entries: Entries,
     free: FreeSet,
     written: ArrayVec<u64, 70>,
     left: ArrayVec<u64, 70>,
     chain: ArrayVec<u64, 70>,
+}
+
+// Its owner lets go of it in one call, and not field by field.
+impl Drop for Table {
+    fn drop(self) {
+        let Table {
+            entries: _,
+            free: _,
+            written: _,
+            left: _,
+            chain: _,
+        } = self;
+    }
 }
 
 impl Model for Table {
@@ -66,8 +78,15 @@ impl Table {
         ensures checks { length result.1.items ≡ self.size }
         ensures marks { length result.2.items ≡ self.size }
     {
-        let (checks, marks) = self.entries.into_room();
-        (self.free, checks, marks)
+        let Table {
+            entries,
+            free,
+            written: _,
+            left: _,
+            chain: _,
+        } = self;
+        let (checks, marks) = entries.into_room();
+        (free, checks, marks)
     }
 
     /// How many addresses there are.

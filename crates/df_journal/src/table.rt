@@ -23,10 +23,19 @@ pub struct Start {
 }
 
 /// What a scan saw of each slot, behind the checkpoint that it started from. Before the first scan it holds any entries.
-#[derive(Drop)]
 pub struct SlotTable {
     pub(crate) start: Start,
     pub(crate) slots: Vec<SlotSeen>,
+}
+
+// Its owner lets go of it in one call, and not field by field.
+impl Drop for SlotTable {
+    fn drop(self) {
+        let SlotTable {
+            start: _,
+            slots: _,
+        } = self;
+    }
 }
 
 impl Model for SlotTable {

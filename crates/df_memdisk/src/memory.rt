@@ -18,13 +18,25 @@ use std::marker::Model;
 
 /// A disk in memory. A read fails exactly where its number, counted over all device calls from 1, is
 /// listed; a write or a sync also where memory for its event was refused.
-#[derive(Drop)]
 pub struct MemoryDisk {
     alloc: Global,
     pub(crate) past: Vec<Happened>,
     pub(crate) strikes: Vec<Struck>,
     plan: FaultPlan,
     refused: u64,
+}
+
+// Its owner lets go of it in one call, and not field by field.
+impl Drop for MemoryDisk {
+    fn drop(self) {
+        let MemoryDisk {
+            alloc: _,
+            past: _,
+            strikes: _,
+            plan: _,
+            refused: _,
+        } = self;
+    }
 }
 
 impl Model for MemoryDisk {

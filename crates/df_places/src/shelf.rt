@@ -19,11 +19,21 @@ use df_layout::{Class, Layout, Place};
 use std::marker::Model;
 
 /// A room of the kind, of one layout. Contracts see the layout, and the unit that the room holds, if it holds one.
-#[derive(Drop)]
 pub struct Shelf<K: UnitKind> {
     layout: Layout,
     loose: Option<Raw<K>>,
     held: Option<Sound<K>>,
+}
+
+// Its owner lets go of it in one call, and not field by field.
+impl<K: UnitKind> Drop for Shelf<K> {
+    fn drop(self) {
+        let Shelf {
+            layout: _,
+            loose: _,
+            held: _,
+        } = self;
+    }
 }
 
 impl<K: UnitKind> Model for Shelf<K> {

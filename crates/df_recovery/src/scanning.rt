@@ -178,12 +178,8 @@ fn scan_served<D: Disk>(
         layout: rooms.layout,
         cluster: content.fields().cluster,
     };
-    let Rooms {
-        layout,
-        log,
-        grid,
-        trailer,
-    } = rooms;
+    let layout = rooms.layout;
+    let (log, grid, trailer) = rooms.into_parts();
     match read_checkpoint(disk, &file, &content, grid, trailer) {
         Ok(base) => scan_log(disk, &file, copies, log, base),
         Err(unread) => {
@@ -224,12 +220,8 @@ pub fn scan_file<D: Disk>(disk: &mut D, rooms: Rooms) -> Result<Scanned, (Rooms,
     ensures barrier { Syncs (D.told disk.old) (D.told disk.new) (answer_of result) }
     ensures cause { SurveysBy (D.faults disk.old) (D.faults disk.new) (answer_of result) }
 {
-    let Rooms {
-        layout,
-        mut log,
-        grid,
-        trailer,
-    } = rooms;
+    let layout = rooms.layout;
+    let (mut log, grid, trailer) = rooms.into_parts();
     let found = find_served(disk, &layout, &mut log.superblock);
     let rooms = Rooms {
         layout,

@@ -13,7 +13,6 @@ use df_state::{Captured, DataFile, GridRooms, LogRooms, Rooms, TrailerRooms};
 use std::marker::Model;
 
 /// The state of a file in memory, with the rooms that serve it. Contracts see the state.
-#[derive(Drop)]
 pub struct Replica {
     pub(crate) file: DataFile,
     pub(crate) content: Super,
@@ -31,6 +30,27 @@ pub struct Replica {
     pub(crate) grid: Grid,
     pub(crate) running: Option<Captured>,
     pub(crate) trailer: TrailerRooms,
+}
+
+// Its owner lets go of it in one call, and not field by field.
+impl Drop for Replica {
+    fn drop(self) {
+        let Replica {
+            file: _,
+            content: _,
+            root: _,
+            head: _,
+            head_checksum: _,
+            replies: _,
+            sessions: _,
+            waiting: _,
+            live: _,
+            rooms: _,
+            grid: _,
+            running: _,
+            trailer: _,
+        } = self;
+    }
 }
 
 impl Model for Replica {

@@ -1,11 +1,22 @@
 // A file that was surveyed: its state, and what is to be mended before calls may work on it.
-ghost use Rattle.std.specs.Prelude.{◌≡◌, slice_get};
+ghost use Rattle.std.specs.Prelude.{◌≡◌, IfOk, IfErr, OnOk, Some, slice_get};
+ghost use Rattle.df_base.specs.Causes.{HasCause};
+ghost use Rattle.df_base.specs.Moments.{EachMoment};
+ghost use Rattle.df_disk.specs.Told.{Told};
+ghost use Rattle.df_disk.specs.Adds.{Adds};
+ghost use Rattle.df_theory.specs.Device.{AreSteps};
+ghost use Rattle.df_theory.specs.View.{View};
+ghost use Rattle.df_state.specs.State.{shape};
 ghost use Rattle.df_replica.specs.Replica.{summary_of};
+ghost use Rattle.df_replica.specs.Mending.{IsMended, IsPlanned, RestsOnDisk, live_state, mending_events, mending_steps};
+ghost use Rattle.df_replica.specs.Serving.{Grade, IsGoodFor, format};
 
+use crate::mended::mend_rooms;
 use crate::replica::rooms_of;
-use crate::{DataFile, Rooms};
+use crate::{DataFile, Replica, Rooms};
 use arrayvec::ArrayVec;
-use df_base::Check;
+use df_base::{Check, Failed};
+use df_disk::Disk;
 use df_format::Super;
 use df_grid::Grid;
 use df_layout::Mend;
@@ -17,7 +28,6 @@ use std::marker::Model;
 
 /// The state that an open finds, before anything of the file is mended. Contracts see the state, which isn't live, the choice
 /// of the superblock, and the list of what is to be mended.
-#[derive(Drop)]
 pub struct Surveyed {
     pub(crate) file: DataFile,
     pub(crate) content: Super,
@@ -33,6 +43,26 @@ pub struct Surveyed {
     pub(crate) rooms: LogRooms,
     pub(crate) grid: Grid,
     pub(crate) trailer: TrailerRooms,
+}
+
+// Its owner lets go of it in one call, and not field by field.
+impl Drop for Surveyed {
+    fn drop(self) {
+        let Surveyed {
+            file: _,
+            content: _,
+            chosen: _,
+            root: _,
+            head: _,
+            head_checksum: _,
+            replies: _,
+            sessions: _,
+            waiting: _,
+            rooms: _,
+            grid: _,
+            trailer: _,
+        } = self;
+    }
 }
 
 impl Model for Surveyed {
@@ -141,5 +171,57 @@ impl Surveyed {
             trailer,
         } = self;
         rooms_of(file.layout, rooms, grid, trailer)
+    }
+
+    /// Mends what `to_mend` lists, and hands out the replica: header sectors first, each needed one once, then one sync,
+    /// where there was such a sector, then the copies, each durable before the next one. A stop at any moment leaves the
+    /// state that was found, and so does a fault; the rooms come back with it.
+    pub fn mend<D: Disk>(self, disk: &mut D) -> Result<Replica, (Rooms, Failed)>
+        ensures state { IfOk result (λ replica. replica ≡ live_state self.state) }
+        ensures rooms { IfErr result (λ refused. refused.0.layout ≡ self.state.file.layout) }
+        ensures events { Adds (mending_events self.state.file.layout self.state.headers self.mends self.state.fields self.chosen.members) (D.told disk.old) (D.told disk.new) result }
+        ensures steps { AreSteps (format self.state.file) (mending_events self.state.file.layout self.state.headers self.mends self.state.fields self.chosen.members)
+            (mending_steps self.state.file.layout self.state.headers self.mends self.state.fields self.chosen.members) }
+        ensures moments { (before after : Told) → D.told disk.old ≡ Some before → D.told disk.new ≡ Some after → (g : Grade) (view : View)
+            → IsPlanned self.state.file self.state.headers self.mends self.state.fields self.chosen.members before → RestsOnDisk g self.state.file view before
+            → EachMoment before.log after.log (IsGoodFor g (format self.state.file) (shape self.state.file) view view) }
+        ensures mended { (before after : Told) → D.told disk.old ≡ Some before → D.told disk.new ≡ Some after → (g : Grade) (view : View)
+            → IsPlanned self.state.file self.state.headers self.mends self.state.fields self.chosen.members before → RestsOnDisk g self.state.file view before
+            → OnOk result (IsMended g self.state.file view self.state.headers after) }
+        ensures cause { HasCause (D.faults disk.old) (D.faults disk.new) result }
+    {
+        let Surveyed {
+            file,
+            content,
+            chosen,
+            root,
+            head,
+            head_checksum,
+            replies,
+            sessions,
+            waiting,
+            rooms,
+            grid,
+            trailer,
+        } = self;
+        let (log, done) = mend_rooms(disk, &file, &content, chosen.members, rooms);
+        match done {
+            Ok(()) => Ok(Replica {
+                file,
+                content,
+                root,
+                head,
+                head_checksum,
+                replies,
+                sessions,
+                waiting,
+                live: true,
+                rooms: Some(log),
+                grid,
+                running: None,
+                trailer,
+            }),
+            Err(failed) => Err((rooms_of(file.layout, log, grid, trailer), failed)),
+        }
     }
 }

@@ -15,10 +15,19 @@ use df_base::Check;
 use std::marker::Model;
 
 /// At most 64 sessions; a client's place never changes.
-#[derive(Drop)]
 pub struct SessionTable {
     sessions: ArrayVec<Session, 64>,
     max: u32,
+}
+
+// Its owner lets go of it in one call, and not field by field.
+impl Drop for SessionTable {
+    fn drop(self) {
+        let SessionTable {
+            sessions: _,
+            max: _,
+        } = self;
+    }
 }
 
 impl Model for SessionTable {

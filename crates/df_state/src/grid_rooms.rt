@@ -10,7 +10,6 @@ use df_layout::Layout;
 use std::alloc::Global;
 
 /// The memory that serves the grid of a file of one layout.
-#[derive(Drop)]
 pub struct GridRooms {
     pub layout: Layout,
     pub free: FreeSet,
@@ -23,6 +22,20 @@ pub struct GridRooms {
     pub ghost marks_fit: { length marks.items ≡ layout.blocks },
     pub ghost block_fits: { block.layout ≡ layout },
     pub ghost trailer_fits: { trailer.layout ≡ layout },
+}
+
+// Its owner lets go of it in one call, and not field by field.
+impl Drop for GridRooms {
+    fn drop(self) {
+        let GridRooms {
+            layout: _,
+            free: _,
+            checks: _,
+            marks: _,
+            block: _,
+            trailer: _,
+        } = self;
+    }
 }
 
 fn words(alloc: Global, count: usize) -> Result<Vec<u64>, OutOfMemory>

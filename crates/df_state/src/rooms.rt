@@ -7,7 +7,6 @@ use df_layout::Layout;
 use std::alloc::Global;
 
 /// The memory that serves a file of one layout.
-#[derive(Drop)]
 pub struct Rooms {
     pub layout: Layout,
     pub log: LogRooms,
@@ -16,6 +15,18 @@ pub struct Rooms {
     pub ghost log_fits: { log.layout ≡ layout },
     pub ghost grid_fits: { grid.layout ≡ layout },
     pub ghost trailer_fits: { trailer.layout ≡ layout },
+}
+
+// Its owner lets go of it in one call, and not field by field.
+impl Drop for Rooms {
+    fn drop(self) {
+        let Rooms {
+            layout: _,
+            log: _,
+            grid: _,
+            trailer: _,
+        } = self;
+    }
 }
 
 impl Rooms {
@@ -32,6 +43,21 @@ impl Rooms {
             grid,
             trailer,
         })
+    }
+
+    /// Takes the rooms apart: those of the log zones, of the grid and of the trailer.
+    pub fn into_parts(self) -> (LogRooms, GridRooms, TrailerRooms)
+        ensures log { result.0.layout ≡ self.layout }
+        ensures grid { result.1.layout ≡ self.layout }
+        ensures trailer { result.2.layout ≡ self.layout }
+    {
+        let Rooms {
+            layout: _,
+            log,
+            grid,
+            trailer,
+        } = self;
+        (log, grid, trailer)
     }
 
     /// The layout that the rooms were reserved for.
