@@ -10,4 +10,4 @@ some_written r [] (x ∷ xs) is none = absurd (cc)
 some_written r (y ∷ ys) written is none = absurd (cc)
 
 pub finish-requires-clause-running : goal.finish-requires-clause-running
-finish-requires-clause-running c = some_written c.in-Some._last c.args.grid.now.blocks.left c.args.grid.now.blocks.written c.in-Some.ensures
+finish-requires-clause-running c = some_written c.in-Some._last c.args.grid.now.blocks.left c.args.grid.now.blocks.written c.in-Some.ensures.pair
