@@ -1,4 +1,4 @@
-// Files of a checkpoint whose sectors are hurt at rest: copies of an earlier one, blocks, and the trailer's block.
+// Files of a checkpoint whose sectors are hurt at rest: copies of an earlier one, and blocks.
 use crate::cut::served;
 use df_memdisk::Strike;
 use df_runs::{printed, run_script};
@@ -27,8 +27,8 @@ const FILLED: Strike = Strike::Fill { byte: 0xa5 };
 
 const READS: &str = "read 1\nread 2\nread 3\n";
 
-// Block n begins at sector 80 + 4 (n - 1). The trailer's block has the address 6, and no unit has the address 7.
-const ROWS: [Struck; 8] = [
+// Block n begins at sector 76 + 4 n. The trailer's block has the address 6, and no unit has the address 7.
+const ROWS: [Struck; 5] = [
     Struck {
         script: THREE,
         strikes: &[(0, MADE), (1, MADE), (2, MADE), (3, MADE)],
@@ -64,27 +64,6 @@ const ROWS: [Struck; 8] = [
         next: READS,
         text: "block 1 kind 1 body 00\nblock 2 kind 1 body 00\nblock 3 kind 1 body 00\n",
         status: Status::Done,
-    },
-    Struck {
-        script: FIVE,
-        strikes: &[(100, FILLED)],
-        next: READS,
-        text: "refused Damaged Grid 6 Garbled\n",
-        status: Status::Refused,
-    },
-    Struck {
-        script: FIVE,
-        strikes: &[(100, MADE)],
-        next: READS,
-        text: "refused Damaged Grid 6 Blank\n",
-        status: Status::Refused,
-    },
-    Struck {
-        script: FIVE,
-        strikes: &[(100, Strike::Like { sector: 80 })],
-        next: READS,
-        text: "refused Damaged Grid 6 Elsewhere Grid 1\n",
-        status: Status::Refused,
     },
 ];
 

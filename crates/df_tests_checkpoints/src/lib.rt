@@ -3,11 +3,15 @@
 #![tactic(auto)]
 
 #[cfg(test)]
+mod blocks;
+#[cfg(test)]
 mod cut;
 #[cfg(test)]
 mod forged;
 #[cfg(test)]
 mod hurt;
+#[cfg(test)]
+mod left;
 #[cfg(test)]
 mod rows;
 #[cfg(test)]
