@@ -13,4 +13,4 @@ pub use files::{
     SURVEY_CALLS, format_in, found, lists, new_file, open, open_in, rooms_of, small_file, strike,
     survey_in, survey_small,
 };
-pub use stops::{FATES, Fate, stop};
+pub use stops::{FATES, Fate, stop, stop_since};

@@ -3,7 +3,7 @@ ghost use Rattle.std.specs.Prelude.{◌≤◌, length};
 
 use df_base::SECTOR;
 use df_disk::Disk;
-use df_memdisk::{Change, MemoryDisk};
+use df_memdisk::{Change, MemoryDisk, Strike};
 use std::alloc::Global;
 use std::test::Fail;
 
@@ -80,6 +80,41 @@ pub fn stop(
     let mut choice = Vec::new(alloc);
     for (sector, fate) in sectors {
         choice.push(change(&mut disk, before, *sector, *fate)?)?;
+    }
+    match disk.stop(choice) {
+        Ok(disk) => Ok(disk),
+        Err(_) => Err("a sector of the stop isn't loose".into()),
+    }
+}
+
+// What a stop leaves in a sector. `Earlier` shows what the log's first events left there; the stop then shows its own bytes.
+fn change_since(
+    disk: &mut MemoryDisk,
+    events: u64,
+    sector: u16,
+    fate: Fate,
+) -> Result<Change, Fail> {
+    let now = shown(disk, sector)?;
+    disk.strike(u64::from(sector), Strike::Earlier { events })?;
+    let earlier = shown(disk, sector)?;
+    Ok(Change {
+        sector: u64::from(sector),
+        bytes: fated(fate, &now, &earlier),
+    })
+}
+
+/// The disk behind a stop that gives each of these loose sectors its fate; what they held before they were written is what so
+/// many events of its log left in them.
+pub fn stop_since(
+    alloc: Global,
+    disk: MemoryDisk,
+    events: u64,
+    sectors: &[(u16, Fate)],
+) -> Result<MemoryDisk, Fail> {
+    let mut disk = disk;
+    let mut choice = Vec::new(alloc);
+    for (sector, fate) in sectors {
+        choice.push(change_since(&mut disk, events, *sector, *fate)?)?;
     }
     match disk.stop(choice) {
         Ok(disk) => Ok(disk),

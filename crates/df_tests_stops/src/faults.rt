@@ -1,6 +1,7 @@
-// Each call of the disk, the source and the sink fails in turn: the status is the fault of that one, and what was
-// answered is kept.
-use crate::session::{file_before, goes_on, script_from, session, text_before, text_from};
+// Each call of a format, of an open, of the source and of the sink fails in turn: the status is the fault of that one, and what
+// was answered is kept.
+use crate::found::is_found;
+use crate::session::{OPEN_CALLS, script, session, text_of};
 use df_runs::{
     FORMAT_CALLS, blank, lines, made_file, printed, run_failing, run_script, run_words, word,
 };
@@ -8,54 +9,33 @@ use df_top::Status;
 use std::alloc::Global;
 use std::test::Fail;
 
-// Device calls of a run of a small file before its first line: the probe's four copies; the barrier; and four copies, two
-// sectors of headers, 32 slots and four replies.
-const OPEN_CALLS: u64 = 47;
-
 #[test]
 fn a_failing_device_call_of_an_open_is_a_disk_fault(rt: HostRuntime) -> Result<(), Fail> {
     for call in 0..OPEN_CALLS {
         let mut disk = made_file(rt.alloc(), "small", &[FORMAT_CALLS + call + 1])?;
-        let ran = run_script(rt.alloc(), &mut disk, &script_from(rt.alloc(), 0)?)?;
+        let ran = run_script(rt.alloc(), &mut disk, &script(rt.alloc())?)?;
         assert_eq!(rt; ran.status, Status::DiskFault, "call {call}");
         assert!(rt; printed(&ran, ""), "call {call}");
         assert_eq!(rt; disk.calls(), FORMAT_CALLS + call + 1);
-        assert!(rt; goes_on(rt.alloc(), &mut disk, 0, false)?, "call {call}");
+        assert!(rt; is_found(rt.alloc(), &mut disk, 0)?, "call {call}");
     }
     Ok(())
 }
 
 // Whether the session begins by printing this.
 fn is_front(alloc: Global, text: &[u8]) -> Result<bool, Fail> {
-    Ok(text_from(alloc, 0, false)?.as_slice().starts_with(text))
-}
-
-// A write that fails is in the log, and its line was served.
-#[test]
-fn a_failing_device_call_of_a_line_is_a_disk_fault(rt: HostRuntime) -> Result<(), Fail> {
-    for (line, said) in session().iter().enumerate() {
-        let before = file_before(rt.alloc(), line)?;
-        for call in 0..2 * said.writes.len() as u64 {
-            let number = before.calls().saturating_add(call + 1);
-            let mut disk = made_file(rt.alloc(), "small", &[number])?;
-            let ran = run_script(rt.alloc(), &mut disk, &script_from(rt.alloc(), 0)?)?;
-            assert_eq!(rt; ran.status, Status::DiskFault, "{line} {call}");
-            let text = text_before(rt.alloc(), line)?;
-            assert!(rt; ran.text.as_slice() == text.as_slice(), "{line} {call}");
-            assert!(rt;
-                goes_on(rt.alloc(), &mut disk, line, true)?,
-                "{line} {call}"
-            );
-        }
-    }
-    Ok(())
+    Ok(
+        text_of(alloc, session().len())?
+            .as_slice()
+            .starts_with(text),
+    )
 }
 
 // A source that fails at each of its reads, up to a run that reads the whole script. No line is served whose end isn't read.
 #[test]
 fn a_failing_read_of_the_script_is_a_read_fault(rt: HostRuntime) -> Result<(), Fail> {
     let words = word(rt.alloc(), "run")?;
-    let script = script_from(rt.alloc(), 0)?;
+    let script = script(rt.alloc())?;
     let mut faults = 0u64;
     for call in 1..9u64 {
         let mut disk = made_file(rt.alloc(), "small", &[])?;
@@ -66,25 +46,27 @@ fn a_failing_read_of_the_script_is_a_read_fault(rt: HostRuntime) -> Result<(), F
         faults = call;
         assert_eq!(rt; ran.status, Status::ReadFault, "call {call}");
         assert!(rt; is_front(rt.alloc(), &ran.text)?, "call {call}");
-        let next = lines(&ran.text).min(session().len());
-        assert!(rt; goes_on(rt.alloc(), &mut disk, next, false)?, "call {call}");
+        let served = lines(&ran.text);
+        assert!(rt; is_found(rt.alloc(), &mut disk, served)?, "call {call}");
     }
     assert!(rt; faults > 1 && faults < 8);
     Ok(())
 }
 
-// The session has eleven answers, each of one write at least. A line whose answer fails was served.
+// Each answer of the session is one write. A line whose answer fails was served.
 #[test]
 fn a_failing_answer_is_a_write_fault(rt: HostRuntime) -> Result<(), Fail> {
     let words = word(rt.alloc(), "run")?;
-    let script = script_from(rt.alloc(), 0)?;
-    for call in 1..12u64 {
+    let script = script(rt.alloc())?;
+    for served in 1..14u64 {
         let mut disk = made_file(rt.alloc(), "small", &[])?;
-        let ran = run_failing(rt.alloc(), &mut disk, &words, &script, &[], &[call])?;
-        assert_eq!(rt; ran.status, Status::WriteFault, "call {call}");
-        assert!(rt; is_front(rt.alloc(), &ran.text)?, "call {call}");
-        let next = lines(&ran.text).min(session().len());
-        assert!(rt; goes_on(rt.alloc(), &mut disk, next, true)?, "call {call}");
+        let ran = run_failing(rt.alloc(), &mut disk, &words, &script, &[], &[served])?;
+        assert_eq!(rt; ran.status, Status::WriteFault, "line {served}");
+        assert!(rt; is_front(rt.alloc(), &ran.text)?, "line {served}");
+        assert!(rt;
+            is_found(rt.alloc(), &mut disk, served as usize)?,
+            "line {served}"
+        );
     }
     Ok(())
 }

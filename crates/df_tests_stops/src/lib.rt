@@ -4,6 +4,12 @@
 #[cfg(test)]
 mod faults;
 #[cfg(test)]
+mod found;
+#[cfg(test)]
+mod mendings;
+#[cfg(test)]
+mod moments;
+#[cfg(test)]
 mod session;
 #[cfg(test)]
 mod stops;

@@ -1,78 +1,137 @@
-// A session whose lines write one sector or two, and what it answers when it goes on behind a fault.
+// A session whose lines write, with the device calls of each: the device writes a sector here and two there, with a sync behind it
+// or without one.
 use df_memdisk::MemoryDisk;
-use df_runs::{made_file, run_script};
+use df_runs::{Ran, made_file, run_script};
 use std::alloc::Global;
 use std::test::Fail;
 
-// A line whose body is so often these two digits, its answer, its answer where it is said again and was served before, and the
-// sectors that it writes: one write and a sync each.
+// A device call of a line.
+#[derive(Clone, Copy)]
+pub enum DeviceCall {
+    Write(&'static [u16]),
+    Sync,
+    Read,
+}
+
+// When the file keeps a line that is cut off.
+#[derive(Clone, Copy)]
+pub enum Kept {
+    // Not with its own writes alone.
+    Later,
+    // From its first write on, where its unit is whole: that stands in the first 256 bytes of a sector, or fills two.
+    Short,
+    Long,
+    // From the second of the superblock's copies on.
+    Copies,
+}
+
+// A line, its answer, the device calls that it makes, and when it is kept. In both texts `%` and a digit stand for a body
+// that fills the two sectors of a unit by that digit.
 #[derive(Clone, Copy)]
 pub struct Said {
-    front: &'static str,
-    digits: &'static str,
-    size: u16,
+    line: &'static str,
     answer: &'static str,
-    again: &'static str,
-    pub writes: &'static [&'static [u16]],
+    pub calls: &'static [DeviceCall],
+    pub kept: Kept,
 }
 
-impl Said {
-    // Whether the body fills both sectors of a slot. Without a body a unit stands in the first 256 bytes of one sector.
-    pub fn is_long(&self) -> bool {
-        self.size > 0
-    }
-}
+use DeviceCall::{Read, Sync, Write};
 
 // A prepare of op n stands from sector 6 + 2 n on and its header in sector 4, the reply of the first client from sector 70 on
-// and that of the second from 72 on. The last reply is written over the first one.
-const SESSION: [Said; 6] = [
+// and that of the second from 72 on, a block from sector 76 + 4 n on. Address 2 has the trailer of the checkpoint, and the last
+// reply is written over the first one.
+const SESSION: [Said; 13] = [
     Said {
-        front: "append 5 1 ",
-        digits: "-",
-        size: 0,
+        line: "append 5 1 -\n",
         answer: "appended 1\n",
-        again: "refused ReplyPending op 1\n",
-        writes: &[&[8], &[4]],
+        calls: &[Write(&[8]), Sync, Write(&[4]), Sync],
+        kept: Kept::Short,
     },
     Said {
-        front: "reply 1 ",
-        digits: "11",
-        size: 7936,
+        line: "reply 1 %1\n",
         answer: "replied 1\n",
-        again: "refused NothingPending head 1\n",
-        writes: &[&[70, 71]],
+        calls: &[Write(&[70, 71]), Sync],
+        kept: Kept::Long,
     },
     Said {
-        front: "append 6 1 ",
-        digits: "22",
-        size: 7936,
+        line: "block 1 %b\n",
+        answer: "wrote 1\n",
+        calls: &[Write(&[80, 81])],
+        kept: Kept::Later,
+    },
+    Said {
+        line: "append 6 1 %2\n",
         answer: "appended 2\n",
-        again: "refused ReplyPending op 2\n",
-        writes: &[&[10, 11], &[4]],
+        calls: &[Write(&[10, 11]), Sync, Write(&[4]), Sync],
+        kept: Kept::Long,
     },
     Said {
-        front: "append 5 2 ",
-        digits: "-",
-        size: 0,
+        line: "checkpoint 01\n",
+        answer: "begun 1\n",
+        calls: &[],
+        kept: Kept::Later,
+    },
+    Said {
+        line: "block 2 bb\n",
+        answer: "wrote 3\n",
+        calls: &[Write(&[88])],
+        kept: Kept::Later,
+    },
+    Said {
+        line: "step\n",
+        answer: "working 1\n",
+        calls: &[Write(&[84])],
+        kept: Kept::Later,
+    },
+    Said {
+        line: "append 5 2 -\n",
         answer: "appended 3\n",
-        again: "refused ReplyPending op 3\n",
-        writes: &[&[12], &[4]],
+        calls: &[Write(&[12]), Sync, Write(&[4]), Sync],
+        kept: Kept::Short,
     },
     Said {
-        front: "reply 2 ",
-        digits: "-",
-        size: 0,
+        line: "block 3 cc\n",
+        answer: "wrote 4\n",
+        calls: &[Write(&[92])],
+        kept: Kept::Later,
+    },
+    Said {
+        line: "step\n",
+        answer: "done 2\n",
+        calls: &[
+            Sync,
+            Write(&[0]),
+            Sync,
+            Write(&[1]),
+            Sync,
+            Write(&[2]),
+            Sync,
+            Write(&[3]),
+            Sync,
+            Read,
+            Read,
+            Read,
+            Read,
+        ],
+        kept: Kept::Copies,
+    },
+    Said {
+        line: "reply 2 -\n",
         answer: "replied 2\n",
-        again: "refused ReplyOrder expected 3\n",
-        writes: &[&[72]],
+        calls: &[Write(&[72]), Sync],
+        kept: Kept::Short,
     },
     Said {
-        front: "reply 3 ",
-        digits: "33",
-        size: 7936,
+        line: "reply 3 %3\n",
         answer: "replied 3\n",
-        again: "refused NothingPending head 3\n",
-        writes: &[&[70, 71]],
+        calls: &[Write(&[70, 71]), Sync],
+        kept: Kept::Long,
+    },
+    Said {
+        line: "release 1\n",
+        answer: "released 1\n",
+        calls: &[],
+        kept: Kept::Later,
     },
 ];
 
@@ -81,101 +140,63 @@ pub fn session() -> &'static [Said] {
     &SESSION
 }
 
-// Lines that read all that the session wrote, and what they print: a front and a body of digits, so often.
-const READS: &str = "lookup 5\nlookup 6\nprepare 1\nprepare 2\nprepare 3\n";
+// Device calls of a run of a small file before its first line: the probe's four copies; the barrier; and four copies, two
+// sectors of headers, 32 slots and four replies.
+pub const OPEN_CALLS: u64 = 47;
 
-const SHOWN: [(&str, &str, u16); 5] = [
-    (
-        "reply 3 client 5 request 2 mark 3 checkpoint 1 body ",
-        "33",
-        7936,
-    ),
-    (
-        "reply 2 client 6 request 1 mark 3 checkpoint 1 body ",
-        "-",
-        0,
-    ),
-    (
-        "prepare 1 client 5 request 1 mark 0 checkpoint 1 body ",
-        "-",
-        0,
-    ),
-    (
-        "prepare 2 client 6 request 1 mark 1 checkpoint 1 body ",
-        "22",
-        7936,
-    ),
-    (
-        "prepare 3 client 5 request 2 mark 1 checkpoint 1 body ",
-        "-",
-        0,
-    ),
-];
-
-fn push_line(text: &mut Vec<u8>, front: &str, digits: &str, size: u16) -> Result<(), Fail> {
-    text.extend_from_slice(front.as_bytes())?;
-    for _ in 0..size.max(1) {
-        text.extend_from_slice(digits.as_bytes())?;
+fn push_body(text: &mut Vec<u8>, digit: u8) -> Result<(), Fail> {
+    for _ in 0..7936u32 {
+        text.push(digit)?;
+        text.push(digit)?;
     }
-    text.push(b'\n')?;
     Ok(())
 }
 
-// The lines of the session from this one on, and the reads.
-pub fn script_from(alloc: Global, first: usize) -> Result<Vec<u8>, Fail> {
-    let mut script = Vec::new(alloc);
-    for said in session().iter().skip(first) {
-        push_line(&mut script, said.front, said.digits, said.size)?;
+// Puts a text behind another one, each body in full.
+pub fn push_text(text: &mut Vec<u8>, short: &str) -> Result<(), Fail> {
+    let mut is_body = false;
+    for byte in short.as_bytes() {
+        if is_body {
+            push_body(text, *byte)?;
+            is_body = false;
+        } else if *byte == b'%' {
+            is_body = true;
+        } else {
+            text.push(*byte)?;
+        }
     }
-    script.extend_from_slice(READS.as_bytes())?;
+    Ok(())
+}
+
+// Whether a run printed this text.
+pub fn printed_in_full(alloc: Global, ran: &Ran, short: &str) -> Result<bool, Fail> {
+    let mut text = Vec::new(alloc);
+    push_text(&mut text, short)?;
+    Ok(ran.text.as_slice() == text.as_slice())
+}
+
+// The lines of the session.
+pub fn script(alloc: Global) -> Result<Vec<u8>, Fail> {
+    let mut script = Vec::new(alloc);
+    for said in session() {
+        push_text(&mut script, said.line)?;
+    }
     Ok(script)
 }
 
-// What these lines print, where the first of them was served before or wasn't.
-pub fn text_from(alloc: Global, first: usize, served: bool) -> Result<Vec<u8>, Fail> {
+// What so many of its first lines print.
+pub fn text_of(alloc: Global, lines: usize) -> Result<Vec<u8>, Fail> {
     let mut text = Vec::new(alloc);
-    for (index, said) in session().iter().enumerate().skip(first) {
-        let again = served && index == first;
-        let line = if again { said.again } else { said.answer };
-        text.extend_from_slice(line.as_bytes())?;
-    }
-    for (front, digits, size) in &SHOWN {
-        push_line(&mut text, front, digits, *size)?;
+    for said in session().iter().take(lines) {
+        push_text(&mut text, said.answer)?;
     }
     Ok(text)
 }
 
-// What the lines before this one print.
-pub fn text_before(alloc: Global, end: usize) -> Result<Vec<u8>, Fail> {
-    let mut text = Vec::new(alloc);
-    for said in session().iter().take(end) {
-        text.extend_from_slice(said.answer.as_bytes())?;
-    }
-    Ok(text)
-}
-
-// A small file behind the lines before this one.
-pub fn file_before(alloc: Global, end: usize) -> Result<MemoryDisk, Fail> {
-    let mut script = Vec::new(alloc);
-    for said in session().iter().take(end) {
-        push_line(&mut script, said.front, said.digits, said.size)?;
-    }
-    let mut disk = made_file(alloc, "small", &[])?;
-    let ran = run_script(alloc, &mut disk, &script)?;
-    if ran.text.as_slice() == text_before(alloc, end)?.as_slice() {
-        Ok(disk)
-    } else {
-        Err("the session isn't answered".into())
-    }
-}
-
-// Whether the session goes on from this line, which was served before or wasn't, as if nothing had happened.
-pub fn goes_on(
-    alloc: Global,
-    disk: &mut MemoryDisk,
-    first: usize,
-    served: bool,
-) -> Result<bool, Fail> {
-    let ran = run_script(alloc, disk, &script_from(alloc, first)?)?;
-    Ok(ran.text.as_slice() == text_from(alloc, first, served)?.as_slice())
+// A small file whose device call of this number, counted from the first of its making, fails in a run of the session, and
+// that run.
+pub fn run_session(alloc: Global, failing: u64) -> Result<(MemoryDisk, Ran), Fail> {
+    let mut disk = made_file(alloc, "small", &[failing])?;
+    let ran = run_script(alloc, &mut disk, &script(alloc)?)?;
+    Ok((disk, ran))
 }
