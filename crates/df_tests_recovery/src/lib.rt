@@ -1,9 +1,7 @@
-//! Tests of recovery over files on a disk in memory: what an open refuses and what it mends where sectors were hurt or torn,
-//! and mendings that are stopped.
+//! Tests of recovery over files on a disk in memory: what an open mends where sectors were torn, mendings that are stopped, and
+//! trailers that are looked for.
 #![tactic(auto)]
 
-#[cfg(test)]
-mod hurt;
 #[cfg(test)]
 mod mendings;
 #[cfg(test)]
