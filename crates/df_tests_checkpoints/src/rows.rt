@@ -20,7 +20,8 @@ const FREED_RING: Row = Row {
     layout: "small",
     ops: 32,
     blocks: 0,
-    behind: "append 1 33 -\ncheckpoint -\nappend 1 33 -\nstep\nstep\nappend 1 33 -\nprepare 32\nprepare 33\nstep\n",
+    behind: "append 1 33 -\ncheckpoint -\nappend 1 33 -\nstep\nstep\nappend 1 33 -\nprepare 32\n\
+        prepare 33\nstep\n",
     end: "replied 32\nrefused WalFull op 33 checkpoint_op 0\nbegun 1\n\
         refused WalFull op 33 checkpoint_op 0\nworking 1\ndone 2\nappended 33\n\
         refused NotKept first 33 last 33\n\
@@ -32,8 +33,8 @@ const REUSED_BLOCKS: Row = Row {
     layout: "small",
     ops: 0,
     blocks: 0,
-    behind: "block 1 aa\ncheckpoint -\nstep\nstep\nrelease 1\nrelease 1\ncheckpoint -\ncheckpoint -\nblock 1 bb\n\
-        step\nstep\nblock 1 cc\nread 4\nblock 0 -\n",
+    behind: "block 1 aa\ncheckpoint -\nstep\nstep\nrelease 1\nrelease 1\ncheckpoint -\ncheckpoint -\n\
+        block 1 bb\nstep\nstep\nblock 1 cc\nread 4\nblock 0 -\n",
     end: "wrote 1\nbegun 1\nworking 1\ndone 2\nreleased 1\nrefused NotLive\nbegun 1\n\
         refused Running left 2\nwrote 4\nworking 1\ndone 3\nwrote 1\nblock 4 kind 1 body bb\n\
         refused KindZero\n",

@@ -20,7 +20,7 @@ const BEGUN: &str = "append 1 1 -\ncheckpoint 01\n";
 
 const WRITTEN: &str = "append 1 1 -\ncheckpoint 01\nstep\n";
 
-// The trailer isn't there, and neither is the checkpoint.
+// The checkpoint didn't come about.
 const FIRST: Left = Left {
     mends: &[],
     found: Numbers {
