@@ -88,20 +88,20 @@ fn file_of_checkpoint(alloc: Global, listed: u64) -> Result<MemoryDisk, Fail> {
     }
 }
 
-// The block of the trailer is read, and that of the checkpoint isn't.
+// The trailer is walked back and then forth. The block that the checkpoint references isn't read.
 #[test]
-fn a_survey_of_a_checkpoint_makes_one_call_more(rt: HostRuntime) -> Result<(), Fail> {
+fn a_survey_of_a_checkpoint_reads_its_trailer_twice(rt: HostRuntime) -> Result<(), Fail> {
     let mut disk = file_of_checkpoint(rt.alloc(), 0)?;
     let calls = disk.calls();
     let Ok(surveyed) = survey_small(rt.alloc(), &mut disk)? else {
         return Err("the file is refused".into());
     };
-    assert_eq!(rt; disk.calls().checked_sub(calls), Some(44));
+    assert_eq!(rt; disk.calls().checked_sub(calls), Some(45));
     let summary = surveyed.summary();
     assert_eq!(rt; (summary.sequence, summary.checkpoint_op), (2, 1));
     assert_eq!(rt; (summary.sessions, summary.references), (1, 1));
     assert_eq!(rt; surveyed.root(), [1u8, 2].as_slice());
-    for call in 1..45u64 {
+    for call in 1..46u64 {
         let listed = calls.saturating_add(call);
         let mut disk = file_of_checkpoint(rt.alloc(), listed)?;
         let ends = ends_with(rt.alloc(), &mut disk, listed)?;
