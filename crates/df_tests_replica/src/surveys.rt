@@ -4,6 +4,8 @@ use df_images::{lists, rooms_of, small_file, strike, survey_in, survey_small};
 use df_layout::{Class, Layout, Mend, Place, Zone};
 use df_memdisk::MemoryDisk;
 use df_replica::OpenError;
+use df_runs::run_script;
+use df_top::Status;
 use std::alloc::Global;
 use std::test::Fail;
 
@@ -54,16 +56,56 @@ fn a_survey_is_forty_three_calls_and_one_event(rt: HostRuntime) -> Result<(), Fa
     Ok(())
 }
 
+// Whether a survey of a disk whose call of this number is listed ends with it, and hands the rooms back.
+fn ends_with(alloc: Global, disk: &mut MemoryDisk, listed: u64) -> Result<bool, Fail> {
+    let rooms = rooms_of(alloc, &Layout::small())?;
+    let Err((rooms, refusal)) = survey_in(disk, rooms) else {
+        return Err("a failing call is passed over".into());
+    };
+    let given_back = rooms.layout() == Layout::small();
+    Ok(refusal == OpenError::DiskFault && given_back && disk.calls() == listed)
+}
+
 #[test]
 fn a_survey_ends_with_the_call_that_fails(rt: HostRuntime) -> Result<(), Fail> {
     for listed in 16..59u64 {
         let mut disk = small_file(rt.alloc(), listed)?;
-        let rooms = rooms_of(rt.alloc(), &Layout::small())?;
-        let Err((rooms, refusal)) = survey_in(&mut disk, rooms) else {
-            return Err("a failing call is passed over".into());
-        };
-        assert_eq!(rt; refusal, OpenError::DiskFault, "call {listed}");
-        assert_eq!(rt; (rooms.layout(), disk.calls()), (Layout::small(), listed));
+        let ends = ends_with(rt.alloc(), &mut disk, listed)?;
+        assert!(rt; ends, "call {listed}");
+    }
+    Ok(())
+}
+
+// A small file behind an op, a block and a checkpoint, whose trailer is one block.
+fn file_of_checkpoint(alloc: Global, listed: u64) -> Result<MemoryDisk, Fail> {
+    let mut disk = small_file(alloc, listed)?;
+    let script = b"append 5 1 -\nreply 1 -\nblock 1 aa\ncheckpoint 0102\nstep\nstep\n";
+    let ran = run_script(alloc, &mut disk, script)?;
+    if ran.status == Status::Done {
+        Ok(disk)
+    } else {
+        Err("the script isn't served".into())
+    }
+}
+
+// The trailer is walked back and then forth. The block that the checkpoint references isn't read.
+#[test]
+fn a_survey_of_a_checkpoint_reads_its_trailer_twice(rt: HostRuntime) -> Result<(), Fail> {
+    let mut disk = file_of_checkpoint(rt.alloc(), 0)?;
+    let calls = disk.calls();
+    let Ok(surveyed) = survey_small(rt.alloc(), &mut disk)? else {
+        return Err("the file is refused".into());
+    };
+    assert_eq!(rt; disk.calls().checked_sub(calls), Some(45));
+    let summary = surveyed.summary();
+    assert_eq!(rt; (summary.sequence, summary.checkpoint_op), (2, 1));
+    assert_eq!(rt; (summary.sessions, summary.references), (1, 1));
+    assert_eq!(rt; surveyed.root(), [1u8, 2].as_slice());
+    for call in 1..46u64 {
+        let listed = calls.saturating_add(call);
+        let mut disk = file_of_checkpoint(rt.alloc(), listed)?;
+        let ends = ends_with(rt.alloc(), &mut disk, listed)?;
+        assert!(rt; ends, "call {call}");
     }
     Ok(())
 }

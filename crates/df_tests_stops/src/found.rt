@@ -12,6 +12,10 @@ const ASKED: &str = "lookup 5\nlookup 6\nprepare 1\nprepare 2\nprepare 3\nread 1
 
 const ASKED_AGAIN: &str = "lookup 9\nread 1\nread 3\nstep\n";
 
+// Behind the session's checkpoint its block is there, too.
+const BOTH_BLOCKS: &str = "refused ReplyPending op 4\nblock 1 kind 1 body %b\n\
+    block 3 kind 9 body 99\nrefused NotRunning\n";
+
 // What is printed from this number of lines on.
 struct Found {
     lines: usize,
@@ -79,7 +83,7 @@ const FOUND: [Found; 8] = [
             prepare 3 client 5 request 2 mark 1 checkpoint 1 body -\n\
             block 1 kind 1 body %b\nrefused NotLive\nrefused NotLive\n\
             appended 4\nwrote 3\nbegun 1\nworking 1\ndone 3\n",
-        again: "refused ReplyPending op 4\nblock 1 kind 1 body %b\nblock 3 kind 9 body 99\nrefused NotRunning\n",
+        again: BOTH_BLOCKS,
     },
     Found {
         lines: 11,
@@ -90,7 +94,7 @@ const FOUND: [Found; 8] = [
             prepare 3 client 5 request 2 mark 1 checkpoint 1 body -\n\
             block 1 kind 1 body %b\nrefused NotLive\nrefused NotLive\n\
             appended 4\nwrote 3\nbegun 1\nworking 1\ndone 3\n",
-        again: "refused ReplyPending op 4\nblock 1 kind 1 body %b\nblock 3 kind 9 body 99\nrefused NotRunning\n",
+        again: BOTH_BLOCKS,
     },
     Found {
         lines: 12,
@@ -101,7 +105,7 @@ const FOUND: [Found; 8] = [
             prepare 3 client 5 request 2 mark 1 checkpoint 1 body -\n\
             block 1 kind 1 body %b\nrefused NotLive\nrefused NotLive\n\
             appended 4\nwrote 3\nbegun 1\nworking 1\ndone 3\n",
-        again: "refused ReplyPending op 4\nblock 1 kind 1 body %b\nblock 3 kind 9 body 99\nrefused NotRunning\n",
+        again: BOTH_BLOCKS,
     },
 ];
 
