@@ -1,0 +1,82 @@
+// A session of four clients and two hundred ops with a body of 2,048 bytes each, over ten checkpoints that run between them.
+use df_images::survey_small;
+use df_layout::Layout;
+use df_memdisk::MemoryDisk;
+use df_model::Summary;
+use df_runs::{run_script, small_file};
+use df_top::Status;
+use std::alloc::Global;
+use std::test::Fail;
+
+// Sixteen records of 128 bytes.
+const BODY: u32 = 2048;
+
+// The append and the reply of an op, and the lines of a checkpoint behind them: one begins behind each twentieth op, and its two
+// steps come with the next two.
+fn add_op(alloc: Global, script: &mut Vec<u8>, op: u64) -> Result<(), Fail> {
+    let turn = op.saturating_sub(1);
+    let front = format!(in alloc; "append {} {} ", turn % 4 + 1, turn / 4 + 1)?;
+    script.extend_from_slice(front.as_bytes())?;
+    let byte = format!(in alloc; "{:02x}", op % 256)?;
+    for _ in 0..BODY {
+        script.extend_from_slice(byte.as_bytes())?;
+    }
+    let reply = format!(in alloc; "\nreply {} 00\n", op)?;
+    script.extend_from_slice(reply.as_bytes())?;
+    if op % 20 == 0 {
+        script.extend_from_slice(b"checkpoint -\n")?;
+    } else if op > 20 && op % 20 <= 2 {
+        script.extend_from_slice(b"step\n")?;
+    }
+    Ok(())
+}
+
+fn script(alloc: Global) -> Result<Vec<u8>, Fail> {
+    let mut script = Vec::new(alloc);
+    for before in 0..200u64 {
+        add_op(alloc, &mut script, before + 1)?;
+    }
+    script.extend_from_slice(b"step\nstep\n")?;
+    Ok(script)
+}
+
+// The state that a survey finds; nothing is to be mended, and the root is empty.
+fn surveyed(alloc: Global, disk: &mut MemoryDisk) -> Result<Summary, Fail> {
+    match survey_small(alloc, disk)? {
+        Ok(surveyed) if surveyed.to_mend().is_empty() && surveyed.root().is_empty() => {
+            Ok(surveyed.summary())
+        }
+        _ => Err("the file isn't as it was left".into()),
+    }
+}
+
+#[test]
+fn two_hundred_ops_go_through_the_ring(rt: HostRuntime) -> Result<(), Fail> {
+    let mut disk = small_file(rt.alloc(), &[])?;
+    let ran = run_script(rt.alloc(), &mut disk, &script(rt.alloc())?)?;
+    assert!(rt;
+        ran.text
+            .as_slice()
+            .ends_with(b"\nreplied 200\nbegun 1\nworking 1\ndone 11\n")
+    );
+    assert_eq!(rt; ran.status, Status::Done);
+    let wanted = Summary {
+        cluster: 7,
+        layout: Layout::small(),
+        sequence: 11,
+        checkpoint_op: 200,
+        head: 200,
+        replies: 200,
+        sessions: 4,
+        references: 0,
+    };
+    assert_eq!(rt; surveyed(rt.alloc(), &mut disk)?, wanted);
+    let lookups = b"lookup 1\nlookup 2\nlookup 3\nlookup 4\n";
+    let ran = run_script(rt.alloc(), &mut disk, lookups)?;
+    let replies = "reply 197 client 1 request 50 mark 197 checkpoint 10 body 00\n\
+        reply 198 client 2 request 50 mark 198 checkpoint 10 body 00\n\
+        reply 199 client 3 request 50 mark 199 checkpoint 10 body 00\n\
+        reply 200 client 4 request 50 mark 200 checkpoint 10 body 00\n";
+    assert_eq!(rt; ran.text.as_slice(), replies.as_bytes());
+    Ok(())
+}

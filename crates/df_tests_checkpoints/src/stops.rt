@@ -1,0 +1,203 @@
+// Stops within the steps of a checkpoint, and within the prepare that reuses a slot behind one.
+use crate::cut::{served, stopped_within};
+use crate::left::{Left, Numbers, has_root, is_left};
+use df_images::Fate;
+use df_layout::{Class, Zone};
+use df_memdisk::Strike;
+use df_runs::{ops_of_one, printed, run_script};
+use std::test::Fail;
+
+// A stop within a step behind a script, at the step's device call of this number, with the fate of the sector that is loose.
+struct Stop {
+    script: &'static str,
+    number: u64,
+    sector: u16,
+    fate: Fate,
+    left: Left,
+}
+
+const BEGUN: &str = "append 1 1 -\ncheckpoint 01\n";
+
+const WRITTEN: &str = "append 1 1 -\ncheckpoint 01\nstep\n";
+
+// The checkpoint didn't come about.
+const FIRST: Left = Left {
+    mends: &[],
+    found: Numbers {
+        sequence: 1,
+        checkpoint_op: 0,
+        head: 1,
+        replies: 0,
+    },
+    next: NEXT,
+    text: TO_SECOND,
+};
+
+// The checkpoint came about.
+const SECOND: Left = Left {
+    mends: &[],
+    found: Numbers {
+        sequence: 2,
+        checkpoint_op: 1,
+        head: 1,
+        replies: 0,
+    },
+    next: NEXT,
+    text: "begun 1\nworking 1\ndone 3\n",
+};
+
+const NEXT: &str = "checkpoint 02\nstep\nstep\n";
+
+const TO_SECOND: &str = "begun 1\nworking 1\ndone 2\n";
+
+// The trailer's one block begins at sector 80. The last step is a sync, and for each copy a write and a sync: the calls 2, 4, 6
+// and 8 write the copies 0 to 3. With copy 1 the new content has its second copy, so that a stop within it decides.
+const STEPS: [Stop; 7] = [
+    Stop {
+        script: BEGUN,
+        number: 1,
+        sector: 80,
+        fate: Fate::Filled,
+        left: FIRST,
+    },
+    Stop {
+        script: WRITTEN,
+        number: 1,
+        sector: 80,
+        fate: Fate::Filled,
+        left: FIRST,
+    },
+    Stop {
+        script: WRITTEN,
+        number: 2,
+        sector: 0,
+        fate: Fate::Filled,
+        left: Left {
+            mends: &[(Zone::Superblock, 0, Class::Garbled)],
+            ..FIRST
+        },
+    },
+    Stop {
+        script: WRITTEN,
+        number: 4,
+        sector: 1,
+        fate: Fate::Filled,
+        left: Left {
+            mends: &[
+                (Zone::Superblock, 0, Class::Stale),
+                (Zone::Superblock, 1, Class::Garbled),
+            ],
+            ..FIRST
+        },
+    },
+    Stop {
+        script: WRITTEN,
+        number: 4,
+        sector: 1,
+        fate: Fate::AsWritten,
+        left: Left {
+            mends: &[
+                (Zone::Superblock, 2, Class::Stale),
+                (Zone::Superblock, 3, Class::Stale),
+            ],
+            ..SECOND
+        },
+    },
+    Stop {
+        script: WRITTEN,
+        number: 6,
+        sector: 2,
+        fate: Fate::Filled,
+        left: Left {
+            mends: &[
+                (Zone::Superblock, 2, Class::Garbled),
+                (Zone::Superblock, 3, Class::Stale),
+            ],
+            ..SECOND
+        },
+    },
+    Stop {
+        script: WRITTEN,
+        number: 8,
+        sector: 3,
+        fate: Fate::Filled,
+        left: Left {
+            mends: &[(Zone::Superblock, 3, Class::Garbled)],
+            ..SECOND
+        },
+    },
+];
+
+#[test]
+fn a_checkpoint_that_is_stopped_was_done_or_not(rt: HostRuntime) -> Result<(), Fail> {
+    for (index, stop) in STEPS.iter().enumerate() {
+        let script = stop.script.as_bytes();
+        let loose = [(stop.sector, stop.fate)];
+        let mut disk = stopped_within(rt.alloc(), script, "step\n", stop.number, &loose)?;
+        assert!(rt; is_left(rt.alloc(), &mut disk, &stop.left)?, "row {index}");
+    }
+    Ok(())
+}
+
+// A checkpoint is stopped within copy 1 and doesn't come about, another of the same sequence does, and then copy 0 shows again
+// what the first one wrote there, behind its sync.
+#[test]
+fn a_copy_of_a_checkpoint_that_did_not_come_about_is_stale(rt: HostRuntime) -> Result<(), Fail> {
+    let written = served(rt.alloc(), WRITTEN.as_bytes())?.events();
+    let loose = [(1, Fate::Filled)];
+    let mut disk = stopped_within(rt.alloc(), WRITTEN.as_bytes(), "step\n", 4, &loose)?;
+    let ran = run_script(rt.alloc(), &mut disk, NEXT.as_bytes())?;
+    assert!(rt; printed(&ran, TO_SECOND));
+    assert!(rt; has_root(rt.alloc(), &mut disk, &[2], &[])?);
+    let events = written.saturating_add(2);
+    disk.strike(0, Strike::Earlier { events })?;
+    let stale = [(Zone::Superblock, 0, Class::Stale)];
+    assert!(rt; has_root(rt.alloc(), &mut disk, &[2], &stale)?);
+    Ok(())
+}
+
+const FREED: &str = "append 1 33 -\ncheckpoint -\nappend 1 33 -\nstep\nstep\n";
+
+const COVERED: Left = Left {
+    mends: &[],
+    found: Numbers {
+        sequence: 2,
+        checkpoint_op: 32,
+        head: 32,
+        replies: 32,
+    },
+    next: "append 1 33 -\n",
+    text: "appended 33\n",
+};
+
+const REUSED: Left = Left {
+    mends: &[(Zone::WalHeaders, 1, Class::Stale)],
+    found: Numbers {
+        sequence: 2,
+        checkpoint_op: 32,
+        head: 33,
+        replies: 32,
+    },
+    next: "append 1 33 -\n",
+    text: "refused ReplyPending op 33\n",
+};
+
+// What becomes of sector 8, the first of op 1's slot, in which op 33 is being written, and what is left. A prepare without a
+// body stands in the first 512 bytes.
+const REUSES: [(Fate, Left); 4] = [
+    (Fate::Filled, COVERED),
+    (Fate::AsBefore, COVERED),
+    (Fate::AsWritten, REUSED),
+    (Fate::Torn, REUSED),
+];
+
+#[test]
+fn a_prepare_that_reuses_a_slot_may_be_stopped(rt: HostRuntime) -> Result<(), Fail> {
+    let script = ops_of_one(rt.alloc(), 32, FREED)?;
+    for (fate, left) in REUSES {
+        let loose = [(8, fate)];
+        let mut disk = stopped_within(rt.alloc(), &script, "append 1 33 -\n", 1, &loose)?;
+        assert!(rt; is_left(rt.alloc(), &mut disk, &left)?, "{fate:?}");
+    }
+    Ok(())
+}

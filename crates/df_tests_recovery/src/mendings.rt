@@ -1,0 +1,75 @@
+// Mendings that are stopped within each of their writes: the file opens again as what it was, and then nothing is left to
+// mend.
+use crate::names::summary;
+use df_images::{
+    Call, FATES, Fate, SURVEY_CALLS, found, lists, open, serve, small_file, stop, strike,
+};
+use df_layout::Layout;
+use df_memdisk::MemoryDisk;
+use std::alloc::Global;
+use std::test::Fail;
+
+const CALLS: [Call; 3] = [
+    Call::Append {
+        client: 1,
+        request: 1,
+        size: 0,
+    },
+    Call::Reply { op: 1, size: 0 },
+    Call::Append {
+        client: 2,
+        request: 1,
+        size: 0,
+    },
+];
+
+// A small file behind these calls whose header ring and copies 1 and 3 show zeros; one device call may be listed to fail.
+fn hurt(alloc: Global, failing: u64) -> Result<MemoryDisk, Fail> {
+    let mut disk = small_file(alloc, failing)?;
+    if serve(alloc, &mut disk, &CALLS)? != CALLS.len() {
+        return Err("a call is refused".into());
+    }
+    strike(&mut disk, &[1, 3, 4, 5], 0)?;
+    Ok(disk)
+}
+
+// The same file behind an open that was stopped at the mending's device call of this number.
+fn stopped(alloc: Global, number: u64, loose: &[(u16, Fate)]) -> Result<MemoryDisk, Fail> {
+    let mut before = hurt(alloc, 0)?;
+    let open_calls = before.calls().saturating_add(SURVEY_CALLS);
+    let mut disk = hurt(alloc, open_calls.saturating_add(number))?;
+    if open(alloc, &mut disk, &Layout::small())?.is_ok() {
+        return Err("the mending isn't stopped".into());
+    }
+    stop(alloc, disk, &mut before, loose)
+}
+
+// Whether an open finds the state of those calls, and leaves nothing to mend.
+fn is_mended(alloc: Global, disk: &mut MemoryDisk) -> Result<bool, Fail> {
+    let same = found(alloc, disk)? == Ok(summary(1, 2, 1, 2));
+    Ok(same && lists(alloc, disk, &[])?)
+}
+
+// The seven calls of the mending: two header sectors, a sync, and for each copy a write and a sync.
+#[test]
+fn a_mending_that_is_stopped_in_one_sector_is_gone_on_with(rt: HostRuntime) -> Result<(), Fail> {
+    for (number, sector) in [(1u64, 4u16), (4, 1), (5, 1), (6, 3), (7, 3)] {
+        for fate in FATES {
+            let mut disk = stopped(rt.alloc(), number, &[(sector, fate)])?;
+            assert!(rt; is_mended(rt.alloc(), &mut disk)?, "call {number} {fate:?}");
+        }
+    }
+    Ok(())
+}
+
+// Behind the second write both header sectors are loose.
+#[test]
+fn a_mending_that_is_stopped_in_two_sectors_is_gone_on_with(rt: HostRuntime) -> Result<(), Fail> {
+    for first in FATES {
+        for second in FATES {
+            let mut disk = stopped(rt.alloc(), 2, &[(4, first), (5, second)])?;
+            assert!(rt; is_mended(rt.alloc(), &mut disk)?, "{first:?} {second:?}");
+        }
+    }
+    Ok(())
+}
