@@ -8,7 +8,7 @@ use Rattle.df_format.proofs.Laws.{some-eq}
 use Rattle.df_journal.specs.Append.{ShowsRing}
 use Rattle.df_model.specs.After.{after_check, to_check}
 use Rattle.df_model.specs.Changing.{checked_in}
-use Rattle.df_model.specs.Commands.{Answer, Given, IsInput, Recent, Scrub, ToRecent, ToScrub}
+use Rattle.df_model.specs.Commands.{Given, IsInput, Recent, Scrub, ToRecent, ToScrub}
 use Rattle.df_model.specs.Memory.{Memory, memory_of}
 use Rattle.df_model.specs.Sense.{IsWork}
 use Rattle.df_model.specs.Work.{Work}
@@ -16,13 +16,12 @@ use Rattle.df_model.proofs.Laws.{change_law}
 use Rattle.df_model.specs.declared.answers.Scrubbed.{Scrubbed}
 use Rattle.df_model.specs.declared.answers.Verdict.{Verdict}
 use Rattle.df_model.specs.declared.answers.Verdict.TheVariants.{Sound, Failing}
-use Rattle.df_scrub.specs.Machine as machine
 use Rattle.df_scrub.specs.Machine.{IsMachineStep, IsMachines}
 use Rattle.df_scrub.specs.Scrubber.{ScrubState, verdict_in}
 use Rattle.df_state.specs.State.{Represents, State, grid_with, memory, shape, spelling}
 use Rattle.df_replica.specs.Answering.{GivesVerdict, Serves, ServesScrub}
 use Rattle.df_replica.specs.Scrubbing.{scrub_of, with_scrub}
-use Rattle.df_replica.specs.Serving.{IsCall, next}
+use Rattle.df_replica.specs.Serving.{next}
 use Rattle.df_replica.specs.Supply.{IsSupplied}
 use Rattle.df_replica.proofs.Calls.{AreCalls, Answered, answered_call, stopped_call}
 use Rattle.df_replica.proofs.ReadCalls.{zero_sum}

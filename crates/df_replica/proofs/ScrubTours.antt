@@ -1,30 +1,26 @@
 -- A whole tour is the machine's, and what is kept of the file goes on behind it: the view, the blocks and the log are the same.
-use Rattle.std.proofs.Common.{◌≡◌, ◌≤◌, ◌-◌, ◌∙◌, ℕ, ◌++◌, List, drop, length, Option, Some, None, refl, sym, ap, subst, arith, length-drop}
-use Rattle.df_base.specs.Log.{Log}
+use Rattle.std.proofs.Common.{◌≡◌, ◌≤◌, ◌-◌, ◌∙◌, ℕ, ◌++◌, List, length, Option, Some, None, refl, sym, ap, subst, arith, length-drop}
 use Rattle.df_disk.specs.Told.{Told}
 use Rattle.df_layout.specs.declared.damage.Finding.{Finding}
 use Rattle.df_theory.specs.Device.{units_log}
 use Rattle.df_theory.specs.Shape.{Shape}
 use Rattle.df_theory.specs.UnitLog.{UnitLog}
 use Rattle.df_theory.specs.Units.{Parts}
-use Rattle.df_units.specs.Meaning.{layout_of}
 use Rattle.df_model.specs.After.{newest}
 use Rattle.df_model.specs.Laws.{IsKeptBy}
-use Rattle.df_model.specs.Memory.{Memory, memory_of, referenced_of}
+use Rattle.df_model.specs.Memory.{referenced_of}
 use Rattle.df_model.specs.Reading.{IsTour}
 use Rattle.df_model.specs.Sense.{IsBacked, IsKnown, IsWork}
 use Rattle.df_model.specs.Sense.IsKnown.{Captured, Chained, Durable, Live, Written}
-use Rattle.df_model.specs.Supply.{Codec}
 use Rattle.df_model.specs.Work.{Work, first_tour}
 use Rattle.df_model.proofs.Laws.{tour_law}
 use Rattle.df_grid.specs.Grid as grid
 use Rattle.df_grid.specs.Grid.{GridState}
-use Rattle.df_state.specs.declared.file.DataFile.{DataFile}
-use Rattle.df_state.specs.State.{Represents, State, grid_with, memory, shape, spelling}
+use Rattle.df_state.specs.State.{Represents, State, memory, shape, spelling}
 use Rattle.df_replica.specs.Answering.{ServesTour}
 use Rattle.df_replica.specs.Reading.{shown_of}
 use Rattle.df_replica.specs.Scrubbing.{TellsTour, at_start, toured, work_toured}
-use Rattle.df_replica.specs.Serving.{Firm, Grade, IsKept, Keeps, KeptFor, Whole, format}
+use Rattle.df_replica.specs.Serving.{Firm, Grade, Keeps, KeptFor, Whole, format}
 
 newest_few : (fs : List Finding) → length (newest fs) ≤ 64
 newest_few fs = omega (arith, length-drop (length fs - 64) fs)

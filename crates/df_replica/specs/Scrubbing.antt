@@ -1,5 +1,5 @@
 -- The calls of the scrubber: a step of its tour, a whole tour, and what it found last. They leave all else as it was.
-use Rattle.std.specs.Prelude.{◌≡◌, ◌++◌, suc, false, List, length, Option, Some, None, Result, Ok, Err}
+use Rattle.std.specs.Prelude.{◌≡◌, ◌++◌, false, List, Option, Some, None, Result, Ok, Err}
 use Rattle.df_base.specs.Image.{Image}
 use Rattle.df_base.specs.declared.Failed.{Failed}
 use Rattle.df_disk.specs.Told.{Told}
