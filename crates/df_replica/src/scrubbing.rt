@@ -1,5 +1,5 @@
 // The calls of the scrubber: a step of its tour over the referenced blocks, a whole tour, and what it found last. They write nothing.
-ghost use Rattle.std.specs.Prelude.{◌≡◌, true, Option, Some, IfOk, length, slice_get};
+ghost use Rattle.std.specs.Prelude.{◌≡◌, ◌≤◌, true, Option, Some, IfOk, length, slice_get};
 ghost use Rattle.std.specs.Borrow.{sem};
 ghost use Rattle.std.specs.Io.BufRead.{Rests};
 ghost use Rattle.df_base.specs.Causes.{HasCause};
@@ -62,9 +62,10 @@ impl Replica {
         }
     }
 
-    /// The finding at a place of the ring, the oldest at place 0; None exactly past the last one.
+    /// The finding at a place of the ring of at most 64, the oldest at place 0; None exactly past the last one.
     pub fn recent(&self, place: u64) -> Option<Finding>
         ensures value { result ≡ slice_get self.now.findings place }
+        ensures few { length self.now.findings ≤ 64 }
         ensures call { self.now.live ≡ true → (told : Option Told) → Serves (Recent place) self.now self.now told told (Some (ToRecent result)) }
     {
         self.scrub.scrubber.recent(place)

@@ -11,5 +11,5 @@ use Rattle.df_replica.proofs.replica.Replica.recent.Goals as goal
 pub returns-clause-call : goal.returns-clause-call
 returns-clause-call c =
     let v = c.args.self.now in
-    let is : c.recent.result ≡ slice_get v.findings c.args.place = c.recent.ensures ∙ ap (λ (s : State). slice_get s.findings c.args.place) c.self.view_is in
+    let is : c.recent.result ≡ slice_get v.findings c.args.place = c.recent.ensures.value ∙ ap (λ (s : State). slice_get s.findings c.args.place) c.self.view_is in
     λ live told. subst (λ (found : Option Finding). Serves (Recent c.args.place) v v told told (Some (ToRecent found))) (sym is) (recent_serves v c.args.place live told)
