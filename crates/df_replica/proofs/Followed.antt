@@ -59,9 +59,9 @@ stopped_may_open file view t changes safe honest loose chance held =
 
 pub faulted_may_open : FaultedMayOpen
 faulted_may_open file view t safe honest chance held = record {
-    safe = safe;
-    honest = honest;
-    found = (found_law (shape file) ((format file).unit_at (logs.now t.log)) view).0
-        (held (record { whole = now_is_image t.log.start t.log.events safe.is_log.start safe.is_log.events; kept = λ sector fast. refl }));
-    no_chance = chance;
-  }
+  safe = safe;
+  honest = honest;
+  found = (found_law (shape file) ((format file).unit_at (logs.now t.log)) view).0
+      (held (record { whole = now_is_image t.log.start t.log.events safe.is_log.start safe.is_log.events; kept = λ sector fast. refl }));
+  no_chance = chance;
+}
