@@ -12,6 +12,7 @@ mod BlockReadTurns
 mod CheckpointTurns
 mod Kept
 mod Served
+mod Reported
 mod ReadTurns
 mod Causes
 mod Made

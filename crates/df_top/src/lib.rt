@@ -7,6 +7,7 @@ mod checkpoint_calls;
 mod engine;
 mod making;
 mod mode;
+mod reporting;
 mod serving;
 mod session;
 mod status;

@@ -42,9 +42,15 @@ fn format_takes_a_layout_and_a_cluster(rt: HostRuntime) -> Result<(), AllocError
 }
 
 #[test]
-fn run_stands_alone(rt: HostRuntime) -> Result<(), AllocError> {
-    let words = words_of(rt.alloc(), &["run"])?;
-    assert_eq!(rt; mode_of(&words), Some(Mode::Run));
+fn words_of_a_file_stand_alone(rt: HostRuntime) -> Result<(), AllocError> {
+    for (text, mode) in [
+        ("run", Mode::Run),
+        ("recover", Mode::Recover),
+        ("inspect", Mode::Inspect),
+    ] {
+        let words = words_of(rt.alloc(), &[text])?;
+        assert_eq!(rt; mode_of(&words), Some(mode), "{text}");
+    }
     for texts in [
         [].as_slice(),
         &[""],
@@ -54,6 +60,9 @@ fn run_stands_alone(rt: HostRuntime) -> Result<(), AllocError> {
         &["run", ""],
         &["run", "small", "7"],
         &["recovery"],
+        &["recover", "7"],
+        &["inspect "],
+        &["-inspect"],
         &["format"],
         &["format", "small"],
         &["format", "small", "7", ""],
