@@ -52,7 +52,7 @@ const STOPS: [Stopped; 4] = [
 ];
 
 // A new small file over which the session ran up to its stop.
-fn stopped(alloc: Global, row: &Stopped) -> Result<MemoryDisk, Fail> {
+fn left_by(alloc: Global, row: &Stopped) -> Result<MemoryDisk, Fail> {
     let script = ops_of_one(alloc, row.ops, row.behind)?;
     let mut whole = small_file(alloc, &[])?;
     run_script(alloc, &mut whole, &script)?;
@@ -88,7 +88,7 @@ fn ends(ran: &Ran, lines: &str) -> bool {
 #[test]
 fn recover_opens_a_stopped_file_and_prints_its_summary(rt: HostRuntime) -> Result<(), Fail> {
     for (index, row) in STOPS.iter().enumerate() {
-        let mut disk = stopped(rt.alloc(), row)?;
+        let mut disk = left_by(rt.alloc(), row)?;
         let text = summary(rt.alloc(), &row.numbers)?;
         let ran = run_words(rt.alloc(), &mut disk, &["recover"])?;
         assert_eq!(rt; ran.status, Status::Done, "row {index}");
@@ -131,7 +131,7 @@ findings 16
 
 #[test]
 fn inspect_lists_what_is_to_be_mended_and_mends_nothing(rt: HostRuntime) -> Result<(), Fail> {
-    let mut disk = stopped(rt.alloc(), &STOPS[0])?;
+    let mut disk = left_by(rt.alloc(), &STOPS[0])?;
     let events = disk.events();
     for again in 1..3u64 {
         let ran = run_words(rt.alloc(), &mut disk, &["inspect"])?;
@@ -159,7 +159,7 @@ findings 1
 // A checkpoint that was stopped is made again with another root, and the first copy of the first try comes back.
 #[test]
 fn a_copy_of_another_checkpoint_is_stale(rt: HostRuntime) -> Result<(), Fail> {
-    let mut disk = stopped(rt.alloc(), &STOPS[2])?;
+    let mut disk = left_by(rt.alloc(), &STOPS[2])?;
     let events = disk.events();
     let ran = run_script(rt.alloc(), &mut disk, b"checkpoint 02\nstep\nstep\n")?;
     assert!(rt; printed(&ran, "begun 1\nworking 1\ndone 2\n"));
