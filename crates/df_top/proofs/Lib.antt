@@ -13,6 +13,7 @@ mod CheckpointTurns
 mod Kept
 mod Served
 mod Reported
+mod OneReport
 mod ReadTurns
 mod Causes
 mod Made

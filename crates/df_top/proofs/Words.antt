@@ -3,7 +3,7 @@ use Rattle.std.proofs.Common.{◌≡◌, ℕ, List, subst}
 use Rattle.df_layout.specs.declared.layout.Layout.{Layout}
 use Rattle.df_top.specs.Mode.{AsksOfFile, IsOfFile, Means, MeansNothing}
 use Rattle.df_top.specs.declared.mode.Mode.{Mode}
-use Rattle.df_top.specs.declared.mode.Mode.TheVariants.{Format, Inspect}
+use Rattle.df_top.specs.declared.mode.Mode.TheVariants.{Format}
 use Rattle.df_top.proofs.Modes.{one_mode}
 
 -- words that ask for a file ask for one

@@ -1,5 +1,6 @@
 -- What the words that print a report promise of a file.
 use Rattle.std.specs.Prelude.{◌≡◌, ℕ, List, [], ◌∷◌, None, Some}
+use Rattle.df_base.specs.Image.{Image}
 use Rattle.df_base.specs.Log.{Sync}
 use Rattle.df_disk.specs.Adds.{AddsPart}
 use Rattle.df_disk.specs.Told.{Told, did}
@@ -40,6 +41,12 @@ pub record Inspects (layout : Layout) (t : Told) (old new : Outside) (status : S
   pub prints : PrintsLine (report_of survey) (status_of survey.mends) old.written new.written status
   pub unread : new.left ≡ old.left
   pub barrier : new.told ≡ Some (did Sync t)
+
+-- An image has one report, in rooms of a layout: whatever surveys find in it, they print the same and end in the same status.
+abbrev pub OneReport : Type 0
+OneReport =
+    (layout : Layout) (image : Image) (s u : Survey) → IsOpened layout image s.state → IsMendable layout image s → IsOpened layout image u.state → IsMendable layout image u
+    → (report_of s ≡ report_of u) × (status_of s.mends ≡ status_of u.mends)
 
 -- the disk failed in the barrier, which added a sync or nothing, or in a read behind it
 pub record FailsToSurvey (t : Told) (old new : Outside) (status : Status) : Type 0 where

@@ -6,7 +6,7 @@ ghost use Rattle.df_inspect.specs.Reports.{summary_text};
 ghost use Rattle.df_replica.specs.Replica.{summary_of};
 ghost use Rattle.df_top.specs.declared.mode.Mode.{Mode};
 ghost use Rattle.df_top.specs.Outside.{Blames, HasCauses, PrintsLine};
-ghost use Rattle.df_top.specs.Reporting.{report_of, status_of};
+ghost use Rattle.df_top.specs.Reporting.{OneReport, report_of, status_of};
 ghost use Rattle.df_top.specs.Run.{ServesIn};
 
 use crate::serving::refuse_file;
@@ -91,3 +91,8 @@ pub fn recover_file<D: Disk, W: Sink>(rooms: Rooms, sink: &mut W, disk: &mut D) 
         Err((_, error)) => refuse_file(sink, &error),
     }
 }
+
+/// An image has one report: its text and its status are functions of what the disk shows and of the layout of the rooms.
+pub fn an_image_has_one_report()
+    ensures { OneReport }
+{}

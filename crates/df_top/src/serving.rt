@@ -92,6 +92,12 @@ pub fn serve<D: Disk, S: Source, W: Sink>(
         Some(Mode::Run) => serve_file(rooms, lines, source, sink, disk),
         Some(Mode::Recover) => recover_file(rooms, sink, disk),
         Some(Mode::Inspect) => inspect_file(rooms, sink, disk),
-        Some(Mode::Format { layout: _, cluster: _ }) | None => unreachable!(),
+        Some(
+            Mode::Format {
+                layout: _,
+                cluster: _,
+            },
+        )
+        | None => unreachable!(),
     }
 }

@@ -10,14 +10,14 @@ pub returns-in-Ok-clause-prints : goal.returns-in-Ok-clause-prints
 returns-in-Ok-clause-prints g c = inl (
   c.found.ensures ∙ ap status_of c.to_mend-mends.ensures,
   same_report (Appends (g.W.Sink.written c.args.sink.now) (g.W.Sink.written c.print_inspection.new.sink))
-  c.summary.result (summary_of c.args.surveyed.now.state) c.root.result.now c.args.surveyed.now.state.root c.sessions.result.now c.args.surveyed.now.state.table.sessions c.to_mend-mends.result.now c.args.surveyed.now.mends
-  c.summary.ensures c.root.ensures c.sessions.ensures c.to_mend-mends.ensures c.in-Ok.ensures.prints.whole,
+      c.summary.result (summary_of c.args.surveyed.now.state) c.root.result.now c.args.surveyed.now.state.root c.sessions.result.now c.args.surveyed.now.state.table.sessions c.to_mend-mends.result.now c.args.surveyed.now.mends
+      c.summary.ensures c.root.ensures c.sessions.ensures c.to_mend-mends.ensures c.in-Ok.ensures.prints.whole,
 )
 
 pub returns-in-Err-clause-prints : goal.returns-in-Err-clause-prints
 returns-in-Err-clause-prints g c = inr (
   refl,
   same_report (AppendsPart (g.W.Sink.written c.args.sink.now) (g.W.Sink.written c.print_inspection.new.sink))
-  c.summary.result (summary_of c.args.surveyed.now.state) c.root.result.now c.args.surveyed.now.state.root c.sessions.result.now c.args.surveyed.now.state.table.sessions c.to_mend-mends.result.now c.args.surveyed.now.mends
-  c.summary.ensures c.root.ensures c.sessions.ensures c.to_mend-mends.ensures c.in-Err.ensures.prints.part,
+      c.summary.result (summary_of c.args.surveyed.now.state) c.root.result.now c.args.surveyed.now.state.root c.sessions.result.now c.args.surveyed.now.state.table.sessions c.to_mend-mends.result.now c.args.surveyed.now.mends
+      c.summary.ensures c.root.ensures c.sessions.ensures c.to_mend-mends.ensures c.in-Err.ensures.prints.part,
 )
