@@ -241,7 +241,7 @@ def memory(t: Try) -> None:
         counts["mmap"] = len(named(plan.all, "mmap"))
     # A kernel that refuses memory answers brk with the old break, which is below the one that was asked for.
     got, calls = plan.traced(t, [f"brk:retval=0:when={counts['brk'] + 1}+", f"mmap:error=ENOMEM:when={counts['mmap'] + 1}+"])
-    maps = any(call.name == "mmap" for call in later)
+    maps = any(call.name == "mmap" for call in plan.all[plan.all.index(place) :])
     if got.status != MEMORY and (plan.wanted.status == script.REFUSED or place not in first or maps):
         # A refusal may come before memory is asked for, and a take may have been more than was needed: where the break is
         # refused the C library maps a piece that may serve what would have been mapped by itself.

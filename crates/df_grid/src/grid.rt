@@ -209,4 +209,11 @@ impl Grid {
     {
         self.table.next_referenced(above)
     }
+
+    /// How many blocks are referenced: so many a tour of the scrubber checks.
+    pub fn referenced(&self) -> u64
+        ensures { result ≡ length (referenced_of self.now) }
+    {
+        self.table.referenced()
+    }
 }

@@ -69,3 +69,20 @@ pub(crate) fn count_live(entries: &Entries) -> u64
     }
     count
 }
+
+/// How many entries are of referenced blocks.
+pub(crate) fn count_marked(entries: &Entries) -> u64
+    ensures { result ≡ length (picked is_marked 1 entries.now) }
+{
+    let mut count = 0;
+    let mut place = 0;
+    while place < entries.len() {
+        let entry = entries.get(place + 1);
+        let marked = is_marked(&entry);
+        if marked {
+            count += 1;
+        }
+        place += 1;
+    }
+    count
+}

@@ -14,7 +14,7 @@ ghost use Rattle.df_grid.specs.Table.{IsIdle, TableState, adopted, last_of, next
 use crate::changes::{capture_all, finish_all, replace, take_least};
 use crate::entries::Entries;
 use crate::entry::{Entry, checksum_if};
-use crate::lookups::{count_durable, count_live, entry_in, first_marked};
+use crate::lookups::{count_durable, count_live, count_marked, entry_in, first_marked};
 use arrayvec::ArrayVec;
 use df_base::Check;
 use df_format::Reference;
@@ -148,6 +148,13 @@ impl Table {
         ensures { pair_in result ≡ slice_get (filter (λ x. nat_lt above x.0) (entries (reference_in self.now.blocks) (range_with_len 1 self.now.size))) 0 }
     {
         first_marked(&self.entries, above)
+    }
+
+    /// How many blocks are referenced.
+    pub(crate) fn referenced(&self) -> u64
+        ensures { result ≡ length (entries (reference_in self.now.blocks) (range_with_len 1 self.now.size)) }
+    {
+        count_marked(&self.entries)
     }
 
     /// The address of the running trailer's next block.

@@ -41,6 +41,7 @@ fn checkpoints_hold_what_they_captured(rt: HostRuntime) -> Result<(), Fail> {
     assert_eq!(rt; release(&mut grid, 2), (true, Some(4)));
     write_and_end(&mut grid, &mut board, 2)?;
     assert_eq!(rt; grid.next_referenced(1).map(|r| r.address), Some(2));
+    assert_eq!(rt; grid.referenced(), 3);
     begin(&mut grid)?;
     write_and_end(&mut grid, &mut board, 3)?;
     assert_eq!(rt; grid.next(), Some(2));

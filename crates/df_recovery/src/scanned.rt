@@ -5,7 +5,7 @@ use crate::Copies;
 use arrayvec::ArrayVec;
 use df_grid::Grid;
 use df_sessions::SessionTable;
-use df_state::{DataFile, LogRooms, TrailerRooms};
+use df_state::{DataFile, LogRooms, ScrubRooms, TrailerRooms};
 
 /// What was read of a file: its superblock, in the tables of the rooms what the rings and the reply slots show, in the grid the
 /// blocks that the checkpoint holds, and the checkpoint's root and sessions.
@@ -16,10 +16,12 @@ pub struct Scanned {
     pub log: LogRooms,
     pub grid: Grid,
     pub trailer: TrailerRooms,
+    pub scrub: ScrubRooms,
     pub root: ArrayVec<u8, 1024>,
     pub sessions: SessionTable,
     pub ghost log_fits: { log.layout ≡ file.layout },
     pub ghost grid_fits: { grid.layout ≡ file.layout },
     pub ghost grid_named: { grid.cluster ≡ file.cluster },
     pub ghost trailer_fits: { trailer.layout ≡ file.layout },
+    pub ghost scrub_fits: { scrub.layout ≡ file.layout },
 }

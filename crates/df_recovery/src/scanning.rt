@@ -16,7 +16,7 @@ use df_format::Super;
 use df_journal::Start;
 use df_layout::Layout;
 use df_quorum::Slot;
-use df_state::{DataFile, GridRooms, LogRooms, Rooms};
+use df_state::{DataFile, GridRooms, LogRooms, Rooms, ScrubRooms};
 use df_superblock::read_all;
 
 /// The superblock of a file, and what the four places of its copies show.
@@ -103,9 +103,11 @@ fn scan_log<D: Disk>(
     file: &DataFile,
     copies: &Copies,
     log: LogRooms,
+    scrub: ScrubRooms,
     base: Checkpoint,
 ) -> Result<Scanned, (Rooms, OpenError)>
     requires file { IsFileOf log.layout copies.now.found.content file.now }
+    requires scrub { scrub.layout ≡ log.layout }
     requires base { FitsFile file.now base }
     ensures scanned { IfOk result (λ s. AreScanned log.layout copies.now.found.content.cluster (D.told disk.old) s.log.slots s.log.replies) }
     ensures start { IfOk result (λ s. s.log.slots.start ≡ record { cluster = copies.now.found.content.cluster; op = copies.now.found.content.op }) }
@@ -138,6 +140,7 @@ fn scan_log<D: Disk>(
             log,
             grid,
             trailer,
+            scrub,
             root,
             sessions,
         }),
@@ -147,6 +150,7 @@ fn scan_log<D: Disk>(
                 log,
                 grid: GridRooms::of(grid),
                 trailer,
+                scrub,
             },
             OpenError::DiskFault,
         )),
@@ -179,9 +183,9 @@ fn scan_served<D: Disk>(
         cluster: content.fields().cluster,
     };
     let layout = rooms.layout;
-    let (log, grid, trailer) = rooms.into_parts();
+    let (log, grid, trailer, scrub) = rooms.into_parts();
     match read_checkpoint(disk, &file, &content, grid, trailer) {
-        Ok(base) => scan_log(disk, &file, copies, log, base),
+        Ok(base) => scan_log(disk, &file, copies, log, scrub, base),
         Err(unread) => {
             let Unread {
                 grid,
@@ -193,6 +197,7 @@ fn scan_served<D: Disk>(
                 log,
                 grid,
                 trailer,
+                scrub,
             };
             Err((rooms, error))
         }
@@ -221,13 +226,14 @@ pub fn scan_file<D: Disk>(disk: &mut D, rooms: Rooms) -> Result<Scanned, (Rooms,
     ensures cause { SurveysBy (D.faults disk.old) (D.faults disk.new) (answer_of result) }
 {
     let layout = rooms.layout;
-    let (mut log, grid, trailer) = rooms.into_parts();
+    let (mut log, grid, trailer, scrub) = rooms.into_parts();
     let found = find_served(disk, &layout, &mut log.superblock);
     let rooms = Rooms {
         layout,
         log,
         grid,
         trailer,
+        scrub,
     };
     match found {
         Ok(copies) => scan_served(disk, &copies, rooms),

@@ -1,6 +1,7 @@
 -- A file that is tidy, or that a stop left, is one that may be opened.
-use Rattle.std.proofs.Common.{◌≡◌, inl, inr, List, [], ◌∷◌, Some, subst}
+use Rattle.std.proofs.Common.{◌≡◌, inl, inr, refl, List, [], ◌∷◌, Some, subst}
 use Rattle.df_base.specs.Image.{Image, changed}
+use Rattle.df_base.proofs.Laws.{now_is_image}
 use Rattle.df_base.specs.Log as logs
 use Rattle.df_base.specs.Log.{IsLog, Stop}
 use Rattle.df_theory.specs.Chance.{InPool, InPools}
@@ -12,7 +13,7 @@ use Rattle.df_theory.specs.Units.{AnyUnit, Place}
 use Rattle.df_theory.proofs.Laws.{disk_stop_law, found_law, now_units, rests_safe, safe_disk_law}
 use Rattle.df_units.proofs.Laws.{is_format}
 use Rattle.df_state.specs.State.{shape}
-use Rattle.df_replica.specs.Following.{StoppedMayOpen, TidyMayOpen}
+use Rattle.df_replica.specs.Following.{FaultedMayOpen, StoppedMayOpen, TidyMayOpen}
 use Rattle.df_replica.specs.Serving.{format}
 
 -- a unit of the pool is one of the pools
@@ -55,3 +56,12 @@ stopped_may_open file view t changes safe honest loose chance held =
         distinct = λ p q x y one two. chance.distinct p q x y (pools_stopped log.start log.events (fmt.unit_at left) p x chance.pooled one) (pools_stopped log.start log.events (fmt.unit_at left) q y chance.pooled two);
       };
     }
+
+pub faulted_may_open : FaultedMayOpen
+faulted_may_open file view t safe honest chance held = record {
+  safe = safe;
+  honest = honest;
+  found = (found_law (shape file) ((format file).unit_at (logs.now t.log)) view).0
+      (held (record { whole = now_is_image t.log.start t.log.events safe.is_log.start safe.is_log.events; kept = λ sector fast. refl }));
+  no_chance = chance;
+}

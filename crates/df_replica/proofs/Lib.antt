@@ -27,6 +27,8 @@ pub mod BlockStates
 pub mod BlockAnswers
 pub mod ReleaseAnswers
 pub mod BlockReadCalls
+pub mod ScrubCalls
+pub mod ScrubTours
 pub mod StepState
 pub mod FinishState
 pub mod StepMemory

@@ -1,12 +1,14 @@
 -- What a call of a replica answers in the words of the machine, and what it promises.
 use Rattle.std.specs.Prelude.{◌≡◌, List, ℕ, Option, Some, None, Result, Ok, Err}
+use Rattle.df_base.specs.declared.Failed.{Failed}
 use Rattle.df_disk.specs.Told.{Told}
 use Rattle.df_layout.specs.declared.damage.Class.{Class}
+use Rattle.df_layout.specs.declared.damage.Finding.{Finding}
 use Rattle.df_theory.specs.Units
 use Rattle.df_units.specs.Meaning.{number_of}
 use Rattle.df_format.specs.declared.reference.Reference.{Reference}
 use Rattle.df_model.specs.declared.answers.Progress.{Progress}
-use Rattle.df_model.specs.Commands.{Answer, Command, Given, ToAdvance, ToAppend, ToBegin, ToReadBlock, ToReadPrepare, ToReadReply, ToRelease, ToReply, ToWriteBlock}
+use Rattle.df_model.specs.Commands.{Answer, Command, Given, ToAdvance, ToAppend, ToBegin, ToReadBlock, ToReadPrepare, ToReadReply, ToRelease, ToReply, ToScrub, ToWriteBlock, Scrub}
 use Rattle.df_model.specs.declared.answers.Receipt.{Receipt}
 use Rattle.df_model.specs.declared.errors.AppendError.{AppendError}
 use Rattle.df_model.specs.declared.errors.AppendError.TheVariants as append
@@ -24,8 +26,12 @@ use Rattle.df_model.specs.declared.reading.PrepareError.{PrepareError}
 use Rattle.df_model.specs.declared.reading.PrepareError.TheVariants as prepare
 use Rattle.df_model.specs.declared.reading.ReadError.{ReadError}
 use Rattle.df_model.specs.declared.reading.ReadError.TheVariants as read
+use Rattle.df_model.specs.declared.answers.Scrubbed.{Scrubbed}
+use Rattle.df_model.specs.Work.{Work}
+use Rattle.df_scrub.specs.Scrubber.{verdict_in}
 use Rattle.df_state.specs.State.{State}
-use Rattle.df_replica.specs.Serving.{IsCall}
+use Rattle.df_replica.specs.Scrubbing.{TellsTour, toured, work_toured}
+use Rattle.df_replica.specs.Serving.{Grade, IsCall, Keeps}
 use Rattle.df_replica.specs.Supply.{IsSupplied}
 
 -- the machine's answer of an append; at a fault of the disk there is none
@@ -76,6 +82,11 @@ abbrev pub read_block_answer : Result Units.Block ReadError → Option Answer
 read_block_answer (Err read.DiskFault) = None
 read_block_answer result = Some (ToReadBlock result)
 
+-- that of a step of the scrubber
+abbrev pub scrub_answer : Result Scrubbed Failed → Option Answer
+scrub_answer (Ok scrubbed) = Some (ToScrub scrubbed)
+scrub_answer (Err e) = None
+
 -- the command is served, whatever it was rightly supplied with
 abbrev pub Serves : Command → (s t : State) → (old new : Option Told) → Option Answer → Type 0
 Serves command s t old new answer = (given : Given) → IsSupplied s old command given → IsCall given command s t old new answer
@@ -96,3 +107,16 @@ GivesBlock told found given = Unit {0}
 
 abbrev pub ServesBlockRead : Command → (s t : State) → Option Told → Option (Result Units.Block Class) → Option Answer → Type 0
 ServesBlockRead command s t told found answer = (given : Given) → IsSupplied s told command given → GivesBlock told found given → IsCall given command s t told told answer
+
+-- and with the verdict of a check
+abbrev pub GivesVerdict : Option Told → Result Scrubbed Failed → Given → Type 0
+GivesVerdict None (Ok scrubbed) given = given.verdict ≡ verdict_in scrubbed
+GivesVerdict told result given = Unit {0}
+
+abbrev pub ServesScrub : (s t : State) → Option Told → Result Scrubbed Failed → Type 0
+ServesScrub s t told result = (given : Given) → IsSupplied s told Scrub given → GivesVerdict told result given → IsCall given Scrub s t told told (scrub_answer result)
+
+-- a whole tour that listed these is checks of the machine's alone, from its start to its end, and what is kept of the file goes on from there
+pub record ServesTour (s : State) (told : Option Told) (list : List Finding) : Type 0 where
+  pub machine : TellsTour s told
+  pub keeps : (g : Grade) (w : Work) → Keeps g s w told → Keeps g (toured s list) (work_toured w list) told

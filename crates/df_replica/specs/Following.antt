@@ -1,7 +1,7 @@
 -- What an open asks of a disk is left by a making, by calls, and by a stop at any moment of them: sessions follow one another.
 use Rattle.std.specs.Prelude.{ℕ, List}
 use Rattle.df_base.specs.Image.{changed}
-use Rattle.df_base.specs.Log.{AreLoose, IsLog, Stop, now}
+use Rattle.df_base.specs.Log.{AreLoose, IsLeft, IsLog, Stop, now}
 use Rattle.df_disk.specs.Told.{IsHonest, Told, did}
 use Rattle.df_theory.specs.Device.{IsSafeDisk, NoChanceOf, units_log}
 use Rattle.df_theory.specs.Found.{IsFound}
@@ -30,3 +30,9 @@ abbrev pub StoppedMayOpen : Type 0
 StoppedMayOpen =
     (file : DataFile) (view : View) (t : Told) (changes : List (ℕ × List ℕ)) → IsSafeDisk (format file) (shape file) t.log → IsHonest t → AreLoose t.log.events changes
     → NoChanceOf (format file) t.log (changed changes (now t.log)) → Held (shape file) ((format file).unit_at (changed changes (now t.log))) view → MayOpen file view (did (Stop changes) t)
+
+-- so may a file on which the disk failed, with no stop behind it: what it shows is one of the images that a stop might have left
+abbrev pub FaultedMayOpen : Type 0
+FaultedMayOpen =
+    (file : DataFile) (view : View) (t : Told) → IsSafeDisk (format file) (shape file) t.log → IsHonest t → NoChanceOf (format file) t.log (now t.log)
+    → (IsLeft t.log (now t.log) → Held (shape file) ((format file).unit_at (now t.log)) view) → MayOpen file view t

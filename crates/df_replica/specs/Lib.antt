@@ -15,6 +15,7 @@ pub mod Reading
 pub mod Lookups
 pub mod Blocks
 pub mod BlockReads
+pub mod Scrubbing
 pub mod Supply
 pub mod Session
 pub mod Opened

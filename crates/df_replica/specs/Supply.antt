@@ -1,4 +1,4 @@
--- What the device and the codecs supply to a call, as it should be. A command that no call serves yet is supplied with anything.
+-- What the device and the codecs supply to a call, as it should be.
 use Rattle.std.specs.Prelude.{◌≡◌, Option}
 use Rattle.df_disk.specs.Told.{Told}
 use Rattle.df_units.specs.Meaning.{number_of}
@@ -9,9 +9,10 @@ use Rattle.df_replica.specs.Blocks.{next_block}
 use Rattle.df_replica.specs.BlockReads.{IsBlockFound}
 use Rattle.df_replica.specs.Reading.{IsFoundBy}
 use Rattle.df_replica.specs.Replying.{next_reply}
+use Rattle.df_replica.specs.Scrubbing.{IsCheckFound}
 use Rattle.df_replica.specs.Stepping.{made_by}
 
--- the checksum is that of the unit which the call makes; the message, or the block, is what a read finds at its place
+-- the checksum is that of the unit which the call makes; the message, or the block, is what a read finds at its place, and the verdict what a check finds
 abbrev pub IsSupplied : State → Option Told → Command → Given → Type 0
 IsSupplied s told (Append client request body) given = given.checksum ≡ number_of (next_unit s client request body).header.checksum
 IsSupplied s told (Reply op body) given = given.checksum ≡ number_of (next_reply s body).header.checksum
@@ -22,5 +23,5 @@ IsSupplied s told Advance given = given.checksum ≡ made_by s s.running
 IsSupplied s told (ReadPrepare op) given = (given.checksum ≡ 0) × IsFoundBy s (ReadPrepare op) told given.message
 IsSupplied s told (ReadReply client) given = (given.checksum ≡ 0) × IsFoundBy s (ReadReply client) told given.message
 IsSupplied s told (ReadBlock address) given = (given.checksum ≡ 0) × IsBlockFound s address told given.block
-IsSupplied s told Scrub given = Unit {0}
-IsSupplied s told (Recent place) given = Unit {0}
+IsSupplied s told Scrub given = (given.checksum ≡ 0) × IsCheckFound s told given.verdict
+IsSupplied s told (Recent place) given = given.checksum ≡ 0

@@ -1,8 +1,10 @@
 // The laws by which one session follows another.
-ghost use Rattle.df_replica.specs.Following.{StoppedMayOpen, TidyMayOpen};
+ghost use Rattle.df_replica.specs.Following.{FaultedMayOpen, StoppedMayOpen, TidyMayOpen};
 
-/// What a making and each call leave may be opened, and so may what a stop leaves at any moment of them.
+/// What a making and each call leave may be opened, a call in which the disk failed among them, and so may what a stop leaves at any
+/// moment of them.
 pub fn what_is_left_may_be_opened()
     ensures tidy { TidyMayOpen }
     ensures stopped { StoppedMayOpen }
+    ensures faulted { FaultedMayOpen }
 {}

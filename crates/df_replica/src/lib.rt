@@ -17,15 +17,17 @@ mod reading;
 mod refusing;
 mod replica;
 mod reply;
+mod scrubbing;
 mod session_laws;
 mod step;
 mod surveyed;
 mod surveying;
 
 pub use block_laws::held_blocks_are_shown;
+pub use df_layout::Finding;
 pub use df_model::{
     AppendError, BeginError, BlockError, FormatError, LookupError, NotLive, OpenError,
-    PrepareError, Progress, ReadError, Receipt, ReplyError, StepError,
+    PrepareError, Progress, ReadError, Receipt, ReplyError, Scrubbed, StepError, Verdict,
 };
 pub use df_recovery::{
     Found, file_is_read, found_is_answer, one_answer, probe, read_superblock, state_is_opened,

@@ -10,8 +10,8 @@ ghost use Rattle.df_replica.specs.Mending.{IsMended, MayMendOn, mending_events, 
 ghost use Rattle.df_replica.specs.Serving.{IsGoodFor, format};
 ghost use Rattle.df_state.specs.State.{shape};
 
-use crate::mending::{are_four, write_mends};
 use crate::DataFile;
+use crate::mending::{are_four, write_mends};
 use df_base::Failed;
 use df_disk::Disk;
 use df_format::Super;

@@ -9,7 +9,7 @@ use df_grid::Grid;
 use df_layout::Layout;
 use df_model::Summary;
 use df_sessions::{Session, SessionTable};
-use df_state::{Captured, DataFile, GridRooms, LogRooms, Rooms, TrailerRooms};
+use df_state::{Captured, DataFile, GridRooms, LogRooms, Rooms, ScrubRooms, TrailerRooms};
 use std::marker::Model;
 
 /// The state of a file in memory, with the rooms that serve it. Contracts see the state.
@@ -30,6 +30,7 @@ pub struct Replica {
     pub(crate) grid: Grid,
     pub(crate) running: Option<Captured>,
     pub(crate) trailer: TrailerRooms,
+    pub(crate) scrub: ScrubRooms,
 }
 
 // Its owner lets go of it in one call, and not field by field.
@@ -49,13 +50,13 @@ impl Drop for Replica {
             grid: _,
             running: _,
             trailer: _,
+            scrub: _,
         } = self;
     }
 }
 
 impl Model for Replica {
-    ghost use Rattle.std.specs.Prelude.{◌≡◌, []};
-    ghost use Rattle.df_model.specs.Work.{first_tour};
+    ghost use Rattle.std.specs.Prelude.{◌≡◌};
     ghost use Rattle.df_state.specs.Captures.{running_of};
     ghost use Rattle.df_state.specs.State.{State, IsState};
     ghost use Rattle.df_replica.specs.Held.{AreFor, headers_of};
@@ -74,8 +75,8 @@ impl Model for Replica {
       headers = headers_of r.rooms;
       blocks = r.grid.blocks;
       running = running_of r.running;
-      tour = first_tour;
-      findings = [];
+      tour = r.scrub.scrubber.tour;
+      findings = r.scrub.scrubber.findings;
       live = r.live;
     } };
 
@@ -91,17 +92,24 @@ impl Model for Replica {
       headers = headers_of r.rooms;
       blocks = r.grid.blocks;
       running = running_of r.running;
-      tour = first_tour;
-      findings = [];
+      tour = r.scrub.scrubber.tour;
+      findings = r.scrub.scrubber.findings;
       live = r.live;
-    }) × AreFor r.file r.rooms × (r.grid.layout ≡ r.file.layout) × (r.grid.cluster ≡ r.file.cluster) × (r.trailer.layout ≡ r.file.layout) };
+    }) × AreFor r.file r.rooms × (r.grid.layout ≡ r.file.layout) × (r.grid.cluster ≡ r.file.cluster) × (r.trailer.layout ≡ r.file.layout) × (r.scrub.layout ≡ r.file.layout) };
 }
 
 // All the rooms of a file that is done with.
-pub(crate) fn rooms_of(layout: Layout, log: LogRooms, grid: Grid, trailer: TrailerRooms) -> Rooms
+pub(crate) fn rooms_of(
+    layout: Layout,
+    log: LogRooms,
+    grid: Grid,
+    trailer: TrailerRooms,
+    scrub: ScrubRooms,
+) -> Rooms
     requires log { log.layout ≡ layout }
     requires grid { grid.layout ≡ layout }
     requires trailer { trailer.layout ≡ layout }
+    requires scrub { scrub.layout ≡ layout }
     ensures { result.layout ≡ layout }
 {
     Rooms {
@@ -109,6 +117,7 @@ pub(crate) fn rooms_of(layout: Layout, log: LogRooms, grid: Grid, trailer: Trail
         log,
         grid: GridRooms::of(grid),
         trailer,
+        scrub,
     }
 }
 
@@ -169,8 +178,9 @@ impl Replica {
             grid,
             running: _,
             trailer,
+            scrub,
         } = self;
         let Some(log) = rooms else { unreachable!() };
-        rooms_of(file.layout, log, grid, trailer)
+        rooms_of(file.layout, log, grid, trailer, scrub)
     }
 }

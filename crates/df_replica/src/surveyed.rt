@@ -23,7 +23,7 @@ use df_layout::Mend;
 use df_model::Summary;
 use df_quorum::Chosen;
 use df_sessions::{Session, SessionTable};
-use df_state::{LogRooms, TrailerRooms};
+use df_state::{LogRooms, ScrubRooms, TrailerRooms};
 use std::marker::Model;
 
 /// The state that an open finds, before anything of the file is mended. Contracts see the state, which isn't live, the choice
@@ -43,6 +43,8 @@ pub struct Surveyed {
     pub(crate) rooms: LogRooms,
     pub(crate) grid: Grid,
     pub(crate) trailer: TrailerRooms,
+    // The tour is at its start, and nothing was found.
+    pub(crate) scrub: ScrubRooms,
 }
 
 // Its owner lets go of it in one call, and not field by field.
@@ -61,13 +63,14 @@ impl Drop for Surveyed {
             rooms: _,
             grid: _,
             trailer: _,
+            scrub: _,
         } = self;
     }
 }
 
 impl Model for Surveyed {
-    ghost use Rattle.std.specs.Prelude.{◌≡◌, [], false, None};
-    ghost use Rattle.df_model.specs.Work.{first_tour};
+    ghost use Rattle.std.specs.Prelude.{◌≡◌, false, None};
+    ghost use Rattle.df_scrub.specs.Scrubber.{new_scrub};
     ghost use Rattle.df_state.specs.State.{IsState};
     ghost use Rattle.df_replica.specs.Replica.{Survey};
 
@@ -86,8 +89,8 @@ impl Model for Surveyed {
         headers = s.rooms.headers;
         blocks = s.grid.blocks;
         running = None;
-        tour = first_tour;
-        findings = [];
+        tour = s.scrub.scrubber.tour;
+        findings = s.scrub.scrubber.findings;
         live = false;
       };
       chosen = s.chosen;
@@ -106,10 +109,10 @@ impl Model for Surveyed {
       headers = s.rooms.headers;
       blocks = s.grid.blocks;
       running = None;
-      tour = first_tour;
-      findings = [];
+      tour = s.scrub.scrubber.tour;
+      findings = s.scrub.scrubber.findings;
       live = false;
-    }) × (s.rooms.layout ≡ s.file.layout) × (s.grid.layout ≡ s.file.layout) × (s.grid.cluster ≡ s.file.cluster) × (s.trailer.layout ≡ s.file.layout) };
+    }) × (s.rooms.layout ≡ s.file.layout) × (s.grid.layout ≡ s.file.layout) × (s.grid.cluster ≡ s.file.cluster) × (s.trailer.layout ≡ s.file.layout) × (s.scrub.layout ≡ s.file.layout) × (s.scrub.scrubber ≡ new_scrub) };
 }
 
 impl Surveyed {
@@ -176,8 +179,9 @@ impl Surveyed {
             rooms,
             grid,
             trailer,
+            scrub,
         } = self;
-        rooms_of(file.layout, rooms, grid, trailer)
+        rooms_of(file.layout, rooms, grid, trailer, scrub)
     }
 
     /// Mends what `to_mend` lists, and hands out the replica: header sectors first, each needed one once, then one sync,
@@ -210,6 +214,7 @@ impl Surveyed {
             rooms,
             grid,
             trailer,
+            scrub,
         } = self;
         let (log, done) = mend_rooms(disk, &file, &content, chosen.members, rooms);
         match done {
@@ -227,8 +232,9 @@ impl Surveyed {
                 grid,
                 running: None,
                 trailer,
+                scrub,
             }),
-            Err(failed) => Err((rooms_of(file.layout, log, grid, trailer), failed)),
+            Err(failed) => Err((rooms_of(file.layout, log, grid, trailer, scrub), failed)),
         }
     }
 }

@@ -137,10 +137,12 @@ fn surveyed(traces: &Traces, scanned: Scanned) -> Surveyed
         log,
         grid,
         trailer,
+        scrub,
         root,
         sessions,
     } = scanned;
     let rooms = plan_rooms(&file, &copies, log);
+    let scrub = scrub.cleared();
     let content = copies.found.content;
     let chosen = copies.found.chosen;
     let head = traces.tail.op;
@@ -160,6 +162,7 @@ fn surveyed(traces: &Traces, scanned: Scanned) -> Surveyed
         rooms,
         grid,
         trailer,
+        scrub,
     }
 }
 
@@ -185,6 +188,7 @@ fn settle(scanned: Scanned) -> Result<Surveyed, (Rooms, OpenError)>
         log,
         grid,
         trailer,
+        scrub,
         root,
         mut sessions,
     } = scanned;
@@ -204,12 +208,13 @@ fn settle(scanned: Scanned) -> Result<Surveyed, (Rooms, OpenError)>
                 log,
                 grid,
                 trailer,
+                scrub,
                 root,
                 sessions,
             };
             Ok(surveyed(&traces, settled))
         }
-        Err(refusal) => Err((rooms_of(file.layout, log, grid, trailer), refusal)),
+        Err(refusal) => Err((rooms_of(file.layout, log, grid, trailer, scrub), refusal)),
     }
 }
 

@@ -69,7 +69,8 @@ impl Scrubber {
 
     /// The finding at a place of the ring, the oldest at place 0; None exactly past the last one.
     pub fn recent(&self, place: u64) -> Option<Finding>
-        ensures { result ≡ slice_get self.now.findings place }
+        ensures value { result ≡ slice_get self.now.findings place }
+        ensures few { length self.now.findings ≤ 64 }
     {
         self.findings.get(place as usize).copied()
     }

@@ -6,6 +6,7 @@ mod file;
 mod grid_rooms;
 mod log_rooms;
 mod rooms;
+mod scrub_rooms;
 mod trailer_rooms;
 
 pub use captured::Captured;
@@ -13,4 +14,5 @@ pub use file::DataFile;
 pub use grid_rooms::GridRooms;
 pub use log_rooms::LogRooms;
 pub use rooms::Rooms;
+pub use scrub_rooms::ScrubRooms;
 pub use trailer_rooms::TrailerRooms;

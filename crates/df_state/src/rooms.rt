@@ -1,7 +1,7 @@
 // All the rooms of a replica, whose memory is taken in one call.
 ghost use Rattle.std.specs.Prelude.{◌≡◌, IfOk};
 
-use crate::{GridRooms, LogRooms, TrailerRooms};
+use crate::{GridRooms, LogRooms, ScrubRooms, TrailerRooms};
 use df_base::OutOfMemory;
 use df_layout::Layout;
 use std::alloc::Global;
@@ -12,9 +12,11 @@ pub struct Rooms {
     pub log: LogRooms,
     pub grid: GridRooms,
     pub trailer: TrailerRooms,
+    pub scrub: ScrubRooms,
     pub ghost log_fits: { log.layout ≡ layout },
     pub ghost grid_fits: { grid.layout ≡ layout },
     pub ghost trailer_fits: { trailer.layout ≡ layout },
+    pub ghost scrub_fits: { scrub.layout ≡ layout },
 }
 
 // Its owner lets go of it in one call, and not field by field.
@@ -25,6 +27,7 @@ impl Drop for Rooms {
             log: _,
             grid: _,
             trailer: _,
+            scrub: _,
         } = self;
     }
 }
@@ -37,27 +40,31 @@ impl Rooms {
         let log = LogRooms::reserve(alloc, layout)?;
         let grid = GridRooms::reserve(alloc, layout)?;
         let trailer = TrailerRooms::reserve(alloc, layout)?;
+        let scrub = ScrubRooms::reserve(alloc, layout)?;
         Ok(Rooms {
             layout: *layout,
             log,
             grid,
             trailer,
+            scrub,
         })
     }
 
-    /// Takes the rooms apart: those of the log zones, of the grid and of the trailer.
-    pub fn into_parts(self) -> (LogRooms, GridRooms, TrailerRooms)
+    /// Takes the rooms apart: those of the log zones, of the grid, of the trailer and of the scrubber.
+    pub fn into_parts(self) -> (LogRooms, GridRooms, TrailerRooms, ScrubRooms)
         ensures log { result.0.layout ≡ self.layout }
         ensures grid { result.1.layout ≡ self.layout }
         ensures trailer { result.2.layout ≡ self.layout }
+        ensures scrub { result.3.layout ≡ self.layout }
     {
         let Rooms {
             layout: _,
             log,
             grid,
             trailer,
+            scrub,
         } = self;
-        (log, grid, trailer)
+        (log, grid, trailer, scrub)
     }
 
     /// The layout that the rooms were reserved for.

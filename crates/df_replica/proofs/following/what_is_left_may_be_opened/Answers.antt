@@ -1,5 +1,5 @@
 -- The laws are proved.
-use Rattle.df_replica.proofs.Followed.{stopped_may_open, tidy_may_open}
+use Rattle.df_replica.proofs.Followed.{faulted_may_open, stopped_may_open, tidy_may_open}
 use Rattle.df_replica.proofs.following.what_is_left_may_be_opened.Goals as goal
 
 pub returns-clause-tidy : goal.returns-clause-tidy
@@ -7,3 +7,6 @@ returns-clause-tidy c = tidy_may_open
 
 pub returns-clause-stopped : goal.returns-clause-stopped
 returns-clause-stopped c = stopped_may_open
+
+pub returns-clause-faulted : goal.returns-clause-faulted
+returns-clause-faulted c = faulted_may_open

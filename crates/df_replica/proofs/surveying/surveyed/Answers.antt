@@ -32,4 +32,6 @@ invariant_of-result c =
       c.args.scanned.grid_fits,
       c.args.scanned.grid_named,
       c.args.scanned.trailer_fits,
+      c.cleared-scrub.ensures.layout ∙ c.args.scanned.scrub_fits,
+      c.cleared-scrub.ensures.cleared,
     )

@@ -35,4 +35,5 @@ invariant_of-self c =
       ap (λ (g : GridState). g.layout) c.capture.ensures ∙ c.self.invariant.2,
       ap (λ (g : GridState). g.cluster) c.capture.ensures ∙ c.self.invariant.3,
       c.self.invariant.4,
+      c.self.invariant.5,
     )

@@ -16,6 +16,6 @@ invariant_of-self g c =
     let old = c.self.invariant in
     let h = (unit_of c.block_given-header.result c.args.body.now).header in
     either_grid c.put_block.result s.grid c.put_block.new.grid (block_written s.grid.blocks c.block_given-header.result.op (number_of h.checksum)) c.put_block.ensures.live c.put_block.ensures.failed
-    (λ (x : GridState). IsState (record (the_view s) { blocks = x.blocks }) × AreFor s.file s.rooms × (x.layout ≡ s.file.layout) × (x.cluster ≡ s.file.cluster) × (s.trailer.layout ≡ s.file.layout))
-    (live_state (the_view s) (with_entry c.block_given-header.result.op (number_of h.checksum) s.grid.blocks.live) old.0, old.1, old.2, old.3, old.4)
-    (old.0, old.1, old.2, old.3, old.4)
+    (λ (x : GridState). IsState (record (the_view s) { blocks = x.blocks }) × AreFor s.file s.rooms × (x.layout ≡ s.file.layout) × (x.cluster ≡ s.file.cluster) × (s.trailer.layout ≡ s.file.layout) × (s.scrub.layout ≡ s.file.layout))
+    (live_state (the_view s) (with_entry c.block_given-header.result.op (number_of h.checksum) s.grid.blocks.live) old.0, old.1, old.2, old.3, old.4, old.5)
+    (old.0, old.1, old.2, old.3, old.4, old.5)

@@ -34,6 +34,7 @@ invariant_of-self g c =
       ap (λ (x : GridState). x.layout) written ∙ c.self.invariant.2,
       ap (λ (x : GridState). x.cluster) written ∙ c.self.invariant.3,
       c.self.invariant.4,
+      c.self.invariant.5,
     )
 
 pub returns-in-Ok-clause-events : goal.returns-in-Ok-clause-events

@@ -1,0 +1,99 @@
+-- Each step of the scrubber is the machine's: it does nothing to the disk, and what it found is what it was supplied with.
+use Rattle.std.proofs.Common.{◌≡◌, ◌∙◌, ℕ, true, false, List, [], ◌∷◌, Option, Some, None, refl, sym, ap, subst}
+use Rattle.std.specs.Prelude.{Ok, Err, slice_get}
+use Rattle.df_base.specs.Log.{now}
+use Rattle.df_base.specs.declared.Failed.{Failed}
+use Rattle.df_disk.specs.Told.{Told}
+use Rattle.df_format.proofs.Laws.{some-eq}
+use Rattle.df_journal.specs.Append.{ShowsRing}
+use Rattle.df_model.specs.After.{after_check, to_check}
+use Rattle.df_model.specs.Changing.{checked_in}
+use Rattle.df_model.specs.Commands.{Given, IsInput, Recent, Scrub, ToRecent, ToScrub}
+use Rattle.df_model.specs.Memory.{Memory, memory_of}
+use Rattle.df_model.specs.Sense.{IsWork}
+use Rattle.df_model.specs.Work.{Work}
+use Rattle.df_model.proofs.Laws.{change_law}
+use Rattle.df_model.specs.declared.answers.Scrubbed.{Scrubbed}
+use Rattle.df_model.specs.declared.answers.Verdict.{Verdict}
+use Rattle.df_model.specs.declared.answers.Verdict.TheVariants.{Sound, Failing}
+use Rattle.df_scrub.specs.Machine.{IsMachineStep, IsMachines}
+use Rattle.df_scrub.specs.Scrubber.{ScrubState, verdict_in}
+use Rattle.df_state.specs.State.{Represents, State, grid_with, memory, shape, spelling}
+use Rattle.df_replica.specs.Answering.{GivesVerdict, Serves, ServesScrub}
+use Rattle.df_replica.specs.Scrubbing.{scrub_of, with_scrub}
+use Rattle.df_replica.specs.Serving.{next}
+use Rattle.df_replica.specs.Supply.{IsSupplied}
+use Rattle.df_replica.proofs.Calls.{AreCalls, Answered, answered_call, stopped_call}
+use Rattle.df_replica.proofs.ReadCalls.{zero_sum}
+
+-- a check leaves the blocks as they are
+blocks_kept : (m : Memory) (v : Verdict) (xs : List (ℕ × ℕ)) → record (checked_in m v xs) { blocks = m.blocks } ≡ checked_in m v xs
+blocks_kept m v [] = refl
+blocks_kept m Sound (x ∷ more) = refl
+blocks_kept m (Failing kind) (x ∷ more) = refl
+
+-- the verdict that a check was supplied with is the one that it found
+verdict_is : (s : State) (told : Option Told) (answer : Scrubbed) (after : ScrubState) → IsMachineStep (grid_with s.file s.blocks) after told answer (memory s) → (given : Given) → IsSupplied s told Scrub given → GivesVerdict told (Ok answer) given
+    → given.verdict ≡ verdict_in answer
+verdict_is s None answer after of given supplied gives = gives
+verdict_is s (Some t) answer after of given supplied gives = supplied.1 ∙ sym of.verdict
+
+module _ (s : State) (live : s.live ≡ true) where
+  calls : (given : Given) → AreCalls given Scrub s []
+  calls given g w t k = record { steps = []; are = tt; does = refl }
+
+  input : (told : Option Told) (given : Given) → IsSupplied s told Scrub given → IsInput given Scrub
+  input told given supplied = record { checksum = zero_sum given supplied.0; fields = tt }
+
+  module _ (told : Option Told) (answer : Scrubbed) (scrub : ScrubState) (of : IsMachineStep (grid_with s.file s.blocks) scrub told answer (memory s)) (given : Given) (same : given.verdict ≡ verdict_in answer) where
+    module _ (w : Work) (work : IsWork (shape s.file) (spelling s.file) w) (rep : Represents s w) where
+      answers : ToScrub answer ≡ (next s.file w given Scrub).1
+      answers =
+          ap ToScrub (sym (of.answers w (ap (λ (m : Memory). m.tour) (sym rep))))
+          ∙ ap (λ (v : Verdict). ToScrub (after_check w v (to_check (memory s))).1) (sym same)
+          ∙ ap (λ (m : Memory). ToScrub (after_check w given.verdict (to_check m)).1) rep
+
+      stands : Represents (with_scrub s scrub) (next s.file w given Scrub).0
+      stands =
+          let m : Memory = memory_of (shape s.file) (spelling s.file) w in
+          sym of.memory
+          ∙ ap (λ (v : Verdict). checked_in (memory s) v (to_check (memory s))) (sym same)
+          ∙ ap (λ (x : Memory). checked_in x given.verdict (to_check x)) rep
+          ∙ sym (blocks_kept m given.verdict (to_check m))
+          ∙ sym (change_law (shape s.file) (spelling s.file) w given Scrub work)
+
+    answered : Answered given Scrub s (with_scrub s scrub) [] (ToScrub answer)
+    answered = record {
+      file = refl;
+      live = live;
+      stands = λ w work rep. (answers w work rep, stands w work rep);
+      ring = λ g w a b k all. subst (λ (x : Told). ShowsRing s.file.layout s.file.cluster (now x.log) s.headers) (sym (some-eq all)) k.ring;
+    }
+
+  -- a step
+  pub scrub_serves : (told : Option Told) (answer : Scrubbed) (scrub : ScrubState) → IsMachines (grid_with s.file s.blocks) (scrub_of s) scrub told answer → ServesScrub s (with_scrub s scrub) told (Ok answer)
+  scrub_serves told answer scrub machines given supplied gives =
+      let of = machines (memory s) (record { layout = refl; blocks = refl; tour = refl; findings = refl }) in
+      answered_call given Scrub s [] (input told given supplied) (calls given) (with_scrub s scrub) (ToScrub answer) (answered told answer scrub of given (verdict_is s told answer scrub of given supplied gives)) told told supplied refl
+
+  -- a fault
+  pub scrub_stopped : (told : Option Told) (t : State) (e : Failed) → t.live ≡ false → ServesScrub s t told (Err e)
+  scrub_stopped told t e dead given supplied gives = stopped_call given Scrub s [] (input told given supplied) (calls given) t told told supplied dead refl
+
+-- ---- what was found last
+
+module _ (s : State) (place : ℕ) (live : s.live ≡ true) where
+  recent_calls : (given : Given) → AreCalls given (Recent place) s []
+  recent_calls given g w t k = record { steps = []; are = tt; does = refl }
+
+  recent_answered : (given : Given) → Answered given (Recent place) s s [] (ToRecent (slice_get s.findings place))
+  recent_answered given = record {
+    file = refl;
+    live = live;
+    stands = λ w work rep. (ap (λ (m : Memory). ToRecent (slice_get m.findings place)) rep, rep);
+    ring = λ g w a b k all. subst (λ (x : Told). ShowsRing s.file.layout s.file.cluster (now x.log) s.headers) (sym (some-eq all)) k.ring;
+  }
+
+  pub recent_serves : (told : Option Told) → Serves (Recent place) s s told told (Some (ToRecent (slice_get s.findings place)))
+  recent_serves told given supplied =
+      answered_call given (Recent place) s [] (record { checksum = zero_sum given supplied; fields = tt }) (recent_calls given) s (ToRecent (slice_get s.findings place)) (recent_answered given) told told supplied refl
