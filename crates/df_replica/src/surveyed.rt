@@ -147,6 +147,13 @@ impl Surveyed {
         self.sessions.get(place)
     }
 
+    /// The sessions in order of their places.
+    pub fn sessions(&self) -> &[Session]
+        ensures { result.now ≡ self.now.state.table.sessions }
+    {
+        self.sessions.as_slice()
+    }
+
     /// What is to be mended: copies of the superblock in order of number, then header slots in order, each with the class of
     /// what is shown there.
     pub fn to_mend(&self) -> &[Mend]

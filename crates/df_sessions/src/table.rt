@@ -74,6 +74,13 @@ impl SessionTable {
         self.sessions.len() as u64
     }
 
+    /// The sessions in order of their places.
+    pub fn as_slice(&self) -> &[Session]
+        ensures { result.now ≡ self.now.sessions }
+    {
+        self.sessions.as_slice()
+    }
+
     /// The session at a place, None exactly where the place isn't below `len`.
     pub fn get(&self, place: u64) -> Option<Session>
         ensures { result ≡ slice_get self.now.sessions place }

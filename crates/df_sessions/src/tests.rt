@@ -30,5 +30,6 @@ fn a_client_keeps_its_place_and_its_latest_request(rt: HostRuntime) {
     assert_eq!(rt; table.get(0), Some(waiting));
     assert_eq!(rt; table.place_of(5), Some(1));
     assert_eq!(rt; table.len(), 2);
+    assert_eq!(rt; table.as_slice().len(), 2);
     assert_eq!(rt; table.get(2), None);
 }

@@ -6,7 +6,11 @@ mod bounds;
 #[cfg(test)]
 mod files;
 #[cfg(test)]
+mod reports;
+#[cfg(test)]
 mod rows;
+#[cfg(test)]
+mod sessions;
 #[cfg(test)]
 mod statuses;
 #[cfg(test)]

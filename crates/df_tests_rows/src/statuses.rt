@@ -2,18 +2,21 @@
 use df_layout::Layout;
 use df_memdisk::MemoryDisk;
 use df_runs::{
-    Ran, blank, printed, run_failing, run_script, serve_failing, small_file, word, words,
+    Ran, blank, printed, run_failing, run_script, run_words, serve_failing, small_file, word, words,
 };
 use df_top::Status;
 use std::alloc::Global;
 use std::test::Fail;
 
-const WORDS: [&[&str]; 9] = [
+const WORDS: [&[&str]; 12] = [
     &[],
     &["format", "small"],
     &["format", "small", "007"],
     &["format", "0,4096,1,4096,8", "7"],
     &["run", "--"],
+    &["recover", "--"],
+    &["inspect", "small", "7"],
+    &["Inspect"],
     &["--"],
     &["append"],
     &["format", "small", "7", "7"],
@@ -28,7 +31,10 @@ fn other_words_print_the_usage_line(rt: HostRuntime) -> Result<(), Fail> {
         let ran = run_failing(rt.alloc(), &mut disk, &words, b"append 5 1 -\n", &[1], &[])?;
         assert_eq!(rt; ran.status, Status::Words, "{texts:?}");
         assert!(rt;
-            printed(&ran, "usage: format LAYOUT CLUSTER | run\n"),
+            printed(
+                &ran,
+                "usage: format LAYOUT CLUSTER | run | recover | inspect\n"
+            ),
             "{texts:?}"
         );
     }
@@ -49,8 +55,10 @@ fn a_first_call_that_fails_is_told(rt: HostRuntime) -> Result<(), Fail> {
     assert!(rt; ran.status == Status::ReadFault && printed(&ran, ""));
     let ran = run_failing(rt.alloc(), &mut disk, &words, b"append 5 1 -\n", &[], &[1])?;
     assert!(rt; ran.status == Status::WriteFault && printed(&ran, ""));
-    let ran = run_script(rt.alloc(), &mut disk, b"prepare 2\n")?;
-    assert!(rt; printed(&ran, "refused NotKept first 1 last 1\n"));
+    let ran = run_words(rt.alloc(), &mut disk, &["recover"])?;
+    let summary =
+        "cluster 7\nlayout 32 8192 4 16384 64\nsequence 1\ncheckpoint 0\nhead 1\nreplies 0\nsessions 1\nreferences 0\n";
+    assert!(rt; ran.status == Status::Done && printed(&ran, summary));
     Ok(())
 }
 

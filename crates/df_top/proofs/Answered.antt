@@ -17,7 +17,7 @@ use Rattle.df_top.specs.Session.{IsDamaged}
 use Rattle.df_top.specs.Turning.{BlamesIfEnds, IsLastPrinted, IsPrinted, last_turn, printed_turn}
 use Rattle.df_top.specs.declared.turns.Turn.{Turn}
 use Rattle.df_top.specs.declared.turns.Turn.TheVariants.{GoesOn, Ends}
-use Rattle.df_top.specs.declared.status.Status.TheVariants.{Done, Words, Script, Refused, DiskFault, ReadFault, WriteFault, Memory}
+use Rattle.df_top.specs.declared.status.Status.TheVariants.{Done, Found, Words, Script, Refused, DiskFault, ReadFault, WriteFault, Memory}
 
 -- ---- what is printed
 
@@ -58,6 +58,7 @@ module _ (command : Command) (s t : Replica) (old new : Option Told) (written to
   printed_is x makes GoesOn printed = (x, makes, printed)
   printed_is x makes (Ends WriteFault) printed = inl (x, makes, printed)
   printed_is x makes (Ends Done) printed = absurd printed
+  printed_is x makes (Ends Found) printed = absurd printed
   printed_is x makes (Ends Words) printed = absurd printed
   printed_is x makes (Ends Script) printed = absurd printed
   printed_is x makes (Ends Refused) printed = absurd printed
@@ -75,6 +76,7 @@ module _ (command : Command) (s t : Replica) (old new : Option Told) (written to
   damaged_is line makes damaged (Ends WriteFault) printed = inr (line, makes, damaged, printed)
   damaged_is line makes damaged GoesOn printed = absurd printed
   damaged_is line makes damaged (Ends Done) printed = absurd printed
+  damaged_is line makes damaged (Ends Found) printed = absurd printed
   damaged_is line makes damaged (Ends Words) printed = absurd printed
   damaged_is line makes damaged (Ends Script) printed = absurd printed
   damaged_is line makes damaged (Ends DiskFault) printed = absurd printed

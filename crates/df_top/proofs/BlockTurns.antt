@@ -5,13 +5,12 @@ use Rattle.df_disk.specs.Told.{Told}
 use Rattle.df_format.specs.declared.reference.Reference.{Reference}
 use Rattle.df_inspect.specs.Prints.{Prints}
 use Rattle.df_layout.specs.declared.damage.Class.TheVariants.{Blank}
-use Rattle.df_model.specs.Commands.{Answer, Given, Release, ToRelease, ToWriteBlock, WriteBlock}
+use Rattle.df_model.specs.Commands.{Answer, Given, Release, ToWriteBlock, WriteBlock}
 use Rattle.df_model.specs.declared.answers.Verdict.TheVariants.{Sound}
 use Rattle.df_model.specs.declared.errors.BlockError.{BlockError}
 use Rattle.df_model.specs.declared.errors.BlockError.TheVariants as block
-use Rattle.df_model.specs.declared.errors.NotLive.{NotLive}
 use Rattle.df_state.specs.State.{State as Replica}
-use Rattle.df_replica.specs.Answering.{Serves, release_answer, write_block_answer}
+use Rattle.df_replica.specs.Answering.{Serves, write_block_answer}
 use Rattle.df_replica.specs.Blocks.{BlamesWriteBlock, IsWriteBlock, block_events, next_block}
 use Rattle.df_replica.specs.Opened.{ToldBy}
 use Rattle.df_script_model.specs.Script.{answer_text}

@@ -1,11 +1,11 @@
 -- The begin of a checkpoint and its steps, and what is printed of them.
-use Rattle.std.proofs.Common.{◌≡◌, ◌≢◌, ℕ, List, [], Option, Some, None, refl, sym, subst, Result, Ok, Err}
+use Rattle.std.proofs.Common.{◌≡◌, ℕ, List, [], Option, Some, None, refl, sym, subst, Result, Ok, Err}
 use Rattle.df_base.specs.Log.{Event}
 use Rattle.df_disk.specs.Adds.{AddsPart, after_all}
 use Rattle.df_disk.specs.Told.{Told}
 use Rattle.df_inspect.specs.Prints.{Prints}
 use Rattle.df_layout.specs.declared.damage.Class.TheVariants.{Blank}
-use Rattle.df_model.specs.Commands.{Advance, Answer, Begin, Given, ToAdvance, ToBegin}
+use Rattle.df_model.specs.Commands.{Advance, Answer, Begin, Given, ToAdvance}
 use Rattle.df_model.specs.declared.answers.Progress.{Progress}
 use Rattle.df_model.specs.declared.answers.Progress.TheVariants.{Done, Working}
 use Rattle.df_model.specs.declared.answers.Verdict.TheVariants.{Sound}

@@ -20,7 +20,7 @@ use Rattle.df_replica.specs.Opened.{ToldBy}
 use Rattle.df_replica.specs.Serving.{Firm, Grade, IsGoodFor, IsKept, Keeps, KeptFor, Whole, format}
 use Rattle.df_replica.specs.Session.{Act, EachIsMidway, HasView, HoldsSome, IsMidway, IsServed, LeavesEither, LeavesView, answers_of, work_after}
 use Rattle.df_replica.proofs.Laws.{answered_is_there, extends_on, fault_stops_them, good_left, good_safe, joined, keeps_alone, nothing_is_served, one_more_is_served}
-use Rattle.df_top.specs.Run.{KeepsFile}
+use Rattle.df_top.specs.Keeping.{KeepsFile}
 use Rattle.df_top.specs.Session.{AreCalls, EndsCalls}
 
 -- ---- what is told

@@ -12,6 +12,8 @@ mod BlockReadTurns
 mod CheckpointTurns
 mod Kept
 mod Served
+mod Reported
+mod OneReport
 mod ReadTurns
 mod Causes
 mod Made

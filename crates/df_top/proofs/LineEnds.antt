@@ -15,7 +15,7 @@ use Rattle.df_top.specs.declared.session.Session.{Session}
 use Rattle.df_top.specs.declared.turns.Turn.{Turn}
 use Rattle.df_top.specs.declared.turns.Turn.TheVariants.{GoesOn, Ends}
 use Rattle.df_top.specs.declared.status.Status.{Status}
-use Rattle.df_top.specs.declared.status.Status.TheVariants.{Done, Words, Script, Refused, DiskFault, ReadFault, WriteFault, Memory}
+use Rattle.df_top.specs.declared.status.Status.TheVariants.{Done, Found, Words, Script, Refused, DiskFault, ReadFault, WriteFault, Memory}
 use Rattle.df_top.proofs.Progress.{ends_answer, ends_damaged, ends_damaged_fault, ends_disk, ends_script, ends_script_fault, goes_on}
 
 -- the line that refuses the next line ends the session
@@ -24,6 +24,7 @@ pub ends_refused : (bound : ℕ) (old new : State) → new.outside.told ≡ old.
 ends_refused bound old new same one refused Script wrote = ends_script bound old new same one refused wrote
 ends_refused bound old new same one refused WriteFault wrote = ends_script_fault bound old new same one refused wrote
 ends_refused bound old new same one refused Done wrote = absurd wrote
+ends_refused bound old new same one refused Found wrote = absurd wrote
 ends_refused bound old new same one refused Words wrote = absurd wrote
 ends_refused bound old new same one refused Refused wrote = absurd wrote
 ends_refused bound old new same one refused DiskFault wrote = absurd wrote
@@ -60,6 +61,7 @@ module _ (before after : Outside) (old : Session) (room : Room) (line : Line) (e
     line_turns (Ends WriteFault) (inr did) count = ends_damaged_fault old.lines.reading.bound (state before old) (state after new) said takes did.0 did.1 did.2 did.3
     line_turns (Ends Refused) did count = ends_damaged old.lines.reading.bound (state before old) (state after new) said takes did.0 did.1 did.2 did.3
     line_turns (Ends Done) did count = absurd did
+    line_turns (Ends Found) did count = absurd did
     line_turns (Ends Words) did count = absurd did
     line_turns (Ends Script) did count = absurd did
     line_turns (Ends ReadFault) did count = absurd did

@@ -7,7 +7,7 @@ use Rattle.std.proofs.lemmas.Fmt.{decimal_is_IsNumeral, decimal_is_IsNumeral_wid
 use Rattle.df_layout.specs.declared.layout.Layout.{Layout}
 use Rattle.df_layout.proofs.Same.{same_layout}
 use Rattle.df_top.specs.declared.mode.Mode.{Mode}
-use Rattle.df_top.specs.declared.mode.Mode.TheVariants.{Format, Run}
+use Rattle.df_top.specs.declared.mode.Mode.TheVariants.{Format, Run, Recover, Inspect}
 use Rattle.df_top.specs.Mode.{HasNumbers, numbers_of, NamesLayout, Means, OneMeaning}
 use Rattle.df_top.proofs.Commas.{fit, from_message_size, from_clients, from_block_size, from_blocks, Five, one_five}
 
@@ -83,10 +83,26 @@ one_is_not_three f g a b words one other = omega (arith, ap length one, ap lengt
 same_format : (l m : Layout) (c d : ℕ) → l ≡ m → c ≡ d → Format l c ≡ Format m d
 same_format l m c d layouts clusters = cc (layouts, clusters)
 
+-- two words that are one have one second letter
+one_second : (f g : List ℕ) (words : List (List ℕ)) → words ≡ f ∷ [] → words ≡ g ∷ [] → get_or f 1 0 ≡ get_or g 1 0
+one_second f g words one other = let same : f ≡ g = cc (one, other) in ap (λ (l : List ℕ). get_or l 1 0) same
+
 pub one_mode : OneMeaning
 one_mode words Run Run one other = refl
+one_mode words Run Recover one other = let same : 117 ≡ 101 = one_second (codes "run") (codes "recover") words one other in absurd (omega (arith, same))
+one_mode words Run Inspect one other = let same : 117 ≡ 110 = one_second (codes "run") (codes "inspect") words one other in absurd (omega (arith, same))
 one_mode words Run (Format m d) one other = absurd (one_is_not_three (codes "run") (codes "format") other.name (decimal d) words one other.is)
+one_mode words Recover Run one other = let same : 101 ≡ 117 = one_second (codes "recover") (codes "run") words one other in absurd (omega (arith, same))
+one_mode words Recover Recover one other = refl
+one_mode words Recover Inspect one other = let same : 101 ≡ 110 = one_second (codes "recover") (codes "inspect") words one other in absurd (omega (arith, same))
+one_mode words Recover (Format m d) one other = absurd (one_is_not_three (codes "recover") (codes "format") other.name (decimal d) words one other.is)
+one_mode words Inspect Run one other = let same : 110 ≡ 117 = one_second (codes "inspect") (codes "run") words one other in absurd (omega (arith, same))
+one_mode words Inspect Recover one other = let same : 110 ≡ 101 = one_second (codes "inspect") (codes "recover") words one other in absurd (omega (arith, same))
+one_mode words Inspect Inspect one other = refl
+one_mode words Inspect (Format m d) one other = absurd (one_is_not_three (codes "inspect") (codes "format") other.name (decimal d) words one other.is)
 one_mode words (Format l c) Run one other = absurd (one_is_not_three (codes "run") (codes "format") one.name (decimal c) words other one.is)
+one_mode words (Format l c) Recover one other = absurd (one_is_not_three (codes "recover") (codes "format") one.name (decimal c) words other one.is)
+one_mode words (Format l c) Inspect one other = absurd (one_is_not_three (codes "inspect") (codes "format") one.name (decimal c) words other one.is)
 one_mode words (Format l c) (Format m d) one other =
     let parts = three (codes "format") one.name (decimal c) (codes "format") other.name (decimal d) (sym one.is ∙ other.is) in
     same_format l m c d
@@ -97,6 +113,8 @@ one_mode words (Format l c) (Format m d) one other =
 
 pub no_layout : (word name cluster : List ℕ) → ((l : Layout) → NamesLayout name l → ⊥) → (command : Mode) → Means (word ∷ name ∷ cluster ∷ []) command → ⊥
 no_layout word name cluster none Run says = one_is_not_three (codes "run") word name cluster (word ∷ name ∷ cluster ∷ []) says refl
+no_layout word name cluster none Recover says = one_is_not_three (codes "recover") word name cluster (word ∷ name ∷ cluster ∷ []) says refl
+no_layout word name cluster none Inspect says = one_is_not_three (codes "inspect") word name cluster (word ∷ name ∷ cluster ∷ []) says refl
 no_layout word name cluster none (Format l c) says =
     let parts = three word name cluster (codes "format") says.name (decimal c) says.is in
     none l (subst (λ (n : List ℕ). NamesLayout n l) (sym parts.0) says.names)

@@ -128,13 +128,19 @@ refuses layout t old new status e other whole told answer unread barrier prints 
 pub fails : (layout : Layout) (t : Told) (old new : Outside) (status : Status) (e : OpenError) → e ≡ opens.DiskFault → StopsOpening layout t new.told → new.left ≡ old.left → PrintsError e old.written new.written status → FailsToOpen layout t old new status
 fails layout t old new status e is stops unread prints = record { fault = (prints.fault is).0; silent = record { written = (prints.fault is).1; unread = unread }; disk = stops }
 
--- one or the other
-pub not_served : (layout : Layout) (t : Told) (old new : Outside) (status : Status) (e : OpenError) → IsImage t.shown → old.told ≡ Some t → TellsSurvey layout old.told (Err e) → new.left ≡ old.left → ((e ≡ opens.DiskFault → ⊥) → new.told ≡ after Sync old.told)
-    → (IsImage t.shown → e ≡ opens.DiskFault → StopsOpening layout t new.told) → PrintsError e old.written new.written status → RefusesFile layout t old new status ⊎ FailsToOpen layout t old new status ⊎ ServesScript layout t old new status
-not_served layout t old new status opens.DiskFault whole told answer unread barrier stops prints = inr (inl (fails layout t old new status opens.DiskFault refl (stops whole refl) unread prints))
-not_served layout t old new status opens.NotFormatted whole told answer unread barrier stops prints = inl (refuses layout t old new status opens.NotFormatted (λ no. cc) whole told answer unread (barrier (λ no. cc)) prints)
-not_served layout t old new status (opens.NoQuorum a) whole told answer unread barrier stops prints = inl (refuses layout t old new status (opens.NoQuorum a) (λ no. cc) whole told answer unread (barrier (λ no. cc)) prints)
-not_served layout t old new status (opens.Version a) whole told answer unread barrier stops prints = inl (refuses layout t old new status (opens.Version a) (λ no. cc) whole told answer unread (barrier (λ no. cc)) prints)
-not_served layout t old new status (opens.BadField a b) whole told answer unread barrier stops prints = inl (refuses layout t old new status (opens.BadField a b) (λ no. cc) whole told answer unread (barrier (λ no. cc)) prints)
-not_served layout t old new status (opens.LayoutDiffers a b) whole told answer unread barrier stops prints = inl (refuses layout t old new status (opens.LayoutDiffers a b) (λ no. cc) whole told answer unread (barrier (λ no. cc)) prints)
-not_served layout t old new status (opens.Damaged a b) whole told answer unread barrier stops prints = inl (refuses layout t old new status (opens.Damaged a b) (λ no. cc) whole told answer unread (barrier (λ no. cc)) prints)
+-- a refusal is the disk's failure or another one
+pub by_fault : (P : OpenError → Type 0) (e : OpenError) → (e ≡ opens.DiskFault → P e) → ((e ≡ opens.DiskFault → ⊥) → P e) → P e
+by_fault P opens.DiskFault fault other = fault refl
+by_fault P opens.NotFormatted fault other = other (λ no. cc)
+by_fault P (opens.NoQuorum a) fault other = other (λ no. cc)
+by_fault P (opens.Version a) fault other = other (λ no. cc)
+by_fault P (opens.BadField a b) fault other = other (λ no. cc)
+by_fault P (opens.LayoutDiffers a b) fault other = other (λ no. cc)
+by_fault P (opens.Damaged a b) fault other = other (λ no. cc)
+
+pub not_opened : (P : Type 0) (layout : Layout) (t : Told) (old new : Outside) (status : Status) (e : OpenError) → IsImage t.shown → old.told ≡ Some t → TellsSurvey layout old.told (Err e) → new.left ≡ old.left → ((e ≡ opens.DiskFault → ⊥) → new.told ≡ after Sync old.told)
+    → (IsImage t.shown → e ≡ opens.DiskFault → StopsOpening layout t new.told) → PrintsError e old.written new.written status → RefusesFile layout t old new status ⊎ FailsToOpen layout t old new status ⊎ P
+not_opened P layout t old new status e whole told answer unread barrier stops prints =
+    by_fault (λ x. RefusesFile layout t old new status ⊎ FailsToOpen layout t old new status ⊎ P) e
+    (λ is. inr (inl (fails layout t old new status e is (stops whole is) unread prints)))
+    (λ no. inl (refuses layout t old new status e no whole told answer unread (barrier no) prints))

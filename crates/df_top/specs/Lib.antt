@@ -8,5 +8,7 @@ pub mod Step
 pub mod Turning
 pub mod Refusing
 pub mod Opening
+pub mod Keeping
+pub mod Reporting
 pub mod Run
 pub mod Formats

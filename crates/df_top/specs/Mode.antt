@@ -2,7 +2,7 @@
 use Rattle.std.specs.Prelude.{◌≡◌, ◌⊎◌, ◌<◌, ◌^◌, ℕ, List, [], ◌∷◌, ◌++◌, codes, decimal}
 use Rattle.df_layout.specs.declared.layout.Layout.{Layout}
 use Rattle.df_top.specs.declared.mode.Mode.{Mode}
-use Rattle.df_top.specs.declared.mode.Mode.TheVariants.{Format, Run}
+use Rattle.df_top.specs.declared.mode.Mode.TheVariants.{Format, Run, Recover, Inspect}
 
 -- the layout has these five numbers
 pub record HasNumbers (layout : Layout) (a b c d e : ℕ) : Type 0 where
@@ -32,11 +32,24 @@ pub record SpellsFormat (words : List (List ℕ)) (layout : Layout) (cluster : �
 -- the words ask for this
 abbrev pub Means : List (List ℕ) → Mode → Type 0
 Means words Run = words ≡ codes "run" ∷ []
+Means words Recover = words ≡ codes "recover" ∷ []
+Means words Inspect = words ≡ codes "inspect" ∷ []
 Means words (Format layout cluster) = SpellsFormat words layout cluster
 
 -- words ask for one thing at most
 abbrev pub OneMeaning : Type 0
 OneMeaning = (words : List (List ℕ)) (one other : Mode) → Means words one → Means words other → one ≡ other
+
+-- what is asked for works on a file that is there
+abbrev pub IsOfFile : Mode → Type 0
+IsOfFile (Format layout cluster) = ⊥
+IsOfFile mode = Unit {0}
+
+-- the words ask for such a thing
+pub record AsksOfFile (words : List (List ℕ)) : Type 0 where
+  pub mode : Mode
+  pub means : Means words mode
+  pub of_file : IsOfFile mode
 
 -- the words have no meaning
 abbrev pub MeansNothing : List (List ℕ) → Type 0

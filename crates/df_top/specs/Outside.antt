@@ -29,6 +29,6 @@ pub record HasCauses (before now : Faults) (status : Status) : Type 0 where
   pub source : Blames ReadFault before.source now.source status
   pub sink : Blames WriteFault before.sink now.sink status
 
--- a line is printed and the call ends with this status, or a front of the line is there where the sink failed
+-- a text is printed and the call ends with this status, or a front of the text is there where the sink failed
 abbrev pub PrintsLine : List ℕ → Status → Option (List ℕ) → Option (List ℕ) → Status → Type 0
 PrintsLine line given old new status = ((status ≡ given) × Appends old new line) ⊎ ((status ≡ WriteFault) × AppendsPart old new line)

@@ -1,10 +1,11 @@
 -- The numbers of the statuses, as the program's exit gives them.
 use Rattle.std.specs.Prelude.{ℕ}
 use Rattle.df_top.specs.declared.status.Status.{Status}
-use Rattle.df_top.specs.declared.status.Status.TheVariants.{Done, Words, Script, Refused, DiskFault, ReadFault, WriteFault, Memory}
+use Rattle.df_top.specs.declared.status.Status.TheVariants.{Done, Found, Words, Script, Refused, DiskFault, ReadFault, WriteFault, Memory}
 
 abbrev pub number_of : Status → ℕ
 number_of Done = 0
+number_of Found = 1
 number_of Words = 2
 number_of Script = 3
 number_of Refused = 4

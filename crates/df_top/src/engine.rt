@@ -1,9 +1,11 @@
 // The program: its words, the memory that it takes, and the file that it makes or serves.
-ghost use Rattle.std.specs.Prelude.{◌≡◌, ℕ, map, string_bytes, IfOk};
+ghost use Rattle.std.specs.Prelude.{◌≡◌, ℕ, [], ◌∷◌, map, string_bytes, IfOk};
+ghost use Rattle.df_base.specs.Log.{Sync};
+ghost use Rattle.df_disk.specs.Adds.{AddsPart};
 ghost use Rattle.df_layout.specs.declared.layout.Layout.{Layout};
 ghost use Rattle.df_lines.specs.Room.{IsFresh, line_bound};
 ghost use Rattle.df_top.specs.declared.mode.Mode.{Mode};
-ghost use Rattle.df_top.specs.Mode.{Means, MeansNothing};
+ghost use Rattle.df_top.specs.Mode.{AsksOfFile, IsOfFile, Means, MeansNothing};
 ghost use Rattle.df_top.specs.Formats.{Formats, MakesFile};
 ghost use Rattle.df_top.specs.Outside.{Blames, HasCauses};
 ghost use Rattle.df_top.specs.Run.{IsWithout, PrintsUsage, Runs};
@@ -21,7 +23,7 @@ use df_replica::{Rooms, probe};
 use std::alloc::Global;
 
 /// The line that says which words have a meaning.
-pub const USAGE: &[u8] = b"usage: format LAYOUT CLUSTER | run\n";
+pub const USAGE: &[u8] = b"usage: format LAYOUT CLUSTER | run | recover | inspect\n";
 
 // The memory of a session over a file.
 #[derive(Drop)]
@@ -40,18 +42,20 @@ fn reserve(alloc: Global, layout: &Layout) -> Result<Reserved, OutOfMemory>
     Ok(Reserved { rooms, lines })
 }
 
-// Finds the layout of the file that the disk shows, takes the memory for it, and serves the script over it.
-fn run_script<D: Disk, S: Source, W: Sink>(
+// Finds the layout of the file that the disk shows, takes the memory for it, and carries out what the words ask for.
+fn run_file<D: Disk, S: Source, W: Sink>(
     alloc: Global,
     words: &[String],
     source: &mut S,
     sink: &mut W,
     disk: &mut D,
 ) -> Status
-    requires words { Means (map string_bytes words.now) Mode.Run }
-    ensures runs { Runs
+    requires words { AsksOfFile (map string_bytes words.now) }
+    ensures runs { (mode : Mode) → Means (map string_bytes words.now) mode → Runs mode
         (record { told = D.told disk.old; left = S.left source.old; written = W.written sink.old })
         (record { told = D.told disk.new; left = S.left source.new; written = W.written sink.new }) result }
+    ensures inspects { Means (map string_bytes words.now) Mode.Inspect → AddsPart (Sync ∷ []) (D.told disk.old) (D.told disk.new) }
+    ensures unread { (Means (map string_bytes words.now) Mode.Run → ⊥) → S.left source.new ≡ S.left source.old }
     ensures causes { HasCauses
         (record { disk = D.faults disk.old; source = S.faults source.old; sink = W.faults sink.old })
         (record { disk = D.faults disk.new; source = S.faults source.new; sink = W.faults sink.new }) result }
@@ -92,7 +96,7 @@ pub fn run<D: Disk, S: Source, W: Sink>(
     sink: &mut W,
     disk: &mut D,
 ) -> Status
-    // Words without a meaning print the usage line, and touch neither the disk nor the source. `format` reads no script.
+    // Words without a meaning print the usage line, and touch neither the disk nor the source. `run` alone reads a script.
     ensures usage { MeansNothing (map string_bytes words.now) → PrintsUsage (W.written sink.old) (W.written sink.new) result }
     ensures untouched { MeansNothing (map string_bytes words.now) → D.told disk.new ≡ D.told disk.old }
     ensures unread { (Means (map string_bytes words.now) Mode.Run → ⊥) → S.left source.new ≡ S.left source.old }
@@ -104,11 +108,13 @@ pub fn run<D: Disk, S: Source, W: Sink>(
     ensures makes { (layout : Layout) (cluster : ℕ) → Means (map string_bytes words.now) (Mode.Format layout cluster)
         → MakesFile layout cluster (D.told disk.old) (D.told disk.new) result }
 
-    // `run` refuses a file by the first reason of the order of open, or serves the script as the machine does, and keeps what it
-    // answered at every moment and at its end.
-    ensures runs { Means (map string_bytes words.now) Mode.Run → Runs
+    // The other words refuse a file by the first reason of the order of open. `run` serves the script as the machine does, and
+    // keeps what it answered at every moment and at its end; `recover` mends the file and prints its summary; `inspect` prints
+    // the report of what it finds, and adds nothing on any disk but the sync of its barrier.
+    ensures runs { (mode : Mode) → IsOfFile mode → Means (map string_bytes words.now) mode → Runs mode
         (record { told = D.told disk.old; left = S.left source.old; written = W.written sink.old })
         (record { told = D.told disk.new; left = S.left source.new; written = W.written sink.new }) result }
+    ensures inspects { Means (map string_bytes words.now) Mode.Inspect → AddsPart (Sync ∷ []) (D.told disk.old) (D.told disk.new) }
 
     // Each fault has its cause; want of memory comes before anything was read or written.
     ensures causes { HasCauses
@@ -119,7 +125,9 @@ pub fn run<D: Disk, S: Source, W: Sink>(
         (record { told = D.told disk.new; left = S.left source.new; written = W.written sink.new }) }
 {
     match mode_of(words) {
-        Some(Mode::Run) => run_script(alloc, words, source, sink, disk),
+        Some(Mode::Run | Mode::Recover | Mode::Inspect) => {
+            run_file(alloc, words, source, sink, disk)
+        }
         Some(Mode::Format { layout, cluster }) => { make_file(alloc, disk, sink, &layout, cluster) }
         None => print_usage(sink),
     }

@@ -7,6 +7,7 @@ mod checkpoint_calls;
 mod engine;
 mod making;
 mod mode;
+mod reporting;
 mod serving;
 mod session;
 mod status;
@@ -14,6 +15,7 @@ mod turns;
 
 pub use engine::run;
 pub use mode::{Mode, mode_of, words_have_one_meaning};
+pub use reporting::an_image_has_one_report;
 pub use serving::serve;
 pub use status::Status;
 

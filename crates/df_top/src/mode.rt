@@ -15,6 +15,10 @@ pub enum Mode {
     Format { layout: Layout, cluster: u128 },
     /// Serves the script: `run`.
     Run,
+    /// Opens the file, which mends it, and prints its summary: `recover`.
+    Recover,
+    /// Prints what a survey of the file finds, and writes nothing to it: `inspect`.
+    Inspect,
 }
 
 /// What the words ask for, or None where they have no meaning. LAYOUT is `small`, `large`, or the slots, the bytes of a
@@ -36,7 +40,17 @@ fn plain_mode(word: &str) -> Option<Mode>
     ensures found { IfSome result (Means (word.now ∷ [])) }
     ensures none { IfNone result ((c : Mode) → Means (word.now ∷ []) c → ⊥) }
 {
-    if word == "run" { Some(Mode::Run) } else { None }
+    if word == "run" {
+        return Some(Mode::Run);
+    }
+    if word == "recover" {
+        return Some(Mode::Recover);
+    }
+    if word == "inspect" {
+        Some(Mode::Inspect)
+    } else {
+        None
+    }
 }
 
 // What three words ask for.

@@ -1,12 +1,16 @@
-// A file is opened and its script is served, in rooms that were taken before.
-ghost use Rattle.std.specs.Prelude.{◌≡◌, map, string_bytes};
+// A file is opened and its script is served, or another word is carried out, in rooms that were taken before.
+ghost use Rattle.std.specs.Prelude.{◌≡◌, [], ◌∷◌, map, string_bytes};
+ghost use Rattle.df_base.specs.Log.{Sync};
+ghost use Rattle.df_disk.specs.Adds.{AddsPart};
 ghost use Rattle.df_lines.specs.Room.{IsFresh, line_bound};
 ghost use Rattle.df_top.specs.declared.mode.Mode.{Mode};
-ghost use Rattle.df_top.specs.Mode.{Means};
+ghost use Rattle.df_top.specs.Mode.{AsksOfFile, Means};
 ghost use Rattle.df_top.specs.Outside.{Blames, HasCauses};
 ghost use Rattle.df_top.specs.Refusing.{PrintsError};
 ghost use Rattle.df_top.specs.Run.{ServesIn};
 
+use crate::mode::{Mode, mode_of};
+use crate::reporting::{inspect_file, recover_file};
 use crate::session::Session;
 use crate::status::Status;
 use crate::turns::serve_script;
@@ -39,7 +43,7 @@ fn serve_file<D: Disk, S: Source, W: Sink>(
     disk: &mut D,
 ) -> Status
     requires lines { IsFresh (line_bound rooms.layout) lines }
-    ensures serves { ServesIn rooms.layout
+    ensures serves { ServesIn Mode.Run rooms.layout
         (record { told = D.told disk.old; left = S.left source.old; written = W.written sink.old })
         (record { told = D.told disk.new; left = S.left source.new; written = W.written sink.new }) result }
     ensures causes { HasCauses
@@ -61,8 +65,8 @@ fn serve_file<D: Disk, S: Source, W: Sink>(
     }
 }
 
-/// Opens the file that the disk shows and serves the script, over rooms of one layout; takes no memory. A file of another layout
-/// is refused.
+/// Carries out what the words ask for with the file that the disk shows, over rooms of one layout; takes no memory. A file of
+/// another layout is refused.
 pub fn serve<D: Disk, S: Source, W: Sink>(
     rooms: Rooms,
     lines: LineRoom,
@@ -71,17 +75,29 @@ pub fn serve<D: Disk, S: Source, W: Sink>(
     sink: &mut W,
     disk: &mut D,
 ) -> Status
-    requires words { Means (map string_bytes words.now) Mode.Run }
+    requires words { AsksOfFile (map string_bytes words.now) }
     requires lines { IsFresh (line_bound rooms.layout) lines }
-    ensures serves { ServesIn rooms.layout
+    ensures serves { (mode : Mode) → Means (map string_bytes words.now) mode → ServesIn mode rooms.layout
         (record { told = D.told disk.old; left = S.left source.old; written = W.written sink.old })
         (record { told = D.told disk.new; left = S.left source.new; written = W.written sink.new }) result }
+    ensures inspects { Means (map string_bytes words.now) Mode.Inspect → AddsPart (Sync ∷ []) (D.told disk.old) (D.told disk.new) }
+    ensures unread { (Means (map string_bytes words.now) Mode.Run → ⊥) → S.left source.new ≡ S.left source.old }
     ensures causes { HasCauses
         (record { disk = D.faults disk.old; source = S.faults source.old; sink = W.faults sink.old })
         (record { disk = D.faults disk.new; source = S.faults source.new; sink = W.faults sink.new }) result }
     ensures memory { result ≡ Status.Memory → ⊥ }
     ensures usage { result ≡ Status.Words → ⊥ }
 {
-    let _ = words;
-    serve_file(rooms, lines, source, sink, disk)
+    match mode_of(words) {
+        Some(Mode::Run) => serve_file(rooms, lines, source, sink, disk),
+        Some(Mode::Recover) => recover_file(rooms, sink, disk),
+        Some(Mode::Inspect) => inspect_file(rooms, sink, disk),
+        Some(
+            Mode::Format {
+                layout: _,
+                cluster: _,
+            },
+        )
+        | None => unreachable!(),
+    }
 }

@@ -5,6 +5,8 @@
 pub enum Status {
     /// The command was carried out; the script was read to its end.
     Done,
+    /// The report lists something: a block that fails its check, or a place that is to be mended.
+    Found,
     /// The words have no meaning.
     Words,
     /// The next line is no line of a script, too long, or past the budget of bytes.
@@ -31,6 +33,7 @@ impl Status {
     {
         match self {
             Status::Done => 0,
+            Status::Found => 1,
             Status::Words => 2,
             Status::Script => 3,
             Status::Refused => 4,

@@ -1,5 +1,5 @@
 // Which words have a meaning, as the table of words gives them.
-use crate::{Mode, mode_of, words_have_one_meaning};
+use crate::{Mode, an_image_has_one_report, mode_of, words_have_one_meaning};
 use df_layout::Layout;
 use std::alloc::{AllocError, Global};
 
@@ -14,6 +14,7 @@ fn words_of(alloc: Global, texts: &[&str]) -> Result<Vec<String>, AllocError> {
 #[test]
 fn format_takes_a_layout_and_a_cluster(rt: HostRuntime) -> Result<(), AllocError> {
     words_have_one_meaning();
+    an_image_has_one_report();
     let rows = [
         ("small", "7", (32, 8192, 4, 16_384, 64), 7),
         ("large", "0", (1024, 1_048_576, 64, 524_288, 16_384), 0),
@@ -42,9 +43,15 @@ fn format_takes_a_layout_and_a_cluster(rt: HostRuntime) -> Result<(), AllocError
 }
 
 #[test]
-fn run_stands_alone(rt: HostRuntime) -> Result<(), AllocError> {
-    let words = words_of(rt.alloc(), &["run"])?;
-    assert_eq!(rt; mode_of(&words), Some(Mode::Run));
+fn words_of_a_file_stand_alone(rt: HostRuntime) -> Result<(), AllocError> {
+    for (text, mode) in [
+        ("run", Mode::Run),
+        ("recover", Mode::Recover),
+        ("inspect", Mode::Inspect),
+    ] {
+        let words = words_of(rt.alloc(), &[text])?;
+        assert_eq!(rt; mode_of(&words), Some(mode), "{text}");
+    }
     for texts in [
         [].as_slice(),
         &[""],
@@ -54,6 +61,9 @@ fn run_stands_alone(rt: HostRuntime) -> Result<(), AllocError> {
         &["run", ""],
         &["run", "small", "7"],
         &["recovery"],
+        &["recover", "7"],
+        &["inspect "],
+        &["-inspect"],
         &["format"],
         &["format", "small"],
         &["format", "small", "7", ""],

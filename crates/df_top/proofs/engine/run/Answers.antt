@@ -3,8 +3,8 @@ use Rattle.std.proofs.Common.{ℕ, subst}
 use Rattle.df_layout.specs.declared.layout.Layout.{Layout}
 use Rattle.df_top.specs.Mode.{Means}
 use Rattle.df_top.specs.Formats.{Formats, MakesFile}
-use Rattle.df_top.specs.declared.mode.Mode.TheVariants.{Format, Run}
-use Rattle.df_top.proofs.Words.{same_layout_asked, same_cluster_asked}
+use Rattle.df_top.specs.declared.mode.Mode.TheVariants.{Format, Inspect}
+use Rattle.df_top.proofs.Words.{makes_alone, same_layout_asked, same_cluster_asked}
 use Rattle.df_top.proofs.engine.run.Goals as goal
 
 pub returns-in-Some-Format-clause-formats : goal.returns-in-Some-Format-clause-formats
@@ -30,4 +30,15 @@ pub returns-in-None-clause-makes : goal.returns-in-None-clause-makes
 returns-in-None-clause-makes g c = λ layout cluster asks. absurd (c.in-None.ensures.none (Format layout cluster) asks)
 
 pub returns-in-None-clause-runs : goal.returns-in-None-clause-runs
-returns-in-None-clause-runs g c = λ asks. absurd (c.in-None.ensures.none Run asks)
+returns-in-None-clause-runs g c = λ mode of asks. absurd (c.in-None.ensures.none mode asks)
+
+pub returns-in-None-clause-inspects : goal.returns-in-None-clause-inspects
+returns-in-None-clause-inspects g c = λ asks. absurd (c.in-None.ensures.none Inspect asks)
+
+pub returns-in-Some-Format-clause-runs : goal.returns-in-Some-Format-clause-runs
+returns-in-Some-Format-clause-runs g c = λ mode of asks.
+    absurd (makes_alone _ c.in-Some-Format.layout c.in-Some-Format.cluster mode (subst (Means _) c.in-Some-Format.field-0-is c.in-Some-Format.ensures.found) asks of)
+
+pub returns-in-Some-Format-clause-inspects : goal.returns-in-Some-Format-clause-inspects
+returns-in-Some-Format-clause-inspects g c = λ asks.
+    absurd (makes_alone _ c.in-Some-Format.layout c.in-Some-Format.cluster Inspect (subst (Means _) c.in-Some-Format.field-0-is c.in-Some-Format.ensures.found) asks tt)

@@ -8,7 +8,7 @@ use Rattle.df_top.specs.Outside.{Blames, Outside}
 use Rattle.df_top.specs.declared.status.Status.TheVariants.{DiskFault}
 use Rattle.df_top.specs.Session.{state}
 use Rattle.df_top.proofs.Causes.{ended_never, open_causes, refused_never}
-use Rattle.df_top.proofs.Served.{from_start, not_served, serves}
+use Rattle.df_top.proofs.Served.{from_start, not_opened, serves}
 use Rattle.df_top.proofs.serving.serve_file.Goals as goal
 
 pub returns-in-Ok-clause-serves : goal.returns-in-Ok-clause-serves
@@ -22,7 +22,7 @@ returns-in-Ok-clause-serves g c = λ t told whole.
 
 pub returns-in-Err-clause-serves : goal.returns-in-Err-clause-serves
 returns-in-Err-clause-serves g c = λ t told whole.
-    not_served c.args.rooms.layout t (record { told = g.D.Disk.told c.args.disk.now; left = g.S.Source.left c.args.source.now; written = g.W.Sink.written c.args.sink.now })
+    not_opened _ c.args.rooms.layout t (record { told = g.D.Disk.told c.args.disk.now; left = g.S.Source.left c.args.source.now; written = g.W.Sink.written c.args.sink.now })
     (record { told = g.D.Disk.told c.open.new.disk; left = g.S.Source.left c.args.source.now; written = g.W.Sink.written c.refuse_file.new.sink }) c.refuse_file.result c.in-Err.error whole told c.in-Err.ensures.answer refl c.in-Err.ensures.refused
     (c.in-Err.ensures.stopped t told) c.refuse_file.ensures.prints
 

@@ -1,4 +1,4 @@
--- The probe reads alone, so that what is said of the session is said from the start on.
+-- The probe reads alone, so that what is said of the file is said from the start on.
 use Rattle.std.proofs.Common.{inr, subst}
 use Rattle.std.specs.Prelude.{Option, Ok}
 use Rattle.df_disk.specs.Told.{Told}
@@ -6,17 +6,17 @@ use Rattle.df_layout.specs.declared.layout.Layout.{Layout}
 use Rattle.df_recovery.specs.Found.{TellsLayout}
 use Rattle.df_top.specs.Outside.{Outside}
 use Rattle.df_top.specs.Run.{ServesIn}
-use Rattle.df_top.proofs.engine.run_script.Goals as goal
+use Rattle.df_top.proofs.engine.run_file.Goals as goal
 
 pub returns-in-Ok-reserve-clause-runs : goal.returns-in-Ok-reserve-clause-runs
-returns-in-Ok-reserve-clause-runs g c = λ t told whole.
+returns-in-Ok-reserve-clause-runs g c = λ mode asks t told whole.
     let left = g.S.Source.left c.args.source.now in
     let written = g.W.Sink.written c.args.sink.now in
     let new : Outside = record { told = g.D.Disk.told c.serve.new.disk; left = g.S.Source.left c.serve.new.source; written = g.W.Sink.written c.serve.new.sink } in
     let layout : Layout = c.in-Ok-probe.layout in
-    let serves : ServesIn layout (record { told = g.D.Disk.told c.args.disk.now; left = left; written = written }) new c.serve.result =
-    subst (λ (o : Option Told). ServesIn layout (record { told = o; left = left; written = written }) new c.serve.result) c.probe.ensures.same
-    (subst (λ (l : Layout). ServesIn l (record { told = g.D.Disk.told c.probe.new.disk; left = left; written = written }) new c.serve.result) c.in-Ok-reserve.ensures.layout c.serve.ensures.serves) in
+    let serves : ServesIn mode layout (record { told = g.D.Disk.told c.args.disk.now; left = left; written = written }) new c.serve.result =
+    subst (λ (o : Option Told). ServesIn mode layout (record { told = o; left = left; written = written }) new c.serve.result) c.probe.ensures.same
+    (subst (λ (l : Layout). ServesIn mode l (record { told = g.D.Disk.told c.probe.new.disk; left = left; written = written }) new c.serve.result) c.in-Ok-reserve.ensures.layout (c.serve.ensures.serves mode asks)) in
     inr (inr (record {
       layout = layout;
       shown = subst (λ (o : Option Told). TellsLayout o (Ok layout)) told c.in-Ok-probe.ensures.answer;

@@ -1,0 +1,180 @@
+-- An image has one report, since it has one superblock, one view, and one list of what is to be mended.
+use Rattle.std.proofs.Common.{◌≡◌, ℕ, ◌<◌, Bool, true, false, not, IsTrue, List, [], ◌∷◌, ◌++◌, length, Option, None, Some, refl, sym, ◌∙◌, ap, subst, arith}
+use Rattle.std.specs.Prelude.{◌+◌, zero, suc, codes, map, get_or}
+use Rattle.std.specs.List.{filter, range_with_len}
+use Rattle.std.proofs.Math.Bridge.{le_prop}
+use Rattle.std.proofs.Math.Nat.{ℕ_set}
+use Rattle.df_base.specs.Image.{Image}
+use Rattle.df_format.specs.Copies.{Content, content_at}
+use Rattle.df_format.specs.Own.{place_in}
+use Rattle.df_format.specs.Shown.{class_at}
+use Rattle.df_format.specs.declared.superblock.SuperFields.{SuperFields}
+use Rattle.df_inspect.specs.Reports.{each_text, mend_text, row_text, session_text, stored_text, summary_text}
+use Rattle.df_layout.specs.declared.damage.Mend.{Mend}
+use Rattle.df_layout.specs.declared.layout.Layout.{Layout}
+use Rattle.df_layout.specs.declared.places.Zone.TheVariants.{WalHeaders}
+use Rattle.df_quorum.specs.Quorum.{AreMembers}
+use Rattle.df_quorum.proofs.Choices.{one_law}
+use Rattle.df_recovery.proofs.Laws.{filter_more, one_super}
+use Rattle.df_recovery.specs.Plan.{if_wanted, needs_header, slot_mends}
+use Rattle.df_recovery.specs.Surveys.{IsOpened}
+use Rattle.df_replica.specs.Replica.{Survey, summary_of}
+use Rattle.df_replica.specs.Surveying.{IsMendable, copy_mend_at, mends_of}
+use Rattle.df_script_model.specs.Texts.{body_text, line_of, numbered, spaced}
+use Rattle.df_sessions.specs.Requests.{session_of, sessions_of}
+use Rattle.df_sessions.specs.declared.session.Session.{Session}
+use Rattle.df_state.specs.State.{memory, reply_sum, shape, spelling, stored_sum}
+use Rattle.df_state.specs.declared.file.DataFile.{DataFile}
+use Rattle.df_theory.specs.Found.{IsFound}
+use Rattle.df_theory.specs.Units
+use Rattle.df_theory.specs.View.{View}
+use Rattle.df_theory.proofs.Laws.{one_found_law}
+use Rattle.df_units.specs.Bytes.{unit_at}
+use Rattle.df_model.specs.Memory.{Memory, memory_of}
+use Rattle.df_model.specs.Work.{opened}
+use Rattle.df_model.specs.declared.answers.Summary.{Summary}
+use Rattle.df_top.specs.Reporting.{OneReport, report_of, status_of}
+
+-- ---- a file is its layout and its cluster
+
+of_pair : (n : Layout × ℕ) → 0 < n.1 → DataFile
+of_pair n named = record { layout = n.0; cluster = n.1; named = named }
+
+named_prop : (n : Layout × ℕ) → IsProp (0 < n.1)
+named_prop n = hlevel (le_prop, ℕ_set)
+
+same_of_pair : (n m : Layout × ℕ) → n ≡ m → (x : 0 < n.1) (y : 0 < m.1) → of_pair n x ≡ of_pair m y
+same_of_pair n m e x = subst (λ (k : Layout × ℕ). (y : 0 < k.1) → of_pair n x ≡ of_pair k y) e (λ y. ap (of_pair n) (named_prop n x y))
+
+same_pair : (a b : Layout) (c d : ℕ) → a ≡ b → c ≡ d → let x : Layout × ℕ = (a, c) in x ≡ (b, d)
+same_pair a b c d one two = cc (one, two)
+
+same_file : (a b : DataFile) → a.layout ≡ b.layout → a.cluster ≡ b.cluster → a ≡ b
+unfolding of_pair
+same_file a b one two = same_of_pair (a.layout, a.cluster) (b.layout, b.cluster) (same_pair a.layout b.layout a.cluster b.cluster one two) a.named b.named
+
+-- ---- the sessions' lines say what the model knows of them
+
+stored_same : (r : Option (List ℕ)) → stored_text r ≡ stored_text (reply_sum r)
+stored_same None = refl
+stored_same (Some check) = refl
+
+model_text : ℕ → Units.Session → Option ℕ → List ℕ
+model_text place s stored =
+    line_of (spaced (numbered (codes "session") place) (spaced (numbered (codes "client") s.client) (spaced (numbered (codes "request") s.request)
+    (spaced (numbered (codes "op") s.op) (stored_text stored)))))
+
+text_is : (place : ℕ) (s : Session) → session_text place s ≡ model_text place (session_of s) (stored_sum s)
+unfolding model_text
+text_is place s =
+    ap (λ (l : List ℕ). line_of (spaced (numbered (codes "session") place) (spaced (numbered (codes "client") s.client) (spaced (numbered (codes "request") s.request)
+    (spaced (numbered (codes "op") s.op) l))))) (stored_same s.reply)
+
+texts_same : (place : ℕ) (ss us : List Session) → sessions_of ss ≡ sessions_of us → map stored_sum ss ≡ map stored_sum us → each_text session_text place ss ≡ each_text session_text place us
+texts_same place [] [] one two = refl
+texts_same place [] (u ∷ us) one two = absurd (omega (arith, ap length one))
+texts_same place (s ∷ ss) [] one two = absurd (omega (arith, ap length one))
+texts_same place (s ∷ ss) (u ∷ us) one two =
+    let first : session_of s ≡ session_of u = cc one in
+    let stored : stored_sum s ≡ stored_sum u = cc two in
+    let rest : each_text session_text (place + 1) ss ≡ each_text session_text (place + 1) us = texts_same (place + 1) ss us (cc one) (cc two) in
+    let line : session_text place s ≡ session_text place u =
+    text_is place s ∙ ap (λ (x : Units.Session). model_text place x (stored_sum s)) first ∙ ap (model_text place (session_of u)) stored ∙ sym (text_is place u) in
+    ap (λ (l : List ℕ). l ++ each_text session_text (place + 1) ss) line ∙ ap (λ (l : List ℕ). session_text place u ++ l) rest
+
+count_is : (ss : List Session) → length (sessions_of ss) ≡ length ss
+count_is [] = refl
+count_is (s ∷ ss) = omega (arith, count_is ss)
+
+-- ---- the list of mends is that of the members
+
+same_bit : (a b : Bool) → (IsTrue a → IsTrue b) → (IsTrue b → IsTrue a) → a ≡ b
+same_bit true true one other = refl
+same_bit true false one other = sym (one refl)
+same_bit false true one other = other refl
+same_bit false false one other = refl
+
+filter_same : (p q : ℕ → Bool) (n : ℕ) → ((k : ℕ) → k < n → p k ≡ q k) → filter p (range_with_len 0 n) ≡ filter q (range_with_len 0 n)
+filter_same p q zero same = refl
+filter_same p q (suc n) same =
+    let one_more : suc n ≡ n + 1 = omega arith in
+    subst (λ (m : ℕ). filter p (range_with_len 0 m) ≡ filter q (range_with_len 0 m)) (sym one_more)
+    (filter_more p n ∙ ap (λ (l : List ℕ). l ++ if_wanted (p n) n) (filter_same p q n (λ k below. same k (omega (arith, below))))
+    ∙ ap (λ (b : Bool). filter q (range_with_len 0 n) ++ if_wanted b n) (same n (omega arith)) ∙ sym (filter_more q n))
+
+-- what copies show a content is one question
+members_same : (image : Image) (c d : Content) (m k : List Bool) → c ≡ d → AreMembers (content_at image) c m → AreMembers (content_at image) d k → (n : ℕ) → n < 4 → get_or m n false ≡ get_or k n false
+members_same image c d m k same one other n below =
+    same_bit (get_or m n false) (get_or k n false)
+    (λ is. (other n below).1 ((one n below).0 is ∙ ap Some same))
+    (λ is. (one n below).1 ((other n below).0 is ∙ ap Some (sym same)))
+
+mends_same : (layout : Layout) (image : Image) (f g : SuperFields) (m k : List Bool) → f ≡ g → ((n : ℕ) → n < 4 → get_or m n false ≡ get_or k n false) → mends_of layout image f m ≡ mends_of layout image g k
+mends_same layout image f g m k fields bits =
+    ap (λ (ns : List ℕ). map (copy_mend_at image) ns ++ slot_mends (needs_header layout f.op (unit_at layout f.cluster image)) (λ s. class_at layout f.cluster image (place_in WalHeaders s)) layout.slots)
+    (filter_same (λ n. not (get_or m n false)) (λ n. not (get_or k n false)) 4 (λ n below. ap not (bits n below)))
+    ∙ ap (λ (x : SuperFields). mends_of layout image x k) fields
+
+-- ---- the law
+
+module _ (layout : Layout) (image : Image) (s u : Survey) (one : IsOpened layout image s.state) (one_mends : IsMendable layout image s) (other : IsOpened layout image u.state) (other_mends : IsMendable layout image u) where
+  fields : s.state.fields ≡ u.state.fields
+  fields = one_super image s.state.fields u.state.fields one.has.super other.has.super
+
+  file : s.state.file ≡ u.state.file
+  file = same_file s.state.file u.state.file (one.of ∙ sym other.of) (sym one.has.cluster ∙ ap (λ (f : SuperFields). f.cluster) fields ∙ other.has.cluster)
+
+  view : one.view ≡ other.view
+  view =
+      one_found_law (shape s.state.file) (unit_at layout s.state.file.cluster image) one.view other.view one.found
+      (subst (λ (f : DataFile). IsFound (shape f) (unit_at layout f.cluster image) other.view) (sym file) other.found)
+
+  first : DataFile → View → Memory
+  first f v = memory_of (shape f) (spelling f) (opened (shape f) (unit_at layout f.cluster image) v)
+
+  known : memory s.state ≡ memory u.state
+  unfolding first
+  known = one.stands ∙ ap (λ (v : View). first s.state.file v) view ∙ ap (λ (f : DataFile). first f other.view) file ∙ sym other.stands
+
+  sessions : sessions_of s.state.table.sessions ≡ sessions_of u.state.table.sessions
+  sessions = ap (λ (m : Memory). m.sessions) known
+
+  count : length s.state.table.sessions ≡ length u.state.table.sessions
+  count = sym (count_is s.state.table.sessions) ∙ ap length sessions ∙ count_is u.state.table.sessions
+
+  summary : summary_of s.state ≡ summary_of u.state
+  summary = λ i. record {
+    cluster = (file i).cluster;
+    layout = (file i).layout;
+    sequence = (fields i).sequence;
+    checkpoint_op = (fields i).op;
+    head = (known i).head;
+    replies = (known i).replies;
+    sessions = count i;
+    references = length (known i).blocks.durable;
+  }
+
+  lines : each_text session_text 0 s.state.table.sessions ≡ each_text session_text 0 u.state.table.sessions
+  lines = texts_same 0 s.state.table.sessions u.state.table.sessions sessions (ap (λ (m : Memory). m.stored) known)
+
+  contents : one_mends.choice.content ≡ other_mends.choice.content
+  contents = one_law (content_at image) one_mends.choice.content other_mends.choice.content one_mends.choice.is other_mends.choice.is
+
+  mends : s.mends ≡ u.mends
+  mends =
+      one_mends.mends ∙ mends_same layout image s.state.fields u.state.fields s.chosen.members u.chosen.members fields
+      (members_same image one_mends.choice.content other_mends.choice.content s.chosen.members u.chosen.members contents one_mends.choice.members other_mends.choice.members)
+      ∙ sym other_mends.mends
+
+  report : report_of s ≡ report_of u
+  report =
+      ap (λ (x : Summary). summary_text x ++ (line_of (spaced (codes "root") (body_text s.state.root)) ++ (each_text session_text 0 s.state.table.sessions ++ (each_text (λ place m. mend_text m) 0 s.mends ++ row_text (codes "findings") (length s.mends))))) summary
+      ∙ ap (λ (m : Memory). summary_text (summary_of u.state) ++ (line_of (spaced (codes "root") (body_text m.root)) ++ (each_text session_text 0 s.state.table.sessions ++ (each_text (λ place m. mend_text m) 0 s.mends ++ row_text (codes "findings") (length s.mends))))) known
+      ∙ ap (λ (l : List ℕ). summary_text (summary_of u.state) ++ (line_of (spaced (codes "root") (body_text u.state.root)) ++ (l ++ (each_text (λ place m. mend_text m) 0 s.mends ++ row_text (codes "findings") (length s.mends))))) lines
+      ∙ ap (λ (l : List Mend). summary_text (summary_of u.state) ++ (line_of (spaced (codes "root") (body_text u.state.root)) ++ (each_text session_text 0 u.state.table.sessions ++ (each_text (λ place m. mend_text m) 0 l ++ row_text (codes "findings") (length l))))) mends
+
+  pub same_of : (report_of s ≡ report_of u) × (status_of s.mends ≡ status_of u.mends)
+  same_of = (report, ap status_of mends)
+
+pub one_report : OneReport
+one_report layout image s u one one_mends other other_mends = same_of layout image s u one one_mends other other_mends

@@ -1,0 +1,113 @@
+-- A file that is reported: what a survey found of it, or the summary of what was opened; and one that is refused.
+use Rattle.std.proofs.Common.{◌≡◌, ◌⊎◌, inl, inr, ℕ, true, List, [], ◌∷◌, Option, Some, None, refl, sym, ◌∙◌, ap, subst, Ok, Err}
+use Rattle.df_base.specs.Image.{IsImage}
+use Rattle.df_base.specs.Log.{Sync}
+use Rattle.df_base.specs.Moments.{EachMoment}
+use Rattle.df_disk.specs.Adds.{AddsPart}
+use Rattle.df_disk.specs.Told.{Told, after, did}
+use Rattle.df_inspect.specs.Reports.{inspection_text, summary_text}
+use Rattle.df_layout.specs.declared.damage.Mend.{Mend}
+use Rattle.df_layout.specs.declared.layout.Layout.{Layout}
+use Rattle.df_theory.specs.View.{View}
+use Rattle.df_units.specs.Bytes.{unit_at}
+use Rattle.df_model.specs.Work.{opened}
+use Rattle.df_model.specs.declared.answers.Summary.{Summary}
+use Rattle.df_model.specs.declared.errors.OpenError.{OpenError}
+use Rattle.df_model.specs.declared.errors.OpenError.TheVariants as opens
+use Rattle.df_recovery.specs.Found.{Syncs}
+use Rattle.df_recovery.specs.Surveys.{IsOpened}
+use Rattle.df_sessions.specs.declared.session.Session.{Session}
+use Rattle.df_state.specs.State.{State as Replica, shape}
+use Rattle.df_replica.specs.Following.{MayOpen}
+use Rattle.df_replica.specs.Opened.{ToldBy}
+use Rattle.df_replica.specs.Replica.{Survey, summary_of}
+use Rattle.df_replica.specs.Serving.{Grade, IsGoodFor, IsKept, StandsFor, format}
+use Rattle.df_replica.specs.Surveying.{TellsMends, TellsSurvey}
+use Rattle.df_top.specs.Keeping.{KeepsFile}
+use Rattle.df_top.specs.Opening.{RefusesFile}
+use Rattle.df_top.specs.Outside.{Outside, PrintsLine}
+use Rattle.df_top.specs.Refusing.{PrintsError}
+use Rattle.df_top.specs.Reporting.{FailsToSurvey, Inspects, Recovers, report_of, status_of}
+use Rattle.df_top.specs.declared.status.Status.{Status}
+use Rattle.df_top.specs.declared.status.Status.TheVariants.{Done}
+use Rattle.df_top.proofs.Kept.{goes_told, keeps_file}
+use Rattle.df_top.proofs.Served.{by_fault, refuses}
+
+-- ---- the barrier
+
+pub syncs_once : (old new : Option Told) (e : OpenError) → (e ≡ opens.DiskFault → ⊥) → Syncs {T = Replica} old new (Err e) → new ≡ after Sync old
+syncs_once old new opens.DiskFault other syncs = absurd (other refl)
+syncs_once old new opens.NotFormatted other syncs = syncs
+syncs_once old new (opens.NoQuorum a) other syncs = syncs
+syncs_once old new (opens.Version a) other syncs = syncs
+syncs_once old new (opens.BadField a b) other syncs = syncs
+syncs_once old new (opens.LayoutDiffers a b) other syncs = syncs
+syncs_once old new (opens.Damaged a b) other syncs = syncs
+
+syncs_failed : (old new : Option Told) (e : OpenError) → e ≡ opens.DiskFault → Syncs {T = Replica} old new (Err e) → AddsPart (Sync ∷ []) old new
+syncs_failed old new e is syncs = subst (λ (x : OpenError). Syncs {T = Replica} old new (Err x)) is syncs
+
+-- it adds nothing but its sync
+pub syncs_part : (old new : Option Told) (e : OpenError) → Syncs {T = Replica} old new (Err e) → AddsPart (Sync ∷ []) old new
+syncs_part old new e syncs = by_fault (λ x. AddsPart (Sync ∷ []) old new) e (λ is. syncs_failed old new e is syncs) (λ no. inr (syncs_once old new e no syncs))
+
+-- ---- what is printed
+
+-- what is printed of equal values is one text
+pub same_report : (P : List ℕ → Type 0) (a b : Summary) (r q : List ℕ) (s u : List Session) (m n : List Mend) → a ≡ b → r ≡ q → s ≡ u → m ≡ n → P (inspection_text a r s m) → P (inspection_text b q u n)
+same_report P a b r q s u m n one two three four has =
+    subst (λ (l : List Mend). P (inspection_text b q u l)) four
+    (subst (λ (l : List Session). P (inspection_text b q l m)) three
+    (subst (λ (l : List ℕ). P (inspection_text b l s m)) two (subst (λ (x : Summary). P (inspection_text x r s m)) one has)))
+
+pub same_summary : (P : List ℕ → Type 0) (a b : Summary) → a ≡ b → P (summary_text a) → P (summary_text b)
+same_summary P a b same has = subst (λ (x : Summary). P (summary_text x)) same has
+
+-- ---- inspect
+
+module _ (layout : Layout) (t : Told) (old new : Outside) (status : Status) (whole : IsImage t.shown) (told : old.told ≡ Some t) (unread : new.left ≡ old.left) where
+  pub inspects : (s : Survey) → TellsSurvey layout old.told (Ok s.state) → TellsMends layout old.told s → new.told ≡ after Sync old.told
+      → PrintsLine (report_of s) (status_of s.mends) old.written new.written status → Inspects layout t old new status
+  inspects s answer mends barrier prints = record {
+    survey = s;
+    is_opened = (subst (λ (o : Option Told). TellsSurvey layout o (Ok s.state)) told answer) whole;
+    mendable = (subst (λ (o : Option Told). TellsMends layout o s) told mends) whole;
+    prints = prints;
+    unread = unread;
+    barrier = barrier ∙ ap (after Sync) told;
+  }
+
+  pub not_surveyed : (P : Type 0) (e : OpenError) → TellsSurvey layout old.told (Err e) → Syncs {T = Replica} old.told new.told (Err e) → PrintsError e old.written new.written status
+      → RefusesFile layout t old new status ⊎ FailsToSurvey t old new status ⊎ P
+  not_surveyed P e answer syncs prints =
+      by_fault (λ x. RefusesFile layout t old new status ⊎ FailsToSurvey t old new status ⊎ P) e
+      (λ is. inr (inl (record {
+        fault = (prints.fault is).0;
+        silent = record { written = (prints.fault is).1; unread = unread };
+        disk = subst (λ (o : Option Told). AddsPart (Sync ∷ []) o new.told) told (syncs_failed old.told new.told e is syncs);
+      })))
+      (λ no. inl (refuses layout t old new status e no whole told answer unread (syncs_once old.told new.told e no syncs) prints))
+
+-- ---- recover
+
+module _ (layout : Layout) (t : Told) (old new : Outside) (status : Status) (s : Replica) (told : old.told ≡ Some t) (unread : new.left ≡ old.left) (live : s.live ≡ true) (is_opened : IsOpened layout t.shown s)
+    (by : ToldBy (after Sync old.told) new.told)
+    (kept_for : (n : Told) → new.told ≡ Some n → (g : Grade) (view : View) → MayOpen s.file view t → StandsFor g (unit_at s.file.layout s.file.cluster t.shown) view
+    → IsKept g s (opened (shape s.file) (unit_at s.file.layout s.file.cluster t.shown) view) n.log)
+    (good : (n : Told) → new.told ≡ Some n → (g : Grade) (view : View) → MayOpen s.file view t → StandsFor g (unit_at s.file.layout s.file.cluster t.shown) view
+    → EachMoment (did Sync t).log n.log (IsGoodFor g (format s.file) (shape s.file) view view))
+    (prints : PrintsLine (summary_text (summary_of s)) Done old.written new.written status) where
+  synced : ToldBy (Some (did Sync t)) new.told
+  synced = subst (λ (o : Option Told). ToldBy (after Sync o) new.told) told by
+
+  keeps : (g : Grade) (view : View) → MayOpen s.file view t → StandsFor g (unit_at s.file.layout s.file.cluster t.shown) view
+      → KeepsFile s.file g (opened (shape s.file) (unit_at s.file.layout s.file.cluster t.shown) view) t [] [] None new.told
+  keeps g view may stands =
+      let goes = goes_told (did Sync t) new.told synced in
+      let n = goes.0 in
+      subst (λ (o : Option Told). KeepsFile s.file g (opened (shape s.file) (unit_at s.file.layout s.file.cluster t.shown) view) t [] [] None o) (sym goes.1)
+      (keeps_file g s (opened (shape s.file) (unit_at s.file.layout s.file.cluster t.shown) view) t n live (kept_for n goes.1 g view may stands)
+      (goes.2.honest (record { shows = may.honest.shows })) goes.2.grew (good n goes.1 g view may stands) s (Some n) [] [] None (refl, refl))
+
+  pub recovers : Recovers layout t old new status
+  recovers = record { replica = s; is_opened = is_opened; prints = prints; unread = unread; keeps = keeps }

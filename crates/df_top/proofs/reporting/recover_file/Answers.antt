@@ -1,0 +1,51 @@
+-- The open answers of the file that the disk shows, and what it mends is kept.
+use Rattle.std.proofs.Common.{inr, refl, subst}
+use Rattle.std.specs.Prelude.{Option, Ok}
+use Rattle.df_disk.specs.Told.{Told}
+use Rattle.df_inspect.specs.Reports.{summary_text}
+use Rattle.df_state.specs.State.{State}
+use Rattle.df_replica.specs.Replica.{summary_of}
+use Rattle.df_replica.specs.Surveying.{TellsSurvey}
+use Rattle.df_top.specs.Outside.{Outside}
+use Rattle.df_top.specs.Reporting.{Recovers}
+use Rattle.df_top.specs.declared.status.Status.TheVariants.{Done}
+use Rattle.df_top.proofs.Causes.{calm_done, line_causes, never_printed, open_causes, refused_never}
+use Rattle.df_top.proofs.Reported.{recovers}
+use Rattle.df_top.proofs.Served.{not_opened}
+use Rattle.df_top.proofs.reporting.recover_file.Goals as goal
+
+pub returns-in-Ok-clause-recovers : goal.returns-in-Ok-clause-recovers
+returns-in-Ok-clause-recovers g c = λ left t told whole.
+    let old : Outside = record { told = g.D.Disk.told c.args.disk.now; left = left; written = g.W.Sink.written c.args.sink.now } in
+    let new : Outside = record { told = g.D.Disk.told c.open.new.disk; left = left; written = g.W.Sink.written c.summarise.new.sink } in
+    inr (inr (recovers c.args.rooms.layout t old new c.summarise.result c.in-Ok.replica told refl c.in-Ok.ensures.live
+    ((subst (λ (o : Option Told). TellsSurvey c.args.rooms.layout o (Ok c.in-Ok.replica)) told c.in-Ok.ensures.answer) whole) c.in-Ok.ensures.told
+    (λ n is. c.in-Ok.ensures.kept_for t n told is) (λ n is. c.in-Ok.ensures.moments t n told is) c.summarise.ensures.prints))
+
+pub returns-clause-recovers : goal.returns-clause-recovers
+returns-clause-recovers g c = λ left t told whole.
+    let old : Outside = record { told = g.D.Disk.told c.args.disk.now; left = left; written = g.W.Sink.written c.args.sink.now } in
+    let new : Outside = record { told = g.D.Disk.told c.open.new.disk; left = left; written = g.W.Sink.written c.refuse_file.new.sink } in
+    not_opened (Recovers c.args.rooms.layout t old new c.refuse_file.result) c.args.rooms.layout t old new c.refuse_file.result c.in-Err.error whole told c.in-Err.ensures.answer refl c.in-Err.ensures.refused (c.in-Err.ensures.stopped t told) c.refuse_file.ensures.prints
+
+pub returns-in-Ok-clause-causes : goal.returns-in-Ok-clause-causes
+returns-in-Ok-clause-causes g c = λ source.
+    line_causes (g.D.Disk.faults c.args.disk.now) (g.D.Disk.faults c.open.new.disk) source (g.W.Sink.faults c.args.sink.now) (g.W.Sink.faults c.summarise.new.sink) (g.W.Sink.written c.args.sink.now) (g.W.Sink.written c.summarise.new.sink)
+    c.summarise.result (summary_text (summary_of c.in-Ok.replica)) Done calm_done c.in-Ok.ensures.cause c.summarise.ensures.prints c.summarise.ensures.sink
+
+pub returns-clause-causes : goal.returns-clause-causes
+returns-clause-causes g c = λ source.
+    open_causes (g.D.Disk.faults c.args.disk.now) (g.D.Disk.faults c.open.new.disk) source (g.W.Sink.faults c.args.sink.now) (g.W.Sink.faults c.refuse_file.new.sink) (g.W.Sink.written c.args.sink.now) (g.W.Sink.written c.refuse_file.new.sink)
+    c.refuse_file.result State c.in-Err.error c.in-Err.ensures.cause c.refuse_file.ensures.prints c.refuse_file.ensures.sink
+
+pub returns-in-Ok-clause-memory : goal.returns-in-Ok-clause-memory
+returns-in-Ok-clause-memory g c = (never_printed (summary_text (summary_of c.in-Ok.replica)) Done (g.W.Sink.written c.args.sink.now) (g.W.Sink.written c.summarise.new.sink) c.summarise.result calm_done c.summarise.ensures.prints).0
+
+pub returns-in-Ok-clause-words : goal.returns-in-Ok-clause-words
+returns-in-Ok-clause-words g c = (never_printed (summary_text (summary_of c.in-Ok.replica)) Done (g.W.Sink.written c.args.sink.now) (g.W.Sink.written c.summarise.new.sink) c.summarise.result calm_done c.summarise.ensures.prints).1
+
+pub returns-clause-memory : goal.returns-clause-memory
+returns-clause-memory g c = (refused_never c.in-Err.error (g.W.Sink.written c.args.sink.now) (g.W.Sink.written c.refuse_file.new.sink) c.refuse_file.result c.refuse_file.ensures.prints).0
+
+pub returns-clause-words : goal.returns-clause-words
+returns-clause-words g c = (refused_never c.in-Err.error (g.W.Sink.written c.args.sink.now) (g.W.Sink.written c.refuse_file.new.sink) c.refuse_file.result c.refuse_file.ensures.prints).1
