@@ -31,10 +31,7 @@ pub struct SlotTable {
 // Its owner lets go of it in one call, and not field by field.
 impl Drop for SlotTable {
     fn drop(self) {
-        let SlotTable {
-            start: _,
-            slots: _,
-        } = self;
+        let SlotTable { start: _, slots: _ } = self;
     }
 }
 
