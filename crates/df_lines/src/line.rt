@@ -42,8 +42,4 @@ pub enum Line {
     Read {
         address: u64,
     },
-    /// `scrub`
-    Scrub,
-    /// `recent`
-    Recent,
 }
