@@ -9,6 +9,9 @@ from .trailer import CHECK, SESSION, Checkpoint, Session, word
 
 BIG = 2**64 - 1
 
+# How far behind the grid's start a forged block may stand, in bytes: a file is held in memory here, its holes too.
+REACH = 1 << 26
+
 
 def parts_of(random: Random, data: bytes) -> Checkpoint:
     """A checkpoint of the file: most often its own, with other parts now and then."""
@@ -127,7 +130,7 @@ def forge(random: Random, data: bytes) -> tuple:
     free = generate.machine_of(data).free() or [1]
     addresses = taken + [free[at % len(free)] for at in range(count - len(taken))]
     if random.random() < 0.05:
-        addresses[random.randrange(count)] = random.randint(1, home.layout.blocks)
+        addresses[random.randrange(count)] = random.randint(1, min(home.layout.blocks, 1 + REACH // home.layout.block_size))
     chain = sealed(random, home, text, addresses, one.sequence, 1.0 if what == "link" else 0.0)
     content = one.content(home)._replace(
         trailer_address=addresses[-1], trailer_checksum=chain[-1].checksum, trailer_size=len(text))
