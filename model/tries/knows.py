@@ -1,11 +1,12 @@
-"""What the program that is tried knows: the log alone, blocks and checkpoints too, or every line and word."""
+"""What the program that is tried knows: the log alone, blocks and checkpoints too, the reports `recover` and `inspect` too, or
+every line and word."""
 
 import argparse
 import os
 
-LEVELS = ("log", "blocks", "all")
+LEVELS = ("log", "blocks", "reports", "all")
 # What the program of this repository knows today.
-TODAY = "blocks"
+TODAY = "reports"
 
 
 def take(words: list) -> None:

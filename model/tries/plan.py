@@ -12,7 +12,8 @@ from .words import command
 
 def other_words(t: Try) -> list:
     """Words that open a file and execute no script."""
-    word = t.random.choice(("recover", "inspect", "scrub", "scrub", "workload", "workload"))
+    more = ("scrub", "scrub", "workload", "workload") if knows("all") else ()
+    word = t.random.choice(("recover", "inspect", *more))
     seed = t.random.choice((0, 1, 42, 2**31, 2**64 - 1, t.random.getrandbits(64)))
     count = t.random.choice((1, 2, 3, 8, 17, 33, t.random.randint(1, 60)))
     return [word, str(seed), str(count)] if word == "workload" else [word]
@@ -22,7 +23,7 @@ def words_for(t: Try) -> list:
     """The words `run`, less often others that open a file, or `format`."""
     what = t.random.random()
     if what < 0.8:
-        return other_words(t) if what < 0.2 and knows("all") else ["run"]
+        return other_words(t) if what < 0.2 and knows("reports") else ["run"]
     home = generate.home(t.random)
     cluster = 0 if t.random.random() < 0.05 else home.cluster
     return ["format", home.layout.word(), str(cluster)]

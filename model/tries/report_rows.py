@@ -6,10 +6,11 @@ from .copy_rows import A5, HOME
 from .forge_trailer import with_blocks
 from .form import SECTOR, Home, Layout
 from .grid import Event
-from .words import command
+from .knows import knows
+from .words import USAGE as USAGE_BYTES, command
 from .worked import NEW, after, ops, struck, torn
 
-USAGE = "usage: format LAYOUT CLUSTER | run | recover | inspect | scrub | workload SEED COUNT\n"
+USAGE = USAGE_BYTES.decode()
 SMALL = "cluster 7\nlayout 32 8192 4 16384 64\n"
 REALISTIC = SMALL + """sequence 11
 checkpoint 200
@@ -146,8 +147,16 @@ def after_words(words: str) -> bytes:
     return command(NEW, words.split()).data
 
 
+def without_scrubber() -> list:
+    """The rows for a program that knows `recover` and `inspect` alone."""
+    later = ("scrub", "workload")
+    return [row for row in [*words(), *reports()] if row[4] == 2 or row[1].split()[0] not in later]
+
+
 def rows() -> list:
     """The file, the words, the script; the text and the status."""
+    if not knows("all"):
+        return without_scrubber()
     # Over a file that has been worked on the workload's first requests are refused, and so are its replies.
     again = ("appended 0\nreplied 0\nwrote 0\nreleased 0\ncheckpoints 0\nrefused 6\nbytes 0\nhead 3\nreplies 3\n"
              "sequence 1\n")

@@ -37,7 +37,7 @@ def reports(t: Try) -> None:
     expect("a report writes nothing", data, first.data)
     expect("the same report twice", first.text, asked(t, "inspect, once more", data, ["inspect"]).text)
     for number in range(t.random.randint(1, 3)):
-        words = t.random.choice((["scrub"], ["recover"], ["inspect"], other_words(t)))
+        words = t.random.choice((["recover"], ["inspect"], other_words(t), *([["scrub"]] if knows("all") else [])))
         data = asked(t, f"{words}, word {number + 1}", data, words).data
         t.counts[f"words over files: {words[0]}"] += 1
     text = session(t, "a run behind the words", data, look(t, data)).data
@@ -74,4 +74,6 @@ def scrubbed(t: Try) -> None:
     session(t, "lines of the scrubber", data, generate.text_of(random, [*lines, b"recent"]))
 
 
-KINDS = {"reports": (reports, 6), "scrubbed": (scrubbed, 6)} if knows("all") else {}
+KINDS = {"reports": (reports, 6)} if knows("reports") else {}
+if knows("all"):
+    KINDS["scrubbed"] = (scrubbed, 6)

@@ -10,7 +10,7 @@ from .form import SECTOR, SMALL, Home
 from .knows import knows
 from .worked import NEW, answers, followed, forged, ops, spoiled, struck, with_copies, with_headers
 
-USAGE = report_rows.USAGE if knows("all") else "usage: format LAYOUT CLUSTER | run\n"
+USAGE = report_rows.USAGE
 ONE = "16,4096,1,4096"
 NARROW, MANY = form.Layout(16, 4096, 1, 4096, 8), form.Layout(16, 4096, 1, 4096, 1024)
 WIDE = Home(form.Layout(32, 8192, 16, 16384, 64), 7)
@@ -182,7 +182,7 @@ ROWS = (
 def listed() -> list:
     """The rows for what the program knows."""
     more = [*(checkpoint_rows.rows() if knows("blocks") else copy_rows.WITHOUT_CHECKPOINTS)]
-    return [*ROWS, *more, *(report_rows.rows() if knows("all") else [])]
+    return [*ROWS, *more, *(report_rows.rows() if knows("reports") else [])]
 
 
 def rows(t: Try) -> None:

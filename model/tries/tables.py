@@ -79,7 +79,7 @@ def every_sector(t: Try) -> None:
             require(f"sector {at}: the same view", found.view == view)
         if at in asked_for:
             t.binary.put(image)
-            if knows("all"):
+            if knows("reports"):
                 first = asked(t, f"sector {at}, inspect", image, ["inspect"])
                 expect("the same report twice", first.text, asked(t, f"sector {at}, inspect", image, ["inspect"]).text)
             session(t, f"sector {at}", image, b"lookup 1\nlookup 2\nlookup 3\nlookup 4\n")

@@ -10,11 +10,13 @@ from .knows import knows
 from .script import WORDS, Outcome, make, run
 
 USAGE = b"usage: format LAYOUT CLUSTER | run\n"
+if knows("reports"):
+    USAGE = b"usage: format LAYOUT CLUSTER | run | recover | inspect\n"
 if knows("all"):
     USAGE = b"usage: format LAYOUT CLUSTER | run | recover | inspect | scrub | workload SEED COUNT\n"
 NUMBER = re.compile(r"0|[1-9][0-9]*", re.ASCII)
 # The words that stand alone; and the greatest number of commands of a workload.
-ALONE = ("run", "recover", "inspect", "scrub") if knows("all") else ("run",)
+ALONE = ("run", *(("recover", "inspect") if knows("reports") else ()), *(("scrub",) if knows("all") else ()))
 COUNT = 1_000_000
 
 
