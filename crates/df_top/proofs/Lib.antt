@@ -17,3 +17,4 @@ mod OneReport
 mod ReadTurns
 mod Causes
 mod Made
+mod SafelyServed

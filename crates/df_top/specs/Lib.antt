@@ -12,3 +12,4 @@ pub mod Keeping
 pub mod Reporting
 pub mod Run
 pub mod Formats
+pub mod Completeness

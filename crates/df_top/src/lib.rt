@@ -4,6 +4,7 @@
 mod block_calls;
 mod calls;
 mod checkpoint_calls;
+mod completeness;
 mod engine;
 mod making;
 mod mode;
@@ -13,6 +14,7 @@ mod session;
 mod status;
 mod turns;
 
+pub use completeness::a_safe_file_is_served;
 pub use engine::run;
 pub use mode::{Mode, mode_of, words_have_one_meaning};
 pub use reporting::an_image_has_one_report;

@@ -1,0 +1,150 @@
+-- Over a file that may be opened each other end of a word needs a call that failed, or a refusal that no such file has.
+use Rattle.std.proofs.Common.{◌≡◌, ◌⊎◌, inl, inr, ℕ, ◌-◌, Bool, true, false, List, [], ◌∷◌, Option, None, Some, refl, sym, ◌∙◌, subst}
+use Rattle.std.specs.Prelude.{Err}
+use Rattle.df_base.specs.Image.{IsImage}
+use Rattle.df_disk.specs.Told.{Told}
+use Rattle.df_layout.specs.declared.damage.Mend.{Mend}
+use Rattle.df_layout.specs.declared.layout.Layout.{Layout}
+use Rattle.df_lines.specs.Grammar.{Said}
+use Rattle.df_lines.specs.Room.{line_bound}
+use Rattle.df_lines.specs.Script.{Begins, IsRefused, IsScript}
+use Rattle.df_lines.specs.Text.{after_line, taken}
+use Rattle.df_lines.proofs.Laws.{one_script}
+use Rattle.df_model.specs.Commands.{Answer}
+use Rattle.df_recovery.specs.Found.{IsLayoutShown}
+use Rattle.df_recovery.specs.Surveys.{Surveys}
+use Rattle.df_state.specs.declared.file.DataFile.{DataFile}
+use Rattle.df_theory.specs.View.{View}
+use Rattle.df_replica.specs.Completeness.{IsNotRefused}
+use Rattle.df_replica.specs.Following.{MayOpen}
+use Rattle.df_replica.specs.Session.{Act}
+use Rattle.df_replica.proofs.Laws.{safe_is_not_refused}
+use Rattle.df_top.specs.Completeness.{IsCarriedOut, IsWhole, NoneFailed, SafeIsRun, SafeIsServed}
+use Rattle.df_top.specs.Mode.{IsOfFile}
+use Rattle.df_top.specs.Opening.{RefusesFile}
+use Rattle.df_top.specs.Outside.{Faults, HasCauses, Outside}
+use Rattle.df_top.specs.Reporting.{status_of}
+use Rattle.df_top.specs.Run.{Does, DidNothing, RefusesSuperblock, ServesOwn, ServesScript, script_budget}
+use Rattle.df_top.specs.Session.{EndsWith}
+use Rattle.df_top.specs.declared.mode.Mode.{Mode}
+use Rattle.df_top.specs.declared.mode.Mode.TheVariants.{Format, Run, Recover, Inspect}
+use Rattle.df_top.specs.declared.status.Status.{Status}
+use Rattle.df_top.specs.declared.status.Status.TheVariants.{Done, Found, Words, Script, Refused, DiskFault, ReadFault, WriteFault, Memory}
+
+-- a report ends Done or Found
+listed : (mends : List Mend) (status : Status) → status ≡ status_of mends → (status ≡ Done) ⊎ (status ≡ Found)
+listed [] status is = inl is
+listed (m ∷ more) status is = inr is
+
+-- ---- how a session ends
+
+-- at its end, at a line that is cut, or with a cause
+data Ends (cut : Bool) (status : Status) : Type 0 where
+  AtEnd : status ≡ Done → Ends cut status
+  AtLine : status ≡ Script → cut ≡ true → Ends cut status
+  Unread : status ≡ ReadFault → Ends cut status
+  Unwritten : status ≡ WriteFault → Ends cut status
+  Unserved : status ≡ DiskFault → Ends cut status
+  Damaged : status ≡ Refused → Ends cut status
+
+session_ends : (n : ℕ) (old new : Outside) (acts : List Act) (answers : List Answer) (failed : Option Act) (cut : Bool) (status : Status) → EndsWith n old new acts answers failed cut status → Ends cut status
+session_ends n old new acts answers None cut Done ends = AtEnd refl
+session_ends n old new acts answers None cut Script ends = AtLine refl ends.0
+session_ends n old new acts answers None cut ReadFault ends = Unread refl
+session_ends n old new acts answers None cut WriteFault ends = Unwritten refl
+session_ends n old new acts answers (Some a) cut DiskFault ends = Unserved refl
+session_ends n old new acts answers (Some a) cut Refused ends = Damaged refl
+session_ends n old new acts answers (Some a) cut WriteFault ends = Unwritten refl
+session_ends n old new acts answers None cut Found ends = absurd ends
+session_ends n old new acts answers None cut Words ends = absurd ends
+session_ends n old new acts answers None cut Refused ends = absurd ends
+session_ends n old new acts answers None cut DiskFault ends = absurd ends
+session_ends n old new acts answers None cut Memory ends = absurd ends
+session_ends n old new acts answers (Some a) cut Done ends = absurd ends
+session_ends n old new acts answers (Some a) cut Script ends = absurd ends
+session_ends n old new acts answers (Some a) cut ReadFault ends = absurd ends
+session_ends n old new acts answers (Some a) cut Found ends = absurd ends
+session_ends n old new acts answers (Some a) cut Words ends = absurd ends
+session_ends n old new acts answers (Some a) cut Memory ends = absurd ends
+
+-- ---- a text that is whole has no line that is refused
+
+one_rest : (bound budget : ℕ) (text : List ℕ) (lines : List Said) (l m : ℕ) (r s : List ℕ) → Begins bound budget text lines l r → Begins bound budget text lines m s → r ≡ s
+one_rest bound budget text [] l m r s one two = one.1 ∙ sym two.1
+one_rest bound budget text (x ∷ xs) l m r s one two = one_rest bound (budget - taken text) (after_line text) xs l m r s one.1 two.1
+
+whole_uncut : (layout : Layout) (text rest : List ℕ) (asked : List Said) (budget : ℕ) → IsWhole layout text → Begins (line_bound layout) script_budget text asked budget rest → IsRefused (line_bound layout) budget rest → ⊥
+whole_uncut layout text rest asked budget whole begins refused =
+    let cut : IsScript (line_bound layout) script_budget text asked = record { left = budget; rest = rest; begins = begins; ends = inr refused } in
+    let all : IsScript (line_bound layout) script_budget text whole.lines = record { left = whole.left; rest = []; begins = whole.begins; ends = inl refl } in
+    let same : whole.lines ≡ asked = one_script (line_bound layout) script_budget text whole.lines asked all cut in
+    let read : Begins (line_bound layout) script_budget text asked whole.left [] = subst (λ (l : List Said). Begins (line_bound layout) script_budget text l whole.left []) same whole.begins in
+    refused.some (one_rest (line_bound layout) script_budget text asked budget whole.left rest [] begins read)
+
+-- ---- the words
+
+module _ (file : DataFile) (view : View) (t : Told) (old new : Outside) (before now : Faults) (status : Status) (may : MayOpen file view t) (causes : HasCauses before now status) (none : NoneFailed before now) where
+  no_disk : status ≡ DiskFault → ⊥
+  no_disk is = none.disk (causes.disk.rose is)
+
+  no_source : status ≡ ReadFault → ⊥
+  no_source is = none.source (causes.source.rose is)
+
+  no_sink : status ≡ WriteFault → ⊥
+  no_sink is = none.sink (causes.sink.rose is)
+
+  answers : IsImage t.shown × IsNotRefused file t.shown
+  answers = safe_is_not_refused file view t may
+
+  no_refusal : RefusesFile file.layout t old new status → ⊥
+  no_refusal refuses = refuses.is.other (answers.1.answered refuses.error refuses.is.why)
+
+  served : ServesScript file.layout t old new status → IsCarriedOut Run file.layout old.left status
+  served serves = elim (session_ends 0 old serves.last.outside serves.session.acts serves.session.answers serves.session.failed serves.session.cut status serves.session.written) [
+    | AtEnd done ↦ inl done
+    | AtLine script cut ↦
+        inr (record {
+          script = script;
+          why = λ text left whole.
+              let read = serves.session.text text left in
+              whole_uncut file.layout text read.1 serves.session.asked read.0 whole read.2 (read.3.refused cut);
+        })
+    | Unread failed ↦ absurd (no_source failed)
+    | Unwritten failed ↦ absurd (no_sink failed)
+    | Unserved failed ↦ absurd (no_disk failed)
+    | Damaged refused ↦ absurd (serves.undamaged refused)
+  ]
+
+  done : (mode : Mode) → Does mode file.layout t old new status → IsCarriedOut mode file.layout old.left status
+  done (Format shape cluster) does = does
+  done Run (inl refuses) = absurd (no_refusal refuses)
+  done Run (inr (inl fails)) = absurd (no_disk fails.fault)
+  done Run (inr (inr serves)) = served serves
+  done Recover (inl refuses) = absurd (no_refusal refuses)
+  done Recover (inr (inl fails)) = absurd (no_disk fails.fault)
+  done Recover (inr (inr recovers)) = elim recovers.prints [
+    | inl printed ↦ printed.0
+    | inr part ↦ absurd (no_sink part.0)
+  ]
+  done Inspect (inl refuses) = absurd (no_refusal refuses)
+  done Inspect (inr (inl fails)) = absurd (no_disk fails.fault)
+  done Inspect (inr (inr inspects)) = elim inspects.prints [
+    | inl printed ↦ listed inspects.survey.mends status printed.0
+    | inr part ↦ absurd (no_sink part.0)
+  ]
+
+  ran : (mode : Mode) → DidNothing old new status ⊎ RefusesSuperblock t old new status ⊎ ServesOwn mode t old new status → (status ≡ Memory) ⊎ IsCarriedOut mode file.layout old.left status
+  ran mode (inl nothing) = elim nothing.why [
+    | inl wanting ↦ inl wanting
+    | inr failed ↦ absurd (no_disk failed)
+  ]
+  ran mode (inr (inl refuses)) = absurd (answers.1.usable refuses.error refuses.is)
+  ran mode (inr (inr serves)) = inr (done mode (subst (λ (l : Layout). Does mode l t old new status) (answers.1.layout serves.layout serves.shown) serves.serves))
+
+pub safe_is_run : SafeIsRun
+safe_is_run mode file view t old new before now status of may told causes none runs =
+    ran file view t old new before now status may causes none mode (runs t told (answers file view t old new before now status may causes none).0)
+
+pub safe_is_served : SafeIsServed
+safe_is_served mode file view t old new before now status may told causes none serves =
+    done file view t old new before now status may causes none mode (serves t told (answers file view t old new before now status may causes none).0)

@@ -1,0 +1,54 @@
+-- How a word ends over a file that is safe to open, where nothing fails.
+use Rattle.std.specs.Prelude.{◌≡◌, ◌⊎◌, ℕ, List, [], Option, Some}
+use Rattle.df_base.specs.Causes.{Rose}
+use Rattle.df_disk.specs.Told.{Told}
+use Rattle.df_layout.specs.declared.layout.Layout.{Layout}
+use Rattle.df_lines.specs.Grammar.{Said}
+use Rattle.df_lines.specs.Room.{line_bound}
+use Rattle.df_lines.specs.Script.{Begins}
+use Rattle.df_state.specs.declared.file.DataFile.{DataFile}
+use Rattle.df_theory.specs.View.{View}
+use Rattle.df_replica.specs.Following.{MayOpen}
+use Rattle.df_top.specs.Mode.{IsOfFile}
+use Rattle.df_top.specs.Outside.{Faults, HasCauses, Outside}
+use Rattle.df_top.specs.Run.{Runs, ServesIn, script_budget}
+use Rattle.df_top.specs.declared.mode.Mode.{Mode}
+use Rattle.df_top.specs.declared.mode.Mode.TheVariants.{Format, Run, Recover, Inspect}
+use Rattle.df_top.specs.declared.status.Status.{Status}
+use Rattle.df_top.specs.declared.status.Status.TheVariants.{Done, Found, Memory, Script}
+
+-- no call of the disk, the source or the sink failed
+pub record NoneFailed (before now : Faults) : Type 0 where
+  pub disk : Rose before.disk now.disk → ⊥
+  pub source : Rose before.source now.source → ⊥
+  pub sink : Rose before.sink now.sink → ⊥
+
+-- each line of the text is a line of a script, within the bound of a layout and the budget
+pub record IsWhole (layout : Layout) (text : List ℕ) : Type 0 where
+  pub lines : List Said
+  pub left : ℕ
+  pub begins : Begins (line_bound layout) script_budget text lines left []
+
+-- the script is cut at a line, and only where its text isn't whole
+pub record IsCut (layout : Layout) (left : Option (List ℕ)) (status : Status) : Type 0 where
+  pub script : status ≡ Script
+  pub why : (text : List ℕ) → left ≡ Some text → IsWhole layout text → ⊥
+
+-- the word was carried out: a script that is whole was read to its end, and a report may list what is to be mended
+abbrev pub IsCarriedOut : Mode → Layout → Option (List ℕ) → Status → Type 0
+IsCarriedOut (Format shape cluster) layout left status = ⊥
+IsCarriedOut Run layout left status = (status ≡ Done) ⊎ IsCut layout left status
+IsCarriedOut Recover layout left status = status ≡ Done
+IsCarriedOut Inspect layout left status = (status ≡ Done) ⊎ (status ≡ Found)
+
+-- whatever word on a file is run, over a disk that may be opened: where nothing failed, it was carried out, or memory was wanting
+abbrev pub SafeIsRun : Type 0
+SafeIsRun =
+    (mode : Mode) (file : DataFile) (view : View) (t : Told) (old new : Outside) (before now : Faults) (status : Status) → IsOfFile mode → MayOpen file view t → old.told ≡ Some t
+    → HasCauses before now status → NoneFailed before now → Runs mode old new status → (status ≡ Memory) ⊎ IsCarriedOut mode file.layout old.left status
+
+-- and in rooms of the file's layout it was carried out
+abbrev pub SafeIsServed : Type 0
+SafeIsServed =
+    (mode : Mode) (file : DataFile) (view : View) (t : Told) (old new : Outside) (before now : Faults) (status : Status) → MayOpen file view t → old.told ≡ Some t
+    → HasCauses before now status → NoneFailed before now → ServesIn mode file.layout old new status → IsCarriedOut mode file.layout old.left status
