@@ -56,7 +56,9 @@ fn left_by(alloc: Global, row: &Stopped) -> Result<MemoryDisk, Fail> {
     let script = ops_of_one(alloc, row.ops, row.behind)?;
     let mut whole = small_file(alloc, &[])?;
     run_script(alloc, &mut whole, &script)?;
-    let call = whole.calls().saturating_sub(FORMAT_CALLS + row.back);
+    let call = whole
+        .calls()
+        .saturating_sub(FORMAT_CALLS.saturating_add(row.back));
     let mut disk = small_file(alloc, &[call])?;
     run_script(alloc, &mut disk, &script)?;
     let mut left = Vec::new(alloc);

@@ -19,8 +19,9 @@ fn push_body(script: &mut Vec<u8>, op: u64) -> Result<(), Fail> {
 
 // An op and its reply, and the checkpoint that begins behind it or is worked on.
 fn push_op(alloc: Global, script: &mut Vec<u8>, op: u64) -> Result<(), Fail> {
-    let client = (op - 1) % 4 + 1;
-    let request = (op - 1) / 4 + 1;
+    let before = op.saturating_sub(1);
+    let client = before % 4 + 1;
+    let request = before / 4 + 1;
     let front = format!(in alloc; "append {} {} ", client, request)?;
     script.extend_from_slice(front.as_bytes())?;
     push_body(script, op)?;
