@@ -6,10 +6,9 @@ use Rattle.df_lines.specs.Reads.{RefusesNext, TakesLine}
 use Rattle.df_lines.specs.Room.{Room, Tells}
 use Rattle.df_lines.specs.Script.{IsRefused}
 use Rattle.df_lines.specs.Text.{unread}
-use Rattle.df_top.specs.Lines.{command_of}
 use Rattle.df_top.specs.Outside.{Outside}
 use Rattle.df_top.specs.Session.{EndedIsEnd, State, state}
-use Rattle.df_top.specs.Step.{Answers, EndsIn, RefusesLine, Takes, Turns}
+use Rattle.df_top.specs.Step.{EndsIn, RefusesLine, ServesLine, Takes, Turns}
 use Rattle.df_top.specs.Turning.{OnGoing}
 use Rattle.df_top.specs.declared.session.Session.{Session}
 use Rattle.df_top.specs.declared.turns.Turn.{Turn}
@@ -53,13 +52,13 @@ module _ (before after : Outside) (old : Session) (room : Room) (line : Line) (e
           ap (λ (l : Room). l.reading.budget) kept ∙ line_is.budget,
         )
 
-    pub line_turns : (turn : Turn) → Answers (command_of said) old.replica new.replica before.told after.told before.written after.written turn → OnGoing turn (new.count ≡ old.count + 1)
+    pub line_turns : (turn : Turn) → ServesLine said old.replica new.replica before.told after.told before.written after.written turn → OnGoing turn (new.count ≡ old.count + 1)
         → Turns old.lines.reading.bound (state before old) (state after new) turn
-    line_turns GoesOn did count = goes_on old.lines.reading.bound (state before old) (state after new) said did.0 takes did.1 did.2 count
-    line_turns (Ends DiskFault) did count = ends_disk old.lines.reading.bound (state before old) (state after new) said takes did.1 did.0
-    line_turns (Ends WriteFault) (inl did) count = ends_answer old.lines.reading.bound (state before old) (state after new) said takes did.0 did.1 did.2
-    line_turns (Ends WriteFault) (inr did) count = ends_damaged_fault old.lines.reading.bound (state before old) (state after new) said takes did.0 did.1 did.2 did.3
-    line_turns (Ends Refused) did count = ends_damaged old.lines.reading.bound (state before old) (state after new) said takes did.0 did.1 did.2 did.3
+    line_turns GoesOn did count = goes_on old.lines.reading.bound (state before old) (state after new) said takes did count
+    line_turns (Ends DiskFault) did count = ends_disk old.lines.reading.bound (state before old) (state after new) said takes did
+    line_turns (Ends WriteFault) (inl did) count = ends_answer old.lines.reading.bound (state before old) (state after new) said takes did
+    line_turns (Ends WriteFault) (inr did) count = ends_damaged_fault old.lines.reading.bound (state before old) (state after new) said takes did
+    line_turns (Ends Refused) did count = ends_damaged old.lines.reading.bound (state before old) (state after new) said takes did
     line_turns (Ends Done) did count = absurd did
     line_turns (Ends Found) did count = absurd did
     line_turns (Ends Words) did count = absurd did

@@ -8,6 +8,7 @@ mod engine;
 mod making;
 mod mode;
 mod reporting;
+mod scrub_calls;
 mod serving;
 mod session;
 mod status;
