@@ -45,8 +45,7 @@ text_on : (bound : ℕ) (origin old : State) (turns : List Turned) (said : Said)
     → (rest : List ℕ) × (left ≡ Some rest) × Begins bound origin.budget text (map said_in turns ++ said ∷ []) budget rest
 text_on bound origin old turns said left budget so_far takes text is =
     let before = so_far.text text is in
-    let line = takes before.0 before.1 in
-    (
+    let line = takes before.0 before.1 in (
       after_line before.0,
       line.1,
       subst (λ (n : ℕ). Begins bound origin.budget text (map said_in turns ++ said ∷ []) n (after_line before.0)) (sym line.2)
@@ -94,8 +93,7 @@ module _ (bound : ℕ) (old new : State) (said : Said) (takes : Takes bound old 
     failing = None;
     cut = false;
     text = λ text is.
-        let more = said_on text is in
-        (
+        let more = said_on text is in (
           new.budget,
           more.0,
           subst (λ (l : List Said). Begins bound origin.budget text l new.budget more.0) (sym (append-nil (map said_in (turns ++ line ∷ [])))) more.2,

@@ -102,9 +102,8 @@ ring_more s told n findings found shows serves =
     let given : Given = record { checksum = 0; message = Err Blank; block = Err Blank; verdict = Sound } in
     let act : Act = record { command = Recent n; given = given } in
     let commands : map command_in (shows.0 ++ act ∷ []) ≡ map Recent (range_with_len 0 (n + 1)) =
-        map_more command_in shows.0 act ∙ ap (λ (l : List Command). l ++ Recent n ∷ []) shows.2 ∙ sym (map_more Recent (range_with_len 0 n) n) ∙ ap (map Recent) (sym (range_more n)) in
-    let one : AreCalls s told (act ∷ []) (ToRecent found ∷ []) s told = (s, told, record { call = serves given refl; told = ([], refl) }, (refl, refl)) in
-    (
+    map_more command_in shows.0 act ∙ ap (λ (l : List Command). l ++ Recent n ∷ []) shows.2 ∙ sym (map_more Recent (range_with_len 0 n) n) ∙ ap (map Recent) (sym (range_more n)) in
+    let one : AreCalls s told (act ∷ []) (ToRecent found ∷ []) s told = (s, told, record { call = serves given refl; told = ([], refl) }, (refl, refl)) in (
       shows.0 ++ act ∷ [],
       shows.1 ++ ToRecent found ∷ [],
       commands,
