@@ -2,3 +2,4 @@
 pub use Rattle.df_replica.proofs.Opens.{found_keeps}
 pub use Rattle.df_replica.proofs.Calls.{extends_on, good_safe}
 pub use Rattle.df_replica.proofs.Sessions.{answered_is_there, fault_stops_them, good_left, joined, keeps_alone, nothing_is_served, one_more_is_served}
+pub use Rattle.df_replica.proofs.NotRefused.{found_is_not_refused, safe_is_not_refused}

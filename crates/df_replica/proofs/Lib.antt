@@ -43,4 +43,5 @@ pub mod AppendMemory
 pub mod AppendAnswers
 pub mod HeldBlocks
 pub mod Followed
+pub mod NotRefused
 pub mod Laws

@@ -21,3 +21,4 @@ pub mod Session
 pub mod Opened
 pub mod HeldBlocks
 pub mod Following
+pub mod Completeness

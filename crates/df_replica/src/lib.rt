@@ -6,6 +6,7 @@ mod begin;
 mod block;
 mod block_laws;
 mod block_reading;
+mod completeness;
 mod first;
 mod following;
 mod lookup;
@@ -24,6 +25,7 @@ mod surveyed;
 mod surveying;
 
 pub use block_laws::held_blocks_are_shown;
+pub use completeness::what_is_found_is_not_refused;
 pub use df_layout::Finding;
 pub use df_model::{
     AppendError, BeginError, BlockError, FormatError, LookupError, NotLive, OpenError,
