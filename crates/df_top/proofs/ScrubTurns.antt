@@ -1,6 +1,6 @@
 -- A step of the scrubber and the ring of what it found, and what is printed of them.
-use Rattle.std.proofs.Common.{◌≡◌, ℕ, ◌+◌, List, [], ◌∷◌, ◌++◌, ◌≤◌, length, Option, Some, None, inl, refl, sym, ◌∙◌, ap, subst, arith, append_assoc, Result, Ok, Err}
-use Rattle.std.specs.Prelude.{zero, suc, map}
+use Rattle.std.proofs.Common.{◌≡◌, ℕ, ◌+◌, List, [], ◌∷◌, ◌++◌, ◌≤◌, ◌<◌, length, take, Option, Some, None, inl, refl, sym, ◌∙◌, ap, subst, arith, append_assoc, Result, Ok, Err}
+use Rattle.std.specs.Prelude.{zero, suc, map, slice_set}
 use Rattle.std.specs.List.{range_with_len}
 use Rattle.std.proofs.lemmas.List.{append-nil}
 use Rattle.df_base.specs.Causes.{Rose}
@@ -86,6 +86,14 @@ range_more n =
 found_more : (answers : List Answer) (x : Answer) → found_in (answers ++ x ∷ []) ≡ found_in answers ++ found_of x
 found_more [] x = append-nil (found_of x)
 found_more (y ∷ answers) x = ap (λ (l : List Finding). found_of y ++ l) (found_more answers x) ∙ sym (append_assoc (found_of y) (found_in answers) (found_of x))
+
+-- an item is put behind the first n ones
+pub take_set : {A : Type 0} (xs : List A) (n : ℕ) (x : A) → n < length xs → take (n + 1) (slice_set xs n x) ≡ take n xs ++ x ∷ []
+take_set [] n x few = absurd (omega (arith, few))
+take_set (y ∷ xs) zero x few = refl
+take_set (y ∷ xs) (suc n) x few =
+    let one : suc n + 1 ≡ suc (n + 1) = omega arith in
+    ap (λ (k : ℕ). take k (y ∷ slice_set xs n x)) one ∙ ap (λ (l : List _). y ∷ l) (take_set xs n x (omega (arith, few)))
 
 -- a place has one finding at most
 pub found_few : (found : Option Finding) → length (found_of (ToRecent found)) ≤ 1

@@ -1,5 +1,5 @@
 -- The ring comes to a turn by what was printed of it.
-use Rattle.std.proofs.Common.{List, ℕ, subst, sym}
+use Rattle.std.proofs.Common.{List, ℕ, subst, sym, take}
 use Rattle.df_inspect.specs.Prints.{Prints}
 use Rattle.df_layout.specs.declared.damage.Finding.{Finding}
 use Rattle.df_lines.specs.Grammar as lines
@@ -14,5 +14,5 @@ returns-clause-answers g c = λ told.
     let written = g.W.Sink.written c.args.sink.now in
     let took = g.W.Sink.written c.print_recent.new.sink in
     subst (λ (u : Turn). ServesLine lines.Recent c.args.replica.now c.args.replica.now told told written took u) (sym c.printed.ensures)
-    (ring_printed c.args.replica.now told c.ring_of.result.items written took (c.ring_of.ensures told) c.print_recent.result
-    (subst (λ (l : List Finding). Prints (recent_text l) written took c.print_recent.result) c.as_slice.ensures c.print_recent.ensures.prints))
+    (ring_printed c.args.replica.now told (take c.fill.result c.fill.new.row) written took (c.fill.ensures.ring told) c.print_recent.result
+    ?)
