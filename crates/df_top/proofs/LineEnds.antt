@@ -1,13 +1,17 @@
 -- What one line does to a session: it goes on with the call that the line asks for, or ends.
-use Rattle.std.proofs.Common.{◌≡◌, inl, inr, ℕ, ◌+◌, List, Option, Some, ◌∙◌, ap}
+use Rattle.std.proofs.Common.{◌≡◌, inl, inr, true, ℕ, ◌+◌, List, [], ◌∷◌, Option, Some, ◌∙◌, ap}
 use Rattle.df_lines.specs.declared.line.Line.{Line}
 use Rattle.df_lines.specs.Grammar.{Said, said_with}
 use Rattle.df_lines.specs.Reads.{RefusesNext, TakesLine}
 use Rattle.df_lines.specs.Room.{Room, Tells}
 use Rattle.df_lines.specs.Script.{IsRefused}
 use Rattle.df_lines.specs.Text.{unread}
+use Rattle.df_disk.specs.Told.{Told}
+use Rattle.df_model.specs.Commands.{Answer}
+use Rattle.df_replica.specs.Session.{Act}
+use Rattle.df_state.specs.State.{State as Replica}
 use Rattle.df_top.specs.Outside.{Outside}
-use Rattle.df_top.specs.Session.{EndedIsEnd, State, state}
+use Rattle.df_top.specs.Session.{AreCalls, EndedIsEnd, State, state}
 use Rattle.df_top.specs.Step.{EndsIn, RefusesLine, ServesLine, Takes, Turns}
 use Rattle.df_top.specs.Turning.{OnGoing}
 use Rattle.df_top.specs.declared.session.Session.{Session}
@@ -65,3 +69,15 @@ module _ (before after : Outside) (old : Session) (room : Room) (line : Line) (e
     line_turns (Ends Script) did count = absurd did
     line_turns (Ends ReadFault) did count = absurd did
     line_turns (Ends Memory) did count = absurd did
+
+-- ---- calls may go on behind a line that was answered
+
+calls_live : (s t : Replica) (old new : Option Told) (acts : List Act) (answers : List Answer) → s.live ≡ true → AreCalls s old acts answers t new → t.live ≡ true
+calls_live s t old new [] [] live calls = ap (λ (r : Replica). r.live) calls.0 ∙ live
+calls_live s t old new [] (x ∷ answers) live calls = absurd calls
+calls_live s t old new (a ∷ acts) [] live calls = absurd calls
+calls_live s t old new (a ∷ acts) (x ∷ answers) live calls = calls_live calls.0 t calls.1 new acts answers calls.2.call.live calls.3
+
+pub live_on : (said : Said) (s t : Replica) (old new : Option Told) (written took : Option (List ℕ)) (turn : Turn) → s.live ≡ true → ServesLine said s t old new written took turn → OnGoing turn (t.live ≡ true)
+live_on said s t old new written took GoesOn live did = calls_live s t old new did.0 did.1 live did.3
+live_on said s t old new written took (Ends status) live did = tt

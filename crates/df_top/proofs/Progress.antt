@@ -221,7 +221,7 @@ module _ (bound : ℕ) (old new : State) (said : Said) (takes : Takes bound old 
     cut = false;
     text = last_text origin turns Refused (λ no. cc) so_far;
     are = so_far.are;
-    written = (refl, failed.3, failed.4, appends_more origin.outside.written old.outside.written new.outside.written (all_text turns) failed.3 so_far.written failed.5);
+    written = (refl, failed.3.0, failed.3.1, appends_more origin.outside.written old.outside.written new.outside.written (all_text turns) failed.3.0 so_far.written failed.3.2);
     calls = (old.replica, old.outside.told, so_far.calls, failed.2);
   }
 
@@ -232,6 +232,6 @@ module _ (bound : ℕ) (old new : State) (said : Said) (takes : Takes bound old 
     cut = false;
     text = last_text origin turns WriteFault (λ no. cc) so_far;
     are = so_far.are;
-    written = (refl, failed.3, failed.4, appends_part origin.outside.written old.outside.written new.outside.written (all_text turns) failed.3 so_far.written failed.5);
+    written = (refl, failed.3.0, failed.3.1, appends_part origin.outside.written old.outside.written new.outside.written (all_text turns) failed.3.0 so_far.written failed.3.2);
     calls = (old.replica, old.outside.told, so_far.calls, failed.2);
   }

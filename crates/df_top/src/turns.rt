@@ -87,6 +87,7 @@ fn serve_line<D: Disk, W: Sink>(
     requires size { body_length line ≤ length session.old.lines.body }
     ensures answers { ServesLine (said_with session.old.lines.body line) session.old.replica session.new.replica (D.told disk.old) (D.told disk.new) (W.written sink.old) (W.written sink.new) result }
     ensures lines { session.new.lines ≡ session.old.lines }
+    ensures live { OnGoing result (session.new.replica.live ≡ true) }
     ensures count { OnGoing result (session.new.count ≡ session.old.count + 1) }
     ensures disk { BlamesIfEnds Status.DiskFault (D.faults disk.old) (D.faults disk.new) result }
     ensures sink { BlamesIfEnds Status.WriteFault (W.faults sink.old) (W.faults sink.new) result }

@@ -14,10 +14,10 @@ loop-place-preserved c =
     let found = c.recent.result in
     record {
       within = omega (arith, c.loop-place-test.true);
-      few = omega (arith, c.loop-place.invariant.few, c.keep.ensures.count, found_few found);
-      room = c.keep.ensures.length ∙ c.loop-place.invariant.room;
+      few = omega (arith, c.loop-place.invariant.few, c.keep-count.ensures.count, found_few found);
+      room = c.keep-count.ensures.length ∙ c.loop-place.invariant.room;
       so_far = λ told.
-          subst (λ (items : List Finding). ShowsRing c.args.replica.now told (c.loop-place.place + 1) items) (sym c.keep.ensures.kept)
+          subst (λ (items : List Finding). ShowsRing c.args.replica.now told (c.loop-place.place + 1) items) (sym c.keep-count.ensures.kept)
           (ring_more c.args.replica.now told c.loop-place.place before found (c.loop-place.invariant.so_far told) (c.recent.ensures.call c.requires.live told));
     }
 

@@ -14,5 +14,5 @@ returns-clause-answers g c = λ told.
     let written = g.W.Sink.written c.args.sink.now in
     let took = g.W.Sink.written c.print_recent.new.sink in
     subst (λ (u : Turn). ServesLine lines.Recent c.args.replica.now c.args.replica.now told told written took u) (sym c.printed.ensures)
-    (ring_printed c.args.replica.now told (take c.fill.result c.fill.new.row) written took (c.fill.ensures.ring told) c.print_recent.result
-    ?)
+    (ring_printed c.args.replica.now told (take c.fill-count.result c.fill-count.new.row) written took (c.fill-count.ensures.ring told) c.print_recent.result
+    c.print_recent.ensures.prints)
