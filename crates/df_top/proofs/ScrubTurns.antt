@@ -3,7 +3,6 @@ use Rattle.std.proofs.Common.{◌≡◌, ℕ, ◌+◌, List, [], ◌∷◌, ◌+
 use Rattle.std.specs.Prelude.{zero, suc, map, slice_set}
 use Rattle.std.specs.List.{range_with_len}
 use Rattle.std.proofs.lemmas.List.{append-nil}
-use Rattle.df_base.specs.Causes.{Rose}
 use Rattle.df_base.specs.Streams.{Appends, AppendsPart}
 use Rattle.df_base.specs.declared.Failed.{Failed}
 use Rattle.df_disk.specs.Told.{Told}

@@ -1,5 +1,5 @@
 -- The calls that the lines of a script ask for, and what their answers print.
-use Rattle.std.specs.Prelude.{◌≡◌, ◌+◌, ℕ, Bool, true, false, List, [], ◌∷◌, ◌++◌, length, map, Option, Some, None}
+use Rattle.std.specs.Prelude.{◌≡◌, ◌+◌, ℕ, Bool, true, false, List, [], ◌∷◌, ◌++◌, length, map, Some}
 use Rattle.std.specs.List.{range_with_len}
 use Rattle.df_inspect.specs.Opening.{script_text}
 use Rattle.df_layout.specs.declared.damage.Finding.{Finding}

@@ -1,5 +1,5 @@
 -- Each place is read once.
-use Rattle.std.proofs.Common.{◌≡◌, ◌≤◌, ◌+◌, ◌∙◌, ℕ, List, sym, subst, take, arith}
+use Rattle.std.proofs.Common.{◌≡◌, ◌+◌, ◌∙◌, ℕ, List, sym, subst, take, arith}
 use Rattle.df_layout.specs.declared.damage.Finding.{Finding}
 use Rattle.df_top.specs.Step.{ShowsRing}
 use Rattle.df_top.proofs.ScrubTurns.{found_few, ring_more, ring_none}

@@ -1,9 +1,6 @@
 -- The ring comes to a turn by what was printed of it.
-use Rattle.std.proofs.Common.{List, ℕ, subst, sym, take}
-use Rattle.df_inspect.specs.Prints.{Prints}
-use Rattle.df_layout.specs.declared.damage.Finding.{Finding}
+use Rattle.std.proofs.Common.{subst, sym, take}
 use Rattle.df_lines.specs.Grammar as lines
-use Rattle.df_script_model.specs.Texts.{recent_text}
 use Rattle.df_top.specs.Step.{ServesLine}
 use Rattle.df_top.specs.declared.turns.Turn.{Turn}
 use Rattle.df_top.proofs.ScrubTurns.{ring_printed}

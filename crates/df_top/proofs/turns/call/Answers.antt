@@ -3,7 +3,7 @@ use Rattle.std.proofs.Common.{List, ℕ, refl, subst, sym}
 use Rattle.df_lines.specs.declared.line.Line.{Line}
 use Rattle.df_lines.specs.Grammar.{said_with}
 use Rattle.df_lines.specs.declared.line.Line.TheVariants as asked
-use Rattle.df_model.specs.Commands.{Advance, Append, Begin, ReadBlock, ReadPrepare, ReadReply, Release, Reply, Scrub, WriteBlock}
+use Rattle.df_model.specs.Commands.{Append, Begin, Reply, WriteBlock}
 use Rattle.df_top.specs.Step.{Answers, ServesLine}
 use Rattle.df_top.proofs.Answered.{serves_line}
 use Rattle.df_top.proofs.turns.call.Goals as goal
