@@ -10,6 +10,8 @@ mod reports;
 #[cfg(test)]
 mod rows;
 #[cfg(test)]
+mod scrubs;
+#[cfg(test)]
 mod sessions;
 #[cfg(test)]
 mod statuses;

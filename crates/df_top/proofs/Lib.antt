@@ -10,6 +10,7 @@ mod ReplyTurns
 mod BlockTurns
 mod BlockReadTurns
 mod CheckpointTurns
+mod ScrubTurns
 mod Kept
 mod Served
 mod Reported

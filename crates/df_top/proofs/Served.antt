@@ -23,9 +23,9 @@ use Rattle.df_top.specs.Opening.{FailsToOpen, RefusesFile}
 use Rattle.df_top.specs.Outside.{Outside}
 use Rattle.df_top.specs.Refusing.{PrintsError}
 use Rattle.df_top.specs.Run.{ServesScript, start}
-use Rattle.df_model.specs.Commands.{Answer}
 use Rattle.df_replica.specs.Session.{Act}
-use Rattle.df_top.specs.Session.{Ended, EndsCalls, EndsWith, State, state}
+use Rattle.df_top.specs.Lines.{Turned, all_acts, all_answers}
+use Rattle.df_top.specs.Session.{Ended, EndsCalls, EndsWith, State, act_of, state}
 use Rattle.df_top.specs.declared.session.Session.{Session}
 use Rattle.df_top.specs.declared.status.Status.{Status}
 use Rattle.df_top.specs.declared.status.Status.TheVariants.{Refused}
@@ -58,9 +58,9 @@ untold_is_none : (u : Told) → None ≡ Some u → ⊥
 untold_is_none u is = cc
 
 -- no session ends there by a step that is damaged
-refused_never : (n : ℕ) (old new : Outside) (acts : List Act) (answers : List Answer) (failed : Option Act) (cut : Bool) (u : Told) → new.told ≡ Some u → EndsWith n old new acts answers failed cut Refused → ⊥
-refused_never n old new acts answers None cut u is ends = ends
-refused_never n old new acts answers (Some a) cut u is ends = untold_is_none u (sym ends.2.untold ∙ is)
+refused_never : (n : ℕ) (old new : Outside) (turns : List Turned) (failed : Option Act) (cut : Bool) (u : Told) → new.told ≡ Some u → EndsWith n old new turns failed cut Refused → ⊥
+refused_never n old new turns None cut u is ends = ends
+refused_never n old new turns (Some a) cut u is ends = untold_is_none u (sym ends.2.untold ∙ is)
 
 -- ---- it is served
 
@@ -84,15 +84,15 @@ module _ (layout : Layout) (t : Told) (old new : Outside) (status : Status) (s :
   tells_on : (u : Told) × (last.outside.told ≡ Some u)
   tells_on =
       let goes = goes_told (did Sync t) mended synced in
-      let by_calls = ends_told s last.replica mended last.outside.told ended.acts ended.answers ended.failed ended.calls in
+      let by_calls = ends_told s last.replica mended last.outside.told (all_acts ended.turns) (all_answers ended.turns) (act_of ended.failing) ended.calls in
       let more = goes_told goes.0 last.outside.told (subst (λ (o : Option Told). ToldBy o last.outside.told) goes.1 by_calls) in
       (more.0, more.1)
 
   undamaged : status ≡ Refused → ⊥
   undamaged is =
       let origin : State = start mended old s in
-      refused_never origin.lines origin.outside last.outside ended.acts ended.answers ended.failed ended.cut tells_on.0 tells_on.1
-      (subst (λ (x : Status). EndsWith origin.lines origin.outside last.outside ended.acts ended.answers ended.failed ended.cut x) is ended.written)
+      refused_never origin.lines origin.outside last.outside ended.turns (act_of ended.failing) ended.cut tells_on.0 tells_on.1
+      (subst (λ (x : Status). EndsWith origin.lines origin.outside last.outside ended.turns (act_of ended.failing) ended.cut x) is ended.written)
 
   pub serves : ServesScript layout t old new status
   serves = record {
@@ -103,14 +103,14 @@ module _ (layout : Layout) (t : Told) (old new : Outside) (status : Status) (s :
     last_is = last_is;
     session = ended;
     answered = λ view found.
-        answers_alone Firm (opened (shape s.file) (unit_at s.file.layout s.file.cluster t.shown) view) s last.replica mended last.outside.told ended.acts ended.answers ended.failed live
+        answers_alone Firm (opened (shape s.file) (unit_at s.file.layout s.file.cluster t.shown) view) s last.replica mended last.outside.told (all_acts ended.turns) (all_answers ended.turns) (act_of ended.failing) live
         (found_keeps s t.shown view whole opened_here found) ended.calls;
     keeps = λ g view may stands.
         let goes = goes_told (did Sync t) mended synced in
         let n = goes.0 in
-        let calls = subst (λ (o : Option Told). EndsCalls s last.replica (Some n) o ended.acts ended.answers ended.failed) last_told (subst (λ (o : Option Told). EndsCalls s last.replica o last.outside.told ended.acts ended.answers ended.failed) goes.1 ended.calls) in
+        let calls = subst (λ (o : Option Told). EndsCalls s last.replica (Some n) o (all_acts ended.turns) (all_answers ended.turns) (act_of ended.failing)) last_told (subst (λ (o : Option Told). EndsCalls s last.replica o last.outside.told (all_acts ended.turns) (all_answers ended.turns) (act_of ended.failing)) goes.1 ended.calls) in
         keeps_file g s (opened (shape s.file) (unit_at s.file.layout s.file.cluster t.shown) view) t n live (kept_for n goes.1 g view may stands) (goes.2.honest (record { shows = may.honest.shows })) goes.2.grew
-        (good n goes.1 g view may stands) last.replica new.told ended.acts ended.answers ended.failed calls;
+        (good n goes.1 g view may stands) last.replica new.told (all_acts ended.turns) (all_answers ended.turns) (act_of ended.failing) calls;
     undamaged = undamaged;
   }
 

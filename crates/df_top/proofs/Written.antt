@@ -5,10 +5,9 @@ use Rattle.df_base.specs.Streams.{Appends, AppendsPart}
 use Rattle.df_lines.specs.Grammar.{Said}
 use Rattle.df_lines.specs.Script.{Begins, IsLine}
 use Rattle.df_lines.specs.Text.{after_line, taken}
-use Rattle.df_model.specs.Commands.{Answer, Command}
+use Rattle.df_model.specs.Commands.{Answer}
 use Rattle.df_replica.specs.Session.{Act}
-use Rattle.df_script_model.specs.Script.{answer_text}
-use Rattle.df_top.specs.Lines.{AreAsked, answers_text, command_in, command_of}
+use Rattle.df_top.specs.Lines.{AreTurned, IsTurned, Turned, all_acts, all_answers, all_text, line_text}
 
 pub appends_none : (old : Option (List ℕ)) → Appends old old []
 appends_none None = tt
@@ -34,22 +33,25 @@ appends_part old mid new x y one two =
 
 -- ---- one line more
 
--- as many answers as acts
-pub answers_more : (acts : List Act) (answers : List Answer) (a : Act) (x : Answer) → length answers ≡ length acts → answers_text (acts ++ a ∷ []) (answers ++ x ∷ []) ≡ answers_text acts answers ++ answer_text a.command x
-answers_more [] [] a x same = append-nil (answer_text a.command x)
-answers_more [] (y ∷ answers) a x same = absurd (omega (arith, same))
-answers_more (b ∷ acts) [] a x same = absurd (omega (arith, same))
-answers_more (b ∷ acts) (y ∷ answers) a x same =
-    ap (λ (l : List ℕ). answer_text b.command y ++ l) (answers_more acts answers a x (omega (arith, same)))
-    ∙ sym (append_assoc (answer_text b.command y) (answers_text acts answers) (answer_text a.command x))
-
-map_more : {A B : Type 0} (f : A → B) (xs : List A) (x : A) → map f (xs ++ x ∷ []) ≡ map f xs ++ f x ∷ []
+pub map_more : {A B : Type 0} (f : A → B) (xs : List A) (x : A) → map f (xs ++ x ∷ []) ≡ map f xs ++ f x ∷ []
 map_more f [] x = refl
 map_more f (y ∷ xs) x = ap (λ (l : List _). f y ∷ l) (map_more f xs x)
 
-pub asked_more : (asked : List Said) (acts : List Act) (said : Said) (a : Act) → AreAsked asked acts → a.command ≡ command_of said → AreAsked (asked ++ said ∷ []) (acts ++ a ∷ [])
-asked_more asked acts said a are is =
-    map_more command_in acts a ∙ ap (λ (l : List Command). l ++ a.command ∷ []) are ∙ ap (λ (c : Command). map command_of asked ++ c ∷ []) is ∙ sym (map_more command_of asked said)
+pub are_more : (turns : List Turned) (t : Turned) → AreTurned turns → IsTurned t → AreTurned (turns ++ t ∷ [])
+are_more [] t are is = (is, tt)
+are_more (u ∷ turns) t are is = (are.0, are_more turns t are.1 is)
+
+pub text_more : (turns : List Turned) (t : Turned) → all_text (turns ++ t ∷ []) ≡ all_text turns ++ line_text t.said t.answers
+text_more [] t = append-nil (line_text t.said t.answers)
+text_more (u ∷ turns) t = ap (λ (l : List ℕ). line_text u.said u.answers ++ l) (text_more turns t) ∙ sym (append_assoc (line_text u.said u.answers) (all_text turns) (line_text t.said t.answers))
+
+pub acts_more : (turns : List Turned) (t : Turned) → all_acts (turns ++ t ∷ []) ≡ all_acts turns ++ t.acts
+acts_more [] t = append-nil t.acts
+acts_more (u ∷ turns) t = ap (λ (l : List Act). u.acts ++ l) (acts_more turns t) ∙ sym (append_assoc u.acts (all_acts turns) t.acts)
+
+pub answers_more : (turns : List Turned) (t : Turned) → all_answers (turns ++ t ∷ []) ≡ all_answers turns ++ t.answers
+answers_more [] t = append-nil t.answers
+answers_more (u ∷ turns) t = ap (λ (l : List Answer). u.answers ++ l) (answers_more turns t) ∙ sym (append_assoc u.answers (all_answers turns) t.answers)
 
 pub begins_more : (bound budget : ℕ) (text : List ℕ) (asked : List Said) (left : ℕ) (rest : List ℕ) (said : Said) → Begins bound budget text asked left rest → IsLine bound left rest said
     → Begins bound budget text (asked ++ said ∷ []) (left - taken rest) (after_line rest)

@@ -21,7 +21,8 @@ use Rattle.df_top.specs.Keeping.{KeepsFile}
 use Rattle.df_top.specs.Opening.{FailsToOpen, IsSilent, PrintsRefusal, RefusesFile}
 use Rattle.df_top.specs.Outside.{Outside}
 use Rattle.df_top.specs.Reporting.{FailsToSurvey, Inspects, Recovers}
-use Rattle.df_top.specs.Session.{Ended, State}
+use Rattle.df_top.specs.Lines.{all_acts, all_answers}
+use Rattle.df_top.specs.Session.{Ended, State, act_of}
 use Rattle.df_top.specs.Usage.{usage}
 use Rattle.df_top.specs.declared.mode.Mode.{Mode}
 use Rattle.df_top.specs.declared.mode.Mode.TheVariants.{Format, Run, Recover, Inspect}
@@ -53,9 +54,9 @@ pub record ServesScript (layout : Layout) (t : Told) (old new : Outside) (status
   pub last_is : last.outside ≡ new
   pub session : Ended (line_bound layout) (start mended old replica) last status
   pub answered : (view : View) → IsFound (shape replica.file) (unit_at replica.file.layout replica.file.cluster t.shown) view
-      → session.answers ≡ answers_of replica.file (opened (shape replica.file) (unit_at replica.file.layout replica.file.cluster t.shown) view) session.acts
+      → all_answers session.turns ≡ answers_of replica.file (opened (shape replica.file) (unit_at replica.file.layout replica.file.cluster t.shown) view) (all_acts session.turns)
   pub keeps : (g : Grade) (view : View) → MayOpen replica.file view t → StandsFor g (unit_at replica.file.layout replica.file.cluster t.shown) view
-      → KeepsFile replica.file g (opened (shape replica.file) (unit_at replica.file.layout replica.file.cluster t.shown) view) t session.acts session.answers session.failed new.told
+      → KeepsFile replica.file g (opened (shape replica.file) (unit_at replica.file.layout replica.file.cluster t.shown) view) t (all_acts session.turns) (all_answers session.turns) (act_of session.failing) new.told
   pub undamaged : status ≡ Refused → ⊥
 
 -- ---- any word

@@ -1,5 +1,5 @@
 -- How far a session has come, and what it has done when it ends.
-use Rattle.std.specs.Prelude.{◌≡◌, ◌+◌, ℕ, Bool, true, false, IsTrue, List, [], ◌∷◌, ◌++◌, length, Option, Some, None}
+use Rattle.std.specs.Prelude.{◌≡◌, ◌+◌, ℕ, Bool, true, false, IsTrue, List, [], ◌∷◌, ◌++◌, length, map, Option, Some, None}
 use Rattle.df_base.specs.Streams.{Appends, AppendsPart}
 use Rattle.df_disk.specs.Told.{Told}
 use Rattle.df_layout.specs.declared.damage.Class.{Class}
@@ -14,7 +14,7 @@ use Rattle.df_replica.specs.Opened.{ToldBy}
 use Rattle.df_replica.specs.Serving.{IsCall}
 use Rattle.df_replica.specs.Session.{Act}
 use Rattle.df_script_model.specs.Texts.{damaged_text}
-use Rattle.df_top.specs.Lines.{AreAsked, printed}
+use Rattle.df_top.specs.Lines.{AreTurned, Turned, all_acts, all_answers, commands_of, printed, said_in}
 use Rattle.df_top.specs.Outside.{Outside}
 use Rattle.df_top.specs.declared.session.Session.{Session}
 use Rattle.df_top.specs.declared.status.Status.{Status}
@@ -62,14 +62,28 @@ EndsCalls s t old new acts answers (Some a) = (u : Replica) × (mid : Option Tol
 
 -- ---- executed, and ended
 
--- from origin to now these lines were executed: they are the first ones of the text, the calls that they ask for were made and answered, and the answers
--- are printed
-pub record Executed (bound : ℕ) (origin now : State) (asked : List Said) (acts : List Act) (answers : List Answer) : Type 0 where
-  pub text : (text : List ℕ) → origin.text ≡ Some text → (rest : List ℕ) × (now.text ≡ Some rest) × Begins bound origin.budget text asked now.budget rest
-  pub are : AreAsked asked acts
-  pub written : Appends origin.outside.written now.outside.written (printed origin.lines acts answers false)
-  pub lines : now.lines ≡ origin.lines + length acts
-  pub calls : AreCalls origin.replica origin.outside.told acts answers now.replica now.outside.told
+-- the line whose one call was not answered
+pub record Failing : Type 0 where
+  pub said : Said
+  pub act : Act
+  pub asks : commands_of said ≡ act.command ∷ []
+
+abbrev pub act_of : Option Failing → Option Act
+act_of None = None
+act_of (Some f) = Some f.act
+
+abbrev pub said_of : Option Failing → List Said
+said_of None = []
+said_of (Some f) = f.said ∷ []
+
+-- from origin to now these lines were executed: they are the first ones of the text, the calls that they ask for were made and answered, and what the answers
+-- print is written
+pub record Executed (bound : ℕ) (origin now : State) (turns : List Turned) : Type 0 where
+  pub text : (text : List ℕ) → origin.text ≡ Some text → (rest : List ℕ) × (now.text ≡ Some rest) × Begins bound origin.budget text (map said_in turns) now.budget rest
+  pub are : AreTurned turns
+  pub written : Appends origin.outside.written now.outside.written (printed origin.lines turns false)
+  pub lines : now.lines ≡ origin.lines + length turns
+  pub calls : AreCalls origin.replica origin.outside.told (all_acts turns) (all_answers turns) now.replica now.outside.told
 
 -- what is unread at the end: where the script is cut, a line that is refused; at Done nothing at all
 pub record EndsText (bound budget : ℕ) (rest : List ℕ) (left : Option (List ℕ)) (cut : Bool) (status : Status) : Type 0 where
@@ -86,26 +100,24 @@ pub record IsDamaged (command : Command) (told : Option Told) (line : List ℕ) 
 
 -- What is written at the end, and which call was not answered: all that is to be printed, or a front of it where the sink failed. Behind a step that is
 -- damaged comes its line.
-abbrev pub EndsWith : (n : ℕ) → (old new : Outside) → List Act → List Answer → (failed : Option Act) → (cut : Bool) → Status → Type 0
-EndsWith n old new acts answers None cut Done = (cut ≡ false) × Appends old.written new.written (printed n acts answers cut)
-EndsWith n old new acts answers None cut Script = (cut ≡ true) × Appends old.written new.written (printed n acts answers cut)
-EndsWith n old new acts answers None cut ReadFault = (cut ≡ false) × Appends old.written new.written (printed n acts answers cut)
-EndsWith n old new acts answers None cut WriteFault = AppendsPart old.written new.written (printed n acts answers cut)
-EndsWith n old new acts answers (Some a) cut DiskFault = (cut ≡ false) × Appends old.written new.written (printed n acts answers cut)
-EndsWith n old new acts answers (Some a) cut Refused = (cut ≡ false) × (line : List ℕ) × IsDamaged a.command new.told line × Appends old.written new.written (printed n acts answers cut ++ line)
-EndsWith n old new acts answers (Some a) cut WriteFault = (cut ≡ false) × (line : List ℕ) × IsDamaged a.command new.told line × AppendsPart old.written new.written (printed n acts answers cut ++ line)
-EndsWith n old new acts answers failed cut status = ⊥
+abbrev pub EndsWith : (n : ℕ) → (old new : Outside) → List Turned → (failed : Option Act) → (cut : Bool) → Status → Type 0
+EndsWith n old new turns None cut Done = (cut ≡ false) × Appends old.written new.written (printed n turns cut)
+EndsWith n old new turns None cut Script = (cut ≡ true) × Appends old.written new.written (printed n turns cut)
+EndsWith n old new turns None cut ReadFault = (cut ≡ false) × Appends old.written new.written (printed n turns cut)
+EndsWith n old new turns None cut WriteFault = AppendsPart old.written new.written (printed n turns cut)
+EndsWith n old new turns (Some a) cut DiskFault = (cut ≡ false) × Appends old.written new.written (printed n turns cut)
+EndsWith n old new turns (Some a) cut Refused = (cut ≡ false) × (line : List ℕ) × IsDamaged a.command new.told line × Appends old.written new.written (printed n turns cut ++ line)
+EndsWith n old new turns (Some a) cut WriteFault = (cut ≡ false) × (line : List ℕ) × IsDamaged a.command new.told line × AppendsPart old.written new.written (printed n turns cut ++ line)
+EndsWith n old new turns failed cut status = ⊥
 
 -- from origin to now a session was executed to its end: these lines are the first ones of the text, each was answered, and then one more was not, or there
 -- was none
 pub record Ended (bound : ℕ) (origin now : State) (status : Status) : Type 0 where
-  pub asked : List Said
-  pub acts : List Act
-  pub answers : List Answer
-  pub failed : Option Act
+  pub turns : List Turned
+  pub failing : Option Failing
   pub cut : Bool
   pub text : (text : List ℕ) → origin.text ≡ Some text
-      → (budget : ℕ) × (rest : List ℕ) × Begins bound origin.budget text asked budget rest × EndsText bound budget rest now.outside.left cut status
-  pub are : AreAsked asked (acts ++ list_of failed)
-  pub written : EndsWith origin.lines origin.outside now.outside acts answers failed cut status
-  pub calls : EndsCalls origin.replica now.replica origin.outside.told now.outside.told acts answers failed
+      → (budget : ℕ) × (rest : List ℕ) × Begins bound origin.budget text (map said_in turns ++ said_of failing) budget rest × EndsText bound budget rest now.outside.left cut status
+  pub are : AreTurned turns
+  pub written : EndsWith origin.lines origin.outside now.outside turns (act_of failing) cut status
+  pub calls : EndsCalls origin.replica now.replica origin.outside.told now.outside.told (all_acts turns) (all_answers turns) (act_of failing)

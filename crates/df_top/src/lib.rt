@@ -9,6 +9,7 @@ mod engine;
 mod making;
 mod mode;
 mod reporting;
+mod scrub_calls;
 mod serving;
 mod session;
 mod status;

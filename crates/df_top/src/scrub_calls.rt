@@ -1,0 +1,84 @@
+// One line of a script on the scrubber: the calls that it asks for, and the line that their answers print.
+ghost use Rattle.std.specs.Prelude.{◌≡◌, ◌<◌, ◌≤◌, ◌+◌, ◌++◌, ℕ, length, take, Option, true};
+ghost use Rattle.df_disk.specs.Told.{Told};
+ghost use Rattle.df_lines.specs.Grammar as lines;
+ghost use Rattle.df_model.specs.Commands.{Scrub, ToRecent};
+ghost use Rattle.df_top.specs.Lines.{found_of};
+ghost use Rattle.df_top.specs.Step.{Answers, ServesLine, ShowsRing};
+ghost use Rattle.df_top.specs.Turning.{BlamesIfEnds};
+
+use crate::calls::printed;
+use crate::status::Status;
+use crate::turns::Turn;
+use df_base::Sink;
+use df_disk::Disk;
+use df_inspect::{print_recent, print_scrubbed};
+use df_layout::{Class, Finding};
+use df_replica::Replica;
+
+// How many findings the ring keeps.
+const FINDINGS: u64 = 64;
+
+// What stands at a place of a row that holds none.
+const UNUSED: Finding = Finding {
+    address: 0,
+    class: Class::Blank,
+};
+
+/// Takes a step of the scrubber's tour, and prints what it found.
+pub fn scrub<D: Disk, W: Sink>(disk: &mut D, sink: &mut W, replica: &mut Replica) -> Turn
+    requires live { replica.old.live ≡ true }
+    ensures answers { Answers Scrub replica.old replica.new (D.told disk.old) (D.told disk.new) (W.written sink.old) (W.written sink.new) result }
+    ensures disk { BlamesIfEnds Status.DiskFault (D.faults disk.old) (D.faults disk.new) result }
+    ensures sink { BlamesIfEnds Status.WriteFault (W.faults sink.old) (W.faults sink.new) result }
+{
+    match replica.scrub_step(disk) {
+        Ok(scrubbed) => printed(print_scrubbed(sink, scrubbed)),
+        Err(_) => Turn::Ends(Status::DiskFault),
+    }
+}
+
+// Puts a finding behind the first `count` ones, where there is one, and says how many there are then.
+fn keep(row: &mut [Finding], count: usize, found: Option<Finding>) -> usize
+    requires { count < length row.old }
+    ensures kept { take result row.new ≡ take count row.old ++ found_of (ToRecent found) }
+    ensures count { result ≡ count + length (found_of (ToRecent found)) }
+    ensures length { length row.new ≡ length row.old }
+{
+    match found {
+        Some(finding) => {
+            row[count] = finding;
+            count + 1
+        }
+        None => count,
+    }
+}
+
+// Puts the findings at the places of the ring into the front of a row, the oldest first, and says how many these are.
+fn fill(replica: &Replica, row: &mut [Finding]) -> usize
+    requires live { replica.now.live ≡ true }
+    requires room { length row.old ≡ 64 }
+    ensures ring { (told : Option Told) → ShowsRing replica.now told 64 (take result row.new) }
+    ensures few { result ≤ 64 }
+    ensures length { length row.new ≡ 64 }
+{
+    let mut count = 0;
+    let mut place = 0;
+    while place < FINDINGS {
+        count = keep(row, count, replica.recent(place));
+        place += 1;
+    }
+    count
+}
+
+/// Prints what the scrubber found last, the newest 64 findings. No disk is touched.
+pub fn recent<W: Sink>(sink: &mut W, replica: &Replica) -> Turn
+    requires live { replica.now.live ≡ true }
+    ensures answers { (told : Option Told) → ServesLine lines.Recent replica.now replica.now told told (W.written sink.old) (W.written sink.new) result }
+    ensures disk { (faults : ℕ) → BlamesIfEnds Status.DiskFault faults faults result }
+    ensures sink { BlamesIfEnds Status.WriteFault (W.faults sink.old) (W.faults sink.new) result }
+{
+    let mut row = [UNUSED; 64];
+    let count = fill(replica, &mut row);
+    printed(print_recent(sink, &row[..count]))
+}
