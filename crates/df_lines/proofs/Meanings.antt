@@ -3,7 +3,7 @@ use Rattle.std.proofs.Common.{◌≡◌, ◌⊎◌, inl, inr, ℕ, ◌<◌, if�
 use Rattle.std.specs.Prelude.{codes, Option, None, Some, IfNone}
 use Rattle.std.specs.Str.{bytes_eq}
 use Rattle.std.proofs.lemmas.List.{take_all}
-use Rattle.df_lines.specs.Grammar.{Said, Append, Reply, Block, Release, Checkpoint, Step, Prepare, Lookup, Read, Says}
+use Rattle.df_lines.specs.Grammar.{Said, Append, Reply, Block, Release, Checkpoint, Step, Prepare, Lookup, Read, Scrub, Recent, Says}
 use Rattle.df_lines.specs.Words.{HasNoSpace, Cuts}
 use Rattle.df_lines.proofs.Cutting.{no_cut, one_cut, one_split}
 
@@ -20,6 +20,8 @@ name_of Step = codes "step"
 name_of (Prepare op) = codes "prepare"
 name_of (Lookup client) = codes "lookup"
 name_of (Read address) = codes "read"
+name_of Scrub = codes "scrub"
+name_of Recent = codes "recent"
 
 -- the first number of a line, the second one, and its body
 abbrev pub first_of : Said → ℕ
@@ -54,6 +56,8 @@ line_named name first second body =
     else if bytes_eq name (codes "prepare") then Prepare first
     else if bytes_eq name (codes "lookup") then Lookup first
     else if bytes_eq name (codes "read") then Read first
+    else if bytes_eq name (codes "scrub") then Scrub
+    else if bytes_eq name (codes "recent") then Recent
     else Step
 
 -- a line's name says which line it is
@@ -67,6 +71,8 @@ as_named Step = refl
 as_named (Prepare op) = refl
 as_named (Lookup client) = refl
 as_named (Read address) = refl
+as_named Scrub = refl
+as_named Recent = refl
 
 pub is_named : (said : Said) (name : List ℕ) → name ≡ name_of said → said ≡ line_named name (first_of said) (second_of said) (body_of said)
 is_named said name is = sym (as_named said) ∙ ap (λ (n : List ℕ). line_named n (first_of said) (second_of said) (body_of said)) (sym is)
@@ -87,6 +93,8 @@ begun line Step says = record { rest = []; is = inl says.is; name = refl }
 begun line (Prepare op) says = record { rest = _; is = inr says.is; name = refl }
 begun line (Lookup client) says = record { rest = _; is = inr says.is; name = refl }
 begun line (Read address) says = record { rest = _; is = inr says.is; name = refl }
+begun line Scrub says = record { rest = []; is = inl says.is; name = refl }
+begun line Recent says = record { rest = []; is = inl says.is; name = refl }
 
 -- a line of one word is its name
 pub alone_as : (line : List ℕ) → HasNoSpace line → (said : Said) → Says line said → line ≡ name_of said
@@ -147,11 +155,15 @@ other_name line name words cuts a r b e c p l d Step says = cut_has_space line n
 other_name line name words cuts a r b e c p l d (Prepare op) says = p (named_as line name words cuts _ says)
 other_name line name words cuts a r b e c p l d (Lookup client) says = l (named_as line name words cuts _ says)
 other_name line name words cuts a r b e c p l d (Read address) says = d (named_as line name words cuts _ says)
+other_name line name words cuts a r b e c p l d Scrub says = cut_has_space line name words cuts (subst HasNoSpace (sym says.is) refl)
+other_name line name words cuts a r b e c p l d Recent says = cut_has_space line name words cuts (subst HasNoSpace (sym says.is) refl)
 
 -- the other lines have a space
-pub other_alone : (line : List ℕ) → HasNoSpace line → (line ≡ codes "step" → ⊥) → (said : Said) → Says line said → ⊥
-other_alone line none s Step says = s says.is
-other_alone line none s said says = no_cut line (name_of said) _ none says.is refl
+pub other_alone : (line : List ℕ) → HasNoSpace line → (line ≡ codes "step" → ⊥) → (line ≡ codes "scrub" → ⊥) → (line ≡ codes "recent" → ⊥) → (said : Said) → Says line said → ⊥
+other_alone line none s t r Step says = s says.is
+other_alone line none s t r Scrub says = t says.is
+other_alone line none s t r Recent says = r says.is
+other_alone line none s t r said says = no_cut line (name_of said) _ none says.is refl
 
 -- what stands behind a call that found nothing
 pub if_none : {A : Type 0} (found : Option A) (P Q : Type 0) → IfNone found P → (P → Q) → IfNone found Q

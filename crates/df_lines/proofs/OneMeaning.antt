@@ -2,7 +2,7 @@
 use Rattle.std.proofs.Common.{◌≡◌, ◌⊎◌, ℕ, ◌-◌, ◌^◌, ◌<◌, inl, inr, List, [], ◌∷◌, ◌++◌, refl, sym, ap, subst, ◌∙◌, arith}
 use Rattle.std.specs.Prelude.{decimal, codes, Ok}
 use Rattle.hex.specs.Hex.{decode_of}
-use Rattle.df_lines.specs.Grammar.{IsBody, Said, Append, Reply, Block, Release, Checkpoint, Step, Prepare, Lookup, Read, Says}
+use Rattle.df_lines.specs.Grammar.{IsBody, Said, Append, Reply, Block, Release, Checkpoint, Step, Prepare, Lookup, Read, Scrub, Recent, Says}
 use Rattle.df_lines.specs.Laws.{OneMeaning, OneText, OneScript, WholeScript}
 use Rattle.df_lines.specs.Script.{Begins, IsLine, IsRefused}
 use Rattle.df_lines.specs.Text.{line_of, after_line, taken}
@@ -63,6 +63,8 @@ one_of_name line (Block n x) m s y one other =
 one_of_name line (Release n) m s y one other = ap Release (one_word (codes "release ") n m line one.is other.is (omega (arith, one.fits)) (omega (arith, other.fits)))
 one_of_name line (Checkpoint x) m s y one other = ap Checkpoint (body_split one.word other.word x y (same_rest (codes "checkpoint ") one.word other.word (sym one.is ∙ other.is)) one.fits other.fits)
 one_of_name line Step m s y one other = refl
+one_of_name line Scrub m s y one other = refl
+one_of_name line Recent m s y one other = refl
 one_of_name line (Prepare n) m s y one other = ap Prepare (one_word (codes "prepare ") n m line one.is other.is (omega (arith, one.fits)) (omega (arith, other.fits)))
 one_of_name line (Lookup n) m s y one other = ap Lookup (one_word (codes "lookup ") n m line one.is other.is one.fits other.fits)
 one_of_name line (Read n) m s y one other = ap Read (one_word (codes "read ") n m line one.is other.is (omega (arith, one.fits)) (omega (arith, other.fits)))

@@ -15,6 +15,8 @@ pub data Said : Type 0 where
   Prepare : (op : ℕ) → Said
   Lookup : (client : ℕ) → Said
   Read : (address : ℕ) → Said
+  Scrub : Said
+  Recent : Said
 
 -- the bytes that a body's word stands for: - for none, else two hexadecimal digits of either case for each byte
 abbrev pub IsBody : List ℕ → List ℕ → Type 0
@@ -31,6 +33,8 @@ words_of Step word = codes "step" ∷ []
 words_of (Prepare op) word = codes "prepare" ∷ decimal op ∷ []
 words_of (Lookup client) word = codes "lookup" ∷ decimal client ∷ []
 words_of (Read address) word = codes "read" ∷ decimal address ∷ []
+words_of Scrub word = codes "scrub" ∷ []
+words_of Recent word = codes "recent" ∷ []
 
 -- words, with exactly one space between two of them
 abbrev pub spaced : List (List ℕ) → List ℕ
@@ -49,6 +53,8 @@ Fits Step word = ⊤
 Fits (Prepare op) word = op < 2 ^ 64
 Fits (Lookup client) word = client < 2 ^ 128
 Fits (Read address) word = address < 2 ^ 64
+Fits Scrub word = ⊤
+Fits Recent word = ⊤
 
 -- The line says this. Only numbers' widths bound what a line may say; what a call takes is the call's own matter.
 pub record Says (line : List ℕ) (said : Said) : Type 0 where
@@ -67,6 +73,8 @@ said_with buffer lines.Step = Step
 said_with buffer (lines.Prepare op) = Prepare op
 said_with buffer (lines.Lookup client) = Lookup client
 said_with buffer (lines.Read address) = Read address
+said_with buffer lines.Scrub = Scrub
+said_with buffer lines.Recent = Recent
 
 -- how many bytes of the buffer are the line's body
 abbrev pub body_length : Line → ℕ

@@ -63,6 +63,8 @@ fn lines_on_blocks_and_checkpoints_are_read_with_their_bodies(rt: HostRuntime) {
             Line::Read { address: u64::MAX },
             b"",
         ),
+        (b"scrub", Line::Scrub, b""),
+        (b"recent", Line::Recent, b""),
     ];
     expect_lines(&rt, &rows);
 }
@@ -181,6 +183,13 @@ fn other_lines_than_those_of_the_grid_are_refused(rt: HostRuntime) {
         b"read  1".as_slice(),
         b"read 1 ".as_slice(),
         b"read 18446744073709551616".as_slice(),
+        b"scrub ".as_slice(),
+        b"scrub 1".as_slice(),
+        b"scrubs".as_slice(),
+        b"Scrub".as_slice(),
+        b"recent ".as_slice(),
+        b"recent 0".as_slice(),
+        b"recen".as_slice(),
     ];
     expect_no_line(&rt, &lines);
 }
@@ -203,8 +212,6 @@ fn other_lines_than_those_of_checkpoints_are_refused(rt: HostRuntime) {
         b"steps".as_slice(),
         b"Step".as_slice(),
         b"ste".as_slice(),
-        b"scrub".as_slice(),
-        b"recent".as_slice(),
     ];
     expect_no_line(&rt, &lines);
 }

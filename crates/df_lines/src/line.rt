@@ -42,4 +42,8 @@ pub enum Line {
     Read {
         address: u64,
     },
+    /// `scrub`
+    Scrub,
+    /// `recent`
+    Recent,
 }

@@ -59,6 +59,12 @@ fn alone(line: &[u8]) -> Option<Line>
     if line == b"step".as_slice() {
         return Some(Line::Step);
     }
+    if line == b"scrub".as_slice() {
+        return Some(Line::Scrub);
+    }
+    if line == b"recent".as_slice() {
+        return Some(Line::Recent);
+    }
     None
 }
 
