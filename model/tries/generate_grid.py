@@ -76,7 +76,7 @@ def reading(random: Random, m: Machine) -> Optional[bytes]:
     """A read of a block, most often of one that is live; and what the scrubber is asked."""
     if not knows("blocks"):
         return None
-    if knows("all") and random.random() < 0.5:
+    if knows("reports") and random.random() < 0.5:
         return b"scrub" if random.random() < 0.8 else b"recent"
     near = [*m.live, *m.known()] if random.random() < 0.9 else []
     address = random.choice(near or [0, 1, m.layout.blocks, m.layout.blocks + 1, 2**64 - 1])

@@ -1,5 +1,5 @@
-"""What the program that is tried knows: the log alone, blocks and checkpoints too, the reports `recover` and `inspect` too, or
-every line and word."""
+"""What the program that is tried knows: the log alone, blocks and checkpoints too, the scrubber's lines and the reports `recover` and
+`inspect` too, or every line and word."""
 
 import argparse
 import os

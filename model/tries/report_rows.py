@@ -147,16 +147,16 @@ def after_words(words: str) -> bytes:
     return command(NEW, words.split()).data
 
 
-def without_scrubber() -> list:
-    """The rows for a program that knows `recover` and `inspect` alone."""
+def without_later_words() -> list:
+    """The rows for a program that knows no word `scrub` or `workload`."""
     later = ("scrub", "workload")
-    return [row for row in [*words(), *reports()] if row[4] == 2 or row[1].split()[0] not in later]
+    return [row for row in [*words(), *reports(), *scrubs()] if row[4] == 2 or row[1].split()[0] not in later]
 
 
 def rows() -> list:
     """The file, the words, the script; the text and the status."""
     if not knows("all"):
-        return without_scrubber()
+        return without_later_words()
     # Over a file that has been worked on the workload's first requests are refused, and so are its replies.
     again = ("appended 0\nreplied 0\nwrote 0\nreleased 0\ncheckpoints 0\nrefused 6\nbytes 0\nhead 3\nreplies 3\n"
              "sequence 1\n")

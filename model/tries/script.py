@@ -27,7 +27,7 @@ if knows("blocks"):
         "step": (re.compile(rb"step"), ()),
         "read": (re.compile(rb"read %s" % NUMBER_OF_LINE), (64,)),
     }
-if knows("all"):
+if knows("reports"):
     LINES |= {"scrub": (re.compile(rb"scrub"), ()), "recent": (re.compile(rb"recent"), ())}
 # For each line that changes what is kept, with how many of its events that may be found after a stop, and with how many it is
 # durable: a prepare or a reply with its own write and the sync behind it, a checkpoint with copy 1.

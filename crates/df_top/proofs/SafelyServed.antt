@@ -1,5 +1,5 @@
 -- Over a file that may be opened each other end of a word needs a call that failed, or a refusal that no such file has.
-use Rattle.std.proofs.Common.{◌≡◌, ◌⊎◌, inl, inr, ℕ, ◌-◌, Bool, true, false, List, [], ◌∷◌, Option, None, Some, refl, sym, ◌∙◌, subst}
+use Rattle.std.proofs.Common.{◌≡◌, ◌⊎◌, inl, inr, ℕ, ◌-◌, Bool, true, false, List, [], ◌∷◌, ◌++◌, map, Option, None, Some, refl, sym, ◌∙◌, subst}
 use Rattle.std.specs.Prelude.{Err}
 use Rattle.df_base.specs.Image.{IsImage}
 use Rattle.df_disk.specs.Told.{Told}
@@ -10,7 +10,6 @@ use Rattle.df_lines.specs.Room.{line_bound}
 use Rattle.df_lines.specs.Script.{Begins, IsRefused, IsScript}
 use Rattle.df_lines.specs.Text.{after_line, taken}
 use Rattle.df_lines.proofs.Laws.{one_script}
-use Rattle.df_model.specs.Commands.{Answer}
 use Rattle.df_recovery.specs.Found.{IsLayoutShown}
 use Rattle.df_recovery.specs.Surveys.{Surveys}
 use Rattle.df_state.specs.declared.file.DataFile.{DataFile}
@@ -25,7 +24,8 @@ use Rattle.df_top.specs.Opening.{RefusesFile}
 use Rattle.df_top.specs.Outside.{Faults, HasCauses, Outside}
 use Rattle.df_top.specs.Reporting.{status_of}
 use Rattle.df_top.specs.Run.{Does, DidNothing, RefusesSuperblock, ServesOwn, ServesScript, script_budget}
-use Rattle.df_top.specs.Session.{EndsWith}
+use Rattle.df_top.specs.Lines.{Turned, said_in}
+use Rattle.df_top.specs.Session.{EndsWith, act_of, said_of}
 use Rattle.df_top.specs.declared.mode.Mode.{Mode}
 use Rattle.df_top.specs.declared.mode.Mode.TheVariants.{Format, Run, Recover, Inspect}
 use Rattle.df_top.specs.declared.status.Status.{Status}
@@ -47,25 +47,25 @@ data Ends (cut : Bool) (status : Status) : Type 0 where
   Unserved : status ≡ DiskFault → Ends cut status
   Damaged : status ≡ Refused → Ends cut status
 
-session_ends : (n : ℕ) (old new : Outside) (acts : List Act) (answers : List Answer) (failed : Option Act) (cut : Bool) (status : Status) → EndsWith n old new acts answers failed cut status → Ends cut status
-session_ends n old new acts answers None cut Done ends = AtEnd refl
-session_ends n old new acts answers None cut Script ends = AtLine refl ends.0
-session_ends n old new acts answers None cut ReadFault ends = Unread refl
-session_ends n old new acts answers None cut WriteFault ends = Unwritten refl
-session_ends n old new acts answers (Some a) cut DiskFault ends = Unserved refl
-session_ends n old new acts answers (Some a) cut Refused ends = Damaged refl
-session_ends n old new acts answers (Some a) cut WriteFault ends = Unwritten refl
-session_ends n old new acts answers None cut Found ends = absurd ends
-session_ends n old new acts answers None cut Words ends = absurd ends
-session_ends n old new acts answers None cut Refused ends = absurd ends
-session_ends n old new acts answers None cut DiskFault ends = absurd ends
-session_ends n old new acts answers None cut Memory ends = absurd ends
-session_ends n old new acts answers (Some a) cut Done ends = absurd ends
-session_ends n old new acts answers (Some a) cut Script ends = absurd ends
-session_ends n old new acts answers (Some a) cut ReadFault ends = absurd ends
-session_ends n old new acts answers (Some a) cut Found ends = absurd ends
-session_ends n old new acts answers (Some a) cut Words ends = absurd ends
-session_ends n old new acts answers (Some a) cut Memory ends = absurd ends
+session_ends : (n : ℕ) (old new : Outside) (turns : List Turned) (failed : Option Act) (cut : Bool) (status : Status) → EndsWith n old new turns failed cut status → Ends cut status
+session_ends n old new turns None cut Done ends = AtEnd refl
+session_ends n old new turns None cut Script ends = AtLine refl ends.0
+session_ends n old new turns None cut ReadFault ends = Unread refl
+session_ends n old new turns None cut WriteFault ends = Unwritten refl
+session_ends n old new turns (Some a) cut DiskFault ends = Unserved refl
+session_ends n old new turns (Some a) cut Refused ends = Damaged refl
+session_ends n old new turns (Some a) cut WriteFault ends = Unwritten refl
+session_ends n old new turns None cut Found ends = absurd ends
+session_ends n old new turns None cut Words ends = absurd ends
+session_ends n old new turns None cut Refused ends = absurd ends
+session_ends n old new turns None cut DiskFault ends = absurd ends
+session_ends n old new turns None cut Memory ends = absurd ends
+session_ends n old new turns (Some a) cut Done ends = absurd ends
+session_ends n old new turns (Some a) cut Script ends = absurd ends
+session_ends n old new turns (Some a) cut ReadFault ends = absurd ends
+session_ends n old new turns (Some a) cut Found ends = absurd ends
+session_ends n old new turns (Some a) cut Words ends = absurd ends
+session_ends n old new turns (Some a) cut Memory ends = absurd ends
 
 -- ---- a text that is whole has no line that is refused
 
@@ -100,14 +100,14 @@ module _ (file : DataFile) (view : View) (t : Told) (old new : Outside) (before 
   no_refusal refuses = refuses.is.other (answers.1.answered refuses.error refuses.is.why)
 
   served : ServesScript file.layout t old new status → IsCarriedOut Run file.layout old.left status
-  served serves = elim (session_ends 0 old serves.last.outside serves.session.acts serves.session.answers serves.session.failed serves.session.cut status serves.session.written) [
+  served serves = elim (session_ends 0 old serves.last.outside serves.session.turns (act_of serves.session.failing) serves.session.cut status serves.session.written) [
     | AtEnd done ↦ inl done
     | AtLine script cut ↦
         inr (record {
           script = script;
           why = λ text left whole.
               let read = serves.session.text text left in
-              whole_uncut file.layout text read.1 serves.session.asked read.0 whole read.2 (read.3.refused cut);
+              whole_uncut file.layout text read.1 (map said_in serves.session.turns ++ said_of serves.session.failing) read.0 whole read.2 (read.3.refused cut);
         })
     | Unread failed ↦ absurd (no_source failed)
     | Unwritten failed ↦ absurd (no_sink failed)
