@@ -6,7 +6,7 @@ import os
 
 LEVELS = ("log", "blocks", "reports", "all")
 # What the program of this repository knows today.
-TODAY = "reports"
+TODAY = "all"
 
 
 def take(words: list) -> None:

@@ -61,7 +61,8 @@ failing_text f = line_of (spaced (numbered (codes "failing") f.address) (class_t
 
 -- each block that fails
 abbrev pub failing_texts : List Finding → List ℕ
-failing_texts findings = each_text (λ place f. failing_text f) 0 findings
+failing_texts [] = []
+failing_texts (f ∷ more) = failing_text f ++ failing_texts more
 
 -- ---- what a generated run did
 

@@ -1,10 +1,10 @@
-// What the scrubber found: its ring, the blocks that fail in a tour, and how many these are.
+// What the scrubber found: its ring, a block that fails in a tour, and how many there are of them.
 ghost use Rattle.std.specs.Prelude.{◌≡◌, codes};
 ghost use Rattle.df_base.specs.Causes.{HasCause};
 ghost use Rattle.df_model.specs.declared.answers.Scrubbed.TheVariants as scrubs;
 ghost use Rattle.df_script_model.specs.Texts.{numbered, recent_text, scrubbed_text};
 ghost use Rattle.df_inspect.specs.Prints.{Prints};
-ghost use Rattle.df_inspect.specs.Reports.{each_text, failing_text, failing_texts, finding_text};
+ghost use Rattle.df_inspect.specs.Reports.{each_text, failing_text, finding_text};
 
 use crate::blocks::tour_line;
 use crate::line::{Line, put, put_number, put_numbered, write_line};
@@ -62,18 +62,8 @@ fn finding_piece(finding: Finding) -> Line
     line
 }
 
-/// `failing ADDRESS CLASS`, a line for each of these blocks.
-pub fn print_failing<W: Sink>(sink: &mut W, findings: &[Finding]) -> Result<(), Failed>
-    ensures prints { Prints (failing_texts findings.now) (W.written sink.old) (W.written sink.new) result }
-    ensures cause { HasCause (W.faults sink.old) (W.faults sink.new) result }
-{
-    for finding in findings {
-        print_failing_block(sink, *finding)?;
-    }
-    Ok(())
-}
-
-fn print_failing_block<W: Sink>(sink: &mut W, finding: Finding) -> Result<(), Failed>
+/// `failing ADDRESS CLASS`: a block that fails in a tour.
+pub fn print_failing<W: Sink>(sink: &mut W, finding: Finding) -> Result<(), Failed>
     ensures prints { Prints (failing_text finding) (W.written sink.old) (W.written sink.new) result }
     ensures cause { HasCause (W.faults sink.old) (W.faults sink.new) result }
 {

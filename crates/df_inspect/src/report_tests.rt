@@ -119,9 +119,10 @@ fn the_ring_and_a_tour_are_shown(rt: HostRuntime) -> Result<(), Fail> {
     let mut sink = new_sink(rt.alloc());
     print_recent(&mut sink, &[])?;
     print_recent(&mut sink, &findings())?;
-    print_failing(&mut sink, &findings())?;
+    for finding in &findings() {
+        print_failing(&mut sink, *finding)?;
+    }
     print_tour(&mut sink, 6, 2)?;
-    print_failing(&mut sink, &[])?;
     print_tour(&mut sink, 6, 0)?;
     let text = "recent 0\n\
         recent 2 2 Garbled 4 Garbled\n\

@@ -2,14 +2,16 @@
 #![tactic(auto)]
 
 mod copies;
+mod long;
 mod runs;
 mod scripts;
 mod served;
 
 pub use copies::{FRONT, copy, probe_room};
+pub use long::long_session;
 pub use runs::{
-    FORMAT_CALLS, Ran, blank, made_file, printed, run_failing, run_script, run_words, small_file,
-    word, words,
+    FORMAT_CALLS, FORMAT_EVENTS, Ran, blank, made_file, printed, run_failing, run_script,
+    run_words, small_file, word, words,
 };
 pub use scripts::{lines, ops_of_one};
 pub use served::serve_failing;

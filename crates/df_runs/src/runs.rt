@@ -29,6 +29,9 @@ impl Ran {
 /// writes and syncs each copy.
 pub const FORMAT_CALLS: u64 = 15;
 
+/// Events of that format: two writes and a sync, and a write and a sync of each copy.
+pub const FORMAT_EVENTS: u64 = 11;
+
 /// These words.
 pub fn words(alloc: Global, texts: &[&str]) -> Result<Vec<String>, Fail> {
     let mut words = Vec::new(alloc);

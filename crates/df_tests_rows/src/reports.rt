@@ -184,7 +184,7 @@ fn copies_that_are_garbled_are_listed_until_too_few_are_left(rt: HostRuntime) ->
     disk.strike(0, FILLED)?;
     disk.strike(3, Strike::Earlier { events: 100 })?;
     disk.strike(2, FILLED)?;
-    for word in ["inspect", "recover"] {
+    for word in ["inspect", "recover", "scrub"] {
         let ran = run_words(rt.alloc(), &mut disk, &[word])?;
         assert_eq!(rt; ran.status, Status::Refused);
         assert!(rt; printed(&ran, "refused NoQuorum Garbled Garbled Garbled Stale\n"));

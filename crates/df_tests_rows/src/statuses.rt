@@ -8,7 +8,7 @@ use df_top::Status;
 use std::alloc::Global;
 use std::test::Fail;
 
-const WORDS: [&[&str]; 12] = [
+const WORDS: [&[&str]; 17] = [
     &[],
     &["format", "small"],
     &["format", "small", "007"],
@@ -17,6 +17,11 @@ const WORDS: [&[&str]; 12] = [
     &["recover", "--"],
     &["inspect", "small", "7"],
     &["Inspect"],
+    &["scrub", "1"],
+    &["workload", "42"],
+    &["workload", "42", "0"],
+    &["workload", "42", "1000001"],
+    &["workload", "18446744073709551616", "3"],
     &["--"],
     &["append"],
     &["format", "small", "7", "7"],
@@ -33,7 +38,7 @@ fn other_words_print_the_usage_line(rt: HostRuntime) -> Result<(), Fail> {
         assert!(rt;
             printed(
                 &ran,
-                "usage: format LAYOUT CLUSTER | run | recover | inspect\n"
+                "usage: format LAYOUT CLUSTER | run | recover | inspect | scrub | workload SEED COUNT\n"
             ),
             "{texts:?}"
         );

@@ -35,24 +35,24 @@ begin_answered root s t told written took faults turn x serves r turn_is prints 
 
 -- ---- a step
 
-untold : (told : Option Told) → (Tells told → ⊥) → told ≡ None
+pub untold : (told : Option Told) → (Tells told → ⊥) → told ≡ None
 untold None hides = refl
 untold (Some t) hides = absurd (hides tt)
 
 -- the events of a running checkpoint, all of them or a part
-told_all : (old new : Option Told) (running : Option Capture) (events : Capture → List Event) → OfRunning running (λ r. new ≡ after_all (events r) old) → ToldBy old new
+pub told_all : (old new : Option Told) (running : Option Capture) (events : Capture → List Event) → OfRunning running (λ r. new ≡ after_all (events r) old) → ToldBy old new
 told_all old new None events is = absurd is
 told_all old new (Some r) events is = (events r, is)
 
-told_part : (old new : Option Told) (running : Option Capture) (events : Capture → List Event) → OfRunning running (λ r. AddsPart (events r) old new) → ToldBy old new
+pub told_part : (old new : Option Told) (running : Option Capture) (events : Capture → List Event) → OfRunning running (λ r. AddsPart (events r) old new) → ToldBy old new
 told_part old new None events is = absurd is
 told_part old new (Some r) events is = part_told (events r) old new is
 
-on_running : {P Q : Capture → Type 0} (running : Option Capture) → ((r : Capture) → P r → Q r) → OfRunning running P → OfRunning running Q
+pub on_running : {P Q : Capture → Type 0} (running : Option Capture) → ((r : Capture) → P r → Q r) → OfRunning running P → OfRunning running Q
 on_running None f is = absurd is
 on_running (Some r) f is = f r is
 
-never : {A : Type 0} (running : Option Capture) → OfRunning running (λ r. A) → A
+pub never : {A : Type 0} (running : Option Capture) → OfRunning running (λ r. A) → A
 never None is = absurd is
 never (Some r) is = is
 

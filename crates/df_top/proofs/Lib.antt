@@ -11,11 +11,16 @@ mod BlockTurns
 mod BlockReadTurns
 mod CheckpointTurns
 mod ScrubTurns
+mod Checks
+mod Tours
 mod Kept
 mod Served
 mod Reported
 mod OneReport
 mod ReadTurns
 mod Causes
+mod RunCalls
+mod Runs
+mod WorksOn
 mod Made
 mod SafelyServed

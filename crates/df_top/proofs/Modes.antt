@@ -7,8 +7,8 @@ use Rattle.std.proofs.lemmas.Fmt.{decimal_is_IsNumeral, decimal_is_IsNumeral_wid
 use Rattle.df_layout.specs.declared.layout.Layout.{Layout}
 use Rattle.df_layout.proofs.Same.{same_layout}
 use Rattle.df_top.specs.declared.mode.Mode.{Mode}
-use Rattle.df_top.specs.declared.mode.Mode.TheVariants.{Format, Run, Recover, Inspect}
-use Rattle.df_top.specs.Mode.{HasNumbers, numbers_of, NamesLayout, Means, OneMeaning}
+use Rattle.df_top.specs.declared.mode.Mode.TheVariants.{Format, Run, Recover, Inspect, Scrub, Workload}
+use Rattle.df_top.specs.Mode.{HasNumbers, numbers_of, NamesLayout, Means, OneMeaning, SpellsFormat, SpellsWorkload}
 use Rattle.df_top.proofs.Commas.{fit, from_message_size, from_clients, from_block_size, from_blocks, Five, one_five}
 
 -- a number below 2^128 has one spelling
@@ -83,6 +83,19 @@ one_is_not_three f g a b words one other = omega (arith, ap length one, ap lengt
 same_format : (l m : Layout) (c d : ℕ) → l ≡ m → c ≡ d → Format l c ≡ Format m d
 same_format l m c d layouts clusters = cc (layouts, clusters)
 
+same_workload : (s u n k : ℕ) → s ≡ u → n ≡ k → Workload s n ≡ Workload u k
+same_workload s u n k seeds counts = cc (seeds, counts)
+
+-- the first of three words is the same
+first_of : (f a b g c d : List ℕ) → f ∷ a ∷ b ∷ [] ≡ g ∷ c ∷ d ∷ [] → f ≡ g
+first_of f a b g c d same = cc same
+
+format_or_workload : (words : List (List ℕ)) (layout : Layout) (cluster seed count : ℕ) → SpellsFormat words layout cluster → SpellsWorkload words seed count → ⊥
+format_or_workload words layout cluster seed count one other =
+    let same : codes "format" ≡ codes "workload" = first_of (codes "format") one.name (decimal cluster) (codes "workload") (decimal seed) (decimal count) (sym one.is ∙ other.is) in
+    let letter : 102 ≡ 119 = ap (λ (l : List ℕ). get_or l 0 0) same in
+    omega (arith, letter)
+
 -- two words that are one have one second letter
 one_second : (f g : List ℕ) (words : List (List ℕ)) → words ≡ f ∷ [] → words ≡ g ∷ [] → get_or f 1 0 ≡ get_or g 1 0
 one_second f g words one other = let same : f ≡ g = cc (one, other) in ap (λ (l : List ℕ). get_or l 1 0) same
@@ -91,30 +104,83 @@ pub one_mode : OneMeaning
 one_mode words Run Run one other = refl
 one_mode words Run Recover one other = let same : 117 ≡ 101 = one_second (codes "run") (codes "recover") words one other in absurd (omega (arith, same))
 one_mode words Run Inspect one other = let same : 117 ≡ 110 = one_second (codes "run") (codes "inspect") words one other in absurd (omega (arith, same))
+one_mode words Run Scrub one other = let same : 117 ≡ 99 = one_second (codes "run") (codes "scrub") words one other in absurd (omega (arith, same))
+one_mode words Run (Workload s n) one other = absurd (one_is_not_three (codes "run") (codes "workload") (decimal s) (decimal n) words one other.is)
 one_mode words Run (Format m d) one other = absurd (one_is_not_three (codes "run") (codes "format") other.name (decimal d) words one other.is)
 one_mode words Recover Run one other = let same : 101 ≡ 117 = one_second (codes "recover") (codes "run") words one other in absurd (omega (arith, same))
 one_mode words Recover Recover one other = refl
 one_mode words Recover Inspect one other = let same : 101 ≡ 110 = one_second (codes "recover") (codes "inspect") words one other in absurd (omega (arith, same))
+one_mode words Recover Scrub one other = let same : 101 ≡ 99 = one_second (codes "recover") (codes "scrub") words one other in absurd (omega (arith, same))
+one_mode words Recover (Workload s n) one other = absurd (one_is_not_three (codes "recover") (codes "workload") (decimal s) (decimal n) words one other.is)
 one_mode words Recover (Format m d) one other = absurd (one_is_not_three (codes "recover") (codes "format") other.name (decimal d) words one other.is)
 one_mode words Inspect Run one other = let same : 110 ≡ 117 = one_second (codes "inspect") (codes "run") words one other in absurd (omega (arith, same))
 one_mode words Inspect Recover one other = let same : 110 ≡ 101 = one_second (codes "inspect") (codes "recover") words one other in absurd (omega (arith, same))
 one_mode words Inspect Inspect one other = refl
+one_mode words Inspect Scrub one other = let same : 110 ≡ 99 = one_second (codes "inspect") (codes "scrub") words one other in absurd (omega (arith, same))
+one_mode words Inspect (Workload s n) one other = absurd (one_is_not_three (codes "inspect") (codes "workload") (decimal s) (decimal n) words one other.is)
 one_mode words Inspect (Format m d) one other = absurd (one_is_not_three (codes "inspect") (codes "format") other.name (decimal d) words one other.is)
+one_mode words Scrub Run one other = let same : 99 ≡ 117 = one_second (codes "scrub") (codes "run") words one other in absurd (omega (arith, same))
+one_mode words Scrub Recover one other = let same : 99 ≡ 101 = one_second (codes "scrub") (codes "recover") words one other in absurd (omega (arith, same))
+one_mode words Scrub Inspect one other = let same : 99 ≡ 110 = one_second (codes "scrub") (codes "inspect") words one other in absurd (omega (arith, same))
+one_mode words Scrub Scrub one other = refl
+one_mode words Scrub (Workload s n) one other = absurd (one_is_not_three (codes "scrub") (codes "workload") (decimal s) (decimal n) words one other.is)
+one_mode words Scrub (Format m d) one other = absurd (one_is_not_three (codes "scrub") (codes "format") other.name (decimal d) words one other.is)
+one_mode words (Workload s n) Run one other = absurd (one_is_not_three (codes "run") (codes "workload") (decimal s) (decimal n) words other one.is)
 one_mode words (Format l c) Run one other = absurd (one_is_not_three (codes "run") (codes "format") one.name (decimal c) words other one.is)
+one_mode words (Workload s n) Recover one other = absurd (one_is_not_three (codes "recover") (codes "workload") (decimal s) (decimal n) words other one.is)
 one_mode words (Format l c) Recover one other = absurd (one_is_not_three (codes "recover") (codes "format") one.name (decimal c) words other one.is)
+one_mode words (Workload s n) Inspect one other = absurd (one_is_not_three (codes "inspect") (codes "workload") (decimal s) (decimal n) words other one.is)
 one_mode words (Format l c) Inspect one other = absurd (one_is_not_three (codes "inspect") (codes "format") one.name (decimal c) words other one.is)
+one_mode words (Workload s n) Scrub one other = absurd (one_is_not_three (codes "scrub") (codes "workload") (decimal s) (decimal n) words other one.is)
+one_mode words (Format l c) Scrub one other = absurd (one_is_not_three (codes "scrub") (codes "format") one.name (decimal c) words other one.is)
+one_mode words (Workload s n) (Format m d) one other = absurd (format_or_workload words m d s n other one)
+one_mode words (Format l c) (Workload s n) one other = absurd (format_or_workload words l c s n one other)
+one_mode words (Workload s n) (Workload u k) one other =
+    let parts = three (codes "workload") (decimal s) (decimal n) (codes "workload") (decimal u) (decimal k) (sym one.is ∙ other.is) in
+    same_workload s u n k (one_number s u (omega (arith, one.seed_fits)) (omega (arith, other.seed_fits)) parts.0) (one_number n k (omega (arith, one.million)) (omega (arith, other.million)) parts.1)
 one_mode words (Format l c) (Format m d) one other =
     let parts = three (codes "format") one.name (decimal c) (codes "format") other.name (decimal d) (sym one.is ∙ other.is) in
     same_format l m c d
     (one_layout one.name l m one.names (subst (λ (n : List ℕ). NamesLayout n m) (sym parts.0) other.names))
     (one_number c d one.cluster_fits other.cluster_fits parts.1)
 
--- ---- words without a meaning
+-- ---- three words
 
-pub no_layout : (word name cluster : List ℕ) → ((l : Layout) → NamesLayout name l → ⊥) → (command : Mode) → Means (word ∷ name ∷ cluster ∷ []) command → ⊥
-no_layout word name cluster none Run says = one_is_not_three (codes "run") word name cluster (word ∷ name ∷ cluster ∷ []) says refl
-no_layout word name cluster none Recover says = one_is_not_three (codes "recover") word name cluster (word ∷ name ∷ cluster ∷ []) says refl
-no_layout word name cluster none Inspect says = one_is_not_three (codes "inspect") word name cluster (word ∷ name ∷ cluster ∷ []) says refl
-no_layout word name cluster none (Format l c) says =
-    let parts = three word name cluster (codes "format") says.name (decimal c) says.is in
-    none l (subst (λ (n : List ℕ). NamesLayout n l) (sym parts.0) says.names)
+-- their first one is `format` or `workload`
+pub no_other : (word one two : List ℕ) → (word ≡ codes "format" → ⊥) → (word ≡ codes "workload" → ⊥) → (mode : Mode) → Means (word ∷ one ∷ two ∷ []) mode → ⊥
+no_other word one two no_format no_workload Run says = one_is_not_three (codes "run") word one two (word ∷ one ∷ two ∷ []) says refl
+no_other word one two no_format no_workload Recover says = one_is_not_three (codes "recover") word one two (word ∷ one ∷ two ∷ []) says refl
+no_other word one two no_format no_workload Inspect says = one_is_not_three (codes "inspect") word one two (word ∷ one ∷ two ∷ []) says refl
+no_other word one two no_format no_workload Scrub says = one_is_not_three (codes "scrub") word one two (word ∷ one ∷ two ∷ []) says refl
+no_other word one two no_format no_workload (Workload s n) says = no_workload (first_of word one two (codes "workload") (decimal s) (decimal n) says.is)
+no_other word one two no_format no_workload (Format l c) says = no_format (first_of word one two (codes "format") says.name (decimal c) says.is)
+
+-- behind `format` they name a layout, and a cluster
+pub only_format : (name cluster : List ℕ) → ((layout : Layout) (n : ℕ) → NamesLayout name layout → cluster ≡ decimal n → n < 2 ^ 128 → ⊥) → (mode : Mode) → Means (codes "format" ∷ name ∷ cluster ∷ []) mode → ⊥
+only_format name cluster none Run says = one_is_not_three (codes "run") (codes "format") name cluster (codes "format" ∷ name ∷ cluster ∷ []) says refl
+only_format name cluster none Recover says = one_is_not_three (codes "recover") (codes "format") name cluster (codes "format" ∷ name ∷ cluster ∷ []) says refl
+only_format name cluster none Inspect says = one_is_not_three (codes "inspect") (codes "format") name cluster (codes "format" ∷ name ∷ cluster ∷ []) says refl
+only_format name cluster none Scrub says = one_is_not_three (codes "scrub") (codes "format") name cluster (codes "format" ∷ name ∷ cluster ∷ []) says refl
+only_format name cluster none (Workload s n) says =
+    let letter : 102 ≡ 119 = ap (λ (l : List ℕ). get_or l 0 0) (first_of (codes "format") name cluster (codes "workload") (decimal s) (decimal n) says.is) in
+    omega (arith, letter)
+only_format name cluster none (Format l c) says =
+    let parts = three (codes "format") name cluster (codes "format") says.name (decimal c) says.is in
+    none l c (subst (λ (n : List ℕ). NamesLayout n l) (sym parts.0) says.names) parts.1 says.cluster_fits
+
+-- and behind `workload` two numbers
+pub only_workload : (seed count : List ℕ) → ((s n : ℕ) → seed ≡ decimal s → count ≡ decimal n → s < 2 ^ 64 → 1 ≤ n → n ≤ 1000000 → ⊥) → (mode : Mode) → Means (codes "workload" ∷ seed ∷ count ∷ []) mode → ⊥
+only_workload seed count none Run says = one_is_not_three (codes "run") (codes "workload") seed count (codes "workload" ∷ seed ∷ count ∷ []) says refl
+only_workload seed count none Recover says = one_is_not_three (codes "recover") (codes "workload") seed count (codes "workload" ∷ seed ∷ count ∷ []) says refl
+only_workload seed count none Inspect says = one_is_not_three (codes "inspect") (codes "workload") seed count (codes "workload" ∷ seed ∷ count ∷ []) says refl
+only_workload seed count none Scrub says = one_is_not_three (codes "scrub") (codes "workload") seed count (codes "workload" ∷ seed ∷ count ∷ []) says refl
+only_workload seed count none (Workload s n) says =
+    let parts = three (codes "workload") seed count (codes "workload") (decimal s) (decimal n) says.is in
+    none s n parts.0 parts.1 says.seed_fits says.some says.million
+only_workload seed count none (Format l c) says =
+    let letter : 119 ≡ 102 = ap (λ (l : List ℕ). get_or l 0 0) (first_of (codes "workload") seed count (codes "format") says.name (decimal c) says.is) in
+    omega (arith, letter)
+
+-- a number out of its range
+pub out_of_range : (count : List ℕ) (found n : ℕ) → count ≡ decimal found → count ≡ decimal n → found < 2 ^ 64 → 1 ≤ n → n ≤ 1000000 → found ≡ n
+out_of_range count found n one other fits some million = one_number found n (omega arith) (omega arith) (sym one ∙ other)

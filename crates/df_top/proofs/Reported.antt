@@ -1,6 +1,6 @@
--- A file that is reported: what a survey found of it, or the summary of what was opened; and one that is refused.
+-- A file that is reported: what a survey found of it, the summary of what was opened, or a tour over it; and one that is refused.
 use Rattle.std.proofs.Common.{◌≡◌, ◌⊎◌, inl, inr, ℕ, true, List, [], ◌∷◌, Option, Some, None, refl, sym, ◌∙◌, ap, subst, Ok, Err}
-use Rattle.df_base.specs.Image.{IsImage}
+use Rattle.df_base.specs.Image.{Image, IsImage}
 use Rattle.df_base.specs.Log.{Sync}
 use Rattle.df_base.specs.Moments.{EachMoment}
 use Rattle.df_disk.specs.Adds.{AddsPart}
@@ -10,7 +10,10 @@ use Rattle.df_layout.specs.declared.damage.Mend.{Mend}
 use Rattle.df_layout.specs.declared.layout.Layout.{Layout}
 use Rattle.df_theory.specs.View.{View}
 use Rattle.df_units.specs.Bytes.{unit_at}
-use Rattle.df_model.specs.Work.{opened}
+use Rattle.df_model.specs.Memory.{Memory, referenced_of}
+use Rattle.df_model.specs.Reading.{IsTour}
+use Rattle.df_model.specs.Work.{first_tour, opened}
+use Rattle.df_model.proofs.Laws.{tour_law}
 use Rattle.df_model.specs.declared.answers.Summary.{Summary}
 use Rattle.df_model.specs.declared.errors.OpenError.{OpenError}
 use Rattle.df_model.specs.declared.errors.OpenError.TheVariants as opens
@@ -20,7 +23,9 @@ use Rattle.df_sessions.specs.declared.session.Session.{Session}
 use Rattle.df_state.specs.State.{State as Replica, shape}
 use Rattle.df_replica.specs.Following.{MayOpen}
 use Rattle.df_replica.specs.Opened.{ToldBy}
+use Rattle.df_replica.specs.Reading.{shown_of}
 use Rattle.df_replica.specs.Replica.{Survey, summary_of}
+use Rattle.df_replica.specs.Scrubbing.{IsMachineTour, at_start}
 use Rattle.df_replica.specs.Serving.{Grade, IsGoodFor, IsKept, StandsFor, format}
 use Rattle.df_replica.specs.Surveying.{TellsMends, TellsSurvey}
 use Rattle.df_top.specs.Keeping.{KeepsFile}
@@ -28,6 +33,7 @@ use Rattle.df_top.specs.Opening.{RefusesFile}
 use Rattle.df_top.specs.Outside.{Outside, PrintsLine}
 use Rattle.df_top.specs.Refusing.{PrintsError}
 use Rattle.df_top.specs.Reporting.{FailsToSurvey, Inspects, Recovers, report_of, status_of}
+use Rattle.df_top.specs.Scrubs.{PrintsTour, ScrubsFile}
 use Rattle.df_top.specs.declared.status.Status.{Status}
 use Rattle.df_top.specs.declared.status.Status.TheVariants.{Done}
 use Rattle.df_top.proofs.Kept.{goes_told, keeps_file}
@@ -88,15 +94,20 @@ module _ (layout : Layout) (t : Told) (old new : Outside) (status : Status) (who
       })))
       (λ no. inl (refuses layout t old new status e no whole told answer unread (syncs_once old.told new.told e no syncs) prints))
 
--- ---- recover
+-- ---- recover and scrub
+
+-- a tour over an image is the machine's
+machine_tour : (s : Replica) (image : Image) → IsMachineTour s image
+machine_tour s image codec w work rep =
+    subst (λ (xs : List (ℕ × ℕ)). IsTour (shape s.file) codec (shown_of s.file image) (at_start w) xs) (sym (ap referenced_of rep))
+    (tour_law (shape s.file) codec (shown_of s.file image) (at_start w) refl work.few)
 
 module _ (layout : Layout) (t : Told) (old new : Outside) (status : Status) (s : Replica) (told : old.told ≡ Some t) (unread : new.left ≡ old.left) (live : s.live ≡ true) (is_opened : IsOpened layout t.shown s)
     (by : ToldBy (after Sync old.told) new.told)
     (kept_for : (n : Told) → new.told ≡ Some n → (g : Grade) (view : View) → MayOpen s.file view t → StandsFor g (unit_at s.file.layout s.file.cluster t.shown) view
     → IsKept g s (opened (shape s.file) (unit_at s.file.layout s.file.cluster t.shown) view) n.log)
     (good : (n : Told) → new.told ≡ Some n → (g : Grade) (view : View) → MayOpen s.file view t → StandsFor g (unit_at s.file.layout s.file.cluster t.shown) view
-    → EachMoment (did Sync t).log n.log (IsGoodFor g (format s.file) (shape s.file) view view))
-    (prints : PrintsLine (summary_text (summary_of s)) Done old.written new.written status) where
+    → EachMoment (did Sync t).log n.log (IsGoodFor g (format s.file) (shape s.file) view view)) where
   synced : ToldBy (Some (did Sync t)) new.told
   synced = subst (λ (o : Option Told). ToldBy (after Sync o) new.told) told by
 
@@ -109,5 +120,23 @@ module _ (layout : Layout) (t : Told) (old new : Outside) (status : Status) (s :
       (keeps_file g s (opened (shape s.file) (unit_at s.file.layout s.file.cluster t.shown) view) t n live (kept_for n goes.1 g view may stands)
       (goes.2.honest (record { shows = may.honest.shows })) goes.2.grew (good n goes.1 g view may stands) s (Some n) [] [] None (refl, refl))
 
-  pub recovers : Recovers layout t old new status
-  recovers = record { replica = s; is_opened = is_opened; prints = prints; unread = unread; keeps = keeps }
+  pub recovers : PrintsLine (summary_text (summary_of s)) Done old.written new.written status → Recovers layout t old new status
+  recovers prints = record { replica = s; is_opened = is_opened; prints = prints; unread = unread; keeps = keeps }
+
+  -- its tour is at the start
+  first : s.tour ≡ first_tour
+  first = ap (λ (m : Memory). m.tour) is_opened.stands
+
+  pub scrubs : ((n : Told) → new.told ≡ Some n → s.tour ≡ first_tour → PrintsTour s n.shown old.written new.written status) → ScrubsFile layout t old new status
+  scrubs tours =
+      let goes = goes_told (did Sync t) new.told synced in
+      record {
+        replica = s;
+        is_opened = is_opened;
+        after = goes.0;
+        told = goes.1;
+        prints = tours goes.0 goes.1 first;
+        machine = machine_tour s goes.0.shown;
+        unread = unread;
+        keeps = keeps;
+      }

@@ -1,6 +1,5 @@
 -- Over a file that may be opened each other end of a word needs a call that failed, or a refusal that no such file has.
-use Rattle.std.proofs.Common.{◌≡◌, ◌⊎◌, inl, inr, ℕ, ◌-◌, Bool, true, false, List, [], ◌∷◌, ◌++◌, map, Option, None, Some, refl, sym, ◌∙◌, subst}
-use Rattle.std.specs.Prelude.{Err}
+use Rattle.std.proofs.Common.{◌≡◌, ◌⊎◌, inl, inr, ℕ, zero, suc, ◌-◌, Bool, true, List, [], ◌∷◌, ◌++◌, length, map, Option, None, Some, refl, sym, ◌∙◌, subst}
 use Rattle.df_base.specs.Image.{IsImage}
 use Rattle.df_disk.specs.Told.{Told}
 use Rattle.df_layout.specs.declared.damage.Mend.{Mend}
@@ -10,8 +9,6 @@ use Rattle.df_lines.specs.Room.{line_bound}
 use Rattle.df_lines.specs.Script.{Begins, IsRefused, IsScript}
 use Rattle.df_lines.specs.Text.{after_line, taken}
 use Rattle.df_lines.proofs.Laws.{one_script}
-use Rattle.df_recovery.specs.Found.{IsLayoutShown}
-use Rattle.df_recovery.specs.Surveys.{Surveys}
 use Rattle.df_state.specs.declared.file.DataFile.{DataFile}
 use Rattle.df_theory.specs.View.{View}
 use Rattle.df_replica.specs.Completeness.{IsNotRefused}
@@ -19,15 +16,18 @@ use Rattle.df_replica.specs.Following.{MayOpen}
 use Rattle.df_replica.specs.Session.{Act}
 use Rattle.df_replica.proofs.Laws.{safe_is_not_refused}
 use Rattle.df_top.specs.Completeness.{IsCarriedOut, IsWhole, NoneFailed, SafeIsRun, SafeIsServed}
-use Rattle.df_top.specs.Mode.{IsOfFile}
 use Rattle.df_top.specs.Opening.{RefusesFile}
 use Rattle.df_top.specs.Outside.{Faults, HasCauses, Outside}
 use Rattle.df_top.specs.Reporting.{status_of}
+use Rattle.df_top.specs.Scrubs.{failing_blocks, tour_status}
 use Rattle.df_top.specs.Run.{Does, DidNothing, RefusesSuperblock, ServesOwn, ServesScript, script_budget}
 use Rattle.df_top.specs.Lines.{Turned, said_in}
 use Rattle.df_top.specs.Session.{EndsWith, act_of, said_of}
+use Rattle.df_workload.specs.declared.state.State.{State as Generated}
+use Rattle.df_state.specs.State.{State as Replica}
+use Rattle.df_top.specs.Works.{Writes}
 use Rattle.df_top.specs.declared.mode.Mode.{Mode}
-use Rattle.df_top.specs.declared.mode.Mode.TheVariants.{Format, Run, Recover, Inspect}
+use Rattle.df_top.specs.declared.mode.Mode.TheVariants.{Format, Run, Recover, Inspect, Scrub, Workload}
 use Rattle.df_top.specs.declared.status.Status.{Status}
 use Rattle.df_top.specs.declared.status.Status.TheVariants.{Done, Found, Words, Script, Refused, DiskFault, ReadFault, WriteFault, Memory}
 
@@ -35,6 +35,11 @@ use Rattle.df_top.specs.declared.status.Status.TheVariants.{Done, Found, Words, 
 listed : (mends : List Mend) (status : Status) → status ≡ status_of mends → (status ≡ Done) ⊎ (status ≡ Found)
 listed [] status is = inl is
 listed (m ∷ more) status is = inr is
+
+-- and so does a tour
+counted : (failing : ℕ) (status : Status) → status ≡ tour_status failing → (status ≡ Done) ⊎ (status ≡ Found)
+counted zero status is = inl is
+counted (suc more) status is = inr is
 
 -- ---- how a session ends
 
@@ -81,6 +86,28 @@ whole_uncut layout text rest asked budget whole begins refused =
     let read : Begins (line_bound layout) script_budget text asked whole.left [] = subst (λ (l : List Said). Begins (line_bound layout) script_budget text l whole.left []) same whole.begins in
     refused.some (one_rest (line_bound layout) script_budget text asked budget whole.left rest [] begins read)
 
+-- a generated run ends at its end, at a step that is damaged, or with a cause
+run_ends : (run : Generated) (last : Replica) (told : Option Told) (failed : Option Act) (written took : Option (List ℕ)) (status : Status) → Writes run last told failed written took status
+    → (status ≡ Done) ⊎ (status ≡ Refused) ⊎ (status ≡ DiskFault) ⊎ (status ≡ WriteFault)
+run_ends run last told None written took Done writes = inl refl
+run_ends run last told None written took Found writes = absurd writes
+run_ends run last told None written took Words writes = absurd writes
+run_ends run last told None written took Script writes = absurd writes
+run_ends run last told None written took Refused writes = absurd writes
+run_ends run last told None written took DiskFault writes = absurd writes
+run_ends run last told None written took ReadFault writes = absurd writes
+run_ends run last told None written took WriteFault writes = inr (inr (inr refl))
+run_ends run last told None written took Memory writes = absurd writes
+run_ends run last told (Some a) written took Done writes = absurd writes
+run_ends run last told (Some a) written took Found writes = absurd writes
+run_ends run last told (Some a) written took Words writes = absurd writes
+run_ends run last told (Some a) written took Script writes = absurd writes
+run_ends run last told (Some a) written took Refused writes = inr (inl refl)
+run_ends run last told (Some a) written took DiskFault writes = inr (inr (inl refl))
+run_ends run last told (Some a) written took ReadFault writes = absurd writes
+run_ends run last told (Some a) written took WriteFault writes = inr (inr (inr refl))
+run_ends run last told (Some a) written took Memory writes = absurd writes
+
 -- ---- the words
 
 module _ (file : DataFile) (view : View) (t : Told) (old new : Outside) (before now : Faults) (status : Status) (may : MayOpen file view t) (causes : HasCauses before now status) (none : NoneFailed before now) where
@@ -115,6 +142,14 @@ module _ (file : DataFile) (view : View) (t : Told) (old new : Outside) (before 
     | Damaged refused ↦ absurd (serves.undamaged refused)
   ]
 
+  worked : (run : Generated) (last : Replica) (told : Option Told) (failed : Option Act) (written took : Option (List ℕ)) → Writes run last told failed written took status → (status ≡ Refused → ⊥) → status ≡ Done
+  worked run last told failed written took writes undamaged = elim (run_ends run last told failed written took status writes) [
+    | inl done ↦ done
+    | inr (inl refused) ↦ absurd (undamaged refused)
+    | inr (inr (inl fault)) ↦ absurd (no_disk fault)
+    | inr (inr (inr fault)) ↦ absurd (no_sink fault)
+  ]
+
   done : (mode : Mode) → Does mode file.layout t old new status → IsCarriedOut mode file.layout old.left status
   done (Format shape cluster) does = does
   done Run (inl refuses) = absurd (no_refusal refuses)
@@ -132,6 +167,16 @@ module _ (file : DataFile) (view : View) (t : Told) (old new : Outside) (before 
     | inl printed ↦ listed inspects.survey.mends status printed.0
     | inr part ↦ absurd (no_sink part.0)
   ]
+  done Scrub (inl refuses) = absurd (no_refusal refuses)
+  done Scrub (inr (inl fails)) = absurd (no_disk fails.fault)
+  done Scrub (inr (inr scrubs)) = elim scrubs.prints [
+    | inl (inl printed) ↦ counted (length (failing_blocks scrubs.replica scrubs.after.shown)) status printed.0
+    | inl (inr part) ↦ absurd (no_sink part.0)
+    | inr stops ↦ absurd (no_disk stops.fault)
+  ]
+  done (Workload seed count) (inl refuses) = absurd (no_refusal refuses)
+  done (Workload seed count) (inr (inl fails)) = absurd (no_disk fails.fault)
+  done (Workload seed count) (inr (inr works)) = worked works.run works.last new.told works.worked.failed old.written new.written works.written works.undamaged
 
   ran : (mode : Mode) → DidNothing old new status ⊎ RefusesSuperblock t old new status ⊎ ServesOwn mode t old new status → (status ≡ Memory) ⊎ IsCarriedOut mode file.layout old.left status
   ran mode (inl nothing) = elim nothing.why [

@@ -13,7 +13,7 @@ use Rattle.df_top.specs.Mode.{IsOfFile}
 use Rattle.df_top.specs.Outside.{Faults, HasCauses, Outside}
 use Rattle.df_top.specs.Run.{Runs, ServesIn, script_budget}
 use Rattle.df_top.specs.declared.mode.Mode.{Mode}
-use Rattle.df_top.specs.declared.mode.Mode.TheVariants.{Format, Run, Recover, Inspect}
+use Rattle.df_top.specs.declared.mode.Mode.TheVariants.{Format, Run, Recover, Inspect, Scrub, Workload}
 use Rattle.df_top.specs.declared.status.Status.{Status}
 use Rattle.df_top.specs.declared.status.Status.TheVariants.{Done, Found, Memory, Script}
 
@@ -34,12 +34,14 @@ pub record IsCut (layout : Layout) (left : Option (List ℕ)) (status : Status) 
   pub script : status ≡ Script
   pub why : (text : List ℕ) → left ≡ Some text → IsWhole layout text → ⊥
 
--- the word was carried out: a script that is whole was read to its end, and a report may list what is to be mended
+-- the word was carried out: a script that is whole was read to its end, and a report may list what is to be mended, or blocks that fail
 abbrev pub IsCarriedOut : Mode → Layout → Option (List ℕ) → Status → Type 0
 IsCarriedOut (Format shape cluster) layout left status = ⊥
 IsCarriedOut Run layout left status = (status ≡ Done) ⊎ IsCut layout left status
 IsCarriedOut Recover layout left status = status ≡ Done
 IsCarriedOut Inspect layout left status = (status ≡ Done) ⊎ (status ≡ Found)
+IsCarriedOut Scrub layout left status = (status ≡ Done) ⊎ (status ≡ Found)
+IsCarriedOut (Workload seed count) layout left status = status ≡ Done
 
 -- whatever word on a file is run, over a disk that may be opened: where nothing failed, it was carried out, or memory was wanting
 abbrev pub SafeIsRun : Type 0

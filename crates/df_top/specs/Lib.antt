@@ -9,7 +9,11 @@ pub mod Turning
 pub mod Refusing
 pub mod Opening
 pub mod Keeping
+pub mod Works
+pub mod Working
 pub mod Reporting
+pub mod Scrubs
+pub mod Touring
 pub mod Run
 pub mod Formats
 pub mod Completeness

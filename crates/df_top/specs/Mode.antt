@@ -1,8 +1,8 @@
 -- What the words of the command line ask for.
-use Rattle.std.specs.Prelude.{◌≡◌, ◌⊎◌, ◌<◌, ◌^◌, ℕ, List, [], ◌∷◌, ◌++◌, codes, decimal}
+use Rattle.std.specs.Prelude.{◌≡◌, ◌⊎◌, ◌<◌, ◌≤◌, ◌^◌, ℕ, List, [], ◌∷◌, ◌++◌, codes, decimal}
 use Rattle.df_layout.specs.declared.layout.Layout.{Layout}
 use Rattle.df_top.specs.declared.mode.Mode.{Mode}
-use Rattle.df_top.specs.declared.mode.Mode.TheVariants.{Format, Run, Recover, Inspect}
+use Rattle.df_top.specs.declared.mode.Mode.TheVariants.{Format, Run, Recover, Inspect, Scrub, Workload}
 
 -- the layout has these five numbers
 pub record HasNumbers (layout : Layout) (a b c d e : ℕ) : Type 0 where
@@ -29,11 +29,20 @@ pub record SpellsFormat (words : List (List ℕ)) (layout : Layout) (cluster : �
   pub names : NamesLayout name layout
   pub cluster_fits : cluster < 2 ^ 128
 
+-- the words of `workload`: the seed and the number of rounds in decimal
+pub record SpellsWorkload (words : List (List ℕ)) (seed count : ℕ) : Type 0 where
+  pub is : words ≡ codes "workload" ∷ decimal seed ∷ decimal count ∷ []
+  pub seed_fits : seed < 2 ^ 64
+  pub some : 1 ≤ count
+  pub million : count ≤ 1000000
+
 -- the words ask for this
 abbrev pub Means : List (List ℕ) → Mode → Type 0
 Means words Run = words ≡ codes "run" ∷ []
 Means words Recover = words ≡ codes "recover" ∷ []
 Means words Inspect = words ≡ codes "inspect" ∷ []
+Means words Scrub = words ≡ codes "scrub" ∷ []
+Means words (Workload seed count) = SpellsWorkload words seed count
 Means words (Format layout cluster) = SpellsFormat words layout cluster
 
 -- words ask for one thing at most

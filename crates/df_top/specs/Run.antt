@@ -21,11 +21,13 @@ use Rattle.df_top.specs.Keeping.{KeepsFile}
 use Rattle.df_top.specs.Opening.{FailsToOpen, IsSilent, PrintsRefusal, RefusesFile}
 use Rattle.df_top.specs.Outside.{Outside}
 use Rattle.df_top.specs.Reporting.{FailsToSurvey, Inspects, Recovers}
+use Rattle.df_top.specs.Scrubs.{ScrubsFile}
+use Rattle.df_top.specs.Working.{WorksThrough}
 use Rattle.df_top.specs.Lines.{all_acts, all_answers}
 use Rattle.df_top.specs.Session.{Ended, State, act_of}
 use Rattle.df_top.specs.Usage.{usage}
 use Rattle.df_top.specs.declared.mode.Mode.{Mode}
-use Rattle.df_top.specs.declared.mode.Mode.TheVariants.{Format, Run, Recover, Inspect}
+use Rattle.df_top.specs.declared.mode.Mode.TheVariants.{Format, Run, Recover, Inspect, Scrub, Workload}
 use Rattle.df_top.specs.declared.status.Status.{Status}
 use Rattle.df_top.specs.declared.status.Status.TheVariants.{DiskFault, Memory, Refused, Words, WriteFault}
 
@@ -62,12 +64,15 @@ pub record ServesScript (layout : Layout) (t : Told) (old new : Outside) (status
 -- ---- any word
 
 -- What a word does with a file in rooms of a layout: it is refused, or the disk fails before it is opened; or the script is served, the summary of the file
--- that was opened is printed, or what a survey found of it.
+-- that was opened is printed, what a survey found of it, or which of its blocks fail; or a generated run is
+-- carried out.
 abbrev pub Does : Mode → Layout → Told → Outside → Outside → Status → Type 0
 Does (Format shape cluster) layout t old new status = ⊥
 Does Run layout t old new status = RefusesFile layout t old new status ⊎ FailsToOpen layout t old new status ⊎ ServesScript layout t old new status
 Does Recover layout t old new status = RefusesFile layout t old new status ⊎ FailsToOpen layout t old new status ⊎ Recovers layout t old new status
 Does Inspect layout t old new status = RefusesFile layout t old new status ⊎ FailsToSurvey t old new status ⊎ Inspects layout t old new status
+Does Scrub layout t old new status = RefusesFile layout t old new status ⊎ FailsToOpen layout t old new status ⊎ ScrubsFile layout t old new status
+Does (Workload seed count) layout t old new status = RefusesFile layout t old new status ⊎ FailsToOpen layout t old new status ⊎ WorksThrough seed count layout t old new status
 
 -- and so it does over a disk that tells what it shows
 abbrev pub ServesIn : Mode → Layout → Outside → Outside → Status → Type 0

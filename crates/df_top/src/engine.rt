@@ -23,7 +23,8 @@ use df_replica::{Rooms, probe};
 use std::alloc::Global;
 
 /// The line that says which words have a meaning.
-pub const USAGE: &[u8] = b"usage: format LAYOUT CLUSTER | run | recover | inspect\n";
+pub const USAGE: &[u8] =
+    b"usage: format LAYOUT CLUSTER | run | recover | inspect | scrub | workload SEED COUNT\n";
 
 // The memory of a session over a file.
 #[derive(Drop)]
@@ -110,7 +111,9 @@ pub fn run<D: Disk, S: Source, W: Sink>(
 
     // The other words refuse a file by the first reason of the order of open. `run` serves the script as the machine does, and
     // keeps what it answered at every moment and at its end; `recover` mends the file and prints its summary; `inspect` prints
-    // the report of what it finds, and adds nothing on any disk but the sync of its barrier.
+    // the report of what it finds, and adds nothing on any disk but the sync of its barrier; `scrub` mends the file, and prints
+    // the referenced blocks that fail; `workload` carries out a generated run as the machine does, keeps what was answered, and
+    // prints what it did.
     ensures runs { (mode : Mode) → IsOfFile mode → Means (map string_bytes words.now) mode → Runs mode
         (record { told = D.told disk.old; left = S.left source.old; written = W.written sink.old })
         (record { told = D.told disk.new; left = S.left source.new; written = W.written sink.new }) result }
@@ -125,9 +128,13 @@ pub fn run<D: Disk, S: Source, W: Sink>(
         (record { told = D.told disk.new; left = S.left source.new; written = W.written sink.new }) }
 {
     match mode_of(words) {
-        Some(Mode::Run | Mode::Recover | Mode::Inspect) => {
-            run_file(alloc, words, source, sink, disk)
-        }
+        Some(
+            Mode::Run
+            | Mode::Recover
+            | Mode::Inspect
+            | Mode::Scrub
+            | Mode::Workload { seed: _, count: _ },
+        ) => { run_file(alloc, words, source, sink, disk) }
         Some(Mode::Format { layout, cluster }) => { make_file(alloc, disk, sink, &layout, cluster) }
         None => print_usage(sink),
     }

@@ -10,10 +10,13 @@ mod making;
 mod mode;
 mod reporting;
 mod scrub_calls;
+mod scrubbing;
 mod serving;
 mod session;
 mod status;
 mod turns;
+mod working;
+mod works;
 
 pub use completeness::a_safe_file_is_served;
 pub use engine::run;

@@ -1,12 +1,15 @@
 // What the words of the command line ask for, by rules that take no memory.
-ghost use Rattle.std.specs.Prelude.{◌≡◌, ◌<◌, ◌^◌, ℕ, List, [], ◌∷◌, ◌++◌, map, decimal, string_bytes};
+ghost use Rattle.std.specs.Prelude.{◌≡◌, ◌<◌, ◌^◌, ℕ, List, [], ◌∷◌, ◌++◌, map, codes, decimal, string_bytes};
 ghost use Rattle.std.specs.Prelude.{IfSome, IfNone};
 ghost use Rattle.df_layout.specs.declared.layout.Layout.{Layout};
 ghost use Rattle.df_top.specs.declared.mode.Mode.{Mode};
 ghost use Rattle.df_top.specs.Mode.{Means, NamesLayout, OneMeaning, numbers_of};
 
 use df_layout::Layout;
-use df_lines::{u32_of, u128_of};
+use df_lines::{u32_of, u64_of, u128_of};
+
+/// The rounds of the longest generated run.
+const MOST_ROUNDS: u64 = 1_000_000;
 
 /// What the words of the command line ask for.
 #[derive(Clone, Copy, Debug, PartialEq, Eq)]
@@ -19,18 +22,22 @@ pub enum Mode {
     Recover,
     /// Prints what a survey of the file finds, and writes nothing to it: `inspect`.
     Inspect,
+    /// Opens the file, which mends it, and prints the blocks that fail in a tour of the scrubber: `scrub`.
+    Scrub,
+    /// Opens the file, which mends it, carries out a generated run of `count` rounds and prints what it did: `workload SEED COUNT`.
+    Workload { seed: u64, count: u64 },
 }
 
 /// What the words ask for, or None where they have no meaning. LAYOUT is `small`, `large`, or the slots, the bytes of a
 /// message, the clients, the bytes of a block and the blocks, in decimal with commas between them. CLUSTER is a number in
-/// decimal below 2^128. A number has no zero before it, `0` itself aside.
+/// decimal below 2^128. SEED is one below 2^64, COUNT one from 1 to 1,000,000. A number has no zero before it, `0` itself aside.
 pub fn mode_of(words: &[String]) -> Option<Mode>
     ensures found { IfSome result (Means (map string_bytes words.now)) }
     ensures none { IfNone result ((c : Mode) → Means (map string_bytes words.now) c → ⊥) }
 {
     match words {
         [word] => plain_mode(word.as_str()),
-        [word, name, cluster] => format_mode(word.as_str(), name.as_str(), cluster.as_str()),
+        [word, one, two] => mode_with(word.as_str(), one.as_str(), two.as_str()),
         _ => None,
     }
 }
@@ -47,20 +54,48 @@ fn plain_mode(word: &str) -> Option<Mode>
         return Some(Mode::Recover);
     }
     if word == "inspect" {
-        Some(Mode::Inspect)
+        return Some(Mode::Inspect);
+    }
+    if word == "scrub" {
+        Some(Mode::Scrub)
     } else {
         None
     }
 }
 
 // What three words ask for.
-fn format_mode(word: &str, name: &str, cluster: &str) -> Option<Mode>
-    ensures found { IfSome result (Means (word.now ∷ name.now ∷ cluster.now ∷ [])) }
-    ensures none { IfNone result ((c : Mode) → Means (word.now ∷ name.now ∷ cluster.now ∷ []) c → ⊥) }
+fn mode_with(word: &str, one: &str, two: &str) -> Option<Mode>
+    ensures found { IfSome result (Means (word.now ∷ one.now ∷ two.now ∷ [])) }
+    ensures none { IfNone result ((c : Mode) → Means (word.now ∷ one.now ∷ two.now ∷ []) c → ⊥) }
 {
-    if word != "format" {
+    if word == "format" {
+        return format_mode(one, two);
+    }
+    if word == "workload" {
+        workload_mode(one, two)
+    } else {
+        None
+    }
+}
+
+// What `workload` asks for with these words behind it.
+fn workload_mode(seed: &str, count: &str) -> Option<Mode>
+    ensures found { IfSome result (Means (codes "workload" ∷ seed.now ∷ count.now ∷ [])) }
+    ensures none { IfNone result ((c : Mode) → Means (codes "workload" ∷ seed.now ∷ count.now ∷ []) c → ⊥) }
+{
+    let seed = u64_of(seed.as_bytes())?;
+    let count = u64_of(count.as_bytes())?;
+    if count == 0 || count > MOST_ROUNDS {
         return None;
     }
+    Some(Mode::Workload { seed, count })
+}
+
+// What `format` asks for with these words behind it.
+fn format_mode(name: &str, cluster: &str) -> Option<Mode>
+    ensures found { IfSome result (Means (codes "format" ∷ name.now ∷ cluster.now ∷ [])) }
+    ensures none { IfNone result ((c : Mode) → Means (codes "format" ∷ name.now ∷ cluster.now ∷ []) c → ⊥) }
+{
     let layout = layout_named(name)?;
     let cluster = u128_of(cluster.as_bytes())?;
     Some(Mode::Format { layout, cluster })

@@ -11,9 +11,11 @@ ghost use Rattle.df_top.specs.Run.{ServesIn};
 
 use crate::mode::{Mode, mode_of};
 use crate::reporting::{inspect_file, recover_file};
+use crate::scrubbing::scrub_file;
 use crate::session::Session;
 use crate::status::Status;
 use crate::turns::serve_script;
+use crate::working::workload_file;
 use df_base::{Sink, Source};
 use df_disk::Disk;
 use df_inspect::print_open_refusal;
@@ -92,6 +94,8 @@ pub fn serve<D: Disk, S: Source, W: Sink>(
         Some(Mode::Run) => serve_file(rooms, lines, source, sink, disk),
         Some(Mode::Recover) => recover_file(rooms, sink, disk),
         Some(Mode::Inspect) => inspect_file(rooms, sink, disk),
+        Some(Mode::Scrub) => scrub_file(rooms, sink, disk),
+        Some(Mode::Workload { seed, count }) => workload_file(rooms, seed, count, sink, disk),
         Some(
             Mode::Format {
                 layout: _,

@@ -48,6 +48,7 @@ fn words_of_a_file_stand_alone(rt: HostRuntime) -> Result<(), AllocError> {
         ("run", Mode::Run),
         ("recover", Mode::Recover),
         ("inspect", Mode::Inspect),
+        ("scrub", Mode::Scrub),
     ] {
         let words = words_of(rt.alloc(), &[text])?;
         assert_eq!(rt; mode_of(&words), Some(mode), "{text}");

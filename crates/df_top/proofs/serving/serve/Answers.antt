@@ -5,7 +5,7 @@ use Rattle.df_top.specs.Mode.{Means}
 use Rattle.df_top.specs.Outside.{Outside}
 use Rattle.df_top.specs.Run.{ServesIn}
 use Rattle.df_top.specs.declared.mode.Mode.{Mode}
-use Rattle.df_top.specs.declared.mode.Mode.TheVariants.{Run, Recover, Inspect}
+use Rattle.df_top.specs.declared.mode.Mode.TheVariants.{Run, Recover, Inspect, Scrub, Workload}
 use Rattle.df_top.proofs.Modes.{one_mode}
 use Rattle.df_top.proofs.serving.serve.Goals as goal
 
@@ -32,8 +32,31 @@ returns-in-Some-Inspect-clause-serves g c = λ mode asks.
     let mine = subst (Means (map string_bytes c.args.words.now)) c.in-Some-Inspect.field-0-is c.in-Some-Inspect.ensures.found in
     subst (λ (m : Mode). ServesIn m c.args.rooms.layout old new c.inspect_file.result) (one_mode (map string_bytes c.args.words.now) Inspect mode mine asks) (c.inspect_file.ensures.inspects left)
 
+pub returns-in-Some-Scrub-clause-serves : goal.returns-in-Some-Scrub-clause-serves
+returns-in-Some-Scrub-clause-serves g c = λ mode asks.
+    let left = g.S.Source.left c.args.source.now in
+    let old : Outside = record { told = g.D.Disk.told c.args.disk.now; left = left; written = g.W.Sink.written c.args.sink.now } in
+    let new : Outside = record { told = g.D.Disk.told c.scrub_file.new.disk; left = left; written = g.W.Sink.written c.scrub_file.new.sink } in
+    let mine = subst (Means (map string_bytes c.args.words.now)) c.in-Some-Scrub.field-0-is c.in-Some-Scrub.ensures.found in
+    subst (λ (m : Mode). ServesIn m c.args.rooms.layout old new c.scrub_file.result) (one_mode (map string_bytes c.args.words.now) Scrub mode mine asks) (c.scrub_file.ensures.scrubs left)
+
 pub returns-in-Some-Recover-clause-causes : goal.returns-in-Some-Recover-clause-causes
 returns-in-Some-Recover-clause-causes g c = c.recover_file.ensures.causes (g.S.Source.faults c.args.source.now)
 
 pub returns-in-Some-Inspect-clause-causes : goal.returns-in-Some-Inspect-clause-causes
 returns-in-Some-Inspect-clause-causes g c = c.inspect_file.ensures.causes (g.S.Source.faults c.args.source.now)
+
+pub returns-in-Some-Scrub-clause-causes : goal.returns-in-Some-Scrub-clause-causes
+returns-in-Some-Scrub-clause-causes g c = c.scrub_file.ensures.causes (g.S.Source.faults c.args.source.now)
+
+pub returns-in-Some-Workload-clause-serves : goal.returns-in-Some-Workload-clause-serves
+returns-in-Some-Workload-clause-serves g c = λ mode asks.
+    let left = g.S.Source.left c.args.source.now in
+    let old : Outside = record { told = g.D.Disk.told c.args.disk.now; left = left; written = g.W.Sink.written c.args.sink.now } in
+    let new : Outside = record { told = g.D.Disk.told c.workload_file.new.disk; left = left; written = g.W.Sink.written c.workload_file.new.sink } in
+    let mine = subst (Means (map string_bytes c.args.words.now)) c.in-Some-Workload.field-0-is c.in-Some-Workload.ensures.found in
+    subst (λ (m : Mode). ServesIn m c.args.rooms.layout old new c.workload_file.result)
+    (one_mode (map string_bytes c.args.words.now) (Workload c.in-Some-Workload.seed c.in-Some-Workload.count) mode mine asks) (c.workload_file.ensures.works left)
+
+pub returns-in-Some-Workload-clause-causes : goal.returns-in-Some-Workload-clause-causes
+returns-in-Some-Workload-clause-causes g c = c.workload_file.ensures.causes (g.S.Source.faults c.args.source.now)

@@ -1,0 +1,123 @@
+-- A disk that may be hurt, seen from behind the barrier of an open: its log rests on the view, its history began with the empty image, and what is shown was settled.
+use Rattle.std.proofs.Common.{◌≡◌, inl, inr, ℕ, ◌<◌, List, [], ◌∷◌, Some, sym, ◌∙◌, ap, subst, arith}
+use Rattle.df_base.specs.Image.{Image}
+use Rattle.df_base.specs.Log as logs
+use Rattle.df_base.specs.Log.{Sync}
+use Rattle.df_disk.specs.Told.{Told}
+use Rattle.df_layout.specs.declared.places.Zone.TheVariants.{Superblock}
+use Rattle.df_theory.specs.Chance.{InPool, InPools}
+use Rattle.df_theory.specs.Copies.{Agree}
+use Rattle.df_theory.specs.DamageLaws.{ShowsPool}
+use Rattle.df_theory.specs.Device.{units_log}
+use Rattle.df_theory.specs.Found.{IsFound}
+use Rattle.df_theory.specs.Holds.{Holds}
+use Rattle.df_theory.specs.HistoryLaws.{AreDistinct, ShowsSettled}
+use Rattle.df_theory.specs.Past.{FromEmpty, Was}
+use Rattle.df_theory.specs.Rests.{RestsOn}
+use Rattle.df_theory.specs.UnitLog.{UnitEvent, UnitLog, now, settled}
+use Rattle.df_theory.specs.Units.{AnyUnit, Content, CopyPlace, CopyUnit, Place, Units}
+use Rattle.df_theory.specs.View.{View}
+use Rattle.df_theory.proofs.Laws.{disk_barrier_law, found_was_of_log_law, now_units, settled_law}
+use Rattle.df_units.specs.Bytes.{unit_at}
+use Rattle.df_units.specs.Meaning.{place_of}
+use Rattle.df_units.proofs.Laws.{blank_empty, is_format}
+use Rattle.df_replica.specs.Serving.{format}
+use Rattle.df_state.specs.declared.file.DataFile.{DataFile}
+use Rattle.df_state.specs.State.{shape}
+use Rattle.df_damage.specs.Disks.{IsAtRest, MayBeHurt}
+use Rattle.df_damage.specs.Hurt.{HasTwoCopies, IsUnhurtZone}
+use Rattle.df_damage.specs.Past.{WasHad}
+use Rattle.df_damage.proofs.Pasts.{AreAmong, among_images, from_blank, settled_blank, was_held}
+use Rattle.df_damage.proofs.Sectors.{in_zone, same_copies}
+
+-- a unit of the pool is one of the pools
+pub in_pools : (start : Units) (es : List UnitEvent) (place : Place) (x : AnyUnit) → InPool (record { start = start; events = es }) place x → InPools start es place x
+in_pools start [] place x is = is
+in_pools start (e ∷ es) place x is = inl is
+
+module _ (file : DataFile) (view : View) (t : Told) (may : MayBeHurt file view t) where
+  -- the log of units behind the barrier, and what is shown
+  abbrev pub log : UnitLog
+  log = units_log (format file) (logs.add Sync t.log)
+
+  abbrev pub shown : Units
+  shown = unit_at file.layout file.cluster t.shown
+
+  pub rests : RestsOn (shape file) (units_log (format file) (logs.add Sync t.log)) view
+  rests = disk_barrier_law (format file) (shape file) view t.log may.safe may.found
+
+  -- what the log leaves
+  pub left : now (units_log (format file) (logs.add Sync t.log)) ≡ unit_at file.layout file.cluster (logs.now t.log)
+  left = now_units (format file) t.log.start (Sync ∷ t.log.events)
+
+  pub pooled : ShowsPool (units_log (format file) (logs.add Sync t.log)) (unit_at file.layout file.cluster t.shown)
+  pooled = may.no_chance.pooled
+
+  -- ---- the history
+
+  pub empty : FromEmpty (shape file) (settled (units_log (format file) (logs.add Sync t.log))) view rests.grows
+  empty = from_blank (shape file) (settled log) view rests.grows (settled_blank log.start log.events (λ place. ap (λ (image : Image). unit_at file.layout file.cluster image place) may.empty ∙ blank_empty file.layout file.cluster place))
+
+  pub distinct : AreDistinct (settled (units_log (format file) (logs.add Sync t.log)))
+  distinct place other x y one two = may.no_chance.distinct place other x y (in_pools log.start log.events place x (inl one)) (in_pools log.start log.events other y (inl two))
+
+  pub shows_settled : ShowsSettled (settled (units_log (format file) (logs.add Sync t.log))) (unit_at file.layout file.cluster t.shown)
+  shows_settled place x is = elim (pooled place x is) [
+    | inl old ↦ old
+    | inr none ↦ absurd none
+  ]
+
+  pub was : (w : View) → IsFound (shape file) (unit_at file.layout file.cluster t.shown) w → Was (shape file) (settled (units_log (format file) (logs.add Sync t.log))) view rests.grows w
+  was w found = found_was_of_log_law (shape file) log view (record { fair = rests.fair; grows = rests.grows }) empty (λ place x is. is) shown may.no_chance w found
+
+  pub had : (w : View) → IsFound (shape file) (unit_at file.layout file.cluster t.shown) w → WasHad file (logs.add Sync t.log) w
+  had w found =
+      let held = was_held (shape file) (settled log) view rests.grows w (was w found) in
+      let there = among_images (format file) (logs.settled (logs.add Sync t.log)) held.0 (subst (λ (us : List Units). AreAmong us held.0) (settled_law (format file) (logs.add Sync t.log)) held.1) in
+      record { image = there.0; durable = there.1; holds = subst (λ (u : Units). Holds (shape file) u w) there.2 held.2 }
+
+  -- ---- what isn't hurt
+
+  -- a place none of whose sectors is hurt shows what it should
+  pub unhurt_zone : (place : Place) → IsUnhurtZone file.layout t (place_of place).zone → unit_at file.layout file.cluster t.shown place ≡ now (units_log (format file) (logs.add Sync t.log)) place
+  unhurt_zone place unhurt =
+      (is_format file.layout file.cluster).local t.shown (logs.now t.log) place (λ sector here. let zone = in_zone file.layout place sector here in unhurt sector zone.0 zone.1)
+      ∙ ap (λ (u : Units). u place) (sym left)
+
+  pub unhurt_copy : (n : ℕ) → t.shown n ≡ logs.now t.log n → unit_at file.layout file.cluster t.shown (CopyPlace n) ≡ unit_at file.layout file.cluster (logs.now t.log) (CopyPlace n)
+  unhurt_copy n same = same_copies file.layout file.cluster t.shown (logs.now t.log) n same
+
+  -- ---- two copies show the choice
+
+  pub agreed_zone : IsUnhurtZone file.layout t Superblock → Agree (unit_at file.layout file.cluster t.shown) view.checkpoint.content
+  agreed_zone unhurt =
+      let here = rests.holds.chosen.agreed in
+      record {
+        first = here.first;
+        second = here.second;
+        apart = here.apart;
+        inside = here.inside;
+        at_first = unhurt_zone (CopyPlace here.first) unhurt ∙ here.at_first;
+        at_second = unhurt_zone (CopyPlace here.second) unhurt ∙ here.at_second;
+      }
+
+  -- four equal copies are of the view's content
+  rest_content : (rest : IsAtRest file t.log) → rest.content ≡ view.checkpoint.content
+  rest_content rest =
+      let here = may.found.chosen.agreed in
+      let one : unit_at file.layout file.cluster (logs.now t.log) (CopyPlace here.second) ≡ Some (CopyUnit rest.content) = rest.copies here.second here.inside in
+      let two : unit_at file.layout file.cluster (logs.now t.log) (CopyPlace here.second) ≡ Some (CopyUnit view.checkpoint.content) = here.at_second in
+      cc
+
+  copy_stands : (rest : IsAtRest file t.log) (n : ℕ) → n < 4 → t.shown n ≡ logs.now t.log n → unit_at file.layout file.cluster t.shown (CopyPlace n) ≡ Some (CopyUnit view.checkpoint.content)
+  copy_stands rest n inside same = unhurt_copy n same ∙ rest.copies n inside ∙ ap (λ (c : Content). Some (CopyUnit c)) (rest_content rest)
+
+  pub agreed_rest : IsAtRest file t.log → HasTwoCopies t → Agree (unit_at file.layout file.cluster t.shown) view.checkpoint.content
+  agreed_rest rest two = record {
+    first = two.first;
+    second = two.second;
+    apart = two.apart;
+    inside = two.inside;
+    at_first = copy_stands rest two.first (omega (arith, two.apart, two.inside)) two.at_first;
+    at_second = copy_stands rest two.second two.inside two.at_second;
+  }

@@ -1,0 +1,98 @@
+-- Damage makes no superblock of another file: a content that is chosen among the copies can be used, and is of this file.
+use Rattle.std.proofs.Common.{◌≡◌, ℕ, ◌<◌, Some, None, sym, ◌∙◌, ap, subst}
+use Rattle.std.proofs.Math.Bridge.{le_prop}
+use Rattle.std.proofs.Math.Nat.{ℕ_set}
+use Rattle.df_disk.specs.Told.{Told}
+use Rattle.df_layout.specs.declared.layout.Layout.{Layout}
+use Rattle.df_layout.proofs.Same.{same_layout}
+use Rattle.df_format.specs.Copies.{Content, content_at}
+use Rattle.df_format.specs.SuperRules.{IsSuper, fault_of}
+use Rattle.df_format.specs.declared.superblock.SuperFault.{SuperFault}
+use Rattle.df_format.specs.declared.superblock.SuperFields.{SuperFields}
+use Rattle.df_format.proofs.SuperFaults.{faults}
+use Rattle.df_quorum.specs.Quorum
+use Rattle.df_theory.specs.Found.{IsFound}
+use Rattle.df_theory.specs.Opens.{BadField, Opens, Refusal, Refused}
+use Rattle.df_theory.specs.Trailer.{IsReference}
+use Rattle.df_theory.specs.UnitLog.{settled}
+use Rattle.df_theory.specs.View.{PassesTests, View}
+use Rattle.df_theory.proofs.Laws.{fields_hold_law, no_bad_field_law}
+use Rattle.df_trailer.specs.Text.{parse_of}
+use Rattle.df_units.specs.Bytes.{unit_at}
+use Rattle.df_units.specs.Meaning.{content_of, layout_of}
+use Rattle.df_units.specs.Superblocks.{AreFieldsOf}
+use Rattle.df_units.proofs.Laws.{choice_chosen, passing_is_usable, shown_checks}
+use Rattle.df_recovery.specs.Opening.{HasFault, HasSuper, IsLayoutOf}
+use Rattle.df_recovery.specs.Surveys.{HasFile, IsOpened}
+use Rattle.df_state.specs.declared.file.DataFile.{DataFile}
+use Rattle.df_state.specs.State.{State, shape}
+use Rattle.df_damage.specs.Disks.{MayBeHurt}
+use Rattle.df_damage.proofs.Barriers.{distinct, empty, log, rests, shown, shows_settled}
+
+-- ---- a file is its layout and its cluster
+
+of_pair : (n : Layout × ℕ) → 0 < n.1 → DataFile
+of_pair n named = record { layout = n.0; cluster = n.1; named = named }
+
+named_prop : (n : Layout × ℕ) → IsProp (0 < n.1)
+named_prop n = hlevel (le_prop, ℕ_set)
+
+same_of_pair : (n m : Layout × ℕ) → n ≡ m → (x : 0 < n.1) (y : 0 < m.1) → of_pair n x ≡ of_pair m y
+same_of_pair n m e x = subst (λ (k : Layout × ℕ). (y : 0 < k.1) → of_pair n x ≡ of_pair k y) e (λ y. ap (of_pair n) (named_prop n x y))
+
+same_pair : (a b : Layout) (c d : ℕ) → a ≡ b → c ≡ d → let x : Layout × ℕ = (a, c) in x ≡ (b, d)
+same_pair a b c d one two = cc (one, two)
+
+pub same_file : (a b : DataFile) → a.layout ≡ b.layout → a.cluster ≡ b.cluster → a ≡ b
+unfolding of_pair
+same_file a b one two = same_of_pair (a.layout, a.cluster) (b.layout, b.cluster) (same_pair a.layout b.layout a.cluster b.cluster one two) a.named b.named
+
+module _ (file : DataFile) (view : View) (t : Told) (may : MayBeHurt file view t) where
+  -- ---- what is chosen
+
+  tests : (c : Content) → Quorum.IsChosen (content_at t.shown) c → PassesTests (shape file) (content_of c) × IsReference (layout_of file.layout) (content_of c)
+  tests c chosen =
+      let choice = choice_chosen file.layout file.cluster t.shown c may.whole chosen in
+      let w = fields_hold_law (shape file) (settled (log file view t may)) view (rests file view t may).grows (empty file view t may) (distinct file view t may) (shown file view t may) (shows_settled file view t may) (content_of c) choice.agreed in
+      (subst (PassesTests (shape file)) w.2 w.3.tests, subst (IsReference (layout_of file.layout)) w.2 w.3.trailer.reference)
+
+  pub rules : (c : Content) → Quorum.IsChosen (content_at t.shown) c → AreFieldsOf file.layout file.cluster c.fields × IsSuper c.fields
+  rules c chosen =
+      let both = tests c chosen in
+      passing_is_usable file.layout file.cluster file.named (parse_of (layout_of file.layout)) c (shown_checks t.shown chosen.agreed.first c may.whole chosen.agreed.at_first) both.0 both.1
+
+  -- no test of it fails
+  pub no_fault : (fault : SuperFault) → HasFault t.shown fault → ⊥
+  no_fault fault has =
+      let none : fault_of has.content.fields ≡ None = (faults has.content.fields).1 (rules has.content has.chosen).1 in
+      let some : fault_of has.content.fields ≡ Some fault = has.broken in
+      cc
+
+  -- its layout is the file's
+  pub own_layout : (layout : Layout) (f : SuperFields) → HasSuper t.shown f → IsLayoutOf layout f → layout ≡ file.layout
+  own_layout layout f super is =
+      let of = (rules super.content super.chosen).0 in
+      same_layout layout file.layout
+      (is.slots ∙ ap (λ (g : SuperFields). g.slots) (sym super.fields) ∙ of.slots)
+      (is.message_size ∙ ap (λ (g : SuperFields). g.message_size) (sym super.fields) ∙ of.message_size)
+      (is.clients ∙ ap (λ (g : SuperFields). g.clients) (sym super.fields) ∙ of.clients)
+      (is.block_size ∙ ap (λ (g : SuperFields). g.block_size) (sym super.fields) ∙ of.block_size)
+      (is.blocks ∙ ap (λ (g : SuperFields). g.blocks) (sym super.fields) ∙ of.blocks)
+
+  -- a file that is read of it is this one
+  pub this_file : (other : DataFile) (f : SuperFields) → HasFile t.shown other f → other.layout ≡ file.layout → other ≡ file
+  this_file other f has of = same_file other file of (sym has.cluster ∙ ap (λ (g : SuperFields). g.cluster) (sym has.super.fields) ∙ (rules has.super.content has.super.chosen).0.cluster_is)
+
+  pub opened_file : (s : State) → IsOpened file.layout t.shown s → s.file ≡ file
+  opened_file s is = this_file s.file s.fields is.has is.of
+
+  pub opened_found : (s : State) → (is : IsOpened file.layout t.shown s) → IsFound (shape file) (unit_at file.layout file.cluster t.shown) is.view
+  opened_found s is = subst (λ (x : DataFile). IsFound (shape x) (unit_at file.layout x.cluster t.shown) is.view) (opened_file s is) is.found
+
+  -- what refuses is a step of an open of this file
+  pub refused_here : (other : DataFile) (f : SuperFields) (r : Refusal) → HasFile t.shown other f → other.layout ≡ file.layout → Opens (shape other) (unit_at file.layout other.cluster t.shown) (Refused r) → Opens (shape file) (unit_at file.layout file.cluster t.shown) (Refused r)
+  refused_here other f r has of opens = subst (λ (x : DataFile). Opens (shape x) (unit_at file.layout x.cluster t.shown) (Refused r)) (this_file other f has of) opens
+
+  -- and no test of a trailer fails
+  pub no_bad_field : Opens (shape file) (unit_at file.layout file.cluster t.shown) (Refused BadField) → ⊥
+  no_bad_field opens = no_bad_field_law (shape file) (settled (log file view t may)) view (rests file view t may).grows (empty file view t may) (distinct file view t may) (shown file view t may) (shows_settled file view t may) opens

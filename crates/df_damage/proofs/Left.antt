@@ -1,0 +1,43 @@
+-- What a session and a stop leave is a disk that may be hurt.
+use Rattle.std.proofs.Common.{subst}
+use Rattle.df_base.specs.Image.{changed}
+use Rattle.df_base.specs.Log as logs
+use Rattle.df_base.specs.Log.{IsLog, Stop}
+use Rattle.df_theory.specs.Device.{units_log}
+use Rattle.df_theory.specs.Holds.{Holds, IsWhole}
+use Rattle.df_theory.specs.Units.{Units}
+use Rattle.df_theory.proofs.Laws.{disk_stop_law, found_law, now_units, rests_safe, safe_disk_law}
+use Rattle.df_units.proofs.Laws.{is_format}
+use Rattle.df_replica.specs.Serving.{format}
+use Rattle.df_state.specs.State.{shape}
+use Rattle.df_damage.specs.Disks.{StoppedMayBeHurt, TidyMayBeHurt}
+
+pub tidy_may_be_hurt : TidyMayBeHurt
+tidy_may_be_hurt file view t is_log empty tidy image chance =
+    let fmt = format file in
+    let sh = shape file in
+    let units = now_units fmt t.log.start t.log.events in
+    let whole : IsWhole sh (fmt.unit_at (logs.now t.log)) view = subst (λ (u : Units). IsWhole sh u view) units tidy.whole in (
+      record {
+        safe = safe_disk_law fmt sh t.log (is_format file.layout file.cluster) is_log (rests_safe sh (units_log fmt t.log) view tidy.rests);
+        empty = empty;
+        found = (found_law sh (fmt.unit_at (logs.now t.log)) view).0 (subst (λ (u : Units). Holds sh u view) units tidy.rests.holds);
+        whole = image;
+        no_chance = chance;
+      },
+      record { content = view.checkpoint.content; copies = whole.copies },
+      whole,
+    )
+
+pub stopped_may_be_hurt : StoppedMayBeHurt
+stopped_may_be_hurt file view log changes shown safe empty loose chance held image later =
+    let fmt = format file in
+    let sh = shape file in
+    let is_log : IsLog (logs.add (Stop changes) log) = record { start = safe.is_log.start; events = (loose, safe.is_log.events) } in
+    record {
+      safe = safe_disk_law fmt sh (logs.add (Stop changes) log) (is_format file.layout file.cluster) is_log (rests_safe sh (units_log fmt (logs.add (Stop changes) log)) view (disk_stop_law fmt sh view log changes safe loose chance held));
+      empty = empty;
+      found = (found_law sh (fmt.unit_at (changed changes (logs.now log))) view).0 held;
+      whole = image;
+      no_chance = later;
+    }

@@ -1,0 +1,85 @@
+-- What an open finds on a disk that may be hurt.
+use Rattle.std.proofs.Common.{◌≡◌, ℕ, Option, Some, None, sym, ◌∙◌, ap, arith}
+use Rattle.df_disk.specs.Told.{Told}
+use Rattle.df_layout.specs.declared.places.Zone.TheVariants.{ClientReplies, Grid, Superblock, WalPrepares}
+use Rattle.df_format.specs.Message.{Message as Unit_}
+use Rattle.df_format.specs.Shown as formats
+use Rattle.df_theory.specs.Copies.{Agree}
+use Rattle.df_theory.specs.Found.{IsFound}
+use Rattle.df_theory.specs.Shows.{Needs}
+use Rattle.df_theory.specs.Units.{AnyUnit, BlockPlace, Content, CopyPlace, Header, HeaderPlace, HeaderUnit, Place, PreparePlace, ReplyPlace, Units}
+use Rattle.df_theory.specs.View.{View, boot_of}
+use Rattle.df_theory.proofs.Laws.{checkpoint_stays_law, found_law, headers_tell_law, hurt_law, one_found_law}
+use Rattle.df_trailer.specs.Text.{parse_of}
+use Rattle.df_units.specs.Bytes.{message_unit, unit_at}
+use Rattle.df_units.specs.Meaning.{header_of, layout_of, place_of}
+use Rattle.df_units.proofs.Laws.{chosen_choice, of_places}
+use Rattle.df_replica.proofs.Laws.{found_is_not_refused}
+use Rattle.df_state.specs.declared.file.DataFile.{DataFile}
+use Rattle.df_state.specs.State.{shape}
+use Rattle.df_damage.specs.Disks.{MayBeHurt}
+use Rattle.df_damage.specs.Hurt.{IsUnhurtZone}
+use Rattle.df_damage.specs.Openings.{CheckpointStays, FoundWasHad, HasEachHeader, HeadersMayBeHurt, HeadersTell, OpensAsLeft, TwoCopiesAreEnough}
+use Rattle.df_damage.proofs.Barriers.{agreed_rest, agreed_zone, had, left, log, pooled, rests, shown, unhurt_zone}
+use Rattle.df_damage.proofs.Files.{opened_file, opened_found}
+
+-- ---- what is found was had
+
+pub found_was_had : FoundWasHad
+found_was_had file view t s may is = (opened_file file view t may s is, had file view t may is.view (opened_found file view t may s is))
+
+-- ---- what the view needs isn't hurt
+
+module _ (file : DataFile) (view : View) (t : Told) (may : MayBeHurt file view t) where
+  -- the file is opened as it was left, where its view is found
+  pub as_left : IsFound (shape file) (unit_at file.layout file.cluster t.shown) view → OpensAsLeft file view t
+  as_left found = record {
+    found = found;
+    opens = found_is_not_refused file t.shown view may.whole found;
+    finds = λ s is. (opened_file file view t may s is, one_found_law (shape file) (unit_at file.layout file.cluster t.shown) is.view view (opened_found file view t may s is) found);
+  }
+
+  pub needed_stand : Agree (unit_at file.layout file.cluster t.shown) view.checkpoint.content → IsUnhurtZone file.layout t WalPrepares → IsUnhurtZone file.layout t ClientReplies → IsUnhurtZone file.layout t Grid → OpensAsLeft file view t
+  needed_stand agreed prepares replies blocks = as_left ((found_law (shape file) (shown file view t may) view).0 (hurt_law (shape file) (log file view t may) view (shown file view t may) (rests file view t may) (pooled file view t may) agreed stands))
+    where
+      stands : (place : Place) (x : AnyUnit) → Needs (shape file) view place x → unit_at file.layout file.cluster t.shown place ≡ Some x
+      stands (CopyPlace n) x need = absurd need
+      stands (HeaderPlace s) x need = absurd need
+      stands (PreparePlace s) x need = unhurt_zone file view t may (PreparePlace s) prepares ∙ (rests file view t may).holds.bears.needs (PreparePlace s) x need
+      stands (ReplyPlace k) x need = unhurt_zone file view t may (ReplyPlace k) replies ∙ (rests file view t may).holds.bears.needs (ReplyPlace k) x need
+      stands (BlockPlace a) x need = unhurt_zone file view t may (BlockPlace a) blocks ∙ (rests file view t may).holds.bears.needs (BlockPlace a) x need
+
+pub two_copies_are_enough : TwoCopiesAreEnough
+two_copies_are_enough file view t may rest two inside =
+    needed_stand file view t may (agreed_rest file view t may rest two) (inside WalPrepares (λ is. cc)) (inside ClientReplies (λ is. cc)) (inside Grid (λ is. cc))
+
+pub headers_may_be_hurt : HeadersMayBeHurt
+headers_may_be_hurt file view t may inside =
+    needed_stand file view t may (agreed_zone file view t may (inside Superblock (λ is. cc))) (inside WalPrepares (λ is. cc)) (inside ClientReplies (λ is. cc)) (inside Grid (λ is. cc))
+
+pub checkpoint_stays : CheckpointStays
+checkpoint_stays file view t s may rest two is =
+    checkpoint_stays_law (shape file) (log file view t may) view is.view (shown file view t may) (rests file view t may) may.no_chance (agreed_rest file view t may rest two) (opened_found file view t may s is)
+
+-- ---- headers
+
+-- no boot is told by a file of version 1
+header_boot : (slot : ℕ) (o : Option Unit_) (h : Header) → message_unit (HeaderPlace slot) o ≡ Some (HeaderUnit h) → h.boot ≡ 0
+header_boot slot None h is = absurd (cc)
+header_boot slot (Some u) h is = let same : header_of u.header ≡ h = cc in ap (λ (x : Header). x.boot) (sym same)
+
+pub headers_tell : HeadersTell
+headers_tell file view t s may unhurt is = (each, λ copies. checkpoint_stays_law (shape file) (log file view t may) view is.view (shown file view t may) (rests file view t may) may.no_chance (agreed_zone file view t may copies) found)
+  where
+    found : IsFound (shape file) (unit_at file.layout file.cluster t.shown) is.view
+    found = opened_found file view t may s is
+
+    each : HasEachHeader file t is.view
+    each slot h at above =
+        let choice = chosen_choice file.layout file.cluster t.shown is.view.checkpoint.content may.whole found.chosen in
+        let boot : 0 ≡ boot_of is.view = ap (λ (c : Content). c.boot) choice.1 in
+        let pin : is.view.checkpoint.content.pin ≡ is.view.checkpoint.content.op = ap (λ (c : Content). c.pin) (sym choice.1) ∙ ap (λ (c : Content). c.op) choice.1 in
+        let here : unit_at file.layout file.cluster t.shown (HeaderPlace slot) ≡ Some (HeaderUnit h) = unhurt_zone file view t may (HeaderPlace slot) unhurt ∙ ap (λ (u : Units). u (HeaderPlace slot)) (left file view t may) ∙ at in
+        headers_tell_law (shape file) (shown file view t may) is.view slot h
+        (of_places file.layout file.cluster file.named (parse_of (layout_of file.layout)) t.shown may.whole) found here
+        (header_boot slot (formats.unit_at file.layout file.cluster t.shown (place_of (HeaderPlace slot))) h here ∙ boot) (omega (arith, above, pin))

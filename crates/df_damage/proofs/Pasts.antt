@@ -1,0 +1,66 @@
+-- A view that a history had is held by one of its settled images, and a history whose start shows nothing began with the empty image.
+use Rattle.std.proofs.Common.{◌≡◌, ◌⊎◌, inl, inr, List, [], ◌∷◌, Some, None, refl, sym, subst}
+use Rattle.df_base.specs.Image.{Image}
+use Rattle.df_theory.specs.Units.{CopyPlace, CopyUnit, Place, Units}
+use Rattle.df_theory.specs.Shape.{Shape}
+use Rattle.df_theory.specs.View.{View}
+use Rattle.df_theory.specs.Holds.{Holds}
+use Rattle.df_theory.specs.UnitLog.{Stopped, Synced, UnitEvent, Wrote, now_of, settled_of}
+use Rattle.df_theory.specs.Grown.{Grows}
+use Rattle.df_theory.specs.Past.{FromEmpty, Was}
+use Rattle.df_theory.specs.Device.{Format, all_units}
+use Rattle.df_damage.specs.Past.{IsOneOf}
+
+-- ---- views
+
+abbrev pub AreAmong : List Units → Units → Type 0
+AreAmong [] units = ⊥
+AreAmong (u ∷ us) units = (units ≡ u) ⊎ AreAmong us units
+
+pub was_held : (sh : Shape) (images : List Units) (v : View) (grows : Grows sh images v) (w : View) → Was sh images v grows w → (units : Units) × AreAmong images units × Holds sh units w
+was_held sh [] v grows w was = absurd was
+was_held sh (u ∷ us) v (holds, inl begins) w was = (u, inl refl, subst (λ (x : View). Holds sh u x) (sym was) holds)
+was_held sh (u ∷ us) v (holds, inr (history, (before, next, grows))) w (inl same) = (u, inl refl, subst (λ (x : View). Holds sh u x) (sym same) holds)
+was_held sh (u ∷ us) v (holds, inr (history, (before, next, grows))) w (inr was) =
+    let older = was_held sh us before grows w was in
+    (older.0, inr older.1, older.2)
+
+-- images that are read place by place
+pub among_images : (f : Format) (images : List Image) (units : Units) → AreAmong (all_units f images) units → (image : Image) × IsOneOf images image × (units ≡ f.unit_at image)
+among_images f [] units among = absurd among
+among_images f (image ∷ images) units (inl same) = (image, inl refl, same)
+among_images f (image ∷ images) units (inr among) =
+    let older = among_images f images units among in
+    (older.0, inr older.1, older.2)
+
+-- ---- the beginning
+
+-- the oldest of the images shows nothing
+abbrev pub EndsBlank : List Units → Type 0
+EndsBlank [] = ⊥
+EndsBlank (u ∷ []) = (place : Place) → u place ≡ None
+EndsBlank (u ∷ before ∷ us) = EndsBlank (before ∷ us)
+
+blank_more : (u : Units) (us : List Units) → EndsBlank us → EndsBlank (u ∷ us)
+blank_more u [] ends = absurd ends
+blank_more u (before ∷ us) ends = ends
+
+pub settled_blank : (start : Units) (es : List UnitEvent) → ((place : Place) → start place ≡ None) → EndsBlank (settled_of start es)
+settled_blank start [] blank = blank
+settled_blank start ((Wrote touches stands after) ∷ es) blank = settled_blank start es blank
+settled_blank start (Synced ∷ es) blank = blank_more (now_of start es) (settled_of start es) (settled_blank start es blank)
+settled_blank start ((Stopped after) ∷ es) blank = blank_more after (settled_of start es) (settled_blank start es blank)
+
+-- an image that shows nothing has no view
+unheld : (sh : Shape) (u : Units) (v : View) → ((place : Place) → u place ≡ None) → Holds sh u v → ⊥
+unheld sh u v blank holds =
+    let none : u (CopyPlace holds.chosen.agreed.first) ≡ None = blank (CopyPlace holds.chosen.agreed.first) in
+    let some : u (CopyPlace holds.chosen.agreed.first) ≡ Some (CopyUnit v.checkpoint.content) = holds.chosen.agreed.at_first in
+    cc
+
+pub from_blank : (sh : Shape) (images : List Units) (v : View) (grows : Grows sh images v) → EndsBlank images → FromEmpty sh images v grows
+from_blank sh [] v grows ends = grows
+from_blank sh (u ∷ []) v (holds, inl begins) ends = unheld sh u v ends holds
+from_blank sh (u ∷ []) v (holds, inr (history, (before, next, grows))) ends = grows
+from_blank sh (u ∷ older ∷ us) v (holds, inl begins) ends = tt
+from_blank sh (u ∷ older ∷ us) v (holds, inr (history, (before, next, grows))) ends = from_blank sh (older ∷ us) before grows ends

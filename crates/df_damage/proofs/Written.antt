@@ -1,0 +1,66 @@
+-- What a view needs was written at its places, where the file had the view, and where it keeps it.
+use Rattle.std.proofs.Common.{◌≡◌, inl, inr, ℕ, List, [], ◌∷◌, ◌++◌, Some, sym, ◌∙◌, ap, subst}
+use Rattle.df_base.specs.Image.{Image}
+use Rattle.df_base.specs.Log as logs
+use Rattle.df_base.specs.Log.{Event, Log, Stop, Sync, Write}
+use Rattle.df_model.specs.Laws.{IsKeptBy}
+use Rattle.df_theory.specs.Chance.{InImages, InPools}
+use Rattle.df_theory.specs.Device.{Format, all_units, units_log, units_of}
+use Rattle.df_theory.specs.UnitLog.{UnitLog, settled}
+use Rattle.df_theory.specs.Units.{AnyUnit, Parts, Place, Units}
+use Rattle.df_theory.specs.Shape.{Shape}
+use Rattle.df_theory.proofs.Laws.{settled_law}
+use Rattle.df_model.specs.Work.{Work}
+use Rattle.df_replica.specs.Serving.{Firm, Grade, KeptFor, Whole, format}
+use Rattle.df_state.specs.declared.file.DataFile.{DataFile}
+use Rattle.df_state.specs.State.{shape, spelling}
+use Rattle.df_damage.specs.Past.{IsOneOf}
+use Rattle.df_damage.specs.Reads.{HadIsWritten, KeptIsWritten, OpenedIsWritten, WasWritten}
+use Rattle.df_damage.proofs.Barriers.{in_pools}
+use Rattle.df_damage.proofs.Opened.{found_was_had}
+
+-- what an image of the list shows is of the images
+among : (f : Format) (images : List Image) (image : Image) (place : Place) (x : AnyUnit) → IsOneOf images image → f.unit_at image place ≡ Some x → InImages (all_units f images) place x
+among f [] image place x is shown = absurd is
+among f (first ∷ images) image place x (inl same) shown = inl (ap (λ (i : Image). f.unit_at i place) (sym same) ∙ shown)
+among f (first ∷ images) image place x (inr older) shown = inr (among f images image place x older shown)
+
+-- what was written stays written as the log goes on
+goes_on : (f : Format) (start : Image) (new old : List Event) (place : Place) (x : AnyUnit) → InPools (f.unit_at start) (units_of f start old) place x → InPools (f.unit_at start) (units_of f start (new ++ old)) place x
+goes_on f start [] old place x is = is
+goes_on f start ((Write at bytes) ∷ new) old place x is = inr (goes_on f start new old place x is)
+goes_on f start (Sync ∷ new) old place x is = inr (goes_on f start new old place x is)
+goes_on f start ((Stop changes) ∷ new) old place x is = inr (goes_on f start new old place x is)
+
+-- of a log that goes on from this one
+later_pools : (f : Format) (log : Log) (start : Image) (events new : List Event) (place : Place) (x : AnyUnit) → start ≡ log.start → events ≡ new ++ log.events → InPools (f.unit_at log.start) (units_of f log.start log.events) place x → InPools (f.unit_at start) (units_of f start events) place x
+later_pools f log start events new place x same grew is =
+    subst (λ (i : Image). InPools (f.unit_at i) (units_of f i events) place x) (sym same)
+    (subst (λ (es : List Event). InPools (f.unit_at log.start) (units_of f log.start es) place x) (sym grew) (goes_on f log.start new log.events place x is))
+
+pub had_is_written : HadIsWritten
+had_is_written file log later view had (new, grew, same) = record {
+  sound = had.holds.bears.sound;
+  needs = λ place x need.
+      let old : InImages (settled (units_log (format file) log)) place x =
+      subst (λ (us : List Units). InImages us place x) (sym (settled_law (format file) log)) (among (format file) (logs.settled log) had.image place x had.durable (had.holds.bears.needs place x need)) in
+      later_pools (format file) log later.start later.events new place x same grew (in_pools (units_log (format file) log).start (units_log (format file) log).events place x (inl old));
+}
+
+pub opened_is_written : OpenedIsWritten
+opened_is_written file view t s later may is grew =
+    let had = found_was_had file view t s may is in
+    subst (λ (x : DataFile). WasWritten x later is.view) (sym had.0) (had_is_written file (logs.add Sync t.log) later is.view had.1 grew)
+
+kept_by : (g : Grade) (sh : Shape) (spell : Parts → List ℕ) (log : UnitLog) (w : Work) → KeptFor g sh spell log w → IsKeptBy sh spell log w
+kept_by Firm sh spell log w is = is
+kept_by Whole sh spell log w is = is.0
+
+pub kept_is_written : KeptIsWritten
+kept_is_written g s w log is =
+    let units = units_log (format s.file) log in
+    let by = kept_by g (shape s.file) (spelling s.file) units w is.kept_by in
+    record {
+      sound = by.tidy.rests.holds.bears.sound;
+      needs = λ place x need. in_pools units.start units.events place x (by.tidy.rests.pooled place x (by.tidy.rests.holds.bears.needs place x need));
+    }

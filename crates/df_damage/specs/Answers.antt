@@ -1,0 +1,48 @@
+-- All that damage can do to the answer of an open: one record for a state that is found, and one for a refusal.
+use Rattle.std.specs.Prelude.{◌≡◌, ◌⊎◌, Result, Ok, Err}
+use Rattle.df_base.specs.Log.{Sync, add}
+use Rattle.df_disk.specs.Told.{Told}
+use Rattle.df_layout.specs.declared.places.Zone.TheVariants.{Superblock, WalHeaders}
+use Rattle.df_model.specs.Work.{opened}
+use Rattle.df_model.specs.declared.errors.OpenError.{OpenError}
+use Rattle.df_model.specs.declared.errors.OpenError.TheVariants.{DiskFault}
+use Rattle.df_theory.specs.View.{View}
+use Rattle.df_units.specs.Bytes.{unit_at}
+use Rattle.df_recovery.specs.Surveys.{Surveys}
+use Rattle.df_state.specs.declared.file.DataFile.{DataFile}
+use Rattle.df_state.specs.State.{Represents, State, shape}
+use Rattle.df_damage.specs.Disks.{IsAtRest, MayBeHurt}
+use Rattle.df_damage.specs.Hurt.{HasTwoCopies, IsHurtFile, IsHurtInside, IsUnhurtZone}
+use Rattle.df_damage.specs.Openings.{HasEachHeader}
+use Rattle.df_damage.specs.Past.{WasHad}
+use Rattle.df_damage.specs.Refusals.{BlamesHurt, MayBeOfDamage}
+
+-- what is hurt isn't needed: copies, at rest and at most two, or header sectors
+abbrev pub IsNeedless : DataFile → Told → Type 0
+IsNeedless file t = (IsAtRest file t.log × HasTwoCopies t × IsHurtInside file.layout t Superblock) ⊎ IsHurtInside file.layout t WalHeaders
+
+-- a state that is found: it is of this file, and stands for a view that the file had
+pub record FindsHad (file : DataFile) (view : View) (t : Told) (s : State) : Type 0 where
+  pub of : s.file ≡ file
+  pub found : View
+  pub stands : Represents s (opened (shape file) (unit_at file.layout file.cluster t.shown) found)
+  pub had : WasHad file (add Sync t.log) found
+  pub checkpoint : IsAtRest file t.log → HasTwoCopies t → found.checkpoint ≡ view.checkpoint
+  pub headers : IsUnhurtZone file.layout t WalHeaders → HasEachHeader file t found
+  pub whole : IsNeedless file t → found ≡ view
+
+-- a refusal: it is of damage, and a sector of the file is hurt; at rest, while two copies stand, it blames what is hurt; and it doesn't come where what is hurt isn't needed
+pub record RefusesHurt (file : DataFile) (view : View) (t : Told) (e : OpenError) : Type 0 where
+  pub damage : MayBeOfDamage e
+  pub hurt : IsHurtFile file.layout t
+  pub blames : IsAtRest file t.log → HasTwoCopies t → BlamesHurt file view t e
+  pub needed : IsNeedless file t → ⊥
+
+-- the answer of an open with rooms of the file's layout, a fault of the disk in the open itself aside
+abbrev pub AnswersHurt : DataFile → View → Told → Result State OpenError → Type 0
+AnswersHurt file view t (Ok s) = FindsHad file view t s
+AnswersHurt file view t (Err e) = (e ≡ DiskFault → ⊥) → RefusesHurt file view t e
+
+-- so it is answered of each disk that may be hurt
+abbrev pub AnswerIsOfHurt : Type 0
+AnswerIsOfHurt = (file : DataFile) (view : View) (t : Told) (result : Result State OpenError) → MayBeHurt file view t → Surveys file.layout t.shown result → AnswersHurt file view t result

@@ -1,0 +1,58 @@
+-- What an open finds on a disk that may be hurt.
+use Rattle.std.specs.Prelude.{◌≡◌, ◌<◌, ℕ, Some}
+use Rattle.df_base.specs.Log.{Sync, add, now}
+use Rattle.df_disk.specs.Told.{Told}
+use Rattle.df_layout.specs.declared.places.Zone.TheVariants.{Superblock, WalHeaders}
+use Rattle.df_theory.specs.Found.{IsFound}
+use Rattle.df_theory.specs.Holds.{IsWhole}
+use Rattle.df_theory.specs.Tails.{In}
+use Rattle.df_theory.specs.Units.{Header, HeaderPlace, HeaderUnit, Message}
+use Rattle.df_theory.specs.View.{View}
+use Rattle.df_units.specs.Bytes.{unit_at}
+use Rattle.df_recovery.specs.Surveys.{IsOpened}
+use Rattle.df_replica.specs.Completeness.{IsNotRefused}
+use Rattle.df_state.specs.declared.file.DataFile.{DataFile}
+use Rattle.df_state.specs.State.{State, shape}
+use Rattle.df_damage.specs.Disks.{IsAtRest, MayBeHurt}
+use Rattle.df_damage.specs.Hurt.{HasTwoCopies, IsHurtInside, IsUnhurtZone}
+use Rattle.df_damage.specs.Past.{WasHad}
+
+-- what is found is of this file, and the file had it
+abbrev pub FoundWasHad : Type 0
+FoundWasHad = (file : DataFile) (view : View) (t : Told) (s : State) → MayBeHurt file view t → (is : IsOpened file.layout t.shown s) → (s.file ≡ file) × WasHad file (add Sync t.log) is.view
+
+-- the file is opened as it was left: nothing refuses, and a state that is found has this view
+pub record OpensAsLeft (file : DataFile) (view : View) (t : Told) : Type 0 where
+  pub found : IsFound (shape file) (unit_at file.layout file.cluster t.shown) view
+  pub opens : IsNotRefused file t.shown
+  pub finds : (s : State) → (is : IsOpened file.layout t.shown s) → (s.file ≡ file) × (is.view ≡ view)
+
+-- a file at rest of which at most two superblock copies are hurt, and nothing else, is opened as it was left
+abbrev pub TwoCopiesAreEnough : Type 0
+TwoCopiesAreEnough = (file : DataFile) (view : View) (t : Told) → MayBeHurt file view t → IsAtRest file t.log → HasTwoCopies t → IsHurtInside file.layout t Superblock → OpensAsLeft file view t
+
+-- so is one of which header sectors alone are hurt, at rest or not
+abbrev pub HeadersMayBeHurt : Type 0
+HeadersMayBeHurt = (file : DataFile) (view : View) (t : Told) → MayBeHurt file view t → IsHurtInside file.layout t WalHeaders → OpensAsLeft file view t
+
+-- at rest, with at most two copies and any other sectors hurt, a state that is found has the file's checkpoint
+abbrev pub CheckpointStays : Type 0
+CheckpointStays =
+    (file : DataFile) (view : View) (t : Told) (s : State) → MayBeHurt file view t → IsAtRest file t.log → HasTwoCopies t → (is : IsOpened file.layout t.shown s) → is.view.checkpoint ≡ view.checkpoint
+
+-- the tail has the prepare of each header of the ring whose op is above the checkpoint
+abbrev pub HasEachHeader : DataFile → Told → View → Type 0
+HasEachHeader file t found =
+    (slot : ℕ) (h : Header) → unit_at file.layout file.cluster (now t.log) (HeaderPlace slot) ≡ Some (HeaderUnit h) → found.checkpoint.content.op < h.op → (p : Message) × In p found.tail × (p.header.op ≡ h.op) × (p.header.checksum ≡ h.checksum)
+
+-- with no header sector hurt a state that is found has each of these prepares, whatever else is hurt; with no copy hurt either it has the file's checkpoint
+abbrev pub HeadersTell : Type 0
+HeadersTell =
+    (file : DataFile) (view : View) (t : Told) (s : State) → MayBeHurt file view t → IsUnhurtZone file.layout t WalHeaders → (is : IsOpened file.layout t.shown s)
+    → HasEachHeader file t is.view × (IsUnhurtZone file.layout t Superblock → is.view.checkpoint ≡ view.checkpoint)
+
+-- where the log leaves nothing to mend, too, as behind each finished session, a state that is found has every prepare of the tail
+abbrev pub WholeTailIsFound : Type 0
+WholeTailIsFound =
+    (file : DataFile) (view : View) (t : Told) (s : State) → MayBeHurt file view t → IsWhole (shape file) (unit_at file.layout file.cluster (now t.log)) view → IsUnhurtZone file.layout t WalHeaders → IsUnhurtZone file.layout t Superblock
+    → (is : IsOpened file.layout t.shown s) → (p : Message) → In p view.tail → In p is.view.tail

@@ -1,0 +1,120 @@
+-- What a read lends, whatever the disk shows as it reads: what was written there.
+use Rattle.std.specs.Prelude.{◌≡◌, ◌%◌, ℕ, Option, Some, None, Ok}
+use Rattle.std.specs.List.{slice_get}
+use Rattle.df_base.specs.Log.{Log, Sync, add}
+use Rattle.df_base.specs.Moments.{Extends}
+use Rattle.df_disk.specs.Told.{Told}
+use Rattle.df_model.specs.Blocks.{sum_at}
+use Rattle.df_model.specs.Commands.{Answer, Command, Given, ReadBlock, ReadPrepare, ReadReply, ToReadBlock, ToReadPrepare, ToReadReply}
+use Rattle.df_model.specs.Memory.{prepare_sum, reply_sum}
+use Rattle.df_model.specs.Work.{Work, kept}
+use Rattle.df_theory.specs.Chance.{Distinct, InPool, InPools}
+use Rattle.df_theory.specs.Device.{NoChanceOf, units_log}
+use Rattle.df_theory.specs.Holds.{Sound}
+use Rattle.df_theory.specs.Sessions.{Answers}
+use Rattle.df_theory.specs.Shows.{Needs}
+use Rattle.df_theory.specs.Tails.{In}
+use Rattle.df_theory.specs.UnitLog.{UnitLog}
+use Rattle.df_theory.specs.Units.{AnyUnit, Block, BlockPlace, BlockUnit, Message, Place, PreparePlace, PrepareUnit, ReplyPlace, ReplyUnit, Session}
+use Rattle.df_theory.specs.View.{View, sessions}
+use Rattle.df_recovery.specs.Surveys.{IsOpened}
+use Rattle.df_replica.specs.BlockReads.{IsReadBlock}
+use Rattle.df_replica.specs.Lookups.{IsReadReply, place_for}
+use Rattle.df_replica.specs.Reading.{IsReadPrepare}
+use Rattle.df_replica.specs.Serving.{Firm, Grade, IsCall, IsKept, Keeps, format}
+use Rattle.df_state.specs.declared.file.DataFile.{DataFile}
+use Rattle.df_state.specs.State.{Represents, State, memory, shape}
+use Rattle.df_damage.specs.Disks.{MayBeHurt}
+use Rattle.df_damage.specs.Past.{WasHad}
+
+-- the unit was written at its place: it was settled there, or stood whole in a write, now or at an earlier moment of the log
+abbrev pub IsWritten : UnitLog → Place → AnyUnit → Type 0
+IsWritten log place x = InPools log.start log.events place x
+
+-- the unit was settled at this place, or is being written there, and no other unit of its kind with its checksum was ever written anywhere
+pub record IsTheOne (log : UnitLog) (place : Place) (x : AnyUnit) : Type 0 where
+  pub there : InPool log place x
+  pub only : (other : Place) (y : AnyUnit) → IsWritten log other y → Distinct y x
+
+-- ---- whatever is in memory: the one unit with the checksum that is known
+
+-- the prepare of an op, in its slot
+abbrev pub IsThePrepare : State → Log → (op : ℕ) → Message → Type 0
+IsThePrepare s log op p = (prepare_sum (memory s) op ≡ Some p.header.checksum) × IsTheOne (units_log (format s.file) log) (PreparePlace (op % s.file.layout.slots)) (PrepareUnit p)
+
+-- the reply of a client, in its place
+abbrev pub IsTheReply : State → Log → (client : ℕ) → Message → Type 0
+IsTheReply s log client r = (reply_sum (memory s) (place_for s client) ≡ Some r.header.checksum) × IsTheOne (units_log (format s.file) log) (ReplyPlace (place_for s client)) (ReplyUnit r)
+
+-- the block of an address
+abbrev pub IsTheBlock : State → Log → (address : ℕ) → Block → Type 0
+IsTheBlock s log address b = (sum_at address (memory s).blocks.live ≡ Some b.checksum) × IsTheOne (units_log (format s.file) log) (BlockPlace address) (BlockUnit b)
+
+-- over any image that came about without chance a read that is Ok gives that one
+abbrev pub PrepareIsTheOne : Type 0
+PrepareIsTheOne = (s : State) (t : Told) (op : ℕ) (p : Message) → NoChanceOf (format s.file) t.log t.shown → IsReadPrepare op s (Some t) (Ok p) → IsThePrepare s t.log op p
+
+abbrev pub ReplyIsTheOne : Type 0
+ReplyIsTheOne = (s : State) (t : Told) (client : ℕ) (r : Message) → NoChanceOf (format s.file) t.log t.shown → IsReadReply client s (Some t) (Ok r) → IsTheReply s t.log client r
+
+abbrev pub BlockIsTheOne : Type 0
+BlockIsTheOne = (s : State) (t : Told) (address : ℕ) (b : Block) → NoChanceOf (format s.file) t.log t.shown → IsReadBlock address s (Some t) (Ok b) → IsTheBlock s t.log address b
+
+-- and so does a call of a replica, as a session makes it
+abbrev pub AnswersTheOne : State → Log → Command → Answer → Type 0
+AnswersTheOne s log (ReadPrepare op) answer = (p : Message) → answer ≡ ToReadPrepare (Ok p) → IsThePrepare s log op p
+AnswersTheOne s log (ReadReply client) answer = (r : Message) → answer ≡ ToReadReply (Ok r) → IsTheReply s log client r
+AnswersTheOne s log (ReadBlock address) answer = (b : Block) → answer ≡ ToReadBlock (Ok b) → IsTheBlock s log address b
+AnswersTheOne s log command answer = Unit {0}
+
+abbrev pub CallIsTheOne : Type 0
+CallIsTheOne =
+    (given : Given) (command : Command) (s u : State) (w : Work) (t : Told) (new : Option Told) (answer : Answer) → IsCall given command s u (Some t) new (Some answer) → Keeps Firm s w None → NoChanceOf (format s.file) t.log t.shown
+    → AnswersTheOne s t.log command answer
+
+-- ---- what the view needs was written
+
+-- the view makes sense, and each unit that it needs was written at its place
+pub record WasWritten (file : DataFile) (log : Log) (view : View) : Type 0 where
+  pub sound : Sound (shape file) view
+  pub needs : (place : Place) (x : AnyUnit) → Needs (shape file) view place x → IsWritten (units_log (format file) log) place x
+
+-- so it is with a view that the file had, however its log went on
+abbrev pub HadIsWritten : Type 0
+HadIsWritten = (file : DataFile) (log later : Log) (view : View) → WasHad file log view → Extends later log → WasWritten file later view
+
+-- and so with the one that an open finds on a disk that may be hurt, however the log went on behind its barrier
+abbrev pub OpenedIsWritten : Type 0
+OpenedIsWritten =
+    (file : DataFile) (view : View) (t : Told) (s : State) (later : Log) → MayBeHurt file view t → (is : IsOpened file.layout t.shown s) → Extends later (add Sync t.log) → WasWritten s.file later is.view
+
+-- and with the view of a file that is kept from call to call
+abbrev pub KeptIsWritten : Type 0
+KeptIsWritten = (g : Grade) (s : State) (w : Work) (log : Log) → IsKept g s w log → WasWritten s.file log (kept w)
+
+-- ---- so what a read gives is the view's own
+
+-- a read of a prepare that is Ok gives the tail's prepare of this op
+abbrev pub PrepareIsLent : Type 0
+PrepareIsLent =
+    (s : State) (w : Work) (t : Told) (op : ℕ) (p : Message) → Represents s w → WasWritten s.file t.log (kept w) → NoChanceOf (format s.file) t.log t.shown → IsReadPrepare op s (Some t) (Ok p)
+    → In p (kept w).tail × (p.header.op ≡ op)
+
+-- the stored reply to the last request of a client
+pub record IsReplyTo (client : ℕ) (view : View) (r : Message) : Type 0 where
+  pub place : ℕ
+  pub session : Session
+  pub at : slice_get (sessions view) place ≡ Some session
+  pub of : session.client ≡ client
+  pub stored : view.stored place ≡ Some r
+  pub answers : Answers session r
+
+-- a read of a reply that is Ok gives the stored one
+abbrev pub ReplyIsLent : Type 0
+ReplyIsLent =
+    (s : State) (w : Work) (t : Told) (client : ℕ) (r : Message) → Represents s w → WasWritten s.file t.log (kept w) → NoChanceOf (format s.file) t.log t.shown → IsReadReply client s (Some t) (Ok r)
+    → IsReplyTo client (kept w) r
+
+-- a read of a block that is Ok gives a live one, with the checksum that the machine has of it
+abbrev pub BlockIsLent : Type 0
+BlockIsLent = (s : State) (w : Work) (t : Told) (address : ℕ) (b : Block) → Represents s w → IsReadBlock address s (Some t) (Ok b) → w.live address ≡ Some b.checksum

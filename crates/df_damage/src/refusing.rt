@@ -1,0 +1,18 @@
+// Why an open refuses a disk that may be hurt: laws, each the clause of a function that does nothing.
+ghost use Rattle.df_damage.specs.Refusals.{ProbeIsOfHurt, RefusalsAreOfDamage, RefusalsBlameHurt};
+
+/// With rooms of the file's layout a file is refused for its superblock copies or for a place that is named, and only where some
+/// sector of it is hurt.
+pub fn refusals_are_of_damage()
+    ensures { RefusalsAreOfDamage }
+{}
+
+/// At rest, while at most two superblock copies are hurt, each refusal names a place that is hurt.
+pub fn refusals_blame_what_is_hurt()
+    ensures { RefusalsBlameHurt }
+{}
+
+/// A look at the copies alone, as before rooms are taken, finds the layout of the file, or is refused for damage.
+pub fn probe_is_of_hurt()
+    ensures { ProbeIsOfHurt }
+{}

@@ -1,0 +1,44 @@
+-- The acts of a session: what each was supplied with is in range, and what a stop leaves of them came through.
+use Rattle.std.proofs.Common.{◌≡◌, inl, inr, List, [], ◌∷◌, ◌++◌, Option, Some, None, refl, ap}
+use Rattle.df_base.specs.Image.{Image}
+use Rattle.df_disk.specs.Told.{Told}
+use Rattle.df_model.specs.Commands.{Answer}
+use Rattle.df_model.specs.Work.{Work}
+use Rattle.df_state.specs.State.{State as Replica}
+use Rattle.df_state.specs.declared.file.DataFile.{DataFile}
+use Rattle.df_replica.specs.HeldBlocks.{AreInputs}
+use Rattle.df_replica.specs.Serving.{Grade, next}
+use Rattle.df_replica.specs.Session.{Act, HasView, HoldsSome, work_after}
+use Rattle.df_top.specs.Session.{AreCalls, EndsCalls, list_of}
+
+-- ---- what they were supplied with
+
+calls_inputs : (s t : Replica) (old new : Option Told) (acts : List Act) (answers : List Answer) → AreCalls s old acts answers t new → AreInputs acts
+calls_inputs s t old new [] [] calls = tt
+calls_inputs s t old new [] (x ∷ answers) calls = absurd calls
+calls_inputs s t old new (a ∷ acts) [] calls = absurd calls
+calls_inputs s t old new (a ∷ acts) (x ∷ answers) calls = (calls.2.call.input, calls_inputs calls.0 t calls.1 new acts answers calls.3)
+
+pub inputs_join : (acts more : List Act) → AreInputs acts → AreInputs more → AreInputs (acts ++ more)
+inputs_join [] more one two = two
+inputs_join (a ∷ acts) more one two = (one.0, inputs_join acts more one.1 two)
+
+pub ends_inputs : (s t : Replica) (old new : Option Told) (acts : List Act) (answers : List Answer) (failed : Option Act) → EndsCalls s t old new acts answers failed → AreInputs (acts ++ list_of failed)
+ends_inputs s t old new acts answers None calls = inputs_join acts [] (calls_inputs s t old new acts answers calls) tt
+ends_inputs s t old new acts answers (Some a) calls = inputs_join acts (a ∷ []) (calls_inputs s calls.0 old calls.1 acts answers calls.2) (calls.3.call.input, tt)
+
+-- ---- what a stop leaves of them
+
+-- the image has the view after the first of these acts
+pub record HasFront (file : DataFile) (g : Grade) (w : Work) (acts : List Act) (image : Image) : Type 0 where
+  pub front : List Act
+  pub rest : List Act
+  pub are : acts ≡ front ++ rest
+  pub has : HasView file g (work_after file w front) image
+
+pub has_front : (file : DataFile) (g : Grade) (w : Work) (acts : List Act) (image : Image) → HoldsSome file g w acts image → HasFront file g w acts image
+has_front file g w [] image has = record { front = []; rest = []; are = refl; has = has }
+has_front file g w (a ∷ acts) image (inl has) = record { front = []; rest = a ∷ acts; are = refl; has = has }
+has_front file g w (a ∷ acts) image (inr more) =
+    let later = has_front file g (next file w a.given a.command).0 acts image more in
+    record { front = a ∷ later.front; rest = later.rest; are = ap (λ (l : List Act). a ∷ l) later.are; has = later.has }

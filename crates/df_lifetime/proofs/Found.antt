@@ -1,0 +1,119 @@
+-- What was acknowledged in any session of a life is in the view that is found.
+use Rattle.std.proofs.Common.{◌≡◌, inl, inr, List, [], ◌∷◌, ◌++◌, append_assoc, refl, sym, ◌∙◌, ap, subst, arith}
+use Rattle.df_base.specs.Image.{Image, IsImage}
+use Rattle.df_base.specs.Log.{now}
+use Rattle.df_theory.specs.Found.{IsFound}
+use Rattle.df_theory.specs.Units.{Content}
+use Rattle.df_theory.specs.View.{View}
+use Rattle.df_theory.proofs.Laws.{one_found_law}
+use Rattle.df_units.specs.Bytes.{unit_at}
+use Rattle.df_units.specs.Meaning.{layout_of}
+use Rattle.df_units.proofs.Laws.{chosen_choice, of_places}
+use Rattle.df_model.specs.Codec.{IsCodec}
+use Rattle.df_model.specs.Commands.{Answer, Command}
+use Rattle.df_model.specs.Sense.{IsWork}
+use Rattle.df_model.specs.Work.{Work, kept}
+use Rattle.df_model.proofs.Laws.{found_law, next_law, sense_law}
+use Rattle.df_trailer.specs.Text.{parse_of}
+use Rattle.df_trailer.proofs.Laws.{codec}
+use Rattle.df_state.specs.State.{shape, spelling}
+use Rattle.df_state.specs.declared.file.DataFile.{DataFile}
+use Rattle.df_replica.specs.HeldBlocks.{AreInputs}
+use Rattle.df_replica.specs.Serving.{next}
+use Rattle.df_replica.specs.Session.{Act, answers_of, work_after}
+use Rattle.df_lifetime.specs.Acknowledged.{AcknowledgedIsFound, AllThere, AreThere}
+use Rattle.df_lifetime.specs.Life.{Chapter, GoesBy, LeadsTo, MayHave, start_of}
+use Rattle.df_lifetime.specs.There.{IsThere}
+use Rattle.df_lifetime.proofs.Done.{just_there}
+use Rattle.df_lifetime.proofs.Lives.{every_life_goes_on}
+use Rattle.df_lifetime.proofs.Next.{stays}
+
+-- ---- a state that is found makes sense
+
+codec_of : (file : DataFile) → IsCodec (shape file) (spelling file)
+codec_of file = codec (shape file) (omega (arith, file.layout.clients_within.1)) (omega (arith, file.layout.block_size_within)) refl
+
+start_makes_sense : (file : DataFile) (image : Image) (view : View) → IsImage image → IsFound (shape file) (unit_at file.layout file.cluster image) view → IsWork (shape file) (spelling file) (start_of file image view)
+start_makes_sense file image view whole found =
+    let choice = chosen_choice file.layout file.cluster image view.checkpoint.content whole found.chosen in
+    found_law (shape file) (spelling file) (unit_at file.layout file.cluster image) view (codec_of file) (record { version = refl; names = ap (λ (c : Content). c.reply_checksums) (sym choice.1) })
+    (of_places file.layout file.cluster file.named (parse_of (layout_of file.layout)) image whole) found
+
+-- ---- what was answered stays, whatever is done next
+
+module _ (file : DataFile) where
+  stays_behind : (acts : List Act) (w : Work) (command : Command) (x : Answer) → IsWork (shape file) (spelling file) w → AreInputs acts → IsThere (kept w) command x → IsThere (kept (work_after file w acts)) command x
+  stays_behind [] w command x work inputs there = there
+  stays_behind (a ∷ acts) w command x work inputs there =
+      stays_behind acts (next file w a.given a.command).0 command x (sense_law (shape file) (spelling file) w a.given a.command inputs.0 work) inputs.1
+      (stays (shape file) (kept w) (kept (next file w a.given a.command).0) command x work.view (next_law (shape file) (spelling file) w a.given a.command work) there)
+
+  all_stay : (acts : List Act) (w : Work) (done : List Act) (answers : List Answer) → IsWork (shape file) (spelling file) w → AreInputs acts → AreThere (kept w) done answers → AreThere (kept (work_after file w acts)) done answers
+  all_stay acts w [] [] work inputs there = tt
+  all_stay acts w [] (x ∷ answers) work inputs there = absurd there
+  all_stay acts w (a ∷ done) [] work inputs there = absurd there
+  all_stay acts w (a ∷ done) (x ∷ answers) work inputs there = (stays_behind acts w a.command x work inputs there.0, all_stay acts w done answers work inputs there.1)
+
+  -- of the acts that came through the first ones were answered
+  front_there : (acts more : List Act) (w : Work) → IsWork (shape file) (spelling file) w → AreInputs (acts ++ more) → AreThere (kept (work_after file w (acts ++ more))) acts (answers_of file w acts)
+  front_there [] more w work inputs = tt
+  front_there (a ∷ acts) more w work inputs =
+      let then : IsWork (shape file) (spelling file) (next file w a.given a.command).0 = sense_law (shape file) (spelling file) w a.given a.command inputs.0 work in (
+        stays_behind (acts ++ more) (next file w a.given a.command).0 a.command (next file w a.given a.command).1 then inputs.1 (just_there (shape file) (spelling file) w a.given a.command work),
+        front_there acts more (next file w a.given a.command).0 then inputs.1,
+      )
+
+  front_inputs : (acts more : List Act) → AreInputs (acts ++ more) → AreInputs acts
+  front_inputs [] more inputs = tt
+  front_inputs (a ∷ acts) more inputs = (inputs.0, front_inputs acts more inputs.1)
+
+  -- ---- a session
+
+  module _ (c : Chapter) (acts : List Act) (v u : View) (goes : GoesBy file c acts v u) where
+    work : IsWork (shape file) (spelling file) (start_of file c.shown v)
+    work = start_makes_sense file c.shown v goes.whole goes.found
+
+    inputs : AreInputs (c.answered ++ goes.came.more)
+    inputs =
+        front_inputs (c.answered ++ goes.came.more) goes.came.rest
+        (subst AreInputs (ap (λ (l : List Act). c.answered ++ l) goes.came.some ∙ sym (append_assoc c.answered goes.came.more goes.came.rest)) goes.inputs)
+
+    -- the view that it came to has what was answered in it
+    answered_there : AreThere u c.answered c.answers
+    answered_there =
+        subst (λ (x : View). AreThere x c.answered c.answers) (sym (goes.view ∙ ap (λ (l : List Act). kept (work_after file (start_of file c.shown v) l)) goes.came.are))
+        (subst (AreThere (kept (work_after file (start_of file c.shown v) (c.answered ++ goes.came.more))) c.answered) (sym goes.answers_are)
+        (front_there c.answered goes.came.more (start_of file c.shown v) work inputs))
+
+    -- and what was answered before
+    before_there : (done : List Act) (answers : List Answer) → AreThere v done answers → AreThere u done answers
+    before_there done answers there =
+        subst (λ (x : View). AreThere x done answers) (sym (goes.view ∙ ap (λ (l : List Act). kept (work_after file (start_of file c.shown v) l)) goes.came.are))
+        (all_stay (c.answered ++ goes.came.more) (start_of file c.shown v) done answers work inputs there)
+
+  none_there : (view : View) (acts : List Act) (answers : List Answer) → acts ≡ [] → answers ≡ [] → AreThere view acts answers
+  none_there view [] [] none no_answers = tt
+  none_there view [] (x ∷ answers) none no_answers = absurd (cc)
+  none_there view (a ∷ acts) answers none no_answers = absurd (cc)
+
+  -- what was answered in earlier sessions
+  all_before : (c : Chapter) (v u : View) (chapters : List Chapter) → LeadsTo file c v u → AllThere v chapters → AllThere u chapters
+  all_before c v u [] leads there = tt
+  all_before c v u (d ∷ chapters) (inl is) there = (subst (λ (x : View). AreThere x d.answered d.answers) (sym is.same) there.0, all_before c v u chapters (inl is) there.1)
+  all_before c v u (d ∷ chapters) (inr goes) there = (before_there c goes.0 v u goes.1 d.answered d.answers there.0, all_before c v u chapters (inr goes) there.1)
+
+  own_there : (c : Chapter) (v u : View) → LeadsTo file c v u → AreThere u c.answered c.answers
+  own_there c v u (inl is) = none_there u c.answered c.answers is.none is.no_answers
+  own_there c v u (inr goes) = answered_there c goes.0 v u goes.1
+
+  all_there : (chapters : List Chapter) (u : View) → MayHave file chapters u → AllThere u chapters
+  all_there [] u had = tt
+  all_there (c ∷ chapters) u had = (own_there c had.0 u had.2, all_before c had.0 u chapters had.2 (all_there chapters had.0 had.1))
+
+pub acknowledged_is_found : AcknowledgedIsFound
+acknowledged_is_found file t chapters view life chance found =
+    let goes = every_life_goes_on file t chapters life chance in
+    let shows : now t.log ≡ t.shown = λ i sector. sym (goes.may.honest.shows sector) i in
+    let there : IsFound (shape file) (unit_at file.layout file.cluster t.shown) goes.view = subst (λ (image : Image). IsFound (shape file) (unit_at file.layout file.cluster image) goes.view) shows goes.may.found in
+    let one : goes.view ≡ view = one_found_law (shape file) (unit_at file.layout file.cluster t.shown) goes.view view there found in
+    subst (λ (x : View). AllThere x chapters) one (all_there file chapters goes.view goes.had)

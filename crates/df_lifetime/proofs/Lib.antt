@@ -1,0 +1,9 @@
+mod Files
+mod Acts
+mod Orders
+mod Lives
+mod Blank
+mod Next
+mod Done
+mod Found
+mod KeptReads

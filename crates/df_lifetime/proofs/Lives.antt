@@ -1,0 +1,365 @@
+-- Each thing that happens to a file that is in order leaves it in order.
+use Rattle.std.proofs.Common.{◌≡◌, inl, inr, ℕ, true, false, List, [], ◌∷◌, ◌++◌, Option, Some, None, refl, sym, ◌∙◌, subst, arith}
+use Rattle.std.proofs.lemmas.Bool.{cases_eq}
+use Rattle.std.proofs.lemmas.Bool.Decides.{nat_tests}
+use Rattle.std.proofs.lemmas.List.{append-nil}
+use Rattle.df_base.specs.Image.{Image, IsImage, changed}
+use Rattle.df_base.specs.Log.{AreLoose, Event, IsLeft, IsLog, Log, Stop, Sync, loose_of, now}
+use Rattle.df_base.specs.Moments.{EachMoment, Extends, IsMoment}
+use Rattle.df_base.proofs.Laws.{changed_is_image, extends_self, from_before, now_is_image, weaker}
+use Rattle.df_disk.specs.Adds.{AddsPart}
+use Rattle.df_disk.specs.Told.{IsHonest, Told, did}
+use Rattle.df_layout.specs.declared.layout.Layout.{Layout}
+use Rattle.df_theory.specs.Device.{IsSafeDisk, NoChanceOf, units_log}
+use Rattle.df_theory.specs.Found.{IsFound}
+use Rattle.df_theory.specs.Rests.{RestsOn}
+use Rattle.df_theory.specs.View.{View}
+use Rattle.df_theory.proofs.Laws.{disk_stop_law, rests_safe, safe_disk_law}
+use Rattle.df_units.specs.Bytes.{unit_at}
+use Rattle.df_units.specs.Making.{first_view}
+use Rattle.df_units.proofs.Laws.{is_format}
+use Rattle.df_model.specs.Commands.{Answer}
+use Rattle.df_model.specs.Work.{Work, kept}
+use Rattle.df_model.specs.declared.errors.OpenError.TheVariants.{NotFormatted}
+use Rattle.df_state.specs.State.{State as Replica, shape}
+use Rattle.df_state.specs.declared.file.DataFile.{DataFile}
+use Rattle.df_replica.specs.Completeness.{IsNotRefused}
+use Rattle.df_replica.specs.Following.{MayOpen}
+use Rattle.df_replica.specs.HeldBlocks.{AreInputs}
+use Rattle.df_replica.specs.Opened.{MendsPartly, StopsOpening}
+use Rattle.df_replica.specs.Serving.{Grade, IsGoodFor, StandsFor, Whole, format}
+use Rattle.df_replica.specs.Session.{Act, HasView, IsMidway, work_after}
+use Rattle.df_replica.proofs.Laws.{good_left, good_safe, safe_is_not_refused}
+use Rattle.df_top.specs.Formats.{Formats}
+use Rattle.df_top.specs.Keeping.{KeepsFile, LeavesAll}
+use Rattle.df_top.specs.Lines.{all_acts, all_answers}
+use Rattle.df_top.specs.Opening.{RefusesFile}
+use Rattle.df_top.specs.Outside.{Outside}
+use Rattle.df_top.specs.Run.{Does, ServesScript}
+use Rattle.df_top.specs.Session.{act_of, list_of}
+use Rattle.df_top.specs.Working.{WorksThrough}
+use Rattle.df_top.specs.declared.mode.Mode.{Mode}
+use Rattle.df_top.specs.declared.mode.Mode.TheVariants.{Format, Run, Recover, Inspect, Scrub, Workload}
+use Rattle.df_top.specs.declared.status.Status.{Status}
+use Rattle.df_top.specs.declared.status.Status.TheVariants.{Done, Found, Words, Script, Refused, DiskFault, ReadFault, WriteFault, Memory}
+use Rattle.df_lifetime.specs.Life.{Chapter, EveryLifeGoesOn, EveryLifeIsInOrder, FormatWord, IsInOrder, MayHave, Outcome, ToAMoment, ToItsEnd, Word, chapters_in, chapters_of, sessions_in, start_of}
+use Rattle.df_lifetime.specs.Life.Life.{Begun, Ended, Formatted, Made, Ran, Stopped}
+use Rattle.df_lifetime.proofs.Acts.{HasFront, ends_inputs, has_front}
+use Rattle.df_lifetime.proofs.Files.{goes_told, one_file, one_told}
+use Rattle.df_lifetime.proofs.Orders.{Has, Order, after_barrier, goes_on, here, in_order, made_in_order, made_safe, may, none_referenced, order_of, same_moments, stands_shown, synced, synced_moments}
+
+-- what a word leaves: an honest disk, and its log in order at each moment and at the end
+pub record Comes (file : DataFile) (cut ended : List Chapter) (t n : Told) : Type 0 where
+  pub honest : IsHonest n
+  pub at_end : Order file ended n.log
+  pub moments : EachMoment t.log n.log (Order file cut)
+
+module _ (file : DataFile) (chapters : List Chapter) (t : Told) (is : IsInOrder file chapters t) (chance : NoChanceOf (format file) t.log (now t.log)) where
+  -- ---- nothing but the barrier was done
+
+  same_comes : (n : Told) → t ≡ n → Comes file chapters chapters t n
+  same_comes n same = subst (λ (x : Told). Comes file chapters chapters t x) same (record { honest = is.honest; at_end = order_of file chapters t is; moments = same_moments file chapters t is chance })
+
+  sync_comes : (n : Told) → did Sync t ≡ n → Comes file chapters chapters t n
+  sync_comes n same =
+      subst (λ (x : Told). Comes file chapters chapters t x) same
+      (record { honest = record { shows = is.honest.shows }; at_end = synced file chapters t is chance; moments = synced_moments file chapters t is chance })
+
+  part_comes : (new : Option Told) (n : Told) → new ≡ Some n → AddsPart (Sync ∷ []) (Some t) new → Comes file chapters chapters t n
+  part_comes new n to (inl none) = same_comes n (one_told new t n none to)
+  part_comes new n to (inr all) = sync_comes n (one_told new (did Sync t) n all to)
+
+  -- ---- the view that is found
+
+  abbrev view : View
+  view = (here file chapters t is chance).view
+
+  opens : MayOpen file view t
+  opens = may file chapters t is chance
+
+  answers : IsImage t.shown × IsNotRefused file t.shown
+  answers = safe_is_not_refused file view t opens
+
+  found_shown : IsFound (shape file) (unit_at file.layout file.cluster t.shown) view
+  found_shown = subst (λ (image : Image). IsFound (shape file) (unit_at file.layout file.cluster image) view) (λ i sector. sym (is.honest.shows sector) i) opens.found
+
+  -- ---- the disk failed within the mending
+
+  good_order : (log : Log) → IsGoodFor Whole (format file) (shape file) view view log → Order file chapters log
+  good_order log good = record {
+    safe = good_safe file Whole view view log good;
+    left = λ image left no. elim (good_left file Whole view view log good image left no) [
+      | inl old ↦ record { view = view; had = (here file chapters t is chance).had; held = old.0; stands = old.1 }
+      | inr new ↦ record { view = view; had = (here file chapters t is chance).had; held = new.0; stands = new.1 }
+    ];
+  }
+
+  mends_comes : (layout : Layout) → layout ≡ file.layout → (new : Option Told) (n : Told) → new ≡ Some n → MendsPartly layout t new → Comes file chapters chapters t n
+  mends_comes layout own new n to mends =
+      let goes = goes_told (did Sync t) new mends.told in
+      let same : goes.0 ≡ n = one_told new goes.0 n goes.1 to in
+      let one : mends.state.file ≡ file = one_file file layout t.shown view mends.state own found_shown mends.opened in
+      let each : EachMoment (did Sync t).log n.log (IsGoodFor Whole (format file) (shape file) view view) =
+      (subst (λ (f : DataFile). (m : Told) (g : Grade) (v : View) → new ≡ Some m → MayOpen f v t → StandsFor g (unit_at f.layout f.cluster t.shown) v → EachMoment (did Sync t).log m.log (IsGoodFor g (format f) (shape f) v v)) one mends.moments)
+      n Whole view to opens (stands_shown file chapters t is chance) in
+      let grew : Extends n.log (did Sync t).log = subst (λ (x : Told). Extends x.log (did Sync t).log) same goes.2.grew in
+      let later : EachMoment (did Sync t).log n.log (Order file chapters) = weaker (did Sync t).log n.log (IsGoodFor Whole (format file) (shape file) view view) (Order file chapters) (λ log good. good_order log good) each in
+      record {
+        honest = subst IsHonest same (goes.2.honest (record { shows = is.honest.shows }));
+        at_end = later n.log (record { since = grew; until = extends_self n.log });
+        moments = after_barrier file chapters t is chance n.log grew later;
+      }
+
+  stops_comes : (layout : Layout) → layout ≡ file.layout → (new : Option Told) (n : Told) → new ≡ Some n → StopsOpening layout t new → Comes file chapters chapters t n
+  stops_comes layout own new n to (inl none) = same_comes n (one_told new t n none to)
+  stops_comes layout own new n to (inr (inl all)) = sync_comes n (one_told new (did Sync t) n all to)
+  stops_comes layout own new n to (inr (inr mends)) = mends_comes layout own new n to mends
+
+  refused : (layout : Layout) (old new : Outside) (status : Status) → layout ≡ file.layout → RefusesFile layout t old new status → ⊥
+  refused layout old new status own refuses =
+      let is_for = subst (λ (l : Layout). RefusesFile l t old new status) own refuses in
+      is_for.is.other (answers.1.answered is_for.error is_for.is.why)
+
+  -- ---- the file was opened, and kept
+
+  had : MayHave file chapters view
+  had = (here file chapters t is chance).had
+
+  abbrev start : Work
+  start = start_of file t.shown view
+
+  keeps_as : (replica : Replica) (acts : List Act) (xs : List Answer) (failed : Option Act) (new : Option Told) (n : Told) → new ≡ Some n → replica.file ≡ file
+      → ((g : Grade) (v : View) → MayOpen replica.file v t → StandsFor g (unit_at replica.file.layout replica.file.cluster t.shown) v → KeepsFile replica.file g (start_of replica.file t.shown v) t acts xs failed new)
+      → KeepsFile file Whole start t acts xs failed (Some n)
+  keeps_as replica acts xs failed new n to one keeps =
+      subst (λ (o : Option Told). KeepsFile file Whole start t acts xs failed o) to
+      ((subst (λ (f : DataFile). (g : Grade) (v : View) → MayOpen f v t → StandsFor g (unit_at f.layout f.cluster t.shown) v → KeepsFile f g (start_of f t.shown v) t acts xs failed new) one keeps)
+      Whole view opens (stands_shown file chapters t is chance))
+
+  module _ (acts : List Act) (xs : List Answer) (failed : Option Act) (n : Told) (keeps : KeepsFile file Whole start t acts xs failed (Some n)) where
+    same_end : keeps.after ≡ n
+    same_end = one_told (Some n) keeps.after n keeps.is refl
+
+    honest_end : IsHonest n
+    honest_end = subst IsHonest same_end keeps.honest
+
+    barrier : Extends n.log (did Sync t).log
+    barrier = subst (λ (x : Told). Extends x.log (did Sync t).log) same_end keeps.barrier
+
+    midway : EachMoment (did Sync t).log n.log (IsMidway file Whole start (acts ++ list_of failed))
+    midway = subst (λ (x : Told). EachMoment (did Sync t).log x.log (IsMidway file Whole start (acts ++ list_of failed))) same_end keeps.moments
+
+    leaves : LeavesAll file Whole start acts failed n
+    leaves = subst (λ (x : Told). LeavesAll file Whole start acts failed x) same_end keeps.left
+
+    last : IsMidway file Whole start (acts ++ list_of failed) n.log
+    last = midway n.log (record { since = barrier; until = extends_self n.log })
+
+    abbrev ended : Chapter
+    ended = record { shown = t.shown; answered = acts; answers = xs; perhaps = list_of failed }
+
+    abbrev cut : Chapter
+    cut = record { shown = t.shown; answered = []; answers = []; perhaps = acts ++ list_of failed }
+
+    module _ (inputs : AreInputs (acts ++ list_of failed)) where
+      -- at the end these acts came through
+      all_came : (image : Image) (came more rest : List Act) → came ≡ acts ++ more → list_of failed ≡ more ++ rest → HasView file Whole (work_after file start came) image → Has file (ended ∷ chapters) image
+      all_came image came more rest are some has = record {
+        view = kept (work_after file start came);
+        had = (view, had, inr (came, record { whole = answers.0; found = found_shown; inputs = inputs; answers_are = keeps.answered; came = record { more = more; rest = rest; are = are; some = some }; view = refl }));
+        held = has.0;
+        stands = has.1;
+      }
+
+      -- up to a moment these did
+      some_came : (image : Image) → HasFront file Whole start (acts ++ list_of failed) image → Has file (cut ∷ chapters) image
+      some_came image has = record {
+        view = kept (work_after file start has.front);
+        had = (view, had, inr (has.front, record { whole = answers.0; found = found_shown; inputs = inputs; answers_are = refl; came = record { more = has.front; rest = has.rest; are = refl; some = has.are }; view = refl }));
+        held = has.has.0;
+        stands = has.has.1;
+      }
+
+      none_came : (image : Image) → Has file chapters image → Has file (cut ∷ chapters) image
+      none_came image has = record { view = has.view; had = (has.view, has.had, inl (record { none = refl; no_answers = refl; same = refl })); held = has.held; stands = has.stands }
+
+      cut_order : (log : Log) → Order file chapters log → Order file (cut ∷ chapters) log
+      cut_order log order = record { safe = order.safe; left = λ image left no. none_came image (order.left image left no) }
+
+      mid_order : (log : Log) → IsMidway file Whole start (acts ++ list_of failed) log → Order file (cut ∷ chapters) log
+      mid_order log mid = record { safe = mid.safe; left = λ image left no. some_came image (has_front file Whole start (acts ++ list_of failed) image (mid.left image left no)) }
+
+      all_moments : EachMoment t.log n.log (Order file (cut ∷ chapters))
+      all_moments =
+          from_before Sync t.log n.log (Order file (cut ∷ chapters)) (cut_order t.log (order_of file chapters t is)) barrier
+          (weaker (did Sync t).log n.log (IsMidway file Whole start (acts ++ list_of failed)) (Order file (cut ∷ chapters)) mid_order midway)
+
+      served_comes : Order file (ended ∷ chapters) n.log → Comes file (cut ∷ chapters) (ended ∷ chapters) t n
+      served_comes at_end = record { honest = honest_end; at_end = at_end; moments = all_moments }
+
+  end_order : (acts : List Act) (xs : List Answer) (failed : Option Act) (n : Told) (keeps : KeepsFile file Whole start t acts xs failed (Some n)) → AreInputs (acts ++ list_of failed)
+      → LeavesAll file Whole start acts failed n → Order file (record { shown = t.shown; answered = acts; answers = xs; perhaps = list_of failed } ∷ chapters) n.log
+  end_order acts xs None n keeps inputs all = record {
+    safe = (last acts xs None n keeps).safe;
+    left = λ image left no. all_came acts xs None n keeps inputs image acts [] [] (sym (append-nil acts)) refl (all image left no);
+  }
+  end_order acts xs (Some a) n keeps inputs all = record {
+    safe = (last acts xs (Some a) n keeps).safe;
+    left = λ image left no. elim (all image left no) [
+      | inl before ↦ all_came acts xs (Some a) n keeps inputs image acts [] (a ∷ []) (sym (append-nil acts)) refl before
+      | inr after ↦ all_came acts xs (Some a) n keeps inputs image (acts ++ a ∷ []) (a ∷ []) [] refl refl after
+    ];
+  }
+
+  -- ---- nothing was asked of it
+
+  module _ (n : Told) (keeps : KeepsFile file Whole start t [] [] None (Some n)) where
+    idle_order : (log : Log) → IsMidway file Whole start [] log → Order file chapters log
+    idle_order log mid = record {
+      safe = mid.safe;
+      left = λ image left no.
+          let has : HasView file Whole start image = mid.left image left no in
+          record { view = view; had = had; held = has.0; stands = has.1 };
+    }
+
+    idle_moments : EachMoment (did Sync t).log n.log (Order file chapters)
+    idle_moments = weaker (did Sync t).log n.log (IsMidway file Whole start []) (Order file chapters) idle_order (midway [] [] None n keeps)
+
+    idle_comes : Comes file chapters chapters t n
+    idle_comes = record {
+      honest = honest_end [] [] None n keeps;
+      at_end = idle_moments n.log (record { since = barrier [] [] None n keeps; until = extends_self n.log });
+      moments = after_barrier file chapters t is chance n.log (barrier [] [] None n keeps) idle_moments;
+    }
+
+  -- ---- a word
+
+  module _ (layout : Layout) (own : layout ≡ file.layout) (old new : Outside) (status : Status) (n : Told) (to : new.told ≡ Some n) where
+    script_comes : (serves : ServesScript layout t old new status)
+        → Comes file (chapters_of ToAMoment Run layout t old new status (inr (inr serves)) ++ chapters) (chapters_of ToItsEnd Run layout t old new status (inr (inr serves)) ++ chapters) t n
+    script_comes serves =
+        let acts : List Act = all_acts serves.session.turns in
+        let xs : List Answer = all_answers serves.session.turns in
+        let failed : Option Act = act_of serves.session.failing in
+        let one : serves.replica.file ≡ file = one_file file layout t.shown view serves.replica own found_shown serves.is_opened in
+        let keeps : KeepsFile file Whole start t acts xs failed (Some n) = keeps_as serves.replica acts xs failed new.told n to one serves.keeps in
+        let inputs : AreInputs (acts ++ list_of failed) = ends_inputs serves.replica serves.last.replica serves.mended serves.last.outside.told acts xs failed serves.session.calls in
+        served_comes acts xs failed n keeps inputs (end_order acts xs failed n keeps inputs (leaves acts xs failed n keeps))
+
+    works_comes : (seed count : ℕ) (works : WorksThrough seed count layout t old new status)
+        → Comes file (chapters_of ToAMoment (Workload seed count) layout t old new status (inr (inr works)) ++ chapters) (chapters_of ToItsEnd (Workload seed count) layout t old new status (inr (inr works)) ++ chapters) t n
+    works_comes seed count works =
+        let acts : List Act = works.worked.acts in
+        let xs : List Answer = works.worked.answers in
+        let failed : Option Act = works.worked.failed in
+        let one : works.replica.file ≡ file = one_file file layout t.shown view works.replica own found_shown works.is_opened in
+        let keeps : KeepsFile file Whole start t acts xs failed (Some n) = keeps_as works.replica acts xs failed new.told n to one works.keeps in
+        let inputs : AreInputs (acts ++ list_of failed) = ends_inputs works.replica works.last works.mended new.told acts xs failed works.worked.calls in
+        served_comes acts xs failed n keeps inputs (end_order acts xs failed n keeps inputs (leaves acts xs failed n keeps))
+
+    does_comes : (mode : Mode) (does : Does mode layout t old new status)
+        → Comes file (chapters_of ToAMoment mode layout t old new status does ++ chapters) (chapters_of ToItsEnd mode layout t old new status does ++ chapters) t n
+    does_comes (Format shape cluster) does = absurd does
+    does_comes Run (inl refuses) = absurd (refused layout old new status own refuses)
+    does_comes Run (inr (inl fails)) = stops_comes layout own new.told n to fails.disk
+    does_comes Run (inr (inr serves)) = script_comes serves
+    does_comes Recover (inl refuses) = absurd (refused layout old new status own refuses)
+    does_comes Recover (inr (inl fails)) = stops_comes layout own new.told n to fails.disk
+    does_comes Recover (inr (inr recovers)) =
+        idle_comes n (keeps_as recovers.replica [] [] None new.told n to (one_file file layout t.shown view recovers.replica own found_shown recovers.is_opened) recovers.keeps)
+    does_comes Inspect (inl refuses) = absurd (refused layout old new status own refuses)
+    does_comes Inspect (inr (inl fails)) = part_comes new.told n to fails.disk
+    does_comes Inspect (inr (inr inspects)) = sync_comes n (one_told new.told (did Sync t) n inspects.barrier to)
+    does_comes Scrub (inl refuses) = absurd (refused layout old new status own refuses)
+    does_comes Scrub (inr (inl fails)) = stops_comes layout own new.told n to fails.disk
+    does_comes Scrub (inr (inr scrubs)) =
+        idle_comes n (keeps_as scrubs.replica [] [] None new.told n to (one_file file layout t.shown view scrubs.replica own found_shown scrubs.is_opened) scrubs.keeps)
+    does_comes (Workload seed count) (inl refuses) = absurd (refused layout old new status own refuses)
+    does_comes (Workload seed count) (inr (inl fails)) = stops_comes layout own new.told n to fails.disk
+    does_comes (Workload seed count) (inr (inr works)) = works_comes seed count works
+
+  outcome_comes : (mode : Mode) (old new : Outside) (status : Status) (n : Told) → old.told ≡ Some t → new.told ≡ Some n → (outcome : Outcome mode t old new status)
+      → Comes file (chapters_in ToAMoment mode t old new status outcome ++ chapters) (chapters_in ToItsEnd mode t old new status outcome ++ chapters) t n
+  outcome_comes mode old new status n from to (inl nothing) = same_comes n (one_told new.told t n (nothing.without.same ∙ from) to)
+  outcome_comes mode old new status n from to (inr (inl refuses)) = absurd (answers.1.usable refuses.error refuses.is)
+  outcome_comes mode old new status n from to (inr (inr serves)) = does_comes serves.layout (answers.1.layout serves.layout serves.shown) old new status n to mode serves.serves
+
+  word_comes : (n : Told) (word : Word t n) → Comes file (sessions_in ToAMoment t n word ++ chapters) (sessions_in ToItsEnd t n word ++ chapters) t n
+  word_comes n word = outcome_comes word.mode word.old word.new word.status n word.from word.to (word.runs t word.from word.whole)
+
+  -- ---- the word `format` again
+
+  formatted_same : (layout : Layout) (cluster : ℕ) (n : Told) (old new : Option (List ℕ)) (status : Status) → (status ≡ DiskFault → ⊥) → Formats layout cluster (Some t) (Some n) old new status → t ≡ n
+  formatted_same layout cluster n old new Done go made = absurd (answers.1.usable NotFormatted (made.0.may.blank t refl))
+  formatted_same layout cluster n old new Refused go refuses = one_told (Some n) t n refuses.1.same refl
+  formatted_same layout cluster n old new DiskFault go part = absurd (go refl)
+  formatted_same layout cluster n old new WriteFault go (inl made) = absurd (answers.1.usable NotFormatted (made.0.may.blank t refl))
+  formatted_same layout cluster n old new WriteFault go (inr refuses) = one_told (Some n) t n refuses.1.same refl
+  formatted_same layout cluster n old new Memory go nothing = one_told (Some n) t n nothing.0 refl
+  formatted_same layout cluster n old new Found go none = absurd none
+  formatted_same layout cluster n old new Words go none = absurd none
+  formatted_same layout cluster n old new Script go none = absurd none
+  formatted_same layout cluster n old new ReadFault go none = absurd none
+
+  formatted_order : (layout : Layout) (cluster : ℕ) (n : Told) (status : Status) → FormatWord layout cluster t n status → (status ≡ DiskFault → ⊥) → IsInOrder file chapters n
+  formatted_order layout cluster n status word go = subst (IsInOrder file chapters) (formatted_same layout cluster n word.old word.new status go word.formats) is
+
+-- ---- a stop
+
+changed_kept : (es : List Event) (changes : List (ℕ × List ℕ)) (image : Image) (sector : ℕ) → AreLoose es changes → loose_of es sector ≡ false → changed changes image sector ≡ image sector
+changed_kept es [] image sector are firm = refl
+changed_kept es (c ∷ changes) image sector are firm =
+    changed_kept es changes _ sector are.2 firm ∙ elim (cases_eq sector c.0) [
+      | inl here ↦ absurd (let wet : loose_of es sector ≡ true = subst (λ (s : ℕ). loose_of es s ≡ true) (sym here) are.0 in cc)
+      | inr elsewhere ↦ grind (arith, nat_tests)
+    ]
+
+-- what a stop leaves is one of the images that it may leave
+left_by : (log : Log) (changes : List (ℕ × List ℕ)) → IsLog log → AreLoose log.events changes → IsLeft log (changed changes (now log))
+left_by log changes is loose = record {
+  whole = changed_is_image log.events changes (now log) loose (now_is_image log.start log.events is.start is.events);
+  kept = λ sector firm. changed_kept log.events changes (now log) sector loose firm;
+}
+
+module _ (file : DataFile) (chapters : List Chapter) (t : Told) (safe : IsSafeDisk (format file) (shape file) t.log) (honest : IsHonest t) (changes : List (ℕ × List ℕ)) (loose : AreLoose t.log.events changes)
+    (chance : NoChanceOf (format file) t.log (changed changes (now t.log))) (there : Has file chapters (changed changes (now t.log))) where
+  rests : RestsOn (shape file) (units_log (format file) (did (Stop changes) t).log) there.view
+  rests = disk_stop_law (format file) (shape file) there.view t.log changes safe loose chance there.held
+
+  -- behind it nothing is loose, so that another one leaves the same
+  only : (image : Image) → IsLeft (did (Stop changes) t).log image → changed changes (now t.log) ≡ image
+  only image left i sector = sym (left.kept sector refl) i
+
+  stopped_order : IsInOrder file chapters (did (Stop changes) t)
+  stopped_order =
+      in_order file chapters (did (Stop changes) t) (record { shows = λ sector i. changed changes (λ s. honest.shows s i) sector })
+      (record {
+        safe =
+            safe_disk_law (format file) (shape file) (did (Stop changes) t).log (is_format file.layout file.cluster) (record { start = safe.is_log.start; events = (loose, safe.is_log.events) })
+            (rests_safe (shape file) (units_log (format file) (did (Stop changes) t).log) there.view rests);
+        left = λ image left no. subst (Has file chapters) (only image left) there;
+      })
+
+-- ---- the laws
+
+ended_order : (file : DataFile) (cut whole : List Chapter) (t n m : Told) → Comes file cut whole t n → IsMoment t.log n.log m.log → IsHonest m → IsInOrder file cut m
+ended_order file cut whole t n m comes moment honest = in_order file cut m honest (comes.moments m.log moment)
+
+pub every_life_is_in_order : EveryLifeIsInOrder
+every_life_is_in_order file _ _ (Made t n makable honest word) = made_in_order file t n makable honest word
+every_life_is_in_order file _ _ (Begun t n m status changes makable honest word wanting moment there loose chance held) =
+    let safe = made_safe file t n makable honest status word wanting m.log moment in
+    stopped_order file [] m safe there changes loose chance
+    (record { view = first_view file.layout file.cluster; had = refl; held = held; stands = none_referenced file (changed changes (now m.log)) })
+every_life_is_in_order file _ _ (Ran t n chapters word life chance) =
+    let comes = word_comes file chapters t (every_life_is_in_order file t chapters life) chance n word in
+    in_order file (sessions_in ToItsEnd t n word ++ chapters) n comes.honest comes.at_end
+every_life_is_in_order file _ _ (Ended t n m chapters word life chance moment honest) =
+    ended_order file (sessions_in ToAMoment t n word ++ chapters) (sessions_in ToItsEnd t n word ++ chapters) t n m (word_comes file chapters t (every_life_is_in_order file t chapters life) chance n word) moment honest
+every_life_is_in_order file _ _ (Formatted t n chapters layout cluster status life chance word go) = formatted_order file chapters t (every_life_is_in_order file t chapters life) chance layout cluster n status word go
+every_life_is_in_order file _ _ (Stopped t chapters changes life loose chance) =
+    let is = every_life_is_in_order file t chapters life in
+    stopped_order file chapters t is.safe is.honest changes loose chance ((order_of file chapters t is).left (changed changes (now t.log)) (left_by t.log changes is.safe.is_log loose) chance)
+
+pub every_life_goes_on : EveryLifeGoesOn
+every_life_goes_on file t chapters life chance = goes_on file chapters t (every_life_is_in_order file t chapters life) chance

@@ -1,0 +1,153 @@
+-- A file in order: as it was made, as it is opened, and behind a barrier.
+use Rattle.std.proofs.Common.{◌≡◌, ◌<◌, ℕ, List, [], Some, None, refl, sym, ◌∙◌, ap, subst}
+use Rattle.df_base.specs.Image.{Image}
+use Rattle.df_base.specs.Log.{IsLeft, IsLog, Log, Sync, add, now}
+use Rattle.df_base.specs.Moments.{EachMoment, Extends}
+use Rattle.df_base.proofs.Laws.{adds_extends, extends_self, from_before, now_is_image, started}
+use Rattle.df_disk.specs.Adds.{after_all}
+use Rattle.df_disk.specs.Told.{IsHonest, Told}
+use Rattle.df_disk.proofs.Laws.{told_log}
+use Rattle.df_layout.specs.declared.layout.Layout.{Layout}
+use Rattle.df_theory.specs.Device.{IsSafeDisk, NoChanceOf, units_log}
+use Rattle.df_theory.specs.Holds.{Held, Stands}
+use Rattle.df_theory.specs.TidyLaws.{IsTidy}
+use Rattle.df_theory.specs.View.{View}
+use Rattle.df_theory.proofs.Laws.{disk_barrier_law, firm_units, found_law, rests_holds, rests_safe, safe_disk_law}
+use Rattle.df_units.specs.Bytes.{unit_at}
+use Rattle.df_units.specs.Making.{first_view}
+use Rattle.df_units.proofs.Laws.{is_format}
+use Rattle.df_state.specs.State.{shape}
+use Rattle.df_state.specs.declared.file.DataFile.{DataFile}
+use Rattle.df_replica.specs.Following.{MayOpen}
+use Rattle.df_replica.specs.Making.{MayMakeOn, file_of, making_events}
+use Rattle.df_replica.specs.Serving.{format}
+use Rattle.df_top.specs.Formats.{MakesOn}
+use Rattle.df_top.specs.declared.status.Status.{Status}
+use Rattle.df_top.specs.declared.status.Status.TheVariants.{Done, Memory}
+use Rattle.df_lifetime.specs.Life.{Chapter, FormatWord, IsInOrder, MayBeOpened, MayHave}
+use Rattle.df_lifetime.proofs.Files.{one_told, same_file}
+
+module _ (file : DataFile) (chapters : List Chapter) where
+  -- the image has a view that the file may have come to
+  pub record Has (image : Image) : Type 0 where
+    pub view : View
+    pub had : MayHave file chapters view
+    pub held : Held (shape file) ((format file).unit_at image) view
+    pub stands : Stands ((format file).unit_at image) view
+
+  -- the log is safe, and so is each image that a stop may leave
+  pub record Order (log : Log) : Type 0 where
+    pub safe : IsSafeDisk (format file) (shape file) log
+    pub left : (image : Image) → IsLeft log image → NoChanceOf (format file) log image → Has image
+
+  pub order_of : (t : Told) → IsInOrder file chapters t → Order t.log
+  order_of t is = record {
+    safe = is.safe;
+    left = λ image left chance.
+        let has = is.left image left chance in
+        record { view = has.0; had = has.1; held = has.2; stands = has.3 };
+  }
+
+  pub in_order : (t : Told) → IsHonest t → Order t.log → IsInOrder file chapters t
+  in_order t honest order = record {
+    safe = order.safe;
+    honest = honest;
+    left = λ image left chance.
+        let has = order.left image left chance in
+        (has.view, has.had, has.held, has.stands);
+  }
+
+  -- ---- it may be opened
+
+  now_left : (log : Log) → IsLog log → IsLeft log (now log)
+  now_left log is = record { whole = now_is_image log.start log.events is.start is.events; kept = λ sector firm. refl }
+
+  module _ (t : Told) (is : IsInOrder file chapters t) (chance : NoChanceOf (format file) t.log (now t.log)) where
+    pub here : Has (now t.log)
+    here = (order_of t is).left (now t.log) (now_left t.log is.safe.is_log) chance
+
+    pub may : MayOpen file here.view t
+    may = record { safe = is.safe; honest = is.honest; found = (found_law (shape file) ((format file).unit_at (now t.log)) here.view).0 here.held; no_chance = chance }
+
+    shows : now t.log ≡ t.shown
+    shows = λ i sector. sym (is.honest.shows sector) i
+
+    pub stands_shown : Stands (unit_at file.layout file.cluster t.shown) here.view
+    stands_shown = subst (λ (image : Image). Stands (unit_at file.layout file.cluster image) here.view) shows here.stands
+
+    pub goes_on : MayBeOpened file chapters t
+    goes_on = record { view = here.view; had = here.had; may = may; stands = stands_shown }
+
+    -- behind the barrier a stop leaves what is shown
+    only : (image : Image) → IsLeft (add Sync t.log) image → now t.log ≡ image
+    only image left i sector = sym (left.kept sector refl) i
+
+    pub synced : Order (add Sync t.log)
+    synced = record {
+      safe =
+          safe_disk_law (format file) (shape file) (add Sync t.log) (is_format file.layout file.cluster) (record { start = is.safe.is_log.start; events = is.safe.is_log.events })
+          (rests_safe (shape file) (units_log (format file) (add Sync t.log)) here.view (disk_barrier_law (format file) (shape file) here.view t.log is.safe may.found));
+      left = λ image left no. subst Has (only image left) here;
+    }
+
+    -- nothing was added, or the sync of the barrier
+    pub same_moments : EachMoment t.log t.log Order
+    same_moments = started t.log Order (order_of t is)
+
+    pub after_barrier : (exit : Log) → Extends exit (add Sync t.log) → EachMoment (add Sync t.log) exit Order → EachMoment t.log exit Order
+    after_barrier exit grew later = from_before Sync t.log exit Order (order_of t is) grew later
+
+    pub synced_moments : EachMoment t.log (add Sync t.log) Order
+    synced_moments = after_barrier (add Sync t.log) (extends_self (add Sync t.log)) (started (add Sync t.log) Order synced)
+
+-- ---- as it was made
+
+pub none_referenced : (file : DataFile) (image : Image) → Stands ((format file).unit_at image) (first_view file.layout file.cluster)
+none_referenced file image a c is = absurd (let no : None ≡ Some c = is in cc)
+
+tidy_order : (file : DataFile) (log : Log) → IsSafeDisk (format file) (shape file) log → IsTidy (shape file) (units_log (format file) log) (first_view file.layout file.cluster) → Order file [] log
+tidy_order file log safe tidy = record {
+  safe = safe;
+  left = λ image left chance. record {
+    view = first_view file.layout file.cluster;
+    had = refl;
+    held = rests_holds (shape file) (units_log (format file) log) (first_view file.layout file.cluster) tidy.rests ((format file).unit_at image) (firm_units (format file) (is_format file.layout file.cluster) log image left.kept) chance;
+    stands = none_referenced file image;
+  };
+}
+
+own : (file : DataFile) (named : 0 < file.cluster) → file_of file.layout file.cluster named ≡ file
+own file named = same_file (file_of file.layout file.cluster named) file refl refl
+
+module _ (file : DataFile) (t n : Told) (may : MayMakeOn file.layout file.cluster t) (honest : IsHonest t) (status : Status) (word : FormatWord file.layout file.cluster t n status) (wanting : status ≡ Memory → ⊥) where
+  makes : MakesOn file.layout file.cluster t may (Some n) status
+  makes = word.makes t may wanting refl honest
+
+  same : makes.after ≡ n
+  same = one_told (Some n) makes.after n makes.is refl
+
+  -- the log is safe at each moment of a making
+  pub made_safe : EachMoment t.log n.log (IsSafeDisk (format file) (shape file))
+  made_safe =
+      subst (λ (f : DataFile). EachMoment t.log n.log (IsSafeDisk (format file) (shape f))) (own file may.named)
+      (subst (λ (x : Told). EachMoment t.log x.log (IsSafeDisk (format file) (shape (file_of file.layout file.cluster may.named)))) same makes.moments)
+
+  made_honest : IsHonest n
+  made_honest = subst IsHonest same makes.honest
+
+  made_tidy : status ≡ Done → IsTidy (shape file) (units_log (format file) n.log) (first_view file.layout file.cluster)
+  made_tidy done =
+      subst (λ (f : DataFile). IsTidy (shape f) (units_log (format file) n.log) (first_view file.layout file.cluster)) (own file may.named)
+      (subst (λ (x : Told). IsTidy (shape (file_of file.layout file.cluster may.named)) (units_log (format file) x.log) (first_view file.layout file.cluster)) same (makes.made done).tidy)
+
+made_grew : (layout : Layout) (cluster : ℕ) (t n : Told) → Some n ≡ after_all (making_events layout cluster) (Some t) → Extends n.log t.log
+made_grew layout cluster t n events =
+    let all = told_log (making_events layout cluster) t in
+    let is : n ≡ all.0 = one_told (Some n) n all.0 refl (events ∙ all.1) in
+    subst (λ (l : Log). Extends l t.log) (sym (ap (λ (x : Told). x.log) is ∙ all.2)) (adds_extends (making_events layout cluster) t.log)
+
+pub made_in_order : (file : DataFile) (t n : Told) → MayMakeOn file.layout file.cluster t → IsHonest t → FormatWord file.layout file.cluster t n Done → IsInOrder file [] n
+made_in_order file t n may honest word =
+    let grew : Extends n.log t.log = made_grew file.layout file.cluster t n word.formats.0.events in
+    let safe = made_safe file t n may honest Done word (λ no. cc) n.log (record { since = grew; until = extends_self n.log }) in
+    in_order file [] n (made_honest file t n may honest Done word (λ no. cc)) (tidy_order file n.log safe (made_tidy file t n may honest Done word (λ no. cc) refl))

@@ -1,0 +1,17 @@
+-- The laws are proved.
+use Rattle.df_lifetime.proofs.Blank.{new_disks_are_made_on}
+use Rattle.df_lifetime.proofs.Found.{acknowledged_is_found}
+use Rattle.df_lifetime.proofs.Lives.{every_life_goes_on, every_life_is_in_order}
+use Rattle.df_lifetime.proofs.life.sessions_compose.Goals as goal
+
+pub returns-clause-begins : goal.returns-clause-begins
+returns-clause-begins c = new_disks_are_made_on
+
+pub returns-clause-order : goal.returns-clause-order
+returns-clause-order c = every_life_is_in_order
+
+pub returns-clause-goes_on : goal.returns-clause-goes_on
+returns-clause-goes_on c = every_life_goes_on
+
+pub returns-clause-acknowledged : goal.returns-clause-acknowledged
+returns-clause-acknowledged c = acknowledged_is_found

@@ -1,0 +1,32 @@
+-- Whatever was acknowledged in a file's life is found.
+use Rattle.std.specs.Prelude.{List, [], ◌∷◌}
+use Rattle.df_base.specs.Log.{now}
+use Rattle.df_disk.specs.Told.{Told}
+use Rattle.df_theory.specs.Device.{NoChanceOf}
+use Rattle.df_theory.specs.Found.{IsFound}
+use Rattle.df_theory.specs.View.{View}
+use Rattle.df_units.specs.Bytes.{unit_at}
+use Rattle.df_model.specs.Commands.{Answer}
+use Rattle.df_state.specs.State.{shape}
+use Rattle.df_state.specs.declared.file.DataFile.{DataFile}
+use Rattle.df_replica.specs.Serving.{format}
+use Rattle.df_replica.specs.Session.{Act}
+use Rattle.df_lifetime.specs.Life.{Chapter, Life}
+use Rattle.df_lifetime.specs.There.{IsThere}
+
+-- what each of these acts was answered is there
+abbrev pub AreThere : View → List Act → List Answer → Type 0
+AreThere v [] [] = Unit {0}
+AreThere v (a ∷ acts) (x ∷ answers) = IsThere v a.command x × AreThere v acts answers
+AreThere v acts answers = ⊥
+
+-- and so is what was answered in each of these sessions
+abbrev pub AllThere : View → List Chapter → Type 0
+AllThere v [] = Unit {0}
+AllThere v (c ∷ chapters) = AreThere v c.answered c.answers × AllThere v chapters
+
+-- Whatever was acknowledged in any session of a file's life is in the view that the next open finds.
+abbrev pub AcknowledgedIsFound : Type 0
+AcknowledgedIsFound =
+    (file : DataFile) (t : Told) (chapters : List Chapter) (view : View) → Life file t chapters → NoChanceOf (format file) t.log (now t.log)
+    → IsFound (shape file) (unit_at file.layout file.cluster t.shown) view → AllThere view chapters

@@ -1,0 +1,5 @@
+pub mod Life
+pub mod There
+pub mod Acknowledged
+pub mod NewDisks
+pub mod Reads

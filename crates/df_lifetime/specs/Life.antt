@@ -1,0 +1,177 @@
+-- The life of a file: it is made, words are run over it one after the other, each to its end or up to a moment, and the machine may stop at any time.
+use Rattle.std.specs.Prelude.{◌≡◌, ◌⊎◌, ℕ, List, [], ◌∷◌, ◌++◌, Option, Some}
+use Rattle.std.proofs.Common.{inl, inr}
+use Rattle.df_base.specs.Image.{Image, IsImage, changed}
+use Rattle.df_base.specs.Log.{AreLoose, IsLeft, Stop, now}
+use Rattle.df_base.specs.Moments.{IsMoment}
+use Rattle.df_disk.specs.Told.{IsHonest, Told, did}
+use Rattle.df_layout.specs.declared.layout.Layout.{Layout}
+use Rattle.df_theory.specs.Device.{IsSafeDisk, NoChanceOf}
+use Rattle.df_theory.specs.Found.{IsFound}
+use Rattle.df_theory.specs.Holds.{Held, Stands}
+use Rattle.df_theory.specs.View.{View}
+use Rattle.df_units.specs.Bytes.{unit_at}
+use Rattle.df_units.specs.Making.{first_view}
+use Rattle.df_model.specs.Commands.{Answer}
+use Rattle.df_model.specs.Work.{Work, kept, opened}
+use Rattle.df_state.specs.State.{shape}
+use Rattle.df_state.specs.declared.file.DataFile.{DataFile}
+use Rattle.df_replica.specs.Following.{MayOpen}
+use Rattle.df_replica.specs.HeldBlocks.{AreInputs}
+use Rattle.df_replica.specs.Making.{MayMakeOn}
+use Rattle.df_replica.specs.Serving.{format}
+use Rattle.df_replica.specs.Session.{Act, answers_of, work_after}
+use Rattle.df_top.specs.Formats.{Formats, MakesFile}
+use Rattle.df_top.specs.Lines.{all_acts, all_answers}
+use Rattle.df_top.specs.Outside.{Outside}
+use Rattle.df_top.specs.Run.{DidNothing, Does, RefusesSuperblock, Runs, ServesOwn, ServesScript}
+use Rattle.df_top.specs.Session.{act_of, list_of}
+use Rattle.df_top.specs.declared.mode.Mode.{Mode}
+use Rattle.df_top.specs.declared.mode.Mode.TheVariants.{Format, Run, Recover, Inspect, Scrub, Workload}
+use Rattle.df_top.specs.declared.status.Status.{Status}
+use Rattle.df_top.specs.declared.status.Status.TheVariants.{DiskFault, Done, Memory}
+
+-- ---- what a session leaves of a file
+
+-- a session as far as it is known: the image that it opened, the acts that were surely answered, with their answers, and those behind them of which some may
+-- have come through
+pub record Chapter : Type 0 where
+  pub shown : Image
+  pub answered : List Act
+  pub answers : List Answer
+  pub perhaps : List Act
+
+-- these acts came through: all that were answered, and some of the others, from the first on
+pub record CameThrough (c : Chapter) (acts : List Act) : Type 0 where
+  pub more : List Act
+  pub rest : List Act
+  pub are : acts ≡ c.answered ++ more
+  pub some : c.perhaps ≡ more ++ rest
+
+-- the state that the machine begins with where it opens this image and finds this view
+abbrev pub start_of : DataFile → Image → View → Work
+start_of file image v = opened (shape file) (unit_at file.layout file.cluster image) v
+
+-- the session found view v in its image, the machine answered as it did, and came to view u by the acts that came through
+pub record GoesBy (file : DataFile) (c : Chapter) (acts : List Act) (v u : View) : Type 0 where
+  pub whole : IsImage c.shown
+  pub found : IsFound (shape file) (unit_at file.layout file.cluster c.shown) v
+  pub inputs : AreInputs (c.answered ++ c.perhaps)
+  pub answers_are : c.answers ≡ answers_of file (start_of file c.shown v) c.answered
+  pub came : CameThrough c acts
+  pub view : u ≡ kept (work_after file (start_of file c.shown v) acts)
+
+-- nothing was answered, and the view is as it was
+pub record IsUntouched (c : Chapter) (v u : View) : Type 0 where
+  pub none : c.answered ≡ []
+  pub no_answers : c.answers ≡ []
+  pub same : u ≡ v
+
+-- a session leads from one view to the next
+abbrev pub LeadsTo : DataFile → Chapter → (v u : View) → Type 0
+LeadsTo file c v u = IsUntouched c v u ⊎ ((acts : List Act) × GoesBy file c acts v u)
+
+-- a view that a file may have come to after these sessions, the newest first, from its first view on
+abbrev pub MayHave : DataFile → List Chapter → View → Type 0
+MayHave file [] u = u ≡ first_view file.layout file.cluster
+MayHave file (c ∷ chapters) u = (v : View) × MayHave file chapters v × LeadsTo file c v u
+
+-- ---- what happens to a file
+
+-- a word is run to its end, or up to a moment
+pub data Extent : Type 0 where
+  ToItsEnd : Extent
+  ToAMoment : Extent
+
+-- a session over this image that made these calls: at its end all that was answered is known to be there; at a moment before it any of its acts may be
+abbrev pub chapter_of : Extent → Image → List Act → List Answer → (failed : Option Act) → Chapter
+chapter_of ToItsEnd shown acts answers failed = record { shown = shown; answered = acts; answers = answers; perhaps = list_of failed }
+chapter_of ToAMoment shown acts answers failed = record { shown = shown; answered = []; answers = []; perhaps = acts ++ list_of failed }
+
+-- what a word did is a session where it served a script, or carried out a generated run
+abbrev pub chapters_of : Extent → (mode : Mode) (layout : Layout) (t : Told) (old new : Outside) (status : Status) → Does mode layout t old new status → List Chapter
+chapters_of extent (Format shape cluster) layout t old new status does = []
+chapters_of extent Run layout t old new status (inl refuses) = []
+chapters_of extent Run layout t old new status (inr (inl fails)) = []
+chapters_of extent Run layout t old new status (inr (inr serves)) = chapter_of extent t.shown (all_acts serves.session.turns) (all_answers serves.session.turns) (act_of serves.session.failing) ∷ []
+chapters_of extent Recover layout t old new status does = []
+chapters_of extent Inspect layout t old new status does = []
+chapters_of extent Scrub layout t old new status does = []
+chapters_of extent (Workload seed count) layout t old new status (inl refuses) = []
+chapters_of extent (Workload seed count) layout t old new status (inr (inl fails)) = []
+chapters_of extent (Workload seed count) layout t old new status (inr (inr works)) = chapter_of extent t.shown works.worked.acts works.worked.answers works.worked.failed ∷ []
+
+-- what `run` promises of a word on a file
+abbrev pub Outcome : Mode → Told → Outside → Outside → Status → Type 0
+Outcome mode t old new status = DidNothing old new status ⊎ RefusesSuperblock t old new status ⊎ ServesOwn mode t old new status
+
+abbrev pub chapters_in : Extent → (mode : Mode) (t : Told) (old new : Outside) (status : Status) → Outcome mode t old new status → List Chapter
+chapters_in extent mode t old new status (inl nothing) = []
+chapters_in extent mode t old new status (inr (inl refuses)) = []
+chapters_in extent mode t old new status (inr (inr own)) = chapters_of extent mode own.layout t old new status own.serves
+
+-- a word on a file, with its status, over a disk that told this before and that after it
+pub record Word (t n : Told) : Type 0 where
+  pub mode : Mode
+  pub old : Outside
+  pub new : Outside
+  pub status : Status
+  pub from : old.told ≡ Some t
+  pub to : new.told ≡ Some n
+  pub whole : IsImage t.shown
+  pub runs : Runs mode old new status
+
+abbrev pub sessions_in : Extent → (t n : Told) → Word t n → List Chapter
+sessions_in extent t n word = chapters_in extent word.mode t word.old word.new word.status (word.runs t word.from word.whole)
+
+-- the word `format`
+pub record FormatWord (layout : Layout) (cluster : ℕ) (t n : Told) (status : Status) : Type 0 where
+  pub old : Option (List ℕ)
+  pub new : Option (List ℕ)
+  pub formats : Formats layout cluster (Some t) (Some n) old new status
+  pub makes : MakesFile layout cluster (Some t) (Some n) status
+
+-- The life of a file so far: what the disk tells now, and the sessions that served it, the newest first.
+pub data Life (file : DataFile) : Told → List Chapter → Type 0 where
+  -- it was made, on an honest disk on which a file may be made, as on one that was never written
+  Made : (t n : Told) → MayMakeOn file.layout file.cluster t → IsHonest t → FormatWord file.layout file.cluster t n Done → Life file n []
+  -- or its making was cut off at a moment, and a stop left its first view all the same
+  Begun : (t n m : Told) (status : Status) (changes : List (ℕ × List ℕ)) → MayMakeOn file.layout file.cluster t → IsHonest t → FormatWord file.layout file.cluster t n status → (status ≡ Memory → ⊥)
+      → IsMoment t.log n.log m.log → IsHonest m → AreLoose m.log.events changes → NoChanceOf (format file) m.log (changed changes (now m.log))
+      → Held (shape file) ((format file).unit_at (changed changes (now m.log))) (first_view file.layout file.cluster) → Life file (did (Stop changes) m) []
+  -- then a word was run to its end, whatever its status; what was shown as it began did not come about by chance
+  Ran : (t n : Told) (chapters : List Chapter) (word : Word t n) → Life file t chapters → NoChanceOf (format file) t.log (now t.log) → Life file n (sessions_in ToItsEnd t n word ++ chapters)
+  -- or the program was ended at a moment of it, before or within any call of the disk, and the disk goes on telling what was done up to there
+  Ended : (t n m : Told) (chapters : List Chapter) (word : Word t n) → Life file t chapters → NoChanceOf (format file) t.log (now t.log) → IsMoment t.log n.log m.log → IsHonest m
+      → Life file m (sessions_in ToAMoment t n word ++ chapters)
+  -- or the word `format` was run over it again
+  Formatted : (t n : Told) (chapters : List Chapter) (layout : Layout) (cluster : ℕ) (status : Status) → Life file t chapters → NoChanceOf (format file) t.log (now t.log)
+      → FormatWord layout cluster t n status → (status ≡ DiskFault → ⊥) → Life file n chapters
+  -- or the machine stopped, behind the end of a word or at the moment of which one is told, and left any bytes in the sectors that were loose
+  Stopped : (t : Told) (chapters : List Chapter) (changes : List (ℕ × List ℕ)) → Life file t chapters → AreLoose t.log.events changes → NoChanceOf (format file) t.log (changed changes (now t.log))
+      → Life file (did (Stop changes) t) chapters
+
+-- ---- the law
+
+-- The file is in order: the disk is honest and its log is safe, and whatever a stop leaves now, under no chance, has a view that the file may have come to, with
+-- each block that it references.
+pub record IsInOrder (file : DataFile) (chapters : List Chapter) (t : Told) : Type 0 where
+  pub safe : IsSafeDisk (format file) (shape file) t.log
+  pub honest : IsHonest t
+  pub left : (image : Image) → IsLeft t.log image → NoChanceOf (format file) t.log image
+      → (view : View) × MayHave file chapters view × Held (shape file) ((format file).unit_at image) view × Stands ((format file).unit_at image) view
+
+-- it may be opened, and the view that an open finds is one that it may have come to, with each block that it references
+pub record MayBeOpened (file : DataFile) (chapters : List Chapter) (t : Told) : Type 0 where
+  pub view : View
+  pub had : MayHave file chapters view
+  pub may : MayOpen file view t
+  pub stands : Stands (unit_at file.layout file.cluster t.shown) view
+
+-- sessions compose: whatever life a file has had, it is in order
+abbrev pub EveryLifeIsInOrder : Type 0
+EveryLifeIsInOrder = (file : DataFile) (t : Told) (chapters : List Chapter) → Life file t chapters → IsInOrder file chapters t
+
+-- and the next open finds what it has come to
+abbrev pub EveryLifeGoesOn : Type 0
+EveryLifeGoesOn = (file : DataFile) (t : Told) (chapters : List Chapter) → Life file t chapters → NoChanceOf (format file) t.log (now t.log) → MayBeOpened file chapters t

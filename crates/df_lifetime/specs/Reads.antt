@@ -1,0 +1,37 @@
+-- Each read of what a file holds is Ok: no prepare, reply or block that is kept is refused or found damaged on an honest disk.
+use Rattle.std.specs.Prelude.{◌≡◌, ◌<◌, ◌≤◌, ℕ, Ok, Option, Some}
+use Rattle.std.specs.List.{slice_get}
+use Rattle.df_disk.specs.Told.{IsHonest, Told}
+use Rattle.df_theory.specs.Tails.{In}
+use Rattle.df_theory.specs.Units.{Block, Message, Session}
+use Rattle.df_theory.specs.View.{head, sessions}
+use Rattle.df_model.specs.Commands.{Answer, Command, Given, ReadBlock, ReadPrepare, ReadReply, ToReadBlock, ToReadPrepare, ToReadReply}
+use Rattle.df_model.specs.Work.{Work}
+use Rattle.df_state.specs.State.{State}
+use Rattle.df_replica.specs.Serving.{Grade, IsCall, IsKept, Whole}
+
+-- a call over an honest disk, from a state of the replica that keeps the file for this state of the machine, that was answered so
+pub record IsRead (g : Grade) (w : Work) (command : Command) (x : Answer) : Type 0 where
+  pub given : Given
+  pub state : State
+  pub later : State
+  pub told : Told
+  pub new : Option Told
+  pub keeps : IsKept g state w told.log
+  pub honest : IsHonest told
+  pub call : IsCall given command state later (Some told) new (Some x)
+
+-- a prepare of the tail is read: any op above the checkpoint's and at most the head
+abbrev pub KeptPreparesAreRead : Type 0
+KeptPreparesAreRead =
+    (g : Grade) (w : Work) (op : ℕ) (x : Answer) → IsRead g w (ReadPrepare op) x → w.view.checkpoint.content.op < op → op ≤ head w.view
+    → (p : Message) × In p w.view.tail × (p.header.op ≡ op) × (x ≡ ToReadPrepare (Ok p))
+
+-- so is the reply that is stored for a client
+abbrev pub KeptRepliesAreRead : Type 0
+KeptRepliesAreRead =
+    (g : Grade) (w : Work) (k : ℕ) (s : Session) (r : Message) (x : Answer) → IsRead g w (ReadReply s.client) x → slice_get (sessions w.view) k ≡ Some s → w.view.stored k ≡ Some r → x ≡ ToReadReply (Ok r)
+
+-- and a block that is live, in a file that shows each block that it references
+abbrev pub LiveBlocksAreRead : Type 0
+LiveBlocksAreRead = (w : Work) (a c : ℕ) (x : Answer) → IsRead Whole w (ReadBlock a) x → w.live a ≡ Some c → (b : Block) × (b.checksum ≡ c) × (x ≡ ToReadBlock (Ok b))

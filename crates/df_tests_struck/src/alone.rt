@@ -1,0 +1,49 @@
+// Each sector of a realistic file struck alone: the whole state is found, or the one place is blamed that the sector was needed for.
+use crate::seen::{Seen, heal, look};
+use df_layout::{Place, Zone};
+use df_memdisk::{MemoryDisk, Strike};
+use df_runs::{long_session, run_script, small_file};
+use df_top::Status;
+use std::alloc::Global;
+use std::test::Fail;
+
+// Sequence, checkpoint, head and replies behind the session.
+const WHOLE: Seen = Seen::State([11, 200, 200, 200]);
+
+// A reply takes the first sector of its place, from sector 70 on. The ten checkpoints' trailers took the addresses 1 and 2 in turn, so
+// the last one stands at address 2, which begins at sector 84.
+fn expected(sector: u64) -> Seen {
+    match sector {
+        70 | 72 | 74 | 76 => Seen::Damaged(Place {
+            zone: Zone::ClientReplies,
+            index: (sector - 70) / 2,
+        }),
+        84 => Seen::Damaged(Place {
+            zone: Zone::Grid,
+            index: 2,
+        }),
+        _ => WHOLE,
+    }
+}
+
+fn long_file(alloc: Global) -> Result<MemoryDisk, Fail> {
+    let mut disk = small_file(alloc, &[])?;
+    let ran = run_script(alloc, &mut disk, &long_session(alloc)?)?;
+    if ran.status == Status::Done {
+        Ok(disk)
+    } else {
+        Err("the session isn't served".into())
+    }
+}
+
+#[test]
+fn each_sector_of_a_long_session_may_be_lost(rt: HostRuntime) -> Result<(), Fail> {
+    let mut disk = long_file(rt.alloc())?;
+    for sector in 0..336u64 {
+        disk.strike(sector, Strike::Fill { byte: 0xa5 })?;
+        assert_eq!(rt; look(rt.alloc(), &mut disk)?, expected(sector));
+        heal(&mut disk, sector)?;
+    }
+    assert_eq!(rt; look(rt.alloc(), &mut disk)?, WHOLE);
+    Ok(())
+}

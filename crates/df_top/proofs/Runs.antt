@@ -1,0 +1,155 @@
+-- A generated run over a replica: its calls are joined, and what they leave of a file.
+use Rattle.std.proofs.Common.{◌≡◌, ◌<◌, ◌+◌, ℕ, Bool, true, List, [], ◌∷◌, ◌++◌, length, map, Option, Some, None, refl, sym, ◌∙◌, ap, subst, Result, Ok, Err, inl, inr, arith}
+use Rattle.std.specs.Prelude.{OnOk}
+use Rattle.df_disk.specs.Told.{Told}
+use Rattle.df_model.specs.Commands.{Advance, Command}
+use Rattle.df_replica.specs.Session.{Act}
+use Rattle.df_script_model.specs.Texts.{damaged_text}
+use Rattle.df_state.specs.State.{State as Replica}
+use Rattle.df_workload.specs.Asking.{asks, command_of}
+use Rattle.df_workload.specs.declared.asked.Asked.{Asked}
+use Rattle.df_workload.specs.Following.{Follows}
+use Rattle.df_workload.specs.Hearing.{runs_after, told}
+use Rattle.df_workload.specs.Sound.{flag}
+use Rattle.df_workload.specs.declared.outcome.Outcome.{Outcome}
+use Rattle.df_workload.specs.declared.outcome.Outcome.TheVariants.{Refused, Accepted, Wrote, Finished}
+use Rattle.df_workload.specs.declared.state.State.{State as Run}
+use Rattle.df_workload.proofs.Laws.{follows_more, runs_so}
+use Rattle.df_top.specs.Lines.{command_in}
+use Rattle.df_top.specs.Session.{IsDamaged}
+use Rattle.df_top.specs.Works.{Comes, Fails, IsRunning, MakesTo, PrintsRun, RunsOn, StepsOn, Worked, Works, Writes, steps_left}
+use Rattle.df_top.specs.declared.works.Fault.{Fault}
+use Rattle.df_top.specs.declared.works.Fault.TheVariants.{Disk, Damaged}
+use Rattle.df_top.specs.declared.status.Status.{Status}
+use Rattle.df_top.proofs.Progress.{calls_join}
+
+-- ---- joined
+
+map_append : (xs ys : List Act) → map command_in (xs ++ ys) ≡ map command_in xs ++ map command_in ys
+map_append [] ys = refl
+map_append (x ∷ xs) ys = ap (λ (l : List Command). command_in x ∷ l) (map_append xs ys)
+
+pub works_none : (run : Run) (s : Replica) (told : Option Told) → Works run s told run s told
+works_none run s told = record { acts = []; answers = []; calls = (refl, refl); follows = refl }
+
+module _ (begun : Run) (s : Replica) (old : Option Told) (mid : Run) (u : Replica) (between : Option Told) (run : Run) (t : Replica) (new : Option Told) (one : Works begun s old mid u between) where
+  pub works_more : Works mid u between run t new → Works begun s old run t new
+  works_more two = record {
+    acts = one.acts ++ two.acts;
+    answers = one.answers ++ two.answers;
+    calls = calls_join s u t old between new one.acts two.acts one.answers two.answers one.calls two.calls;
+    follows =
+        subst (λ (l : List Command). Follows begun l (one.answers ++ two.answers) run) (sym (map_append one.acts two.acts))
+        (follows_more begun mid run (map command_in one.acts) (map command_in two.acts) one.answers two.answers one.follows two.follows);
+  }
+
+module _ (begun : Run) (s : Replica) (old : Option Told) (mid : Run) (u : Replica) (between : Option Told) (run : Run) (t : Replica) (new : Option Told) (one : Works begun s old mid u between) where
+  fails_more : (Holds : Act → Type 0) → Fails mid u between run t new Holds → Fails begun s old run t new Holds
+  fails_more Holds f = record {
+    replica = f.replica;
+    told = f.told;
+    works = works_more begun s old mid u between run f.replica f.told one f.works;
+    act = f.act;
+    call = f.call;
+    asked = f.asked;
+    holds = f.holds;
+  }
+
+  pub comes_more : {T : Type 0} (r : Result T Fault) → Comes mid u between run t new r → Comes begun s old run t new r
+  comes_more (Ok x) two = works_more begun s old mid u between run t new one two
+  comes_more (Err Disk) f = fails_more (λ a. Unit {0}) f
+  comes_more (Err (Damaged place class)) f = fails_more (λ a. IsDamaged a.command new (damaged_text place class)) f
+
+-- ---- one call
+
+module _ (run : Run) (s t : Replica) (old new : Option Told) (command : Command) (is : asks run ≡ Some command) where
+  pub made_works : (o : Outcome) → MakesTo command s t old new (Ok o) → Works run s old (told o run) t new
+  made_works o made = record {
+    acts = made.1.act ∷ [];
+    answers = made.0 ∷ [];
+    calls = (t, new, made.1.calls, (refl, refl));
+    follows = (is ∙ ap (λ (c : Command). Option.Some c) (sym made.1.is), ap (λ (o : Outcome). told o run) made.2);
+  }
+
+  pub made_live : (o : Outcome) → MakesTo command s t old new (Ok o) → t.live ≡ true
+  made_live o made = made.1.calls.call.live
+
+  pub made_runs : (o : Outcome) → RunsOn command s t (Ok o) → (run.running ≡ true → IsRunning s) → (told o run).running ≡ true → IsRunning t
+  made_runs o runs had set = runs run.running had (sym (runs_so run.point o run command is) ∙ set)
+
+  pub made_fails : (T : Type 0) (e : Fault) → MakesTo command s t old new (Err e) → Comes {T = T} run s old run t new (Err e)
+  made_fails T Disk made = record {
+    replica = s;
+    told = old;
+    works = works_none run s old;
+    act = made.act;
+    call = made.calls;
+    asked = is ∙ ap (λ (c : Command). Option.Some c) (sym made.is);
+    holds = tt;
+  }
+  made_fails T (Damaged place class) made = record {
+    replica = s;
+    told = old;
+    works = works_none run s old;
+    act = made.0.act;
+    call = made.0.calls;
+    asked = is ∙ ap (λ (c : Command). Option.Some c) (sym made.0.is);
+    holds = subst (λ (c : Command). IsDamaged c new (damaged_text place class)) (sym made.0.is) made.1;
+  }
+
+-- ---- the last steps
+
+pub not_refused : (s t : Replica) (o : Outcome) → StepsOn s t (Ok o) → IsRunning s → o ≡ Refused → ⊥
+not_refused s t o steps runs is = subst (λ (q : Outcome). StepsOn s t (Ok q)) is steps runs
+
+fewer_flag : (o : Outcome) (run : Run) (s t : Replica) → StepsOn s t (Ok o) → IsRunning s → run.running ≡ true → length t.blocks.left + flag (runs_after Advance o run.running) < length s.blocks.left + flag run.running
+fewer_flag Refused run s t steps runs set = absurd (steps runs)
+fewer_flag (Wrote a) run s t steps runs set = absurd steps
+fewer_flag Accepted run s t steps runs set = omega (arith, steps)
+fewer_flag Finished run s t steps runs set =
+    let one : flag run.running ≡ 1 = ap flag set in
+    let none : length t.blocks.left ≡ 0 = ap (λ (l : List ℕ). length l) steps in
+    omega (arith, one, none)
+
+pub fewer_steps : (o : Outcome) (run : Run) (s t : Replica) → asks run ≡ Some Advance → StepsOn s t (Ok o) → IsRunning s → run.running ≡ true → steps_left (told o run) t < steps_left run s
+fewer_steps o run s t is steps runs set =
+    subst (λ (b : Bool). length t.blocks.left + flag b < steps_left run s) (sym (runs_so run.point o run Advance is)) (fewer_flag o run s t steps runs set)
+
+-- ---- the end
+
+pub record EndsRun (begun : Run) (s : Replica) (old : Option Told) (run : Run) (t : Replica) (new : Option Told) (written took : Option (List ℕ)) (status : Status) : Type 0 where
+  pub worked : Worked begun s old run t new
+  pub writes : Writes run t new worked.failed written took status
+
+module _ (begun : Run) (s : Replica) (old : Option Told) (run : Run) (t : Replica) (new : Option Told) where
+  abbrev whole : Works begun s old run t new → asks run ≡ None → Worked begun s old run t new
+  whole works over = record { acts = works.acts; answers = works.answers; failed = None; calls = works.calls; follows = works.follows; asked = over }
+
+  abbrev cut : {Holds : Act → Type 0} → Fails begun s old run t new Holds → Worked begun s old run t new
+  cut f = record {
+    acts = f.works.acts;
+    answers = f.works.answers;
+    failed = Some f.act;
+    calls = (f.replica, f.told, f.works.calls, f.call);
+    follows = f.works.follows;
+    asked = f.asked;
+  }
+
+  module _ (written took : Option (List ℕ)) (status : Status) where
+    abbrev Ends : Type 0
+    Ends = EndsRun begun s old run t new written took status
+
+    pub ends_run : {T : Type 0} (r : Result T Fault) → Comes begun s old run t new r → OnOk r (asks run ≡ None) → PrintsRun run t r written took status → Ends
+    ends_run (Ok x) works over (inl printed) = record { worked = whole works over; writes = subst (λ (q : Status). Writes run t new None written took q) (sym printed.0) printed.1 }
+    ends_run (Ok x) works over (inr printed) = record { worked = whole works over; writes = subst (λ (q : Status). Writes run t new None written took q) (sym printed.0) printed.1 }
+    ends_run (Err Disk) f over printed = record { worked = cut f; writes = subst (λ (q : Status). Writes run t new (Some f.act) written took q) (sym printed.0) printed.1 }
+    ends_run (Err (Damaged place class)) f over (inl printed) = record { worked = cut f; writes = subst (λ (q : Status). Writes run t new (Some f.act) written took q) (sym printed.0) (damaged_text place class, f.holds, printed.1) }
+    ends_run (Err (Damaged place class)) f over (inr printed) = record { worked = cut f; writes = subst (λ (q : Status). Writes run t new (Some f.act) written took q) (sym printed.0) (damaged_text place class, f.holds, printed.1) }
+
+-- what is asked for is one command
+pub one_asked : (run : Run) (a b : Command) → asks run ≡ Some a → asks run ≡ Some b → a ≡ b
+one_asked run a b one other = cc (one, other)
+
+-- it is what was matched
+pub asks_so : (run : Run) (a b : Asked) → asks run ≡ Some (command_of run a) → a ≡ b → asks run ≡ Some (command_of run b)
+asks_so run a b is same = subst (λ (x : Asked). asks run ≡ Some (command_of run x)) same is

@@ -1,0 +1,148 @@
+-- A file that was opened, and on which a generated run was carried out: what is answered and kept, and who is to blame.
+use Rattle.std.proofs.Common.{◌≡◌, inl, inr, ℕ, true, List, Option, Some, None, refl, sym, ◌∙◌, subst, Result, Ok, Err}
+use Rattle.df_base.specs.Causes.{HasCause}
+use Rattle.df_base.specs.Image.{IsImage}
+use Rattle.df_base.specs.Log.{Sync}
+use Rattle.df_base.specs.Moments.{EachMoment}
+use Rattle.df_disk.specs.Told.{Told, after, did}
+use Rattle.df_inspect.specs.Prints.{Prints}
+use Rattle.df_inspect.specs.Reports.{workload_text}
+use Rattle.df_inspect.specs.declared.counts.Workload.{Workload}
+use Rattle.df_layout.specs.declared.damage.Class.{Class}
+use Rattle.df_layout.specs.declared.places.Place.{Place}
+use Rattle.df_script_model.specs.Texts.{damaged_text}
+use Rattle.df_layout.specs.declared.layout.Layout.{Layout}
+use Rattle.df_theory.specs.View.{View}
+use Rattle.df_units.specs.Bytes.{unit_at}
+use Rattle.df_model.specs.Work.{opened}
+use Rattle.df_recovery.specs.Surveys.{IsOpened}
+use Rattle.df_replica.specs.Following.{MayOpen}
+use Rattle.df_replica.specs.Opened.{ToldBy}
+use Rattle.df_replica.specs.Serving.{Firm, Grade, IsGoodFor, IsKept, StandsFor, format}
+use Rattle.df_replica.specs.Session.{Act}
+use Rattle.df_replica.proofs.Laws.{found_keeps}
+use Rattle.df_state.specs.State.{State as Replica, shape}
+use Rattle.df_workload.specs.Rounds.{start}
+use Rattle.df_workload.specs.declared.state.State.{State as Run}
+use Rattle.df_top.specs.Outside.{Blames, HasCauses, Outside, PrintsLine}
+use Rattle.df_top.specs.Session.{EndsCalls}
+use Rattle.df_top.specs.Working.{WorksThrough}
+use Rattle.df_top.specs.Works.{BlamesFault, PrintsFault, PrintsRun, Writes, status_or, workload_of}
+use Rattle.df_top.specs.declared.works.Fault.{Fault}
+use Rattle.df_top.specs.declared.works.Fault.TheVariants.{Disk, Damaged}
+use Rattle.df_top.specs.declared.status.Status.{Status}
+use Rattle.df_top.specs.declared.status.Status.TheVariants.{Done, Words, Refused, DiskFault, ReadFault, WriteFault, Memory}
+use Rattle.df_top.proofs.Causes.{calm_done, calm_refused, disk_blame, line_ends, never_printed, no_blame}
+use Rattle.df_top.proofs.Kept.{answers_alone, ends_told, goes_told, keeps_file}
+use Rattle.df_top.proofs.Runs.{EndsRun}
+
+-- ---- what is printed
+
+pub printed_line : {T E : Type 0} (text : List ℕ) (given : Status) (old new : Option (List ℕ)) (r : Result T E) → Prints text old new r → PrintsLine text given old new (status_or given r)
+printed_line text given old new (Ok x) prints = inl (refl, prints.whole)
+printed_line text given old new (Err e) prints = inr (refl, prints.part)
+
+pub printed_blame : {T E : Type 0} (given : Status) (before now : ℕ) (r : Result T E) → (given ≡ WriteFault → ⊥) → HasCause before now r → Blames WriteFault before now (status_or given r)
+printed_blame given before now (Ok x) other cause = record { rose = λ is. absurd (other is); same = λ no. cause.same }
+printed_blame given before now (Err e) other cause = record { rose = λ is. cause.failed; same = λ no. absurd (no refl) }
+
+-- the report of a run that came to its end
+pub prints_done : {T A E : Type 0} (run : Run) (t : Replica) (worked : Result T Fault) (x : T) (report : Workload) (old new : Option (List ℕ)) (r : Result A E) (status : Status) → worked ≡ Ok x → report ≡ workload_of run t
+    → Prints (workload_text report) old new r → status ≡ status_or Done r → PrintsRun run t worked old new status
+prints_done run t worked x report old new r status is same prints ended =
+    subst (λ (w : Result _ Fault). PrintsRun run t w old new status) (sym is)
+    (subst (λ (q : Status). PrintsLine (workload_text (workload_of run t)) Done old new q) (sym ended)
+    (subst (λ (w : Workload). PrintsLine (workload_text w) Done old new (status_or Done r)) same (printed_line (workload_text report) Done old new r prints)))
+
+-- and the line of a step that is damaged
+pub prints_damaged : {A E : Type 0} (fault : Fault) (place : Place) (class : Class) (old new : Option (List ℕ)) (r : Result A E) (status : Status) → fault ≡ Damaged place class → Prints (damaged_text place class) old new r → status ≡ status_or Refused r
+    → PrintsFault fault old new status
+prints_damaged fault place class old new r status is prints ended =
+    subst (λ (q : Fault). PrintsFault q old new status) (sym is)
+    (subst (λ (q : Status). PrintsLine (damaged_text place class) Refused old new q) (sym ended) (printed_line (damaged_text place class) Refused old new r prints))
+
+-- ---- causes
+
+-- a run that ended so ends with no fault of another
+pub run_causes : {T : Type 0} (run : Run) (t : Replica) (r : Result T Fault) (disk disk_now source sink sink_now : ℕ) (old new : Option (List ℕ)) (status : Status) → PrintsRun run t r old new status → BlamesFault disk disk_now r
+    → Blames WriteFault sink sink_now status → HasCauses (record { disk = disk; source = source; sink = sink }) (record { disk = disk_now; source = source; sink = sink_now }) status
+run_causes run t (Ok x) disk disk_now source sink sink_now old new status printed same blame = record {
+  disk = no_blame DiskFault disk disk_now status same (line_ends _ Done DiskFault old new status printed calm_done.disk (λ no. cc));
+  source = no_blame ReadFault source source status refl (line_ends _ Done ReadFault old new status printed calm_done.source (λ no. cc));
+  sink = blame;
+}
+run_causes run t (Err (Damaged place class)) disk disk_now source sink sink_now old new status printed same blame = record {
+  disk = no_blame DiskFault disk disk_now status same (line_ends _ Refused DiskFault old new status printed calm_refused.disk (λ no. cc));
+  source = no_blame ReadFault source source status refl (line_ends _ Refused ReadFault old new status printed calm_refused.source (λ no. cc));
+  sink = blame;
+}
+run_causes run t (Err Disk) disk disk_now source sink sink_now old new status printed rose blame = record {
+  disk = disk_blame disk disk_now status printed.0 rose;
+  source = no_blame ReadFault source source status refl (λ no. absurd (cc (printed.0, no)));
+  sink = blame;
+}
+
+pub run_never : {T : Type 0} (run : Run) (t : Replica) (r : Result T Fault) (old new : Option (List ℕ)) (status : Status) → PrintsRun run t r old new status → (status ≡ Memory → ⊥) × (status ≡ Words → ⊥)
+run_never run t (Ok x) old new status printed = never_printed _ Done old new status calm_done printed
+run_never run t (Err (Damaged place class)) old new status printed = never_printed _ Refused old new status calm_refused printed
+run_never run t (Err Disk) old new status printed = (λ is. cc (printed.0, is), λ is. cc (printed.0, is))
+
+-- ---- a disk that tells what it shows
+
+untold_is_none : (u : Told) → None ≡ Some u → ⊥
+untold_is_none u is = cc
+
+-- no run ends there by a step that is damaged
+damaged_never : (run : Run) (t : Replica) (told : Option Told) (failed : Option Act) (old new : Option (List ℕ)) (u : Told) → told ≡ Some u → Writes run t told failed old new Refused → ⊥
+damaged_never run t told None old new u is writes = writes
+damaged_never run t told (Some a) old new u is writes = untold_is_none u (sym writes.1.untold ∙ is)
+
+-- ---- it is carried out
+
+module _ (seed count : ℕ) (layout : Layout) (t : Told) (old new : Outside) (status : Status) (s : Replica) (mended : Option Told) (image : IsImage t.shown) (told : old.told ≡ Some t) (unread : new.left ≡ old.left) (live : s.live ≡ true)
+    (of : s.file.layout ≡ layout) (is_opened : IsOpened layout t.shown s) (by : ToldBy (after Sync old.told) mended)
+    (kept_for : (n : Told) → mended ≡ Some n → (g : Grade) (view : View) → MayOpen s.file view t → StandsFor g (unit_at s.file.layout s.file.cluster t.shown) view
+    → IsKept g s (opened (shape s.file) (unit_at s.file.layout s.file.cluster t.shown) view) n.log)
+    (good : (n : Told) → mended ≡ Some n → (g : Grade) (view : View) → MayOpen s.file view t → StandsFor g (unit_at s.file.layout s.file.cluster t.shown) view
+    → EachMoment (did Sync t).log n.log (IsGoodFor g (format s.file) (shape s.file) view view))
+    (run : Run) (last : Replica) (ended : EndsRun (start seed count layout.clients) s mended run last new.told old.written new.written status) where
+  synced : ToldBy (Some (did Sync t)) mended
+  synced = subst (λ (o : Option Told). ToldBy (after Sync o) mended) told by
+
+  opened_here : IsOpened s.file.layout t.shown s
+  opened_here = subst (λ (l : Layout). IsOpened l t.shown s) (sym of) is_opened
+
+  -- the disk goes on telling what it shows
+  tells_on : (u : Told) × (new.told ≡ Some u)
+  tells_on =
+      let goes = goes_told (did Sync t) mended synced in
+      let by_calls = ends_told s last mended new.told ended.worked.acts ended.worked.answers ended.worked.failed ended.worked.calls in
+      let more = goes_told goes.0 new.told (subst (λ (o : Option Told). ToldBy o new.told) goes.1 by_calls) in
+      (more.0, more.1)
+
+  undamaged : status ≡ Refused → ⊥
+  undamaged is =
+      damaged_never run last new.told ended.worked.failed old.written new.written tells_on.0 tells_on.1
+      (subst (λ (x : Status). Writes run last new.told ended.worked.failed old.written new.written x) is ended.writes)
+
+  pub works_through : WorksThrough seed count layout t old new status
+  works_through = record {
+    replica = s;
+    is_opened = is_opened;
+    unread = unread;
+    mended = mended;
+    run = run;
+    last = last;
+    worked = ended.worked;
+    written = ended.writes;
+    answered = λ view found.
+        answers_alone Firm (opened (shape s.file) (unit_at s.file.layout s.file.cluster t.shown) view) s last mended new.told ended.worked.acts ended.worked.answers ended.worked.failed live
+        (found_keeps s t.shown view image opened_here found) ended.worked.calls;
+    keeps = λ g view may stands.
+        let goes = goes_told (did Sync t) mended synced in
+        let n = goes.0 in
+        let calls = subst (λ (o : Option Told). EndsCalls s last o new.told ended.worked.acts ended.worked.answers ended.worked.failed) goes.1 ended.worked.calls in
+        keeps_file g s (opened (shape s.file) (unit_at s.file.layout s.file.cluster t.shown) view) t n live (kept_for n goes.1 g view may stands) (goes.2.honest (record { shows = may.honest.shows })) goes.2.grew
+        (good n goes.1 g view may stands) last new.told ended.worked.acts ended.worked.answers ended.worked.failed calls;
+    undamaged = undamaged;
+  }

@@ -1,0 +1,55 @@
+-- The open answers of the file that the disk shows, and the tour leaves what it keeps.
+use Rattle.std.proofs.Common.{ℕ, inr, refl, subst, sym}
+use Rattle.std.specs.Prelude.{Ok, Option}
+use Rattle.df_disk.specs.Told.{Told}
+use Rattle.df_state.specs.State.{State}
+use Rattle.df_replica.specs.Surveying.{TellsSurvey}
+use Rattle.df_top.specs.Outside.{Blames, Outside}
+use Rattle.df_top.specs.Scrubs.{ScrubsFile}
+use Rattle.df_top.specs.declared.status.Status.TheVariants.{DiskFault, Memory, ReadFault, Words}
+use Rattle.df_top.proofs.Causes.{no_blame, open_causes, refused_never}
+use Rattle.df_top.proofs.Reported.{scrubs}
+use Rattle.df_top.proofs.Served.{not_opened}
+use Rattle.df_top.proofs.Tours.{never_so}
+use Rattle.df_top.proofs.scrubbing.scrub_file.Goals as goal
+
+pub returns-in-Ok-clause-scrubs : goal.returns-in-Ok-clause-scrubs
+returns-in-Ok-clause-scrubs g c = λ left t told whole.
+    let layout = c.args.rooms.layout in
+    let status = c.tour.result in
+    let old : Outside = record { told = g.D.Disk.told c.args.disk.now; left = left; written = g.W.Sink.written c.args.sink.now } in
+    let opened : Outside = record { told = g.D.Disk.told c.open.new.disk; left = left; written = g.W.Sink.written c.tour.new.sink } in
+    inr (inr (subst (λ (o : Option Told). ScrubsFile layout t old (record { told = o; left = left; written = g.W.Sink.written c.tour.new.sink }) status) (sym c.tour.ensures.same)
+    (scrubs layout t old opened status c.in-Ok.replica told refl c.in-Ok.ensures.live
+    ((subst (λ (o : Option Told). TellsSurvey layout o (Ok c.in-Ok.replica)) told c.in-Ok.ensures.answer) whole) c.in-Ok.ensures.told
+    (λ n is. c.in-Ok.ensures.kept_for t n told is) (λ n is. c.in-Ok.ensures.moments t n told is) c.tour.ensures.tours)))
+
+pub returns-clause-scrubs : goal.returns-clause-scrubs
+returns-clause-scrubs g c = λ left t told whole.
+    let old : Outside = record { told = g.D.Disk.told c.args.disk.now; left = left; written = g.W.Sink.written c.args.sink.now } in
+    let new : Outside = record { told = g.D.Disk.told c.open.new.disk; left = left; written = g.W.Sink.written c.refuse_file.new.sink } in
+    not_opened (ScrubsFile c.args.rooms.layout t old new c.refuse_file.result) c.args.rooms.layout t old new c.refuse_file.result c.in-Err.error whole told c.in-Err.ensures.answer refl c.in-Err.ensures.refused (c.in-Err.ensures.stopped t told) c.refuse_file.ensures.prints
+
+pub returns-in-Ok-clause-causes : goal.returns-in-Ok-clause-causes
+returns-in-Ok-clause-causes g c = λ source. record {
+  disk = subst (λ (n : ℕ). Blames DiskFault n (g.D.Disk.faults c.tour.new.disk) c.tour.result) c.in-Ok.ensures.cause c.tour.ensures.disk;
+  source = no_blame ReadFault source source c.tour.result refl (never_so c.tour.result ReadFault c.tour.ensures.ends (λ no. no));
+  sink = c.tour.ensures.sink;
+}
+
+pub returns-clause-causes : goal.returns-clause-causes
+returns-clause-causes g c = λ source.
+    open_causes (g.D.Disk.faults c.args.disk.now) (g.D.Disk.faults c.open.new.disk) source (g.W.Sink.faults c.args.sink.now) (g.W.Sink.faults c.refuse_file.new.sink) (g.W.Sink.written c.args.sink.now) (g.W.Sink.written c.refuse_file.new.sink)
+    c.refuse_file.result State c.in-Err.error c.in-Err.ensures.cause c.refuse_file.ensures.prints c.refuse_file.ensures.sink
+
+pub returns-in-Ok-clause-memory : goal.returns-in-Ok-clause-memory
+returns-in-Ok-clause-memory g c = never_so c.tour.result Memory c.tour.ensures.ends (λ no. no)
+
+pub returns-in-Ok-clause-words : goal.returns-in-Ok-clause-words
+returns-in-Ok-clause-words g c = never_so c.tour.result Words c.tour.ensures.ends (λ no. no)
+
+pub returns-clause-memory : goal.returns-clause-memory
+returns-clause-memory g c = (refused_never c.in-Err.error (g.W.Sink.written c.args.sink.now) (g.W.Sink.written c.refuse_file.new.sink) c.refuse_file.result c.refuse_file.ensures.prints).0
+
+pub returns-clause-words : goal.returns-clause-words
+returns-clause-words g c = (refused_never c.in-Err.error (g.W.Sink.written c.args.sink.now) (g.W.Sink.written c.refuse_file.new.sink) c.refuse_file.result c.refuse_file.ensures.prints).1

@@ -1,0 +1,62 @@
+-- The open answers of the file that the disk shows, and the run is carried out on what it found.
+use Rattle.std.proofs.Common.{◌≡◌, ℕ, inr, refl, subst, ◌∙◌, ap}
+use Rattle.std.specs.Prelude.{Ok, Option}
+use Rattle.df_disk.specs.Told.{Told}
+use Rattle.df_layout.specs.declared.layout.Layout.{Layout}
+use Rattle.df_model.specs.declared.answers.Summary.{Summary}
+use Rattle.df_state.specs.State.{State}
+use Rattle.df_replica.specs.Surveying.{TellsSurvey}
+use Rattle.df_workload.specs.Rounds.{start}
+use Rattle.df_workload.specs.declared.state.State.{State as Run}
+use Rattle.df_top.specs.Outside.{Outside}
+use Rattle.df_top.specs.Working.{WorksThrough}
+use Rattle.df_top.specs.Works.{BlamesFault, Comes}
+use Rattle.df_top.proofs.Causes.{open_causes, refused_never}
+use Rattle.df_top.proofs.Runs.{ends_run}
+use Rattle.df_top.proofs.Served.{not_opened}
+use Rattle.df_top.proofs.WorksOn.{run_causes, run_never, works_through}
+use Rattle.df_top.proofs.working.workload_file.Goals as goal
+
+pub returns-in-Ok-clause-works : goal.returns-in-Ok-clause-works
+returns-in-Ok-clause-works g c = λ left t told whole.
+    let layout = c.args.rooms.layout in
+    let s = c.in-Ok.replica in
+    let status = c.tell.result in
+    let old : Outside = record { told = g.D.Disk.told c.args.disk.now; left = left; written = g.W.Sink.written c.args.sink.now } in
+    let new : Outside = record { told = g.D.Disk.told c.work-worked.new.disk; left = left; written = g.W.Sink.written c.tell.new.sink } in
+    let clients : c.summary.result.layout.clients ≡ layout.clients = ap (λ (x : Summary). x.layout.clients) c.summary.ensures ∙ ap (λ (l : Layout). l.clients) c.in-Ok.ensures.kept in
+    let begins : c.new-generator.result ≡ start c.args.seed c.args.count layout.clients = c.new-generator.ensures ∙ ap (λ (n : ℕ). start c.args.seed c.args.count n) clients in
+    let comes = subst (λ (r : Run). Comes r s (g.D.Disk.told c.open.new.disk) c.work-worked.new.generator c.work-worked.new.replica (g.D.Disk.told c.work-worked.new.disk) c.work-worked.result) begins c.work-worked.ensures.comes in
+    inr (inr (works_through c.args.seed c.args.count layout t old new status s (g.D.Disk.told c.open.new.disk) whole told refl c.in-Ok.ensures.live c.in-Ok.ensures.kept
+    ((subst (λ (o : Option Told). TellsSurvey layout o (Ok s)) told c.in-Ok.ensures.answer) whole) c.in-Ok.ensures.told
+    (λ n is. c.in-Ok.ensures.kept_for t n told is) (λ n is. c.in-Ok.ensures.moments t n told is) c.work-worked.new.generator c.work-worked.new.replica
+    (ends_run (start c.args.seed c.args.count layout.clients) s (g.D.Disk.told c.open.new.disk) c.work-worked.new.generator c.work-worked.new.replica (g.D.Disk.told c.work-worked.new.disk) (g.W.Sink.written c.args.sink.now) (g.W.Sink.written c.tell.new.sink) status c.work-worked.result comes
+    c.work-worked.ensures.over c.tell.ensures.prints)))
+
+pub returns-clause-works : goal.returns-clause-works
+returns-clause-works g c = λ left t told whole.
+    let old : Outside = record { told = g.D.Disk.told c.args.disk.now; left = left; written = g.W.Sink.written c.args.sink.now } in
+    let new : Outside = record { told = g.D.Disk.told c.open.new.disk; left = left; written = g.W.Sink.written c.refuse_file.new.sink } in
+    not_opened (WorksThrough c.args.seed c.args.count c.args.rooms.layout t old new c.refuse_file.result) c.args.rooms.layout t old new c.refuse_file.result c.in-Err.error whole told c.in-Err.ensures.answer refl c.in-Err.ensures.refused (c.in-Err.ensures.stopped t told) c.refuse_file.ensures.prints
+
+pub returns-in-Ok-clause-causes : goal.returns-in-Ok-clause-causes
+returns-in-Ok-clause-causes g c = λ source.
+    run_causes c.work-worked.new.generator c.work-worked.new.replica c.work-worked.result (g.D.Disk.faults c.args.disk.now) (g.D.Disk.faults c.work-worked.new.disk) source (g.W.Sink.faults c.args.sink.now) (g.W.Sink.faults c.tell.new.sink) (g.W.Sink.written c.args.sink.now) (g.W.Sink.written c.tell.new.sink)
+    c.tell.result c.tell.ensures.prints (subst (λ (n : ℕ). BlamesFault n (g.D.Disk.faults c.work-worked.new.disk) c.work-worked.result) c.in-Ok.ensures.cause c.work-worked.ensures.disk) c.tell.ensures.sink
+
+pub returns-clause-causes : goal.returns-clause-causes
+returns-clause-causes g c = λ source.
+    open_causes (g.D.Disk.faults c.args.disk.now) (g.D.Disk.faults c.open.new.disk) source (g.W.Sink.faults c.args.sink.now) (g.W.Sink.faults c.refuse_file.new.sink) (g.W.Sink.written c.args.sink.now) (g.W.Sink.written c.refuse_file.new.sink)
+    c.refuse_file.result State c.in-Err.error c.in-Err.ensures.cause c.refuse_file.ensures.prints c.refuse_file.ensures.sink
+
+pub returns-in-Ok-clause-memory : goal.returns-in-Ok-clause-memory
+returns-in-Ok-clause-memory g c = (run_never c.work-worked.new.generator c.work-worked.new.replica c.work-worked.result (g.W.Sink.written c.args.sink.now) (g.W.Sink.written c.tell.new.sink) c.tell.result c.tell.ensures.prints).0
+
+pub returns-in-Ok-clause-words : goal.returns-in-Ok-clause-words
+returns-in-Ok-clause-words g c = (run_never c.work-worked.new.generator c.work-worked.new.replica c.work-worked.result (g.W.Sink.written c.args.sink.now) (g.W.Sink.written c.tell.new.sink) c.tell.result c.tell.ensures.prints).1
+
+pub returns-clause-memory : goal.returns-clause-memory
+returns-clause-memory g c = (refused_never c.in-Err.error (g.W.Sink.written c.args.sink.now) (g.W.Sink.written c.refuse_file.new.sink) c.refuse_file.result c.refuse_file.ensures.prints).0
+
+pub returns-clause-words : goal.returns-clause-words
+returns-clause-words g c = (refused_never c.in-Err.error (g.W.Sink.written c.args.sink.now) (g.W.Sink.written c.refuse_file.new.sink) c.refuse_file.result c.refuse_file.ensures.prints).1

@@ -1,0 +1,66 @@
+-- What the word `scrub` promises of a file.
+use Rattle.std.specs.Prelude.{◌≡◌, ◌⊎◌, ℕ, zero, suc, List, [], ◌++◌, length, None, Option, Some}
+use Rattle.df_base.specs.Image.{Image}
+use Rattle.df_base.specs.Streams.{Appends}
+use Rattle.df_disk.specs.Told.{Told}
+use Rattle.df_inspect.specs.Reports.{failing_texts}
+use Rattle.df_layout.specs.declared.damage.Finding.{Finding}
+use Rattle.df_layout.specs.declared.layout.Layout.{Layout}
+use Rattle.df_theory.specs.View.{View}
+use Rattle.df_units.specs.Bytes.{unit_at}
+use Rattle.df_model.specs.Memory.{referenced_of}
+use Rattle.df_model.specs.Work.{opened}
+use Rattle.df_model.specs.declared.answers.Scrubbed.TheVariants.{TourEnd}
+use Rattle.df_recovery.specs.Surveys.{IsOpened}
+use Rattle.df_scrub.specs.Tours.{failing_in}
+use Rattle.df_script_model.specs.Texts.{scrubbed_text}
+use Rattle.df_state.specs.State.{State as Replica, grid_with, memory, shape}
+use Rattle.df_replica.specs.Following.{MayOpen}
+use Rattle.df_replica.specs.Scrubbing.{IsMachineTour}
+use Rattle.df_replica.specs.Serving.{Grade, StandsFor}
+use Rattle.df_top.specs.Keeping.{KeepsFile}
+use Rattle.df_top.specs.Outside.{Outside, PrintsLine}
+use Rattle.df_top.specs.declared.status.Status.{Status}
+use Rattle.df_top.specs.declared.status.Status.TheVariants.{DiskFault, Done, Found}
+
+-- ---- a whole tour
+
+-- the referenced blocks of an open file that fail over an image, in order of address
+abbrev pub failing_blocks : Replica → Image → List Finding
+failing_blocks s image = failing_in (grid_with s.file s.blocks) image
+
+-- their lines, and the line that counts the referenced blocks and those that fail
+abbrev pub tour_report : Replica → Image → List ℕ
+tour_report s image = failing_texts (failing_blocks s image) ++ scrubbed_text (TourEnd (length (referenced_of (memory s))) (length (failing_blocks s image)))
+
+-- whether a tour that listed so many blocks found something
+abbrev pub tour_status : ℕ → Status
+tour_status zero = Done
+tour_status (suc more) = Found
+
+-- the disk failed in a read: the lines of those that were found before it are there, from the first one on
+pub record StopsTour (list : List Finding) (old new : Option (List ℕ)) (status : Status) : Type 0 where
+  pub fault : status ≡ DiskFault
+  pub listed : List Finding
+  pub left : List Finding
+  pub front : list ≡ listed ++ left
+  pub prints : Appends old new (failing_texts listed)
+
+-- all lines are printed, and the status says whether a block is listed; or a front of them is there where the sink failed; or the disk failed on the way
+abbrev pub PrintsTour : Replica → Image → (old new : Option (List ℕ)) → Status → Type 0
+PrintsTour s image old new status = PrintsLine (tour_report s image) (tour_status (length (failing_blocks s image))) old new status ⊎ StopsTour (failing_blocks s image) old new status
+
+-- ---- the word
+
+-- The file that the disk shows is opened, and a whole tour over what the disk shows from then on is printed; it is the machine's. Over an honest disk whose log
+-- is safe, the view that was found is kept.
+pub record ScrubsFile (layout : Layout) (t : Told) (old new : Outside) (status : Status) : Type 0 where
+  pub replica : Replica
+  pub is_opened : IsOpened layout t.shown replica
+  pub after : Told
+  pub told : new.told ≡ Some after
+  pub prints : PrintsTour replica after.shown old.written new.written status
+  pub machine : IsMachineTour replica after.shown
+  pub unread : new.left ≡ old.left
+  pub keeps : (g : Grade) (view : View) → MayOpen replica.file view t → StandsFor g (unit_at replica.file.layout replica.file.cluster t.shown) view
+      → KeepsFile replica.file g (opened (shape replica.file) (unit_at replica.file.layout replica.file.cluster t.shown) view) t [] [] None new.told

@@ -1,0 +1,152 @@
+-- What a generated run does to a replica: its commands are the generator's, each is one call, and the run hears of each answer.
+use Rattle.std.specs.Prelude.{◌≡◌, ◌<◌, ◌+◌, ℕ, Bool, true, List, [], length, map, Option, Some, None, Result, Ok, Err}
+use Rattle.df_base.specs.Causes.{Rose}
+use Rattle.df_base.specs.Streams.{Appends, AppendsPart}
+use Rattle.df_disk.specs.Told.{Told}
+use Rattle.df_inspect.specs.Reports.{workload_text}
+use Rattle.df_inspect.specs.declared.counts.Workload.{Workload}
+use Rattle.df_model.specs.Commands.{Answer, Command}
+use Rattle.df_model.specs.declared.errors.StepError.{StepError}
+use Rattle.df_model.specs.declared.errors.StepError.TheVariants as step
+use Rattle.df_replica.specs.Session.{Act}
+use Rattle.df_replica.specs.Stepping.{OfRunning}
+use Rattle.df_script_model.specs.Texts.{damaged_text}
+use Rattle.df_state.specs.State.{State as Replica}
+use Rattle.df_workload.specs.Asking.{asks}
+use Rattle.df_workload.specs.Following.{Follows}
+use Rattle.df_workload.specs.Hearing.{outcome_of, runs_after}
+use Rattle.df_workload.specs.Sound.{flag}
+use Rattle.df_workload.specs.declared.outcome.Outcome.{Outcome}
+use Rattle.df_workload.specs.declared.outcome.Outcome.TheVariants.{Refused, Accepted, Wrote, Finished}
+use Rattle.df_workload.specs.declared.state.State.{State as Run}
+use Rattle.df_top.specs.Lines.{command_in}
+use Rattle.df_top.specs.Outside.{PrintsLine}
+use Rattle.df_top.specs.Session.{AreCalls, Calls, EndsCalls, IsDamaged}
+use Rattle.df_top.specs.Step.{Makes}
+use Rattle.df_top.specs.declared.works.Fault.{Fault}
+use Rattle.df_top.specs.declared.works.Fault.TheVariants.{Disk, Damaged}
+use Rattle.df_top.specs.declared.status.Status.{Status}
+use Rattle.df_top.specs.declared.status.Status.TheVariants as ends
+
+-- ---- one command
+
+-- the call was made and this much was heard of its answer; or the disk failed in it; or it is a step that is damaged
+abbrev pub MakesTo : Command → (s t : Replica) → (old new : Option Told) → Result Outcome Fault → Type 0
+MakesTo command s t old new (Ok outcome) = (x : Answer) × Makes command s t old new (Some x) × (outcome ≡ outcome_of x)
+MakesTo command s t old new (Err Disk) = Makes command s t old new None
+MakesTo command s t old new (Err (Damaged place class)) = Makes command s t old new None × IsDamaged command new (damaged_text place class)
+
+-- the disk is blamed where its count rose
+abbrev pub BlamesFault : {T : Type 0} → (before now : ℕ) → Result T Fault → Type 0
+BlamesFault before now (Err Disk) = Rose before now
+BlamesFault before now result = now ≡ before
+
+-- a refusal is one of the disk, or is heard as one
+pub record TellsFault {E : Type 0} (fault error : E) (result : Result Outcome Fault) : Type 0 where
+  pub failed : error ≡ fault → result ≡ Err Disk
+  pub other : (error ≡ fault → ⊥) → result ≡ Ok Refused
+
+abbrev pub TellsStepFault : StepError → Result Outcome Fault → Type 0
+TellsStepFault step.NotRunning result = result ≡ Ok Refused
+TellsStepFault (step.Damaged place class) result = result ≡ Err (Damaged place class)
+TellsStepFault step.DiskFault result = result ≡ Err Disk
+
+-- a checkpoint runs
+abbrev pub IsRunning : Replica → Type 0
+IsRunning s = OfRunning s.running (λ r. Unit {0})
+
+-- where the flag of the run is set behind an answer, a checkpoint runs, if that was so before
+abbrev pub RunsOn : Command → (s t : Replica) → Result Outcome Fault → Type 0
+RunsOn command s t (Ok outcome) = (flag : Bool) → (flag ≡ true → IsRunning s) → runs_after command outcome flag ≡ true → IsRunning t
+RunsOn command s t (Err e) = Unit {0}
+
+-- a step is refused only where no checkpoint runs; one that isn't the last leaves one block less to write, and the last one none
+abbrev pub StepsOn : (s t : Replica) → Result Outcome Fault → Type 0
+StepsOn s t (Ok Refused) = IsRunning s → ⊥
+StepsOn s t (Ok Accepted) = length t.blocks.left < length s.blocks.left
+StepsOn s t (Ok (Wrote address)) = ⊥
+StepsOn s t (Ok Finished) = t.blocks.left ≡ []
+StepsOn s t (Err e) = Unit {0}
+
+-- ---- some commands
+
+-- from one state of the run to another its commands were made, one after the other, and each was answered
+pub record Works (begun : Run) (s : Replica) (old : Option Told) (run : Run) (t : Replica) (new : Option Told) : Type 0 where
+  pub acts : List Act
+  pub answers : List Answer
+  pub calls : AreCalls s old acts answers t new
+  pub follows : Follows begun (map command_in acts) answers run
+
+-- they were, and the next one has no answer
+pub record Fails (begun : Run) (s : Replica) (old : Option Told) (run : Run) (t : Replica) (new : Option Told) (Holds : Act → Type 0) : Type 0 where
+  pub replica : Replica
+  pub told : Option Told
+  pub works : Works begun s old run replica told
+  pub act : Act
+  pub call : Calls act replica t told new None
+  pub asked : asks run ≡ Some act.command
+  pub holds : Holds act
+
+-- they were; or the disk failed in the next one; or that is a step that is damaged
+abbrev pub Comes : {T : Type 0} → (begun : Run) → (s : Replica) → (old : Option Told) → (run : Run) → (t : Replica) → (new : Option Told) → Result T Fault → Type 0
+Comes begun s old run t new (Ok x) = Works begun s old run t new
+Comes begun s old run t new (Err Disk) = Fails begun s old run t new (λ a. Unit {0})
+Comes begun s old run t new (Err (Damaged place class)) = Fails begun s old run t new (λ a. IsDamaged a.command new (damaged_text place class))
+
+-- ---- a whole run
+
+abbrev pub asked_by : Option Act → Option Command
+asked_by None = None
+asked_by (Some a) = Some a.command
+
+-- its commands were made, each was answered, and then the next one was not, or none is asked for
+pub record Worked (begun : Run) (s : Replica) (old : Option Told) (run : Run) (t : Replica) (new : Option Told) : Type 0 where
+  pub acts : List Act
+  pub answers : List Answer
+  pub failed : Option Act
+  pub calls : EndsCalls s t old new acts answers failed
+  pub follows : Follows begun (map command_in acts) answers run
+  pub asked : asks run ≡ asked_by failed
+
+-- what was counted, and the file at the end
+abbrev pub workload_of : Run → Replica → Workload
+workload_of run t = record {
+  appended = run.counts.appended;
+  replied = run.counts.replied;
+  wrote = run.counts.wrote;
+  released = run.counts.released;
+  checkpoints = run.counts.checkpoints;
+  refused = run.counts.refused;
+  bytes = run.counts.bytes;
+  head = t.head;
+  replies = t.replies;
+  sequence = t.fields.sequence;
+}
+
+-- What is written at the end: the report, nothing where the disk failed, the line of a step that is damaged; or a front of it where the sink failed.
+abbrev pub Writes : Run → Replica → (told : Option Told) → (failed : Option Act) → (old new : Option (List ℕ)) → Status → Type 0
+Writes run t told None old new ends.Done = Appends old new (workload_text (workload_of run t))
+Writes run t told None old new ends.WriteFault = AppendsPart old new (workload_text (workload_of run t))
+Writes run t told (Some a) old new ends.DiskFault = new ≡ old
+Writes run t told (Some a) old new ends.Refused = (line : List ℕ) × IsDamaged a.command told line × Appends old new line
+Writes run t told (Some a) old new ends.WriteFault = (line : List ℕ) × IsDamaged a.command told line × AppendsPart old new line
+Writes run t told failed old new status = ⊥
+
+-- how many steps a run has at its end: one for each block of the running trailer, and the last
+abbrev pub steps_left : Run → Replica → ℕ
+steps_left run t = length t.blocks.left + flag run.running
+
+-- how a call ends that prints
+abbrev pub status_or : {T E : Type 0} → Status → Result T E → Status
+status_or status (Ok x) = status
+status_or status (Err e) = ends.WriteFault
+
+-- what is printed of a run that a fault ended
+abbrev pub PrintsFault : Fault → (old new : Option (List ℕ)) → Status → Type 0
+PrintsFault Disk old new status = (status ≡ ends.DiskFault) × (new ≡ old)
+PrintsFault (Damaged place class) old new status = PrintsLine (damaged_text place class) ends.Refused old new status
+
+-- what is printed of a run, by how it ended
+abbrev pub PrintsRun : {T : Type 0} → Run → Replica → Result T Fault → (old new : Option (List ℕ)) → Status → Type 0
+PrintsRun run t (Ok x) old new status = PrintsLine (workload_text (workload_of run t)) ends.Done old new status
+PrintsRun run t (Err e) old new status = PrintsFault e old new status
