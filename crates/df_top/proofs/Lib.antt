@@ -21,6 +21,7 @@ mod ReadTurns
 mod Causes
 mod RunCalls
 mod Runs
+mod Hurts
 mod WorksOn
 mod Made
 mod SafelyServed

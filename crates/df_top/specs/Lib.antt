@@ -15,5 +15,6 @@ pub mod Reporting
 pub mod Scrubs
 pub mod Touring
 pub mod Run
+pub mod Hurting
 pub mod Formats
 pub mod Completeness

@@ -7,6 +7,7 @@ ghost use Rattle.df_lines.specs.Room.{IsFresh, line_bound};
 ghost use Rattle.df_top.specs.declared.mode.Mode.{Mode};
 ghost use Rattle.df_top.specs.Mode.{AsksOfFile, IsOfFile, Means, MeansNothing};
 ghost use Rattle.df_top.specs.Formats.{Formats, MakesFile};
+ghost use Rattle.df_top.specs.Hurting.{RunsOverHurt};
 ghost use Rattle.df_top.specs.Outside.{Blames, HasCauses};
 ghost use Rattle.df_top.specs.Run.{IsWithout, PrintsUsage, Runs};
 
@@ -118,6 +119,12 @@ pub fn run<D: Disk, S: Source, W: Sink>(
         (record { told = D.told disk.old; left = S.left source.old; written = W.written sink.old })
         (record { told = D.told disk.new; left = S.left source.new; written = W.written sink.new }) result }
     ensures inspects { Means (map string_bytes words.now) Mode.Inspect → AddsPart (Sync ∷ []) (D.told disk.old) (D.told disk.new) }
+
+    // Where sectors of the file were damaged, lost or swapped before, they find a state that the file really had, or refuse it
+    // because of a sector that is hurt; and a read of a script gives what was written there.
+    ensures hurt { (mode : Mode) → IsOfFile mode → Means (map string_bytes words.now) mode → RunsOverHurt mode
+        (record { told = D.told disk.old; left = S.left source.old; written = W.written sink.old })
+        (record { told = D.told disk.new; left = S.left source.new; written = W.written sink.new }) result }
 
     // Each fault has its cause; want of memory comes before anything was read or written.
     ensures causes { HasCauses

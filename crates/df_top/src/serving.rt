@@ -3,6 +3,7 @@ ghost use Rattle.std.specs.Prelude.{◌≡◌, [], ◌∷◌, map, string_bytes}
 ghost use Rattle.df_base.specs.Log.{Sync};
 ghost use Rattle.df_disk.specs.Adds.{AddsPart};
 ghost use Rattle.df_lines.specs.Room.{IsFresh, line_bound};
+ghost use Rattle.df_top.specs.Hurting.{ServesOverHurt};
 ghost use Rattle.df_top.specs.declared.mode.Mode.{Mode};
 ghost use Rattle.df_top.specs.Mode.{AsksOfFile, Means};
 ghost use Rattle.df_top.specs.Outside.{Blames, HasCauses};
@@ -83,6 +84,9 @@ pub fn serve<D: Disk, S: Source, W: Sink>(
         (record { told = D.told disk.old; left = S.left source.old; written = W.written sink.old })
         (record { told = D.told disk.new; left = S.left source.new; written = W.written sink.new }) result }
     ensures inspects { Means (map string_bytes words.now) Mode.Inspect → AddsPart (Sync ∷ []) (D.told disk.old) (D.told disk.new) }
+    ensures hurt { (mode : Mode) → Means (map string_bytes words.now) mode → ServesOverHurt mode rooms.layout
+        (record { told = D.told disk.old; left = S.left source.old; written = W.written sink.old })
+        (record { told = D.told disk.new; left = S.left source.new; written = W.written sink.new }) result }
     ensures unread { (Means (map string_bytes words.now) Mode.Run → ⊥) → S.left source.new ≡ S.left source.old }
     ensures causes { HasCauses
         (record { disk = D.faults disk.old; source = S.faults source.old; sink = W.faults sink.old })

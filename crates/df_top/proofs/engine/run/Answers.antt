@@ -4,6 +4,7 @@ use Rattle.df_layout.specs.declared.layout.Layout.{Layout}
 use Rattle.df_top.specs.Mode.{Means}
 use Rattle.df_top.specs.Formats.{Formats, MakesFile}
 use Rattle.df_top.specs.declared.mode.Mode.TheVariants.{Format, Inspect}
+use Rattle.df_top.proofs.Hurts.{runs_over_hurt}
 use Rattle.df_top.proofs.Words.{makes_alone, same_layout_asked, same_cluster_asked}
 use Rattle.df_top.proofs.engine.run.Goals as goal
 
@@ -42,3 +43,13 @@ returns-in-Some-Format-clause-runs g c = λ mode of asks.
 pub returns-in-Some-Format-clause-inspects : goal.returns-in-Some-Format-clause-inspects
 returns-in-Some-Format-clause-inspects g c = λ asks.
     absurd (makes_alone _ c.in-Some-Format.layout c.in-Some-Format.cluster Inspect (subst (Means _) c.in-Some-Format.field-0-is c.in-Some-Format.ensures.found) asks tt)
+
+pub returns-in-None-clause-hurt : goal.returns-in-None-clause-hurt
+returns-in-None-clause-hurt g c = λ mode of asks. absurd (c.in-None.ensures.none mode asks)
+
+pub returns-in-Some-Format-clause-hurt : goal.returns-in-Some-Format-clause-hurt
+returns-in-Some-Format-clause-hurt g c = λ mode of asks.
+    absurd (makes_alone _ c.in-Some-Format.layout c.in-Some-Format.cluster mode (subst (Means _) c.in-Some-Format.field-0-is c.in-Some-Format.ensures.found) asks of)
+
+pub returns-in-Some-Run-clause-hurt : goal.returns-in-Some-Run-clause-hurt
+returns-in-Some-Run-clause-hurt g c = λ mode of asks. runs_over_hurt mode _ _ _ (c.run_file.ensures.runs mode asks)

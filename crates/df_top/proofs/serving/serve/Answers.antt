@@ -6,6 +6,7 @@ use Rattle.df_top.specs.Outside.{Outside}
 use Rattle.df_top.specs.Run.{ServesIn}
 use Rattle.df_top.specs.declared.mode.Mode.{Mode}
 use Rattle.df_top.specs.declared.mode.Mode.TheVariants.{Run, Recover, Inspect, Scrub, Workload}
+use Rattle.df_top.proofs.Hurts.{serves_over_hurt}
 use Rattle.df_top.proofs.Modes.{one_mode}
 use Rattle.df_top.proofs.serving.serve.Goals as goal
 
@@ -60,3 +61,18 @@ returns-in-Some-Workload-clause-serves g c = λ mode asks.
 
 pub returns-in-Some-Workload-clause-causes : goal.returns-in-Some-Workload-clause-causes
 returns-in-Some-Workload-clause-causes g c = c.workload_file.ensures.causes (g.S.Source.faults c.args.source.now)
+
+pub returns-in-Some-Run-clause-hurt : goal.returns-in-Some-Run-clause-hurt
+returns-in-Some-Run-clause-hurt g c = λ mode asks. serves_over_hurt mode _ _ _ _ (returns-in-Some-Run-clause-serves g c mode asks)
+
+pub returns-in-Some-Recover-clause-hurt : goal.returns-in-Some-Recover-clause-hurt
+returns-in-Some-Recover-clause-hurt g c = λ mode asks. serves_over_hurt mode _ _ _ _ (returns-in-Some-Recover-clause-serves g c mode asks)
+
+pub returns-in-Some-Inspect-clause-hurt : goal.returns-in-Some-Inspect-clause-hurt
+returns-in-Some-Inspect-clause-hurt g c = λ mode asks. serves_over_hurt mode _ _ _ _ (returns-in-Some-Inspect-clause-serves g c mode asks)
+
+pub returns-in-Some-Scrub-clause-hurt : goal.returns-in-Some-Scrub-clause-hurt
+returns-in-Some-Scrub-clause-hurt g c = λ mode asks. serves_over_hurt mode _ _ _ _ (returns-in-Some-Scrub-clause-serves g c mode asks)
+
+pub returns-in-Some-Workload-clause-hurt : goal.returns-in-Some-Workload-clause-hurt
+returns-in-Some-Workload-clause-hurt g c = λ mode asks. serves_over_hurt mode _ _ _ _ (returns-in-Some-Workload-clause-serves g c mode asks)

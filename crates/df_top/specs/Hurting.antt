@@ -1,0 +1,87 @@
+-- What a word does with a file that may be hurt: sectors of it were damaged, lost or swapped before the open.
+use Rattle.std.proofs.Common.{inl, inr}
+use Rattle.std.specs.Prelude.{◌≡◌, ◌⊎◌, List, [], ◌∷◌, Option, Some, None}
+use Rattle.df_disk.specs.Told.{Told}
+use Rattle.df_layout.specs.declared.layout.Layout.{Layout}
+use Rattle.df_theory.specs.Device.{NoChanceOf}
+use Rattle.df_theory.specs.View.{View}
+use Rattle.df_model.specs.Commands.{Answer, Command}
+use Rattle.df_replica.specs.Serving.{format}
+use Rattle.df_replica.specs.Session.{Act}
+use Rattle.df_state.specs.declared.file.DataFile.{DataFile}
+use Rattle.df_state.specs.State.{State as Replica}
+use Rattle.df_damage.specs.Answers.{FindsHad, IsNeedless, RefusesHurt}
+use Rattle.df_damage.specs.Disks.{IsAtRest, MayBeHurt}
+use Rattle.df_damage.specs.Hurt.{HasTwoCopies, IsHurtFile}
+use Rattle.df_damage.specs.Reads.{AnswersTheOne}
+use Rattle.df_damage.specs.Refusals.{MayBeOfDamage}
+use Rattle.df_top.specs.Outside.{Outside}
+use Rattle.df_top.specs.Run.{DidNothing, Does, RefusesSuperblock}
+use Rattle.df_top.specs.Session.{AreCalls, EndsCalls}
+use Rattle.df_top.specs.declared.mode.Mode.{Mode}
+use Rattle.df_top.specs.declared.mode.Mode.TheVariants.{Format, Run, Recover, Inspect, Scrub, Workload}
+use Rattle.df_top.specs.declared.status.Status.{Status}
+
+-- ---- reads
+
+-- a read that is Ok gives the one unit that was ever written with the checksum that is known, and it was written at its place; of any image that came about without chance, also one that was struck since the open
+abbrev pub GivesTheOne : Replica → Option Told → Command → Answer → Type 0
+GivesTheOne s None command answer = Unit {0}
+GivesTheOne s (Some t) command answer = NoChanceOf (format s.file) t.log t.shown → AnswersTheOne s t.log command answer
+
+-- so does each of these calls
+abbrev pub GiveTheOne : (s : Replica) → (old : Option Told) → (acts : List Act) → (answers : List Answer) → (t : Replica) → (new : Option Told) → AreCalls s old acts answers t new → Type 0
+GiveTheOne s old [] answers t new are = Unit {0}
+GiveTheOne s old (a ∷ acts) [] t new are = Unit {0}
+GiveTheOne s old (a ∷ acts) (x ∷ answers) t new are = GivesTheOne s old a.command x × GiveTheOne are.0 are.1 acts answers t new are.3
+
+-- and each that was answered, where the last one was not
+abbrev pub AllGiveTheOne : (s t : Replica) → (old new : Option Told) → (acts : List Act) → (answers : List Answer) → (failed : Option Act) → EndsCalls s t old new acts answers failed → Type 0
+AllGiveTheOne s t old new acts answers None ends = GiveTheOne s old acts answers t new ends
+AllGiveTheOne s t old new acts answers (Some a) ends = GiveTheOne s old acts answers ends.0 ends.1 ends.2
+
+-- ---- a word
+
+-- what a word does is of damage: the state that is found is one that the file had, a refusal has its cause in a sector that is hurt, and the reads of a script give what was written
+abbrev pub IsOfHurt : DataFile → View → (t : Told) → (layout : Layout) → (mode : Mode) → (old new : Outside) → (status : Status) → Does mode layout t old new status → Type 0
+IsOfHurt file view t layout (Format shape cluster) old new status does = ⊥
+IsOfHurt file view t layout Run old new status (inl refuses) = RefusesHurt file view t refuses.error
+IsOfHurt file view t layout Run old new status (inr (inl fails)) = Unit {0}
+IsOfHurt file view t layout Run old new status (inr (inr serves)) =
+    FindsHad file view t serves.replica × AllGiveTheOne _ _ _ _ _ _ _ serves.session.calls
+IsOfHurt file view t layout Recover old new status (inl refuses) = RefusesHurt file view t refuses.error
+IsOfHurt file view t layout Recover old new status (inr (inl fails)) = Unit {0}
+IsOfHurt file view t layout Recover old new status (inr (inr recovers)) = FindsHad file view t recovers.replica
+IsOfHurt file view t layout Inspect old new status (inl refuses) = RefusesHurt file view t refuses.error
+IsOfHurt file view t layout Inspect old new status (inr (inl fails)) = Unit {0}
+IsOfHurt file view t layout Inspect old new status (inr (inr inspects)) = FindsHad file view t inspects.survey.state
+IsOfHurt file view t layout Scrub old new status (inl refuses) = RefusesHurt file view t refuses.error
+IsOfHurt file view t layout Scrub old new status (inr (inl fails)) = Unit {0}
+IsOfHurt file view t layout Scrub old new status (inr (inr scrubs)) = FindsHad file view t scrubs.replica
+IsOfHurt file view t layout (Workload seed count) old new status (inl refuses) = RefusesHurt file view t refuses.error
+IsOfHurt file view t layout (Workload seed count) old new status (inr (inl fails)) = Unit {0}
+IsOfHurt file view t layout (Workload seed count) old new status (inr (inr works)) = FindsHad file view t works.replica
+
+-- it does something, and whatever it does is that
+pub record ServesHurt (file : DataFile) (view : View) (t : Told) (mode : Mode) (old new : Outside) (status : Status) : Type 0 where
+  pub does : Does mode file.layout t old new status
+  pub of_hurt : IsOfHurt file view t file.layout mode old new status does
+
+-- in rooms of the file's layout
+abbrev pub ServesOverHurt : Mode → Layout → Outside → Outside → Status → Type 0
+ServesOverHurt mode layout old new status = (file : DataFile) (view : View) (t : Told) → layout ≡ file.layout → old.told ≡ Some t → MayBeHurt file view t → ServesHurt file view t mode old new status
+
+-- ---- the program
+
+-- the superblock can't be used: that is of damage, and never comes at rest while two copies stand, nor where what is hurt isn't needed
+pub record RefusesCopies (file : DataFile) (view : View) (t : Told) (old new : Outside) (status : Status) : Type 0 where
+  pub refuses : RefusesSuperblock t old new status
+  pub damage : MayBeOfDamage refuses.error
+  pub hurt : IsHurtFile file.layout t
+  pub stood : IsAtRest file t.log → HasTwoCopies t → ⊥
+  pub needed : IsNeedless file t → ⊥
+
+-- memory was wanting or the disk failed in the first reads, or the superblock is refused for damage, or the word is carried out
+abbrev pub RunsOverHurt : Mode → Outside → Outside → Status → Type 0
+RunsOverHurt mode old new status = (file : DataFile) (view : View) (t : Told) → old.told ≡ Some t → MayBeHurt file view t
+    → DidNothing old new status ⊎ RefusesCopies file view t old new status ⊎ ServesHurt file view t mode old new status
