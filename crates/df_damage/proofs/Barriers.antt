@@ -19,9 +19,9 @@ use Rattle.df_theory.specs.Units.{AnyUnit, Content, CopyPlace, CopyUnit, Place, 
 use Rattle.df_theory.specs.View.{View}
 use Rattle.df_theory.proofs.Laws.{disk_barrier_law, found_was_of_log_law, now_units, settled_law}
 use Rattle.df_units.specs.Bytes.{unit_at}
+use Rattle.df_units.specs.Format.{format_of}
 use Rattle.df_units.specs.Meaning.{place_of}
 use Rattle.df_units.proofs.Laws.{blank_empty, is_format}
-use Rattle.df_replica.specs.Serving.{format}
 use Rattle.df_state.specs.declared.file.DataFile.{DataFile}
 use Rattle.df_state.specs.State.{shape}
 use Rattle.df_damage.specs.Disks.{IsAtRest, MayBeHurt}
@@ -38,48 +38,48 @@ in_pools start (e ∷ es) place x is = inl is
 module _ (file : DataFile) (view : View) (t : Told) (may : MayBeHurt file view t) where
   -- the log of units behind the barrier, and what is shown
   abbrev pub log : UnitLog
-  log = units_log (format file) (logs.add Sync t.log)
+  log = units_log (format_of file.layout file.cluster) (logs.add Sync t.log)
 
   abbrev pub shown : Units
   shown = unit_at file.layout file.cluster t.shown
 
-  pub rests : RestsOn (shape file) (units_log (format file) (logs.add Sync t.log)) view
-  rests = disk_barrier_law (format file) (shape file) view t.log may.safe may.found
+  pub rests : RestsOn (shape file) (units_log (format_of file.layout file.cluster) (logs.add Sync t.log)) view
+  rests = disk_barrier_law (format_of file.layout file.cluster) (shape file) view t.log may.safe may.found
 
   -- what the log leaves
-  pub left : now (units_log (format file) (logs.add Sync t.log)) ≡ unit_at file.layout file.cluster (logs.now t.log)
-  left = now_units (format file) t.log.start (Sync ∷ t.log.events)
+  pub left : now (units_log (format_of file.layout file.cluster) (logs.add Sync t.log)) ≡ unit_at file.layout file.cluster (logs.now t.log)
+  left = now_units (format_of file.layout file.cluster) t.log.start (Sync ∷ t.log.events)
 
-  pub pooled : ShowsPool (units_log (format file) (logs.add Sync t.log)) (unit_at file.layout file.cluster t.shown)
+  pub pooled : ShowsPool (units_log (format_of file.layout file.cluster) (logs.add Sync t.log)) (unit_at file.layout file.cluster t.shown)
   pooled = may.no_chance.pooled
 
   -- ---- the history
 
-  pub empty : FromEmpty (shape file) (settled (units_log (format file) (logs.add Sync t.log))) view rests.grows
+  pub empty : FromEmpty (shape file) (settled (units_log (format_of file.layout file.cluster) (logs.add Sync t.log))) view rests.grows
   empty = from_blank (shape file) (settled log) view rests.grows (settled_blank log.start log.events (λ place. ap (λ (image : Image). unit_at file.layout file.cluster image place) may.empty ∙ blank_empty file.layout file.cluster place))
 
-  pub distinct : AreDistinct (settled (units_log (format file) (logs.add Sync t.log)))
+  pub distinct : AreDistinct (settled (units_log (format_of file.layout file.cluster) (logs.add Sync t.log)))
   distinct place other x y one two = may.no_chance.distinct place other x y (in_pools log.start log.events place x (inl one)) (in_pools log.start log.events other y (inl two))
 
-  pub shows_settled : ShowsSettled (settled (units_log (format file) (logs.add Sync t.log))) (unit_at file.layout file.cluster t.shown)
+  pub shows_settled : ShowsSettled (settled (units_log (format_of file.layout file.cluster) (logs.add Sync t.log))) (unit_at file.layout file.cluster t.shown)
   shows_settled place x is = elim (pooled place x is) [
     | inl old ↦ old
     | inr none ↦ absurd none
   ]
 
-  pub was : (w : View) → IsFound (shape file) (unit_at file.layout file.cluster t.shown) w → Was (shape file) (settled (units_log (format file) (logs.add Sync t.log))) view rests.grows w
+  pub was : (w : View) → IsFound (shape file) (unit_at file.layout file.cluster t.shown) w → Was (shape file) (settled (units_log (format_of file.layout file.cluster) (logs.add Sync t.log))) view rests.grows w
   was w found = found_was_of_log_law (shape file) log view (record { fair = rests.fair; grows = rests.grows }) empty (λ place x is. is) shown may.no_chance w found
 
   pub had : (w : View) → IsFound (shape file) (unit_at file.layout file.cluster t.shown) w → WasHad file (logs.add Sync t.log) w
   had w found =
       let held = was_held (shape file) (settled log) view rests.grows w (was w found) in
-      let there = among_images (format file) (logs.settled (logs.add Sync t.log)) held.0 (subst (λ (us : List Units). AreAmong us held.0) (settled_law (format file) (logs.add Sync t.log)) held.1) in
+      let there = among_images (format_of file.layout file.cluster) (logs.settled (logs.add Sync t.log)) held.0 (subst (λ (us : List Units). AreAmong us held.0) (settled_law (format_of file.layout file.cluster) (logs.add Sync t.log)) held.1) in
       record { image = there.0; durable = there.1; holds = subst (λ (u : Units). Holds (shape file) u w) there.2 held.2 }
 
   -- ---- what isn't hurt
 
   -- a place none of whose sectors is hurt shows what it should
-  pub unhurt_zone : (place : Place) → IsUnhurtZone file.layout t (place_of place).zone → unit_at file.layout file.cluster t.shown place ≡ now (units_log (format file) (logs.add Sync t.log)) place
+  pub unhurt_zone : (place : Place) → IsUnhurtZone file.layout t (place_of place).zone → unit_at file.layout file.cluster t.shown place ≡ now (units_log (format_of file.layout file.cluster) (logs.add Sync t.log)) place
   unhurt_zone place unhurt =
       (is_format file.layout file.cluster).local t.shown (logs.now t.log) place (λ sector here. let zone = in_zone file.layout place sector here in unhurt sector zone.0 zone.1)
       ∙ ap (λ (u : Units). u place) (sym left)

@@ -1,11 +1,11 @@
 -- What the crates above cite: the laws of damage, as lemmas.
 -- ---- which disks may be hurt, and what an open answers of them
 pub use Rattle.df_damage.proofs.Left.{stopped_may_be_hurt, tidy_may_be_hurt}
+pub use Rattle.df_damage.proofs.NotRefused.{found_is_not_refused}
 pub use Rattle.df_damage.proofs.Opened.{checkpoint_stays, found_was_had, headers_may_be_hurt, headers_tell, two_copies_are_enough}
 pub use Rattle.df_damage.proofs.Tails.{whole_tail_is_found}
 pub use Rattle.df_damage.proofs.Refused.{probe_is_of_hurt, refusals_are_of_damage, refusals_blame_hurt}
 pub use Rattle.df_damage.proofs.Answered.{answer_is_of_hurt}
--- ---- what a read lends
-pub use Rattle.df_damage.proofs.Written.{had_is_written, kept_is_written, opened_is_written}
-pub use Rattle.df_damage.proofs.Lent.{block_is_lent, block_is_the_one, prepare_is_lent, prepare_is_the_one, reply_is_lent, reply_is_the_one}
-pub use Rattle.df_damage.proofs.Calls.{call_is_the_one}
+-- ---- what was written
+pub use Rattle.df_damage.proofs.Barriers.{in_pools}
+pub use Rattle.df_damage.proofs.Written.{had_is_written, opened_is_written}

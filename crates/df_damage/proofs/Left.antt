@@ -7,14 +7,14 @@ use Rattle.df_theory.specs.Device.{units_log}
 use Rattle.df_theory.specs.Holds.{Holds, IsWhole}
 use Rattle.df_theory.specs.Units.{Units}
 use Rattle.df_theory.proofs.Laws.{disk_stop_law, found_law, now_units, rests_safe, safe_disk_law}
+use Rattle.df_units.specs.Format.{format_of}
 use Rattle.df_units.proofs.Laws.{is_format}
-use Rattle.df_replica.specs.Serving.{format}
 use Rattle.df_state.specs.State.{shape}
 use Rattle.df_damage.specs.Disks.{StoppedMayBeHurt, TidyMayBeHurt}
 
 pub tidy_may_be_hurt : TidyMayBeHurt
 tidy_may_be_hurt file view t is_log empty tidy image chance =
-    let fmt = format file in
+    let fmt = format_of file.layout file.cluster in
     let sh = shape file in
     let units = now_units fmt t.log.start t.log.events in
     let whole : IsWhole sh (fmt.unit_at (logs.now t.log)) view = subst (λ (u : Units). IsWhole sh u view) units tidy.whole in (
@@ -31,7 +31,7 @@ tidy_may_be_hurt file view t is_log empty tidy image chance =
 
 pub stopped_may_be_hurt : StoppedMayBeHurt
 stopped_may_be_hurt file view log changes shown safe empty loose chance held image later =
-    let fmt = format file in
+    let fmt = format_of file.layout file.cluster in
     let sh = shape file in
     let is_log : IsLog (logs.add (Stop changes) log) = record { start = safe.is_log.start; events = (loose, safe.is_log.events) } in
     record {

@@ -2,13 +2,11 @@ pub mod Pasts
 pub mod Sectors
 pub mod Barriers
 pub mod Files
+pub mod NotRefused
 pub mod Opened
 pub mod Refused
-pub mod Found
 pub mod Written
-pub mod Lent
 pub mod Tails
 pub mod Answered
 pub mod Left
-pub mod Calls
 pub mod Laws

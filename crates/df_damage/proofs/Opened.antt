@@ -14,7 +14,6 @@ use Rattle.df_trailer.specs.Text.{parse_of}
 use Rattle.df_units.specs.Bytes.{message_unit, unit_at}
 use Rattle.df_units.specs.Meaning.{header_of, layout_of, place_of}
 use Rattle.df_units.proofs.Laws.{chosen_choice, of_places}
-use Rattle.df_replica.proofs.Laws.{found_is_not_refused}
 use Rattle.df_state.specs.declared.file.DataFile.{DataFile}
 use Rattle.df_state.specs.State.{shape}
 use Rattle.df_damage.specs.Disks.{MayBeHurt}
@@ -22,6 +21,7 @@ use Rattle.df_damage.specs.Hurt.{IsUnhurtZone}
 use Rattle.df_damage.specs.Openings.{CheckpointStays, FoundWasHad, HasEachHeader, HeadersMayBeHurt, HeadersTell, OpensAsLeft, TwoCopiesAreEnough}
 use Rattle.df_damage.proofs.Barriers.{agreed_rest, agreed_zone, had, left, log, pooled, rests, shown, unhurt_zone}
 use Rattle.df_damage.proofs.Files.{opened_file, opened_found}
+use Rattle.df_damage.proofs.NotRefused.{found_is_not_refused}
 
 -- ---- what is found was had
 

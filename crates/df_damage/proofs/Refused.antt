@@ -24,7 +24,6 @@ use Rattle.df_units.proofs.Laws.{chosen_choice, is_format}
 use Rattle.df_recovery.specs.Opening.{Refuses}
 use Rattle.df_recovery.specs.Surveys.{Surveys}
 use Rattle.df_recovery.proofs.Laws.{super_or_refusal}
-use Rattle.df_replica.proofs.Laws.{found_is_not_refused}
 use Rattle.df_state.specs.declared.file.DataFile.{DataFile}
 use Rattle.df_state.specs.State.{shape}
 use Rattle.df_damage.specs.Disks.{MayBeHurt}
@@ -32,6 +31,7 @@ use Rattle.df_damage.specs.Hurt.{IsHurtFile, IsHurtPlace, IsUnhurt}
 use Rattle.df_damage.specs.Refusals.{BlamesHurt, IsBlamed, MayBeOfDamage, ProbeIsOfHurt, RefusalsAreOfDamage, RefusalsBlameHurt}
 use Rattle.df_damage.proofs.Barriers.{agreed_rest, left, log, pooled, rests, shown}
 use Rattle.df_damage.proofs.Files.{no_bad_field, no_fault, own_layout, refused_here, rules}
+use Rattle.df_damage.proofs.NotRefused.{found_is_not_refused}
 use Rattle.df_damage.proofs.Sectors.{in_zone, place_differs, search}
 
 module _ (file : DataFile) (view : View) (t : Told) (may : MayBeHurt file view t) where

@@ -1,21 +1,17 @@
--- What a view needs was written at its places, where the file had the view, and where it keeps it.
+-- What a view needs was written at its places, where the file had the view.
 use Rattle.std.proofs.Common.{◌≡◌, inl, inr, ℕ, List, [], ◌∷◌, ◌++◌, Some, sym, ◌∙◌, ap, subst}
 use Rattle.df_base.specs.Image.{Image}
 use Rattle.df_base.specs.Log as logs
 use Rattle.df_base.specs.Log.{Event, Log, Stop, Sync, Write}
-use Rattle.df_model.specs.Laws.{IsKeptBy}
 use Rattle.df_theory.specs.Chance.{InImages, InPools}
 use Rattle.df_theory.specs.Device.{Format, all_units, units_log, units_of}
 use Rattle.df_theory.specs.UnitLog.{UnitLog, settled}
-use Rattle.df_theory.specs.Units.{AnyUnit, Parts, Place, Units}
-use Rattle.df_theory.specs.Shape.{Shape}
+use Rattle.df_theory.specs.Units.{AnyUnit, Place, Units}
 use Rattle.df_theory.proofs.Laws.{settled_law}
-use Rattle.df_model.specs.Work.{Work}
-use Rattle.df_replica.specs.Serving.{Firm, Grade, KeptFor, Whole, format}
+use Rattle.df_units.specs.Format.{format_of}
 use Rattle.df_state.specs.declared.file.DataFile.{DataFile}
-use Rattle.df_state.specs.State.{shape, spelling}
 use Rattle.df_damage.specs.Past.{IsOneOf}
-use Rattle.df_damage.specs.Reads.{HadIsWritten, KeptIsWritten, OpenedIsWritten, WasWritten}
+use Rattle.df_damage.specs.Written.{HadIsWritten, OpenedIsWritten, WasWritten}
 use Rattle.df_damage.proofs.Barriers.{in_pools}
 use Rattle.df_damage.proofs.Opened.{found_was_had}
 
@@ -42,25 +38,12 @@ pub had_is_written : HadIsWritten
 had_is_written file log later view had (new, grew, same) = record {
   sound = had.holds.bears.sound;
   needs = λ place x need.
-      let old : InImages (settled (units_log (format file) log)) place x =
-      subst (λ (us : List Units). InImages us place x) (sym (settled_law (format file) log)) (among (format file) (logs.settled log) had.image place x had.durable (had.holds.bears.needs place x need)) in
-      later_pools (format file) log later.start later.events new place x same grew (in_pools (units_log (format file) log).start (units_log (format file) log).events place x (inl old));
+      let old : InImages (settled (units_log (format_of file.layout file.cluster) log)) place x =
+      subst (λ (us : List Units). InImages us place x) (sym (settled_law (format_of file.layout file.cluster) log)) (among (format_of file.layout file.cluster) (logs.settled log) had.image place x had.durable (had.holds.bears.needs place x need)) in
+      later_pools (format_of file.layout file.cluster) log later.start later.events new place x same grew (in_pools (units_log (format_of file.layout file.cluster) log).start (units_log (format_of file.layout file.cluster) log).events place x (inl old));
 }
 
 pub opened_is_written : OpenedIsWritten
 opened_is_written file view t s later may is grew =
     let had = found_was_had file view t s may is in
     subst (λ (x : DataFile). WasWritten x later is.view) (sym had.0) (had_is_written file (logs.add Sync t.log) later is.view had.1 grew)
-
-kept_by : (g : Grade) (sh : Shape) (spell : Parts → List ℕ) (log : UnitLog) (w : Work) → KeptFor g sh spell log w → IsKeptBy sh spell log w
-kept_by Firm sh spell log w is = is
-kept_by Whole sh spell log w is = is.0
-
-pub kept_is_written : KeptIsWritten
-kept_is_written g s w log is =
-    let units = units_log (format s.file) log in
-    let by = kept_by g (shape s.file) (spelling s.file) units w is.kept_by in
-    record {
-      sound = by.tidy.rests.holds.bears.sound;
-      needs = λ place x need. in_pools units.start units.events place x (by.tidy.rests.pooled place x (by.tidy.rests.holds.bears.needs place x need));
-    }

@@ -1,7 +1,8 @@
 -- All that damage can do to the answer of an open: one record for a state that is found, and one for a refusal.
-use Rattle.std.specs.Prelude.{◌≡◌, ◌⊎◌, Result, Ok, Err}
+use Rattle.std.specs.Prelude.{◌≡◌, ◌⊎◌, Option, Some, Result, Ok, Err}
 use Rattle.df_base.specs.Log.{Sync, add}
 use Rattle.df_disk.specs.Told.{Told}
+use Rattle.df_layout.specs.declared.layout.Layout.{Layout}
 use Rattle.df_layout.specs.declared.places.Zone.TheVariants.{Superblock, WalHeaders}
 use Rattle.df_model.specs.Work.{opened}
 use Rattle.df_model.specs.declared.errors.OpenError.{OpenError}
@@ -46,3 +47,7 @@ AnswersHurt file view t (Err e) = (e ≡ DiskFault → ⊥) → RefusesHurt file
 -- so it is answered of each disk that may be hurt
 abbrev pub AnswerIsOfHurt : Type 0
 AnswerIsOfHurt = (file : DataFile) (view : View) (t : Told) (result : Result State OpenError) → MayBeHurt file view t → Surveys file.layout t.shown result → AnswersHurt file view t result
+
+-- so an open with rooms of this layout answers, where the disk tells what it shows
+abbrev pub TellsHurt : Layout → Option Told → Result State OpenError → Type 0
+TellsHurt layout told result = (file : DataFile) (view : View) (t : Told) → told ≡ Some t → layout ≡ file.layout → MayBeHurt file view t → AnswersHurt file view t result

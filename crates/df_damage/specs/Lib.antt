@@ -1,7 +1,8 @@
 pub mod Hurt
 pub mod Past
 pub mod Disks
+pub mod Unrefused
 pub mod Openings
 pub mod Refusals
-pub mod Reads
+pub mod Written
 pub mod Answers

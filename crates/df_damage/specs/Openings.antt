@@ -10,12 +10,12 @@ use Rattle.df_theory.specs.Units.{Header, HeaderPlace, HeaderUnit, Message}
 use Rattle.df_theory.specs.View.{View}
 use Rattle.df_units.specs.Bytes.{unit_at}
 use Rattle.df_recovery.specs.Surveys.{IsOpened}
-use Rattle.df_replica.specs.Completeness.{IsNotRefused}
 use Rattle.df_state.specs.declared.file.DataFile.{DataFile}
 use Rattle.df_state.specs.State.{State, shape}
 use Rattle.df_damage.specs.Disks.{IsAtRest, MayBeHurt}
 use Rattle.df_damage.specs.Hurt.{HasTwoCopies, IsHurtInside, IsUnhurtZone}
 use Rattle.df_damage.specs.Past.{WasHad}
+use Rattle.df_damage.specs.Unrefused.{IsNotRefused}
 
 -- what is found is of this file, and the file had it
 abbrev pub FoundWasHad : Type 0

@@ -1,5 +1,6 @@
 // Why an open refuses a disk that may be hurt: laws, each the clause of a function that does nothing.
 ghost use Rattle.df_damage.specs.Refusals.{ProbeIsOfHurt, RefusalsAreOfDamage, RefusalsBlameHurt};
+ghost use Rattle.df_damage.specs.Unrefused.{FoundIsNotRefused};
 
 /// With rooms of the file's layout a file is refused for its superblock copies or for a place that is named, and only where some
 /// sector of it is hurt.
@@ -15,4 +16,9 @@ pub fn refusals_blame_what_is_hurt()
 /// A look at the copies alone, as before rooms are taken, finds the layout of the file, or is refused for damage.
 pub fn probe_is_of_hurt()
     ensures { ProbeIsOfHurt }
+{}
+
+/// An image in which a view is found, whatever was done to it, is refused for no reason.
+pub fn found_is_not_refused()
+    ensures { FoundIsNotRefused }
 {}

@@ -44,4 +44,9 @@ pub mod AppendAnswers
 pub mod HeldBlocks
 pub mod Followed
 pub mod NotRefused
+pub mod Hurts
+pub mod LentFinds
+pub mod Lent
+pub mod LentCalls
+pub mod LentKept
 pub mod Laws

@@ -18,6 +18,7 @@ pub mod BlockReads
 pub mod Scrubbing
 pub mod Supply
 pub mod Session
+pub mod Lending
 pub mod Opened
 pub mod HeldBlocks
 pub mod Following

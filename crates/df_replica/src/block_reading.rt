@@ -10,6 +10,7 @@ ghost use Rattle.df_model.specs.Blocks.{sum_at};
 ghost use Rattle.df_model.specs.Commands.{ReadBlock};
 ghost use Rattle.df_replica.specs.Answering.{ServesBlockRead, read_block_answer};
 ghost use Rattle.df_replica.specs.BlockReads.{BlamesRead, IsReadBlock, block_leaves, block_words, what_block};
+ghost use Rattle.df_replica.specs.Lending.{LendsWrittenBlock};
 ghost use Rattle.df_replica.specs.contracts.replica.Replica.{the_row};
 
 use crate::Replica;
@@ -40,6 +41,7 @@ impl Replica {
         ensures* after { sem 𝓛 (Rests the_row self.entry (λ s. s ≡ block_leaves self.entry.now result)) }
         ensures exact { IsReadBlock address self.old (D.told disk.old) (block_words (λ u. u.now.unit) result) }
         ensures lent { IfOk result (λ u. IsKnownUnit AsBlock self.old.file.layout self.old.file.cluster address (sum_at address self.old.blocks.live) u.now.unit) }
+        ensures written { LendsWrittenBlock address self.old (block_words (λ u. u.now.unit) result) (D.told disk.old) }
         ensures call { ServesBlockRead (ReadBlock address) self.old (block_leaves self.old result) (D.told disk.old) (what_block (block_words (λ u. u.now.unit) result)) (read_block_answer (block_words (λ u. u.now.unit) result)) }
         ensures same { D.told disk.new ≡ D.told disk.old }
         ensures cause { BlamesRead (D.faults disk.old) (D.faults disk.new) result }

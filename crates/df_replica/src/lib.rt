@@ -9,6 +9,7 @@ mod block_reading;
 mod completeness;
 mod first;
 mod following;
+mod lending;
 mod lookup;
 mod making;
 mod mended;
@@ -25,7 +26,7 @@ mod surveyed;
 mod surveying;
 
 pub use block_laws::held_blocks_are_shown;
-pub use completeness::what_is_found_is_not_refused;
+pub use completeness::what_is_safe_is_not_refused;
 pub use df_layout::Finding;
 pub use df_model::{
     AppendError, BeginError, BlockError, FormatError, LookupError, NotLive, OpenError,
@@ -37,6 +38,7 @@ pub use df_recovery::{
 };
 pub use df_state::{DataFile, Rooms};
 pub use following::what_is_left_may_be_opened;
+pub use lending::what_is_lent_was_written;
 pub use making::format;
 pub use replica::Replica;
 pub use session_laws::{

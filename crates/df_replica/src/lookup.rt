@@ -15,6 +15,7 @@ ghost use Rattle.df_model.specs.Refusals.{first_refusal, lookup_refusals};
 ghost use Rattle.df_state.specs.State.{memory, reply_sum as known_sum};
 ghost use Rattle.df_replica.specs.Answering.{ServesRead, read_reply_answer};
 ghost use Rattle.df_replica.specs.Held.{HoldsReply, LendsReply};
+ghost use Rattle.df_replica.specs.Lending.{LendsWrittenReply};
 ghost use Rattle.df_replica.specs.Lookups.{HoldsKnown, IsReadReply, IsStoredFor, ReplyBlames, Tells, place_for, reply_found, reply_leaves, reply_shown};
 ghost use Rattle.df_replica.specs.Reading.{IsKnownUnit, in_words};
 ghost use Rattle.df_replica.specs.contracts.replica.Replica.{the_row};
@@ -165,6 +166,7 @@ impl Replica {
         ensures* after { sem 𝓛 (Rests the_row self.entry (λ s. s ≡ reply_leaves self.entry.now result)) }
         ensures exact { IsReadReply client self.old (D.told disk.old) (in_words (λ u. u.now.unit) result) }
         ensures lent { IfOk result (λ u. IsKnownUnit AsReply self.old.file (place_in ClientReplies (place_for self.old client)) (reply_sum (memory self.old) (place_for self.old client)) u.now.unit) }
+        ensures written { LendsWrittenReply client self.old (in_words (λ u. u.now.unit) result) (D.told disk.old) }
         ensures call { ServesRead (ReadReply client) self.old (reply_leaves self.old result) (D.told disk.old) (reply_found (in_words (λ u. u.now.unit) result)) (read_reply_answer (in_words (λ u. u.now.unit) result)) }
         ensures same { D.told disk.new ≡ D.told disk.old }
         ensures cause { ReplyBlames (D.faults disk.old) (D.faults disk.new) result }

@@ -4,6 +4,7 @@ ghost use Rattle.df_base.specs.Image.{IsImage};
 ghost use Rattle.df_base.specs.Log.{Sync};
 ghost use Rattle.df_base.specs.Moments.{EachMoment};
 ghost use Rattle.df_disk.specs.Told.{Told, after, did};
+ghost use Rattle.df_damage.specs.Answers.{TellsHurt};
 ghost use Rattle.df_theory.specs.View.{View};
 ghost use Rattle.df_units.specs.Bytes.{unit_at};
 ghost use Rattle.df_model.specs.Work.{opened};
@@ -26,6 +27,7 @@ impl Replica {
         ensures live { IfOk result (λ replica. replica.live ≡ true) }
         ensures given_back { IfErr result (λ refused. refused.0.layout ≡ rooms.layout) }
         ensures answer { TellsSurvey rooms.layout (D.told disk.old) (answer_of result) }
+        ensures hurt { TellsHurt rooms.layout (D.told disk.old) (answer_of result) }
         ensures moments { (before after : Told) → D.told disk.old ≡ Some before → D.told disk.new ≡ Some after → IfOk result (λ replica. (g : Grade) (view : View)
             → MayOpen replica.file view before → StandsFor g (unit_at replica.file.layout replica.file.cluster before.shown) view
             → EachMoment (did Sync before).log after.log (IsGoodFor g (format replica.file) (shape replica.file) view view)) }

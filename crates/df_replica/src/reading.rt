@@ -15,6 +15,7 @@ ghost use Rattle.df_places.specs.Shelves.{HoldsFound, IsRead};
 ghost use Rattle.df_state.specs.State.{IsState, memory};
 ghost use Rattle.df_replica.specs.Answering.{ServesRead, read_prepare_answer};
 ghost use Rattle.df_replica.specs.Held.{HoldsPrepare, LendsPrepare};
+ghost use Rattle.df_replica.specs.Lending.{LendsWrittenPrepare};
 ghost use Rattle.df_replica.specs.Reading.{IsKnownUnit, IsReadPrepare, PrepareBlames, check_in, in_words, prepare_found, prepare_leaves, prepare_wanted};
 ghost use Rattle.df_replica.specs.contracts.replica.Replica.{the_row};
 
@@ -111,6 +112,7 @@ impl Replica {
         ensures* after { sem 𝓛 (Rests the_row self.entry (λ s. s ≡ prepare_leaves self.entry.now result)) }
         ensures exact { IsReadPrepare op self.old (D.told disk.old) (in_words (λ u. u.now.unit) result) }
         ensures lent { IfOk result (λ u. IsKnownUnit AsPrepare self.old.file (place_in WalPrepares (op % self.old.file.layout.slots)) (prepare_sum (memory self.old) op) u.now.unit) }
+        ensures written { LendsWrittenPrepare op self.old (in_words (λ u. u.now.unit) result) (D.told disk.old) }
         ensures call { ServesRead (ReadPrepare op) self.old (prepare_leaves self.old result) (D.told disk.old) (prepare_found (in_words (λ u. u.now.unit) result)) (read_prepare_answer (in_words (λ u. u.now.unit) result)) }
         ensures same { D.told disk.new ≡ D.told disk.old }
         ensures cause { PrepareBlames (D.faults disk.old) (D.faults disk.new) result }

@@ -7,6 +7,7 @@ ghost use Rattle.df_journal.specs.Tail.{AreNumbered};
 ghost use Rattle.df_journal.specs.Shows.{IsTable as AreSlots, Tells};
 ghost use Rattle.df_sessions.specs.Requests.{sessions_of};
 ghost use Rattle.df_superblock.specs.Calls.{ShowsSlots};
+ghost use Rattle.df_damage.specs.Answers.{TellsHurt};
 ghost use Rattle.df_theory.specs.Sessions.{Tracks};
 ghost use Rattle.df_theory.specs.Units.{Units};
 ghost use Rattle.df_grid.specs.Table.{IsIdle};
@@ -226,6 +227,7 @@ pub fn survey<D: Disk>(disk: &mut D, rooms: Rooms) -> Result<Surveyed, (Rooms, O
     ensures kept { IfOk result (λ survey. survey.state.file.layout ≡ rooms.layout) }
     ensures given_back { IfErr result (λ refused. refused.0.layout ≡ rooms.layout) }
     ensures answer { TellsSurvey rooms.layout (D.told disk.old) (state_of result) }
+    ensures hurt { TellsHurt rooms.layout (D.told disk.old) (state_of result) }
     ensures mends { IfOk result (TellsMends rooms.layout (D.told disk.old)) }
     ensures barrier { Syncs (D.told disk.old) (D.told disk.new) (state_of result) }
     ensures planned { (t : Told) → D.told disk.new ≡ Some t → IfOk result (λ survey. IsPlanned survey.state.file survey.state.headers survey.mends survey.state.fields survey.chosen.members t) }

@@ -11,7 +11,7 @@ use Rattle.df_lines.specs.Text.{after_line, taken}
 use Rattle.df_lines.proofs.Laws.{one_script}
 use Rattle.df_state.specs.declared.file.DataFile.{DataFile}
 use Rattle.df_theory.specs.View.{View}
-use Rattle.df_replica.specs.Completeness.{IsNotRefused}
+use Rattle.df_damage.specs.Unrefused.{IsNotRefused}
 use Rattle.df_replica.specs.Following.{MayOpen}
 use Rattle.df_replica.specs.Session.{Act}
 use Rattle.df_replica.proofs.Laws.{safe_is_not_refused}

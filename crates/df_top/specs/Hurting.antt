@@ -6,6 +6,7 @@ use Rattle.df_layout.specs.declared.layout.Layout.{Layout}
 use Rattle.df_theory.specs.Device.{NoChanceOf}
 use Rattle.df_theory.specs.View.{View}
 use Rattle.df_model.specs.Commands.{Answer, Command}
+use Rattle.df_replica.specs.Lending.{AnswersTheOne}
 use Rattle.df_replica.specs.Serving.{format}
 use Rattle.df_replica.specs.Session.{Act}
 use Rattle.df_state.specs.declared.file.DataFile.{DataFile}
@@ -13,7 +14,6 @@ use Rattle.df_state.specs.State.{State as Replica}
 use Rattle.df_damage.specs.Answers.{FindsHad, IsNeedless, RefusesHurt}
 use Rattle.df_damage.specs.Disks.{IsAtRest, MayBeHurt}
 use Rattle.df_damage.specs.Hurt.{HasTwoCopies, IsHurtFile}
-use Rattle.df_damage.specs.Reads.{AnswersTheOne}
 use Rattle.df_damage.specs.Refusals.{MayBeOfDamage}
 use Rattle.df_top.specs.Outside.{Outside}
 use Rattle.df_top.specs.Run.{DidNothing, Does, RefusesSuperblock}

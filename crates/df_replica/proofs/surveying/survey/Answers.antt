@@ -2,6 +2,7 @@
 use Rattle.df_replica.specs.Mending.{IsPlanned, IsSettledFrom}
 use Rattle.df_replica.specs.Replica.{Survey}
 use Rattle.df_replica.specs.Surveying.{state_of}
+use Rattle.df_replica.proofs.Hurts.{read_hurt, tells_hurt}
 use Rattle.df_replica.proofs.Listed.{told_answer, told_mends}
 use Rattle.df_replica.proofs.SurveyPlans.{if_ok_more, survey_planned}
 use Rattle.df_replica.proofs.surveying.survey.Goals as goal
@@ -21,3 +22,9 @@ pub returns-in-Ok-clause-mends : goal.returns-in-Ok-clause-mends
 returns-in-Ok-clause-mends g c =
     told_mends c.in-Ok.scanned c.args.rooms.layout c.in-Ok.ensures.file c.in-Ok.ensures.start c.in-Ok.ensures.served c.settle.result (g.D.Disk.told c.args.disk.now)
     c.in-Ok.ensures.answer c.in-Ok.ensures.checkpoint c.in-Ok.ensures.scanned c.in-Ok.ensures.slots c.settle.ensures.mends
+
+pub returns-in-Ok-clause-hurt : goal.returns-in-Ok-clause-hurt
+returns-in-Ok-clause-hurt g c = tells_hurt c.args.rooms.layout (g.D.Disk.told c.args.disk.now) (state_of c.settle.result) (returns-in-Ok-clause-answer g c)
+
+pub returns-in-Err-clause-hurt : goal.returns-in-Err-clause-hurt
+returns-in-Err-clause-hurt g c = read_hurt c.args.rooms.layout (g.D.Disk.told c.args.disk.now) c.in-Err.refused.1 c.in-Err.ensures.answer

@@ -1,5 +1,5 @@
 -- What was surveyed behind the barrier is mended, and the replica is that of the survey.
-use Rattle.std.proofs.Common.{◌≡◌, ◌∙◌, Option, Some, inr, ap, subst, sym}
+use Rattle.std.proofs.Common.{◌≡◌, ◌∙◌, Option, Some, inr, refl, ap, subst, sym}
 use Rattle.std.specs.Prelude.{Ok}
 use Rattle.df_base.specs.Log.{Sync}
 use Rattle.df_base.specs.Moments.{EachMoment}
@@ -14,6 +14,7 @@ use Rattle.df_replica.specs.Mending.{IsMended, mending_events}
 use Rattle.df_replica.specs.Serving.{Grade, IsGoodFor, IsKept, StandsFor, format}
 use Rattle.df_replica.specs.Surveying.{TellsSurvey}
 use Rattle.df_replica.proofs.Barriers.{barrier_rests}
+use Rattle.df_replica.proofs.Hurts.{tells_hurt}
 use Rattle.df_replica.proofs.Opens.{live_kept, mend_stops, open_keeps, survey_opened}
 use Rattle.df_replica.proofs.SurveyPlans.{live_answers}
 use Rattle.df_replica.proofs.replica.Replica.open.Goals as goal
@@ -32,6 +33,12 @@ returns-in-Ok-mend-clause-mended g c = λ before last first told.
 
 pub returns-in-Ok-mend-clause-answer : goal.returns-in-Ok-mend-clause-answer
 returns-in-Ok-mend-clause-answer g c = live_answers c.args.rooms.layout (g.D.Disk.told c.args.disk.now) c.in-Ok.surveyed.state c.in-Ok-mend.replica c.in-Ok-mend.ensures.state c.in-Ok.ensures.answer
+
+pub returns-in-Ok-mend-clause-hurt : goal.returns-in-Ok-mend-clause-hurt
+returns-in-Ok-mend-clause-hurt g c = tells_hurt c.args.rooms.layout (g.D.Disk.told c.args.disk.now) (Ok c.in-Ok-mend.replica) (returns-in-Ok-mend-clause-answer g c)
+
+pub returns-in-Err-mend-clause-hurt : goal.returns-in-Err-mend-clause-hurt
+returns-in-Err-mend-clause-hurt g c = λ file view t is same may other. absurd (other refl)
 
 pub returns-in-Ok-mend-clause-kept_for : goal.returns-in-Ok-mend-clause-kept_for
 returns-in-Ok-mend-clause-kept_for g c = λ before last first told.

@@ -8,6 +8,7 @@ use Rattle.df_grid.specs.Reads.{HoldsKnown, Loads}
 use Rattle.df_state.specs.State.{State, memory}
 use Rattle.df_replica.specs.contracts.replica.Replica.{the_view}
 use Rattle.df_replica.proofs.BlockReadCalls.{block_refused, block_stopped, is_live, lends_block, not_live, tells_block}
+use Rattle.df_replica.proofs.Lent.{lends_written_block}
 use Rattle.df_replica.proofs.replica.Replica.read_block.Goals as goal
 
 pub returns-then-is_none : goal.returns-then-is_none
@@ -17,7 +18,7 @@ returns-then-is_none g c =
     let some = subst (λ (s : State). first_refusal (read_refusals (memory s) c.args.address) ≡ Some read.NotLive) c.self.view_is
     (not_live (the_view c.self.inside) c.args.address c.live.result c.is_none.result c.live.ensures c.is_none.ensures c.if-is_none.true) in (
       (refl, (λ _. tt), c.self.view_is),
-      record { after = tt; exact = some; lent = tt; call = block_refused v c.args.address c.requires.live told read.NotLive some; same = refl; cause = refl },
+      record { after = tt; exact = some; lent = tt; written = tt; call = block_refused v c.args.address c.requires.live told read.NotLive some; same = refl; cause = refl },
     )
 
 pub returns-in-Err : goal.returns-in-Err
@@ -31,6 +32,7 @@ returns-in-Err g c =
         after = tt;
         exact = none;
         lent = tt;
+        written = tt;
         call = block_stopped v c.args.address c.requires.live told (record v { live = false }) refl;
         same = c.load.ensures.same;
         cause = (c.in-Err.ensures.cause.later, c.in-Err.ensures.cause.failed);
@@ -51,7 +53,7 @@ returns-in-Some g c =
     (subst (λ (l : Layout). Loads l s.grid.cluster told a (sum_at a s.grid.blocks.live) c.in-Ok.wrong held) c.self.invariant.2 c.in-Ok.ensures.loads)) in
     let tells = tells_block v a c.requires.live told none c.in-Ok.wrong held loads c.in-Some.class c.block_place.result c.in-Some.is c.block_place.ensures in (
       (refl, (λ _. tt), c.self.view_is),
-      record { after = tt; exact = tells.exact; lent = tt; call = tells.call; same = c.load.ensures.same; cause = c.in-Ok.ensures.cause.same },
+      record { after = tt; exact = tells.exact; lent = tt; written = tt; call = tells.call; same = c.load.ensures.same; cause = c.in-Ok.ensures.cause.same },
     )
 
 pub returns-in-None : goal.returns-in-None
@@ -71,5 +73,5 @@ returns-in-None g c =
     (subst (λ (l : Layout). HoldsKnown l s.grid.cluster a (sum_at a s.grid.blocks.live) c.in-Ok.wrong held) c.self.invariant.2 c.in-Ok.ensures.valid)) in
     let lends = lends_block v a c.requires.live told none c.in-Ok.wrong held loads valid c.unit.result.now c.in-None.is c.unit.ensures in (
       (refl, (λ _. tt), c.self.view_is),
-      record { after = tt; exact = lends.exact; lent = lends.known; call = lends.call; same = c.load.ensures.same; cause = c.in-Ok.ensures.cause.same },
+      record { after = tt; exact = lends.exact; lent = lends.known; written = lends_written_block a c.args.self.now _ told lends.exact; call = lends.call; same = c.load.ensures.same; cause = c.in-Ok.ensures.cause.same },
     )

@@ -14,6 +14,7 @@ use Rattle.df_state.specs.State.{State, memory}
 use Rattle.df_replica.specs.Held.{headers_of}
 use Rattle.df_replica.specs.Reading.{prepare_wanted}
 use Rattle.df_replica.specs.contracts.replica.Replica.{the_view}
+use Rattle.df_replica.proofs.Lent.{lends_written_prepare}
 use Rattle.df_replica.proofs.ReadCalls.{LendsAs, TellsOf, lends_as, prepare_stopped, refused_blames, refused_leaves, refused_reads, refused_serves, tells_of}
 use Rattle.df_replica.proofs.replica.Replica.read_prepare.Goals as goal
 
@@ -28,6 +29,7 @@ returns-in-Some g c =
         after = tt;
         exact = refused_reads v c.args.op c.requires.live told e some;
         lent = tt;
+        written = tt;
         call = refused_serves (Bor Holding) v c.args.op c.requires.live told e some;
         same = refl;
         cause = refused_blames (Bor Holding) v c.args.op c.requires.live told e some (g.D.Disk.faults c.args.disk.now);
@@ -42,7 +44,7 @@ returns-in-Err g c =
     let cause : HasCause (g.D.Disk.faults c.args.disk.now) (g.D.Disk.faults c.load_prepare-rooms.new.disk) c.load_prepare-rooms.result.1 = c.load_prepare-rooms.ensures.cause in
     let blames = subst (λ (r : Result (Option Class) Failed). HasCause (g.D.Disk.faults c.args.disk.now) (g.D.Disk.faults c.load_prepare-rooms.new.disk) r) c.in-Err.is cause in (
       (refl, (λ _. tt), ap (λ (hs : List Header). record (the_view c.self.inside) { headers = hs; live = false }) headers ∙ ap (λ (s : State). record s { live = false }) c.self.view_is),
-      record { after = tt; exact = none; lent = tt; call = prepare_stopped c.args.self.now c.args.op c.requires.live told (record c.args.self.now { live = false }) refl; same = c.load_prepare-rooms.ensures.same; cause = (blames.later, blames.failed) },
+      record { after = tt; exact = none; lent = tt; written = tt; call = prepare_stopped c.args.self.now c.args.op c.requires.live told (record c.args.self.now { live = false }) refl; same = c.load_prepare-rooms.ensures.same; cause = (blames.later, blames.failed) },
     )
 
 pub returns-in-Some-wrong : goal.returns-in-Some-wrong
@@ -60,7 +62,7 @@ returns-in-Some-wrong g c =
     let tells = subst (λ (s : State). TellsOf s op told c.prepare_place.result c.in-Some-wrong.class) e (tells_of v op live told none loaded.check c.in-Ok.wrong held holds read c.in-Some-wrong.class c.prepare_place.result c.in-Some-wrong.is c.prepare_place.ensures) in
     let blames = subst (λ (r : Result (Option Class) Failed). HasCause (g.D.Disk.faults c.args.disk.now) (g.D.Disk.faults c.load_prepare-rooms.new.disk) r) c.in-Ok.is loaded.cause in (
       (refl, (λ _. tt), ap (λ (hs : List Header). record (the_view c.self.inside) { headers = hs }) loaded.headers ∙ e),
-      record { after = tt; exact = tells.exact; lent = tt; call = tells.call; same = loaded.same; cause = blames.same },
+      record { after = tt; exact = tells.exact; lent = tt; written = tt; call = tells.call; same = loaded.same; cause = blames.same },
     )
 
 pub returns-in-None : goal.returns-in-None
@@ -78,5 +80,5 @@ returns-in-None g c =
     let lends = subst (λ (s : State). LendsAs s op told c.prepare_in.result.now.unit) e (lends_as v op live told none loaded.check c.in-Ok.wrong held holds read c.prepare_in.result.now c.in-None.is c.prepare_in.ensures) in
     let blames = subst (λ (r : Result (Option Class) Failed). HasCause (g.D.Disk.faults c.args.disk.now) (g.D.Disk.faults c.load_prepare-rooms.new.disk) r) c.in-Ok.is loaded.cause in (
       (refl, (λ _. tt), ap (λ (hs : List Header). record (the_view c.self.inside) { headers = hs }) loaded.headers ∙ e),
-      record { after = tt; exact = lends.exact; lent = lends.known; call = lends.call; same = loaded.same; cause = blames.same },
+      record { after = tt; exact = lends.exact; lent = lends.known; written = lends_written_prepare op c.args.self.now _ told lends.exact; call = lends.call; same = loaded.same; cause = blames.same },
     )

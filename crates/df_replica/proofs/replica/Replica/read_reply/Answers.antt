@@ -14,6 +14,7 @@ use Rattle.df_state.specs.State.{State, memory, reply_sum}
 use Rattle.df_replica.specs.Held.{headers_of}
 use Rattle.df_replica.specs.Lookups.{HoldsKnown, IsStoredFor, Tells, reply_shown}
 use Rattle.df_replica.specs.contracts.replica.Replica.{the_view}
+use Rattle.df_replica.proofs.Lent.{lends_written_reply}
 use Rattle.df_replica.proofs.LookupCalls.{LendsAs, TellsOf, lends_as, lookup_stopped, refused_blames, refused_leaves, refused_reads, refused_serves, tells_of}
 use Rattle.df_replica.proofs.replica.Replica.read_reply.Goals as goal
 use denote.Ref.{Bor}
@@ -29,6 +30,7 @@ returns-in-Err g c =
         after = tt;
         exact = refused_reads v c.args.client c.requires.live told e some;
         lent = tt;
+        written = tt;
         call = refused_serves (Bor Holding) v c.args.client c.requires.live told e some;
         same = refl;
         cause = refused_blames (Bor Holding) v c.args.client c.requires.live told e some (g.D.Disk.faults c.args.disk.now);
@@ -43,7 +45,7 @@ returns-in-Err-loaded g c =
     let cause : HasCause (g.D.Disk.faults c.args.disk.now) (g.D.Disk.faults c.load_reply-rooms.new.disk) c.load_reply-rooms.result.1 = c.load_reply-rooms.ensures.cause in
     let blames = subst (λ (r : Result (Option Class) Failed). HasCause (g.D.Disk.faults c.args.disk.now) (g.D.Disk.faults c.load_reply-rooms.new.disk) r) c.in-Err-loaded.is cause in (
       (refl, (λ _. tt), ap (λ (hs : List Header). record (the_view c.self.inside) { headers = hs; live = false }) headers ∙ ap (λ (s : State). record s { live = false }) c.self.view_is),
-      record { after = tt; exact = for.served; lent = tt; call = lookup_stopped c.args.self.now c.args.client c.requires.live told (record c.args.self.now { live = false }) refl; same = c.load_reply-rooms.ensures.same; cause = (blames.later, blames.failed) },
+      record { after = tt; exact = for.served; lent = tt; written = tt; call = lookup_stopped c.args.self.now c.args.client c.requires.live told (record c.args.self.now { live = false }) refl; same = c.load_reply-rooms.ensures.same; cause = (blames.later, blames.failed) },
     )
 
 pub returns-in-Some-wrong : goal.returns-in-Some-wrong
@@ -62,7 +64,7 @@ returns-in-Some-wrong g c =
     let answer = subst (λ (s : State). TellsOf s client told c.reply_place.result c.in-Some-wrong.class) e (tells_of v client live told stored for c.in-Ok-loaded.wrong held known tells c.in-Some-wrong.class c.reply_place.result c.in-Some-wrong.is c.reply_place.ensures) in
     let blames = subst (λ (r : Result (Option Class) Failed). HasCause (g.D.Disk.faults c.args.disk.now) (g.D.Disk.faults c.load_reply-rooms.new.disk) r) c.in-Ok-loaded.is loaded.cause in (
       (refl, (λ _. tt), ap (λ (hs : List Header). record (the_view c.self.inside) { headers = hs }) loaded.headers ∙ e),
-      record { after = tt; exact = answer.exact; lent = tt; call = answer.call; same = loaded.same; cause = blames.same },
+      record { after = tt; exact = answer.exact; lent = tt; written = tt; call = answer.call; same = loaded.same; cause = blames.same },
     )
 
 pub returns-in-None : goal.returns-in-None
@@ -81,5 +83,5 @@ returns-in-None g c =
     let answer = subst (λ (s : State). LendsAs s client told c.reply_in.result.now.unit) e (lends_as v client live told stored for c.in-Ok-loaded.wrong held known tells c.reply_in.result.now c.in-None.is c.reply_in.ensures) in
     let blames = subst (λ (r : Result (Option Class) Failed). HasCause (g.D.Disk.faults c.args.disk.now) (g.D.Disk.faults c.load_reply-rooms.new.disk) r) c.in-Ok-loaded.is loaded.cause in (
       (refl, (λ _. tt), ap (λ (hs : List Header). record (the_view c.self.inside) { headers = hs }) loaded.headers ∙ e),
-      record { after = tt; exact = answer.exact; lent = answer.known; call = answer.call; same = loaded.same; cause = blames.same },
+      record { after = tt; exact = answer.exact; lent = answer.known; written = lends_written_reply client c.args.self.now _ told answer.exact; call = answer.call; same = loaded.same; cause = blames.same },
     )

@@ -1,40 +1,23 @@
 -- What a read lends, whatever the disk shows as it reads: what was written there.
-use Rattle.std.specs.Prelude.{◌≡◌, ◌%◌, ℕ, Option, Some, None, Ok}
+use Rattle.std.specs.Prelude.{◌≡◌, ◌%◌, ℕ, Option, Some, None, Result, Ok, Err}
 use Rattle.std.specs.List.{slice_get}
-use Rattle.df_base.specs.Log.{Log, Sync, add}
-use Rattle.df_base.specs.Moments.{Extends}
+use Rattle.df_base.specs.Log.{Log}
 use Rattle.df_disk.specs.Told.{Told}
+use Rattle.df_damage.specs.Written.{IsTheOne, WasWritten}
 use Rattle.df_model.specs.Blocks.{sum_at}
 use Rattle.df_model.specs.Commands.{Answer, Command, Given, ReadBlock, ReadPrepare, ReadReply, ToReadBlock, ToReadPrepare, ToReadReply}
 use Rattle.df_model.specs.Memory.{prepare_sum, reply_sum}
 use Rattle.df_model.specs.Work.{Work, kept}
-use Rattle.df_theory.specs.Chance.{Distinct, InPool, InPools}
 use Rattle.df_theory.specs.Device.{NoChanceOf, units_log}
-use Rattle.df_theory.specs.Holds.{Sound}
 use Rattle.df_theory.specs.Sessions.{Answers}
-use Rattle.df_theory.specs.Shows.{Needs}
 use Rattle.df_theory.specs.Tails.{In}
-use Rattle.df_theory.specs.UnitLog.{UnitLog}
-use Rattle.df_theory.specs.Units.{AnyUnit, Block, BlockPlace, BlockUnit, Message, Place, PreparePlace, PrepareUnit, ReplyPlace, ReplyUnit, Session}
+use Rattle.df_theory.specs.Units.{Block, BlockPlace, BlockUnit, Message, PreparePlace, PrepareUnit, ReplyPlace, ReplyUnit, Session}
 use Rattle.df_theory.specs.View.{View, sessions}
-use Rattle.df_recovery.specs.Surveys.{IsOpened}
+use Rattle.df_state.specs.State.{Represents, State, memory}
 use Rattle.df_replica.specs.BlockReads.{IsReadBlock}
 use Rattle.df_replica.specs.Lookups.{IsReadReply, place_for}
 use Rattle.df_replica.specs.Reading.{IsReadPrepare}
 use Rattle.df_replica.specs.Serving.{Firm, Grade, IsCall, IsKept, Keeps, format}
-use Rattle.df_state.specs.declared.file.DataFile.{DataFile}
-use Rattle.df_state.specs.State.{Represents, State, memory, shape}
-use Rattle.df_damage.specs.Disks.{MayBeHurt}
-use Rattle.df_damage.specs.Past.{WasHad}
-
--- the unit was written at its place: it was settled there, or stood whole in a write, now or at an earlier moment of the log
-abbrev pub IsWritten : UnitLog → Place → AnyUnit → Type 0
-IsWritten log place x = InPools log.start log.events place x
-
--- the unit was settled at this place, or is being written there, and no other unit of its kind with its checksum was ever written anywhere
-pub record IsTheOne (log : UnitLog) (place : Place) (x : AnyUnit) : Type 0 where
-  pub there : InPool log place x
-  pub only : (other : Place) (y : AnyUnit) → IsWritten log other y → Distinct y x
 
 -- ---- whatever is in memory: the one unit with the checksum that is known
 
@@ -72,23 +55,7 @@ CallIsTheOne =
     (given : Given) (command : Command) (s u : State) (w : Work) (t : Told) (new : Option Told) (answer : Answer) → IsCall given command s u (Some t) new (Some answer) → Keeps Firm s w None → NoChanceOf (format s.file) t.log t.shown
     → AnswersTheOne s t.log command answer
 
--- ---- what the view needs was written
-
--- the view makes sense, and each unit that it needs was written at its place
-pub record WasWritten (file : DataFile) (log : Log) (view : View) : Type 0 where
-  pub sound : Sound (shape file) view
-  pub needs : (place : Place) (x : AnyUnit) → Needs (shape file) view place x → IsWritten (units_log (format file) log) place x
-
--- so it is with a view that the file had, however its log went on
-abbrev pub HadIsWritten : Type 0
-HadIsWritten = (file : DataFile) (log later : Log) (view : View) → WasHad file log view → Extends later log → WasWritten file later view
-
--- and so with the one that an open finds on a disk that may be hurt, however the log went on behind its barrier
-abbrev pub OpenedIsWritten : Type 0
-OpenedIsWritten =
-    (file : DataFile) (view : View) (t : Told) (s : State) (later : Log) → MayBeHurt file view t → (is : IsOpened file.layout t.shown s) → Extends later (add Sync t.log) → WasWritten s.file later is.view
-
--- and with the view of a file that is kept from call to call
+-- ---- what the view of a file that is kept from call to call needs was written
 abbrev pub KeptIsWritten : Type 0
 KeptIsWritten = (g : Grade) (s : State) (w : Work) (log : Log) → IsKept g s w log → WasWritten s.file log (kept w)
 
@@ -118,3 +85,25 @@ ReplyIsLent =
 -- a read of a block that is Ok gives a live one, with the checksum that the machine has of it
 abbrev pub BlockIsLent : Type 0
 BlockIsLent = (s : State) (w : Work) (t : Told) (address : ℕ) (b : Block) → Represents s w → IsReadBlock address s (Some t) (Ok b) → w.live address ≡ Some b.checksum
+
+-- ---- as clauses of the reads
+
+-- the prepare of an op that is lent is the one, where no unit of the image came about by chance; and where the state's view was written, it is the tail's
+abbrev pub LendsWrittenPrepare : {E : Type 0} → (op : ℕ) → State → Result Message E → Option Told → Type 0
+LendsWrittenPrepare op s (Err e) told = Unit {0}
+LendsWrittenPrepare op s (Ok p) None = Unit {0}
+LendsWrittenPrepare op s (Ok p) (Some t) = NoChanceOf (format s.file) t.log t.shown
+    → IsThePrepare s t.log op p × ((w : Work) → Represents s w → WasWritten s.file t.log (kept w) → In p (kept w).tail × (p.header.op ≡ op))
+
+-- so is the reply of a client, and then it is the stored one
+abbrev pub LendsWrittenReply : {E : Type 0} → (client : ℕ) → State → Result Message E → Option Told → Type 0
+LendsWrittenReply client s (Err e) told = Unit {0}
+LendsWrittenReply client s (Ok r) None = Unit {0}
+LendsWrittenReply client s (Ok r) (Some t) = NoChanceOf (format s.file) t.log t.shown
+    → IsTheReply s t.log client r × ((w : Work) → Represents s w → WasWritten s.file t.log (kept w) → IsReplyTo client (kept w) r)
+
+-- and the block of an address, which is live in the machine
+abbrev pub LendsWrittenBlock : {E : Type 0} → (address : ℕ) → State → Result Block E → Option Told → Type 0
+LendsWrittenBlock address s (Err e) told = Unit {0}
+LendsWrittenBlock address s (Ok b) None = Unit {0}
+LendsWrittenBlock address s (Ok b) (Some t) = NoChanceOf (format s.file) t.log t.shown → IsTheBlock s t.log address b × ((w : Work) → Represents s w → w.live address ≡ Some b.checksum)

@@ -1,14 +1,18 @@
 -- A read that is Ok gives what was written there.
-use Rattle.std.proofs.Common.{◌≡◌, ℕ, ◌+◌, ◌-◌, ◌%◌, ◌<◌, Bool, true, false, ◌&&◌, nat_lt, not, Some, None, Ok, refl, sym, ◌∙◌, ap, subst, arith, length}
+use Rattle.std.proofs.Common.{◌≡◌, ℕ, ◌+◌, ◌-◌, ◌%◌, ◌<◌, Bool, true, false, ◌&&◌, nat_lt, not, Option, Some, None, Ok, refl, sym, ◌∙◌, ap, subst, arith, length}
 use Rattle.std.specs.Prelude.{nat_le}
 use Rattle.std.specs.List.{slice_get}
 use Rattle.std.proofs.lemmas.Bool.Decides.{nat_tests}
 use Rattle.df_disk.specs.Told.{Told}
+use Rattle.df_damage.specs.Written.{IsTheOne, WasWritten}
 use Rattle.df_model.specs.After.{place_of_client}
 use Rattle.df_model.specs.Blocks.{addresses, entries, sum_at}
 use Rattle.df_model.specs.Memory.{Memory, memory_of, prepare_sum, reply_sum, stored_sum, sum_of_message}
 use Rattle.df_model.specs.Refusals.{first_refusal, prepare_refusals}
 use Rattle.df_model.specs.Work.{Work, kept}
+use Rattle.df_model.specs.declared.reading.LookupError.{LookupError}
+use Rattle.df_model.specs.declared.reading.PrepareError.{PrepareError}
+use Rattle.df_model.specs.declared.reading.ReadError.{ReadError}
 use Rattle.df_model.proofs.Laws.{all_pass}
 use Rattle.df_theory.specs.Device.{NoChanceOf, units_log}
 use Rattle.df_theory.specs.Sessions.{Answers}
@@ -22,8 +26,8 @@ use Rattle.df_replica.specs.Lookups.{IsReadReply, place_for}
 use Rattle.df_replica.specs.Reading.{IsReadPrepare}
 use Rattle.df_replica.specs.Serving.{format}
 use Rattle.df_state.specs.State.{Represents, State, memory, shape, spelling}
-use Rattle.df_damage.specs.Reads.{BlockIsLent, BlockIsTheOne, IsReplyTo, IsTheOne, PrepareIsLent, PrepareIsTheOne, ReplyIsLent, ReplyIsTheOne, WasWritten}
-use Rattle.df_damage.proofs.Found.{block_in, chain_get, client_at, entry_in, joined_at, mapped, prepare_in, reply_in, stored_in}
+use Rattle.df_replica.specs.Lending.{BlockIsLent, BlockIsTheOne, IsReplyTo, LendsWrittenBlock, LendsWrittenPrepare, LendsWrittenReply, PrepareIsLent, PrepareIsTheOne, ReplyIsLent, ReplyIsTheOne}
+use Rattle.df_replica.proofs.LentFinds.{block_in, chain_get, client_at, entry_in, joined_at, mapped, prepare_in, reply_in, stored_in}
 
 -- ---- the one unit with the checksum that is known
 
@@ -120,3 +124,17 @@ reply_is_lent s w t client r stands written chance read = reply_lent s w t stand
 
 pub block_is_lent : BlockIsLent
 block_is_lent s w t address b stands read = block_lent s w t stands address b read
+
+-- ---- what is lent, as the reads' clauses have it
+
+pub lends_written_prepare : (op : ℕ) (s : State) (p : Message) (told : Option Told) → IsReadPrepare op s told (Ok p) → LendsWrittenPrepare {E = PrepareError} op s (Ok p) told
+lends_written_prepare op s p None read = tt
+lends_written_prepare op s p (Some t) read = λ chance. (prepare_is_the_one s t op p chance read, λ w stands written. prepare_is_lent s w t op p stands written chance read)
+
+pub lends_written_reply : (client : ℕ) (s : State) (r : Message) (told : Option Told) → IsReadReply client s told (Ok r) → LendsWrittenReply {E = LookupError} client s (Ok r) told
+lends_written_reply client s r None read = tt
+lends_written_reply client s r (Some t) read = λ chance. (reply_is_the_one s t client r chance read, λ w stands written. reply_is_lent s w t client r stands written chance read)
+
+pub lends_written_block : (address : ℕ) (s : State) (b : Block) (told : Option Told) → IsReadBlock address s told (Ok b) → LendsWrittenBlock {E = ReadError} address s (Ok b) told
+lends_written_block address s b None read = tt
+lends_written_block address s b (Some t) read = λ chance. (block_is_the_one s t address b chance read, λ w stands. block_is_lent s w t address b stands read)

@@ -13,8 +13,8 @@ use Rattle.df_replica.specs.BlockReads.{IsBlockFound}
 use Rattle.df_replica.specs.Reading.{IsFoundBy}
 use Rattle.df_replica.specs.Serving.{Firm, IsCall, Keeps, format}
 use Rattle.df_state.specs.State.{State, shape, spelling}
-use Rattle.df_damage.specs.Reads.{AnswersTheOne, CallIsTheOne}
-use Rattle.df_damage.proofs.Lent.{block_is_the_one, prepare_is_the_one, reply_is_the_one}
+use Rattle.df_replica.specs.Lending.{AnswersTheOne, CallIsTheOne}
+use Rattle.df_replica.proofs.Lent.{block_is_the_one, prepare_is_the_one, reply_is_the_one}
 
 -- an answer that is Ok is what was found, and nothing refused
 ok_in : {X E : Type 0} (o : Option E) (damaged : Class → E) (found : Result X Class) (x : X) → Ok x ≡ shown_or o damaged found → (o ≡ None) × (found ≡ Ok x)

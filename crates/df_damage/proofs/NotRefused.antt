@@ -1,0 +1,107 @@
+-- Where a view is found the superblock can be used, and each other answer of an open would be a second one.
+use Rattle.std.specs.Prelude.{Err}
+use Rattle.std.proofs.Common.{◌≡◌, inl, inr, ℕ, ◌<◌, refl, sym, ◌∙◌, ap, subst}
+use Rattle.std.proofs.Math.Bridge.{le_prop}
+use Rattle.std.proofs.Math.Nat.{ℕ_set}
+use Rattle.df_base.specs.Image.{Image, IsImage}
+use Rattle.df_layout.specs.declared.layout.Layout.{Layout}
+use Rattle.df_layout.proofs.Same.{same_layout}
+use Rattle.df_format.specs.Copies.{Content, content_at}
+use Rattle.df_format.specs.SuperRules.{IsSuper}
+use Rattle.df_format.specs.declared.superblock.SuperFields.{SuperFields}
+use Rattle.df_format.proofs.SuperFaults.{faults}
+use Rattle.df_quorum.specs.Quorum
+use Rattle.df_theory.specs.Found.{IsFound}
+use Rattle.df_theory.specs.Opens.{Answer, Found, Opened, Opens, Refusal, Refused}
+use Rattle.df_theory.specs.Trailer.{IsReference}
+use Rattle.df_theory.specs.View.{PassesTests, View}
+use Rattle.df_theory.proofs.Laws.{one_answer_law}
+use Rattle.df_units.specs.Bytes.{unit_at}
+use Rattle.df_units.specs.Meaning.{content_of, layout_of}
+use Rattle.df_units.specs.Superblocks.{AreFieldsOf}
+use Rattle.df_units.proofs.Laws.{chosen_choice, passing_is_usable, shown_checks}
+use Rattle.df_trailer.specs.Text.{parse_of}
+use Rattle.df_model.specs.declared.errors.OpenError.{OpenError}
+use Rattle.df_model.specs.declared.errors.OpenError.TheVariants.{NotFormatted, NoQuorum, Version, BadField, LayoutDiffers, Damaged, DiskFault}
+use Rattle.df_state.specs.State.{shape}
+use Rattle.df_state.specs.declared.file.DataFile.{DataFile}
+use Rattle.df_recovery.specs.Found.{IsLayoutShown}
+use Rattle.df_recovery.specs.Opening.{HasSuper, IsLayoutOf, Refuses}
+use Rattle.df_recovery.specs.Surveys.{HasFile, Surveys}
+use Rattle.df_recovery.proofs.Laws.{one_super, super_or_refusal}
+use Rattle.df_damage.specs.Unrefused.{FoundIsNotRefused, IsNotRefused}
+
+-- ---- a file is its layout and its cluster
+
+of_pair : (n : Layout × ℕ) → 0 < n.1 → DataFile
+of_pair n named = record { layout = n.0; cluster = n.1; named = named }
+
+named_prop : (n : Layout × ℕ) → IsProp (0 < n.1)
+named_prop n = hlevel (le_prop, ℕ_set)
+
+same_of_pair : (n m : Layout × ℕ) → n ≡ m → (x : 0 < n.1) (y : 0 < m.1) → of_pair n x ≡ of_pair m y
+same_of_pair n m e x = subst (λ (k : Layout × ℕ). (y : 0 < k.1) → of_pair n x ≡ of_pair k y) e (λ y. ap (of_pair n) (named_prop n x y))
+
+same_pair : (a b : Layout) (c d : ℕ) → a ≡ b → c ≡ d → let x : Layout × ℕ = (a, c) in x ≡ (b, d)
+same_pair a b c d one two = cc (one, two)
+
+same_file : (a b : DataFile) → a.layout ≡ b.layout → a.cluster ≡ b.cluster → a ≡ b
+unfolding of_pair
+same_file a b one two = same_of_pair (a.layout, a.cluster) (b.layout, b.cluster) (same_pair a.layout b.layout a.cluster b.cluster one two) a.named b.named
+
+-- ---- the answers
+
+module _ (file : DataFile) (image : Image) (view : View) (whole : IsImage image) (found : IsFound (shape file) (unit_at file.layout file.cluster image) view) where
+  -- the choice among the copies is the view's content
+  choice : (c : Content) × (content_of c ≡ view.checkpoint.content) × Quorum.IsChosen (content_at image) c
+  choice = chosen_choice file.layout file.cluster image view.checkpoint.content whole found.chosen
+
+  abbrev fields : SuperFields
+  fields = choice.0.fields
+
+  rules : AreFieldsOf file.layout file.cluster fields × IsSuper fields
+  rules =
+      let tests : PassesTests (shape file) (content_of choice.0) = subst (PassesTests (shape file)) (sym choice.1) found.checkpoint.tests in
+      let reference : IsReference (layout_of file.layout) (content_of choice.0) = subst (IsReference (layout_of file.layout)) (sym choice.1) found.checkpoint.trailer.reference in
+      passing_is_usable file.layout file.cluster file.named (parse_of (layout_of file.layout)) choice.0 (shown_checks image choice.2.agreed.first choice.0 whole choice.2.agreed.at_first) tests reference
+
+  super : HasSuper image fields
+  super = record { content = choice.0; chosen = choice.2; fields = refl; usable = (faults fields).1 rules.1 }
+
+  usable : (error : OpenError) → Refuses image error → ⊥
+  usable error refuses = super_or_refusal image fields error super refuses
+
+  own_layout : (layout : Layout) (f : SuperFields) → HasSuper image f → IsLayoutOf layout f → layout ≡ file.layout
+  own_layout layout f has is =
+      let same : f ≡ fields = one_super image f fields has super in
+      same_layout layout file.layout
+      (is.slots ∙ ap (λ (g : SuperFields). g.slots) same ∙ rules.0.slots)
+      (is.message_size ∙ ap (λ (g : SuperFields). g.message_size) same ∙ rules.0.message_size)
+      (is.clients ∙ ap (λ (g : SuperFields). g.clients) same ∙ rules.0.clients)
+      (is.block_size ∙ ap (λ (g : SuperFields). g.block_size) same ∙ rules.0.block_size)
+      (is.blocks ∙ ap (λ (g : SuperFields). g.blocks) same ∙ rules.0.blocks)
+
+  -- another refusal would be of this very file, which has one answer
+  unrefused : (other : DataFile) (f : SuperFields) (r : Refusal) → HasFile image other f → other.layout ≡ file.layout → Opens (shape other) (unit_at file.layout other.cluster image) (Refused r) → ⊥
+  unrefused other f r has of opens =
+      let cluster : other.cluster ≡ file.cluster = sym has.cluster ∙ ap (λ (g : SuperFields). g.cluster) (one_super image f fields has.super super) ∙ rules.0.cluster_is in
+      let here : Opens (shape file) (unit_at file.layout file.cluster image) (Refused r) =
+      subst (λ (x : DataFile). Opens (shape x) (unit_at file.layout x.cluster image) (Refused r)) (same_file other file of cluster) opens in
+      let both : Refused r ≡ Found view = one_answer_law (shape file) (unit_at file.layout file.cluster image) (Refused r) (Found view) here (Opened view found) in
+      cc
+
+  answered : (error : OpenError) → Surveys file.layout image (Err error) → error ≡ DiskFault
+  answered NotFormatted is = absurd (usable NotFormatted is)
+  answered (NoQuorum classes) is = absurd (usable (NoQuorum classes) is)
+  answered (Version number) is = absurd (usable (Version number) is)
+  answered (BadField field value) (inl is) = absurd (usable (BadField field value) is)
+  answered (BadField field value) (inr is) = absurd (unrefused is.file is.fields Refusal.BadField is.has is.of is.opens)
+  answered (LayoutDiffers reserved there) is = absurd (is.differ (own_layout there is.fields is.super is.found_is))
+  answered (Damaged place class) is = absurd (unrefused is.file is.fields (Refusal.Damaged is.at) is.has is.of is.opens)
+  answered DiskFault is = refl
+
+  not_refused : IsNotRefused file image
+  not_refused = record { usable = usable; layout = λ layout shown. own_layout layout shown.fields shown.super shown.numbers; answered = answered }
+
+pub found_is_not_refused : FoundIsNotRefused
+found_is_not_refused file image view whole found = not_refused file image view whole found
