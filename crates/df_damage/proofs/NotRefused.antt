@@ -12,7 +12,7 @@ use Rattle.df_format.specs.declared.superblock.SuperFields.{SuperFields}
 use Rattle.df_format.proofs.SuperFaults.{faults}
 use Rattle.df_quorum.specs.Quorum
 use Rattle.df_theory.specs.Found.{IsFound}
-use Rattle.df_theory.specs.Opens.{Answer, Found, Opened, Opens, Refusal, Refused}
+use Rattle.df_theory.specs.Opens.{Found, Opened, Opens, Refusal, Refused}
 use Rattle.df_theory.specs.Trailer.{IsReference}
 use Rattle.df_theory.specs.View.{PassesTests, View}
 use Rattle.df_theory.proofs.Laws.{one_answer_law}
@@ -25,7 +25,6 @@ use Rattle.df_model.specs.declared.errors.OpenError.{OpenError}
 use Rattle.df_model.specs.declared.errors.OpenError.TheVariants.{NotFormatted, NoQuorum, Version, BadField, LayoutDiffers, Damaged, DiskFault}
 use Rattle.df_state.specs.State.{shape}
 use Rattle.df_state.specs.declared.file.DataFile.{DataFile}
-use Rattle.df_recovery.specs.Found.{IsLayoutShown}
 use Rattle.df_recovery.specs.Opening.{HasSuper, IsLayoutOf, Refuses}
 use Rattle.df_recovery.specs.Surveys.{HasFile, Surveys}
 use Rattle.df_recovery.proofs.Laws.{one_super, super_or_refusal}

@@ -1,11 +1,11 @@
 -- What a view needs was written at its places, where the file had the view.
-use Rattle.std.proofs.Common.{◌≡◌, inl, inr, ℕ, List, [], ◌∷◌, ◌++◌, Some, sym, ◌∙◌, ap, subst}
+use Rattle.std.proofs.Common.{◌≡◌, inl, inr, List, [], ◌∷◌, ◌++◌, Some, sym, ◌∙◌, ap, subst}
 use Rattle.df_base.specs.Image.{Image}
 use Rattle.df_base.specs.Log as logs
 use Rattle.df_base.specs.Log.{Event, Log, Stop, Sync, Write}
 use Rattle.df_theory.specs.Chance.{InImages, InPools}
 use Rattle.df_theory.specs.Device.{Format, all_units, units_log, units_of}
-use Rattle.df_theory.specs.UnitLog.{UnitLog, settled}
+use Rattle.df_theory.specs.UnitLog.{settled}
 use Rattle.df_theory.specs.Units.{AnyUnit, Place, Units}
 use Rattle.df_theory.proofs.Laws.{settled_law}
 use Rattle.df_units.specs.Format.{format_of}

@@ -1,5 +1,5 @@
 -- Each write of a block is the machine's: its answer, the state behind it, and what it does to the disk.
-use Rattle.std.proofs.Common.{◌≡◌, ◌∙◌, ℕ, true, false, Bool, List, [], ◌∷◌, Option, Some, None, refl, sym, ap, subst, arith}
+use Rattle.std.proofs.Common.{◌≡◌, ◌∙◌, ℕ, true, false, Bool, List, [], ◌∷◌, Option, Some, None, refl, sym, ap, subst}
 use Rattle.std.specs.Prelude.{if◌then◌else◌, Ok, Err}
 use Rattle.df_base.proofs.Laws.{AreBytes-check_of, field_at-lt, now_is_image}
 use Rattle.df_base.specs.Image.{IsImage}

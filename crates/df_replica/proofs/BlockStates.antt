@@ -1,8 +1,7 @@
 -- The state whose live blocks changed: it makes sense, and what it is in the words of the machine.
-use Rattle.std.proofs.Common.{◌≡◌, ◌∙◌, ℕ, ◌+◌, ◌<◌, ◌≤◌, ◌==◌, true, false, Bool, not, cond, List, [], ◌∷◌, length, Option, Some, None, refl, sym, ap, subst, arith}
-use Rattle.std.specs.Prelude.{Result, Ok, Err, OnErr, OnOk, if◌then◌else◌}
+use Rattle.std.proofs.Common.{◌≡◌, ℕ, ◌==◌, true, false, Bool, cond, List, [], ◌∷◌, length, Option, Some, None, refl, sym, ap, subst, arith}
+use Rattle.std.specs.Prelude.{Result, Ok, Err, OnErr, OnOk}
 use Rattle.df_format.specs.declared.superblock.SuperFields.{SuperFields}
-use Rattle.df_format.proofs.Laws.{some-eq}
 use Rattle.df_grid.specs.Grid.{GridState, IsUnheld, with_blocks as grid_of}
 use Rattle.df_model.specs.Blocks.{Blocks, block_released, sum_at, without_entry}
 use Rattle.df_model.specs.Making.{next_address}

@@ -1,12 +1,12 @@
 -- A block stays where it is as long as its address is held: no command puts another one there.
-use Rattle.std.proofs.Common.{◌≡◌, ◌⊎◌, inl, inr, ℕ, ◌+◌, ◌<◌, ◌≤◌, ◌==◌, Bool, true, false, not, ◌||◌, if◌then◌else◌, List, [], ◌∷◌, Option, Some, None, refl, sym, ap, subst, ◌∙◌, arith}
-use Rattle.std.specs.Prelude.{Result, Ok}
+use Rattle.std.proofs.Common.{◌≡◌, ◌⊎◌, inl, inr, ℕ, ◌<◌, ◌==◌, Bool, true, false, not, ◌||◌, if◌then◌else◌, List, [], ◌∷◌, Option, Some, None, refl, sym, ap, subst, ◌∙◌, arith}
+use Rattle.std.specs.Prelude.{Ok}
 use Rattle.std.proofs.lemmas.Bool.Decides.{nat_tests}
-use Rattle.df_disk.specs.Told.{IsHonest, Told}
+use Rattle.df_disk.specs.Told.{Told}
 use Rattle.df_layout.specs.declared.damage.Class.{Class}
 use Rattle.df_layout.specs.declared.damage.Class.TheVariants.{Stale}
 use Rattle.df_format.proofs.Laws.{some-eq}
-use Rattle.df_theory.specs.Units.{AnyUnit, Block, BlockPlace, BlockUnit, Message}
+use Rattle.df_theory.specs.Units.{Block, BlockPlace, BlockUnit, Message}
 use Rattle.df_theory.specs.Device.{units_log}
 use Rattle.df_theory.specs.UnitLog.{now}
 use Rattle.df_theory.proofs.Laws.{shown_law}
@@ -19,7 +19,7 @@ use Rattle.df_model.specs.Memory.{memory_of}
 use Rattle.df_model.specs.Refusals.{append_refusals, begin_refusals, block_refusals, first_refusal, release_refusals, reply_refusals}
 use Rattle.df_model.specs.Sense.{IsBacked, IsKnown, IsWork, ShowsOwnBlock}
 use Rattle.df_model.specs.Sense.IsKnown.{Captured, Durable, Live}
-use Rattle.df_model.specs.Supply.{block_at, block_given, class_at, given_if, is_sum, no_trailer}
+use Rattle.df_model.specs.Supply.{block_given, class_at, given_if, no_trailer}
 use Rattle.df_model.specs.Work.{Running, Work, is_captured, is_held, is_known}
 use Rattle.df_model.specs.declared.answers.Verdict.{Verdict}
 use Rattle.df_model.specs.declared.answers.Verdict.TheVariants.{Sound, Failing}

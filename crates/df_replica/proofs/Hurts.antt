@@ -1,5 +1,5 @@
 -- What a survey answers of a disk that may be hurt.
-use Rattle.std.proofs.Common.{◌≡◌, Option, None, Some, Result, Err, subst}
+use Rattle.std.proofs.Common.{Option, None, Some, Result, Err, subst}
 use Rattle.df_damage.specs.Answers.{TellsHurt}
 use Rattle.df_damage.proofs.Laws.{answer_is_of_hurt}
 use Rattle.df_disk.specs.Told.{Told}

@@ -1,6 +1,5 @@
 -- What a view needs was written at its places, where a file is kept for it.
 use Rattle.std.proofs.Common.{ℕ, List}
-use Rattle.df_damage.specs.Written.{WasWritten}
 use Rattle.df_damage.proofs.Laws.{in_pools}
 use Rattle.df_model.specs.Laws.{IsKeptBy}
 use Rattle.df_model.specs.Work.{Work}

@@ -1,5 +1,5 @@
 -- What is planned of a file that is found may be mended: each slot and each copy that isn't as it should be is written, and no member.
-use Rattle.std.proofs.Common.{◌≡◌, ◌⊎◌, inl, inr, ℕ, zero, suc, ◌+◌, ◌*◌, ◌/◌, ◌%◌, ◌<◌, ◌==◌, ◌||◌, List, [], ◌∷◌, ◌++◌, length, Bool, true, false, IsTrue, get_or, Option, Some, None, refl, sym, ◌∙◌, ap, subst, arith}
+use Rattle.std.proofs.Common.{◌≡◌, ◌⊎◌, inl, inr, ℕ, zero, suc, ◌+◌, ◌*◌, ◌/◌, ◌%◌, ◌<◌, ◌==◌, ◌||◌, List, [], ◌∷◌, ◌++◌, length, Bool, true, false, IsTrue, get_or, Some, None, refl, sym, ◌∙◌, ap, subst, arith}
 use Rattle.std.specs.List.{list_any, slice_get}
 use Rattle.std.proofs.lemmas.Bool.{cases_eq, cond-true, eq-eqb}
 use Rattle.std.proofs.lemmas.List.{map-append}
@@ -17,11 +17,11 @@ use Rattle.df_format.specs.Copies.{content_at, content_with}
 use Rattle.df_quorum.specs.Quorum
 use Rattle.df_theory.specs.Units
 use Rattle.df_theory.specs.Units.{AnyUnit, CopyPlace, CopyUnit, HeaderPlace, HeaderUnit, Place}
-use Rattle.df_theory.specs.Chance.{InPool, InPools}
+use Rattle.df_theory.specs.Chance.{InPools}
 use Rattle.df_theory.specs.Copies
 use Rattle.df_theory.specs.Device.{units_log}
 use Rattle.df_theory.specs.MendLaws.{AllPutCopy, AllPutTable, IsNumber, PutsTable, Reaches}
-use Rattle.df_theory.specs.UnitLog.{UnitEvent, now}
+use Rattle.df_theory.specs.UnitLog.{now}
 use Rattle.df_theory.specs.View.{View}
 use Rattle.df_theory.proofs.Laws.{found_law, now_units, one_chosen_law, put_one_law}
 use Rattle.df_units.specs.Bytes.{copy_unit, unit_at}

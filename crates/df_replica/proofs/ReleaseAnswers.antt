@@ -1,6 +1,6 @@
 -- Each release is the machine's: its answer, and the state behind it. It does nothing to the disk.
 use Rattle.std.proofs.Common.{◌≡◌, ◌∙◌, ℕ, true, false, Bool, not, cond, [], Option, Some, None, refl, sym, ap, subst}
-use Rattle.std.specs.Prelude.{Result, Ok, Err}
+use Rattle.std.specs.Prelude.{Ok, Err}
 use Rattle.df_base.specs.Log.{now}
 use Rattle.df_disk.specs.Told.{Told}
 use Rattle.df_format.proofs.Laws.{some-eq}

@@ -1,9 +1,6 @@
 -- A state that keeps what was read and found is the answer to an open, and so is a refusal.
-use Rattle.std.proofs.Common.{◌≡◌, ◌∙◌, ℕ, List, length, Some, Ok, Err, refl, sym, ap, subst}
-use Rattle.std.specs.List.{slice_get}
+use Rattle.std.proofs.Common.{◌≡◌, ◌∙◌, ℕ, List, length, Ok, Err, refl, sym, ap, subst}
 use Rattle.df_disk.specs.Told.{Told}
-use Rattle.df_layout.specs.declared.layout.Layout.{Layout}
-use Rattle.df_format.specs.declared.header.Header.{Header}
 use Rattle.df_journal.specs.Shows.{Tells}
 use Rattle.df_journal.specs.Tail.{AreUnstored}
 use Rattle.df_model.specs.declared.errors.OpenError.{OpenError}

@@ -31,7 +31,8 @@ fn block_place(address: u64) -> Place
 
 impl Replica {
     /// Lends a live block, from the room that its address is read into, by one device call. It is lent exactly where the address shows
-    /// the block that the replica knows, and no trailer's; else `Damaged` has the class of what is shown. After a fault no call may follow.
+    /// the block that the replica knows, and no trailer's; else `Damaged` has the class of what is shown. What is lent was written
+    /// there, also where sectors were struck since the open. After a fault no call may follow.
     pub fn read_block<D: Disk>(
         &mut self,
         disk: &mut D,

@@ -155,8 +155,8 @@ impl Replica {
     }
 
     /// Lends the stored reply to a client's last request, from the room that its place is read into, by one device call. It is lent
-    /// exactly where the place shows the unit whose checksum the session has; else `Damaged` has the class of what is shown. After a
-    /// fault no call may follow.
+    /// exactly where the place shows the unit whose checksum the session has; else `Damaged` has the class of what is shown. What is
+    /// lent was written there, also where sectors were struck since the open. After a fault no call may follow.
     pub fn read_reply<D: Disk>(
         &mut self,
         disk: &mut D,

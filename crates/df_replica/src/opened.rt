@@ -21,7 +21,8 @@ use df_disk::Disk;
 
 impl Replica {
     /// Opens a file: finds its state, with the refusals of `survey`, and mends it. A fault of the disk may come before the
-    /// mending or within it; every other refusal has written nothing. The rooms come back with a refusal.
+    /// mending or within it; every other refusal has written nothing. The rooms come back with a refusal. Where sectors of the
+    /// file were damaged, lost or swapped before, the state is one that the file had, and a refusal is because of one of them.
     pub fn open<D: Disk>(disk: &mut D, rooms: Rooms) -> Result<Replica, (Rooms, OpenError)>
         ensures kept { IfOk result (λ replica. replica.file.layout ≡ rooms.layout) }
         ensures live { IfOk result (λ replica. replica.live ≡ true) }

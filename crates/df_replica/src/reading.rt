@@ -102,7 +102,8 @@ impl Replica {
 
     /// Lends a prepare that is kept, from the room that its slot is read into, by one device call: the ops above the checkpoint's up to
     /// the head are kept. It is lent exactly where the slot shows the unit whose header the replica knows; else `Damaged` has the
-    /// class of what is shown. After a fault no call may follow.
+    /// class of what is shown. What is lent was written there, also where sectors were struck since the open. After a fault no call
+    /// may follow.
     pub fn read_prepare<D: Disk>(
         &mut self,
         disk: &mut D,

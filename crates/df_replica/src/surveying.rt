@@ -222,7 +222,8 @@ fn settle(scanned: Scanned) -> Result<Surveyed, (Rooms, OpenError)>
 /// What a file shows: its state, and what is to be mended before calls may work on it; or the first reason of the order of
 /// open why it isn't opened, and the rooms. It syncs once, then reads each copy of the superblock once, each block of the
 /// trailer that it names twice, and each sector of the header ring, each slot of the ring of prepares and each reply slot
-/// once, and writes nothing.
+/// once, and writes nothing. Where sectors of the file were damaged, lost or swapped before, it finds a state that the file had,
+/// or refuses it because of a sector that is hurt.
 pub fn survey<D: Disk>(disk: &mut D, rooms: Rooms) -> Result<Surveyed, (Rooms, OpenError)>
     ensures kept { IfOk result (λ survey. survey.state.file.layout ≡ rooms.layout) }
     ensures given_back { IfErr result (λ refused. refused.0.layout ≡ rooms.layout) }

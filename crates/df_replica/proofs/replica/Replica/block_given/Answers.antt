@@ -1,5 +1,5 @@
 -- What the maker says obeys the rules of a block, with any body that fits.
-use Rattle.std.proofs.Common.{refl, sym, ap, arith, rules}
+use Rattle.std.proofs.Common.{refl, arith, rules}
 use Rattle.df_base.proofs.Laws.{length-check_of, AreBytes-check_of}
 use Rattle.df_format.specs.Spelling.{no_checksum}
 use Rattle.df_replica.proofs.replica.Replica.block_given.Goals as goal

@@ -1,8 +1,8 @@
 -- What isn't refused may be written next, and each call is the machine's.
-use Rattle.std.proofs.Common.{◌≡◌, false, refl, sym, ap, ◌∙◌}
+use Rattle.std.proofs.Common.{refl, sym, ◌∙◌}
 use Rattle.df_format.specs.declared.reference.Reference.{Reference}
 use Rattle.df_replica.proofs.BlockAnswers.{fault_serves, refusal_serves, written_serves}
-use Rattle.df_replica.proofs.BlockStates.{address_given, may_write, refusal_given}
+use Rattle.df_replica.proofs.BlockStates.{address_given, refusal_given}
 use Rattle.df_replica.proofs.replica.Replica.write_block.Goals as goal
 
 pub returns-in-Err-clause-call : goal.returns-in-Err-clause-call

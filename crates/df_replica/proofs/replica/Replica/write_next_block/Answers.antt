@@ -1,5 +1,5 @@
 -- The state behind a block that is written makes sense.
-use Rattle.std.proofs.Common.{◌≡◌, Option}
+use Rattle.std.proofs.Common.{◌≡◌}
 use Rattle.df_model.specs.Blocks.{block_written, with_entry}
 use Rattle.df_units.specs.Meaning.{number_of}
 use Rattle.df_grid.specs.Grid.{GridState}
