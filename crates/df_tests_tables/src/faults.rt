@@ -1,0 +1,140 @@
+// The table of faults: each call of the device, of the source and of the sink fails in turn. The status is the fault's, and behind a
+// stop that fills what was loose the next recovery is done.
+use crate::loose::{fated, loose_of};
+use crate::session::{LINES, answers, front};
+use crate::told::{is_before_or_after, views};
+use crate::work::{Work, cut};
+use df_images::{Fate, stop_since};
+use df_memdisk::MemoryDisk;
+use df_runs::{Ran, lines, run_failing, small_file, word};
+use df_top::Status;
+use std::alloc::Global;
+use std::test::Fail;
+
+// More than the device calls of any work.
+const ENDED: u64 = 200;
+
+// The disk behind a stop that fills each loose sector; as it was, where none is.
+fn filled(alloc: Global, disk: MemoryDisk) -> Result<MemoryDisk, Fail> {
+    let (disk, loose) = loose_of(alloc, disk)?;
+    if loose.as_slice().is_empty() {
+        return Ok(disk);
+    }
+    let fates = fated(alloc, &loose, Fate::Filled)?;
+    stop_since(alloc, disk, 0, &fates)
+}
+
+// Whether a run printed a front of what the session prints. An answer with a body takes several writes.
+fn is_front(alloc: Global, ran: &Ran) -> Result<bool, Fail> {
+    Ok(answers(alloc)?.as_slice().starts_with(&ran.text))
+}
+
+// Whether what a faulty run left is recovered.
+fn is_recovered(
+    alloc: Global,
+    disk: MemoryDisk,
+    views: &[Vec<u8>],
+    ran: &Ran,
+) -> Result<bool, Fail> {
+    let mut disk = filled(alloc, disk)?;
+    let recovered = is_before_or_after(alloc, &mut disk, views, lines(&ran.text))?;
+    Ok(recovered && is_front(alloc, ran)?)
+}
+
+// A device call that fails: how the work ends, and whether what it leaves is recovered.
+fn fail_at(
+    alloc: Global,
+    work: Work,
+    views: &[Vec<u8>],
+    call: u64,
+) -> Result<(Status, bool), Fail> {
+    let (disk, ran) = cut(alloc, work, call)?;
+    let recovered = ran.status == Status::Done || is_recovered(alloc, disk, views, &ran)?;
+    Ok((ran.status, recovered))
+}
+
+// An open takes 47 calls. The lines of the session take four for each append, two for the reply, one for each block and each first
+// step, and 13 for each last step: a sync, a write and a sync of each copy, and the four copies read back; and one for each of
+// three reads.
+#[test]
+fn each_failing_device_call_of_a_session_is_a_disk_fault(rt: HostRuntime) -> Result<(), Fail> {
+    let views = views(rt.alloc(), Work::Session)?;
+    let mut faults = 0u64;
+    for call in 1..ENDED {
+        let (status, recovered) = fail_at(rt.alloc(), Work::Session, &views, call)?;
+        if status == Status::Done {
+            break;
+        }
+        faults = call;
+        assert_eq!(rt; status, Status::DiskFault, "call {call}");
+        assert!(rt; recovered, "call {call}");
+    }
+    assert_eq!(rt; faults, 91);
+    Ok(())
+}
+
+// The open, and then the writes of two sectors of headers and two copies, with their syncs.
+#[test]
+fn each_failing_device_call_of_a_mending_is_a_disk_fault(rt: HostRuntime) -> Result<(), Fail> {
+    let views = views(rt.alloc(), Work::Mending)?;
+    let mut faults = 0u64;
+    for call in 1..ENDED {
+        let (status, recovered) = fail_at(rt.alloc(), Work::Mending, &views, call)?;
+        if status == Status::Done {
+            break;
+        }
+        faults = call;
+        assert_eq!(rt; status, Status::DiskFault, "call {call}");
+        assert!(rt; recovered, "call {call}");
+    }
+    assert!(rt; faults > 51 && faults < ENDED - 1, "{faults} calls");
+    Ok(())
+}
+
+// A run of the session with one call of its source and one of its sink failing, and whether what it leaves is recovered.
+fn fail_outside(
+    alloc: Global,
+    views: &[Vec<u8>],
+    source: u64,
+    sink: u64,
+) -> Result<(Status, bool), Fail> {
+    let mut disk = small_file(alloc, &[])?;
+    let words = word(alloc, "run")?;
+    let script = front(alloc, LINES)?;
+    let ran = run_failing(alloc, &mut disk, &words, &script, &[source], &[sink])?;
+    Ok((ran.status, is_recovered(alloc, disk, views, &ran)?))
+}
+
+#[test]
+fn each_failing_read_of_the_script_is_a_read_fault(rt: HostRuntime) -> Result<(), Fail> {
+    let views = views(rt.alloc(), Work::Session)?;
+    let mut faults = 0u64;
+    for call in 1..ENDED {
+        let (status, recovered) = fail_outside(rt.alloc(), &views, call, 0)?;
+        assert!(rt; recovered, "call {call}");
+        if status == Status::Done {
+            break;
+        }
+        faults = call;
+        assert_eq!(rt; status, Status::ReadFault, "call {call}");
+    }
+    assert!(rt; faults > 0 && faults < ENDED - 1, "{faults} reads");
+    Ok(())
+}
+
+#[test]
+fn each_failing_write_of_an_answer_is_a_write_fault(rt: HostRuntime) -> Result<(), Fail> {
+    let views = views(rt.alloc(), Work::Session)?;
+    let mut faults = 0u64;
+    for call in 1..ENDED {
+        let (status, recovered) = fail_outside(rt.alloc(), &views, 0, call)?;
+        assert!(rt; recovered, "call {call}");
+        if status == Status::Done {
+            break;
+        }
+        faults = call;
+        assert_eq!(rt; status, Status::WriteFault, "call {call}");
+    }
+    assert!(rt; faults >= LINES as u64 && faults < ENDED - 1, "{faults} writes");
+    Ok(())
+}

@@ -1,0 +1,123 @@
+// The table of stops: at each moment with a loose sector the disk is stopped, with all loose sectors as written, as before, or
+// filled. The file opens with the view of the answers so far, or of one more.
+use crate::loose::{fated, loose_of};
+use crate::told::{is_before_or_after, views};
+use crate::work::{Work, cut};
+use df_images::{Fate, stop_since};
+use df_runs::lines;
+use df_top::Status;
+use std::alloc::Global;
+use std::test::Fail;
+
+// More than the device calls of any work.
+const ENDED: u64 = 200;
+
+// A device call within or behind which sectors are loose.
+#[derive(Drop)]
+struct Moment {
+    call: u64,
+    // Events up to the last sync before it.
+    synced: u64,
+    loose: Vec<u16>,
+}
+
+// The walk over the device calls: the events that there were at the last one, and those up to the last sync.
+#[derive(Clone, Copy)]
+struct Walk {
+    events: u64,
+    synced: u64,
+}
+
+impl Walk {
+    // Comes to the next call. A write that fails is an event, and a sync that does is none: so two events more are the sync before
+    // this call and its write.
+    fn come_to(&mut self, events: u64, is_settled: bool) {
+        if is_settled {
+            self.synced = events;
+        } else if events.saturating_sub(self.events) == 2 {
+            self.synced = events.saturating_sub(1);
+        }
+        self.events = events;
+    }
+}
+
+// The moments of a work, in order.
+fn moments(alloc: Global, work: Work) -> Result<Vec<Moment>, Fail> {
+    let mut walk = Walk {
+        events: 0,
+        synced: 0,
+    };
+    let mut moments = Vec::new(alloc);
+    for call in 1..ENDED {
+        let (disk, ran) = cut(alloc, work, call)?;
+        if ran.status == Status::Done {
+            return Ok(moments);
+        }
+        let (disk, loose) = loose_of(alloc, disk)?;
+        walk.come_to(disk.events(), loose.as_slice().is_empty());
+        if !loose.as_slice().is_empty() {
+            moments.push(Moment {
+                call,
+                synced: walk.synced,
+                loose,
+            })?;
+        }
+    }
+    Err("the work doesn't end".into())
+}
+
+// Whether a stop at this moment, with this fate of the loose sectors, leaves the view before or after the answer in flight.
+fn is_left(
+    alloc: Global,
+    work: Work,
+    views: &[Vec<u8>],
+    moment: &Moment,
+    fate: Fate,
+) -> Result<bool, Fail> {
+    let (disk, ran) = cut(alloc, work, moment.call)?;
+    let fates = fated(alloc, &moment.loose, fate)?;
+    let mut disk = stop_since(alloc, disk, moment.synced, &fates)?;
+    is_before_or_after(alloc, &mut disk, views, lines(&ran.text))
+}
+
+// Whether each of a moment's images is.
+fn are_left(
+    alloc: Global,
+    work: Work,
+    views: &[Vec<u8>],
+    moment: &Moment,
+) -> Result<bool, Fail> {
+    for fate in [Fate::AsWritten, Fate::AsBefore, Fate::Filled] {
+        if !is_left(alloc, work, views, moment, fate)? {
+            return Ok(false);
+        }
+    }
+    Ok(true)
+}
+
+// Four moments of each append and two of the reply; of each checkpoint the writes of a block and of the trailer, the sync behind
+// them, and two of each copy; the write of the last block, and the read behind it.
+#[test]
+fn a_stop_at_each_write_leaves_the_view_before_or_after(rt: HostRuntime) -> Result<(), Fail> {
+    let views = views(rt.alloc(), Work::Session)?;
+    let moments = moments(rt.alloc(), Work::Session)?;
+    for moment in &moments {
+        let left = are_left(rt.alloc(), Work::Session, &views, moment)?;
+        assert!(rt; left, "call {}", moment.call);
+    }
+    assert_eq!(rt; moments.len(), 34);
+    Ok(())
+}
+
+// The session's last block is loose up to the barrier, and then two sectors of headers and two copies are written.
+#[test]
+fn a_stop_at_each_write_of_a_mending_leaves_the_view(rt: HostRuntime) -> Result<(), Fail> {
+    let views = views(rt.alloc(), Work::Mending)?;
+    let moments = moments(rt.alloc(), Work::Mending)?;
+    for moment in &moments {
+        let left = are_left(rt.alloc(), Work::Mending, &views, moment)?;
+        assert!(rt; left, "call {}", moment.call);
+    }
+    assert!(rt; moments.len() > 8, "{} moments", moments.len());
+    Ok(())
+}
