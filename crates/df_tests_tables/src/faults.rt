@@ -135,6 +135,9 @@ fn each_failing_write_of_an_answer_is_a_write_fault(rt: HostRuntime) -> Result<(
         faults = call;
         assert_eq!(rt; status, Status::WriteFault, "call {call}");
     }
-    assert!(rt; faults >= LINES as u64 && faults < ENDED - 1, "{faults} writes");
+    assert!(rt;
+        faults >= LINES as u64 && faults < ENDED - 1,
+        "{faults} writes"
+    );
     Ok(())
 }

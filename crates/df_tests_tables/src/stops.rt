@@ -81,12 +81,7 @@ fn is_left(
 }
 
 // Whether each of a moment's images is.
-fn are_left(
-    alloc: Global,
-    work: Work,
-    views: &[Vec<u8>],
-    moment: &Moment,
-) -> Result<bool, Fail> {
+fn are_left(alloc: Global, work: Work, views: &[Vec<u8>], moment: &Moment) -> Result<bool, Fail> {
     for fate in [Fate::AsWritten, Fate::AsBefore, Fate::Filled] {
         if !is_left(alloc, work, views, moment, fate)? {
             return Ok(false);

@@ -53,7 +53,7 @@ module _ (file : DataFile) (view : View) (t : Told) (may : MayBeHurt file view t
   stands s is = (
     opened (shape s.file) (unit_at s.file.layout s.file.cluster t.shown) is.view,
     found_keeps s t.shown is.view may.whole (subst (λ (l : Layout). IsOpened l t.shown s) (sym is.of) is)
-    (subst (λ (l : Layout). IsFound (shape s.file) (unit_at l s.file.cluster t.shown) is.view) (sym is.of) is.found),
+        (subst (λ (l : Layout). IsFound (shape s.file) (unit_at l s.file.cluster t.shown) is.view) (sym is.of) is.found),
   )
 
   module _ (old new : Outside) (status : Status) where
