@@ -289,20 +289,20 @@ module _ (file : DataFile) (chapters : List Chapter) (t : Told) (is : IsInOrder 
 
   -- ---- the word `format` again
 
-  formatted_same : (layout : Layout) (cluster : ℕ) (n : Told) (old new : Option (List ℕ)) (status : Status) → (status ≡ DiskFault → ⊥) → Formats layout cluster (Some t) (Some n) old new status → t ≡ n
-  formatted_same layout cluster n old new Done go made = absurd (answers.1.usable NotFormatted (made.0.may.blank t refl))
-  formatted_same layout cluster n old new Refused go refuses = one_told (Some n) t n refuses.1.same refl
-  formatted_same layout cluster n old new DiskFault go part = absurd (go refl)
-  formatted_same layout cluster n old new WriteFault go (inl made) = absurd (answers.1.usable NotFormatted (made.0.may.blank t refl))
-  formatted_same layout cluster n old new WriteFault go (inr refuses) = one_told (Some n) t n refuses.1.same refl
-  formatted_same layout cluster n old new Memory go nothing = one_told (Some n) t n nothing.0 refl
-  formatted_same layout cluster n old new Found go none = absurd none
-  formatted_same layout cluster n old new Words go none = absurd none
-  formatted_same layout cluster n old new Script go none = absurd none
-  formatted_same layout cluster n old new ReadFault go none = absurd none
+  formatted_same : (layout : Layout) (cluster : ℕ) (n : Told) (old new : Option (List ℕ)) (status : Status) → Formats layout cluster (Some t) (Some n) old new status → t ≡ n
+  formatted_same layout cluster n old new Done made = absurd (answers.1.usable NotFormatted (made.0.may.blank t refl))
+  formatted_same layout cluster n old new Refused refuses = one_told (Some n) t n refuses.1.same refl
+  formatted_same layout cluster n old new DiskFault part = elim part.1 [ | inl none ↦ one_told (Some n) t n none refl | inr blank ↦ absurd (answers.1.usable NotFormatted blank) ]
+  formatted_same layout cluster n old new WriteFault (inl made) = absurd (answers.1.usable NotFormatted (made.0.may.blank t refl))
+  formatted_same layout cluster n old new WriteFault (inr refuses) = one_told (Some n) t n refuses.1.same refl
+  formatted_same layout cluster n old new Memory nothing = one_told (Some n) t n nothing.0 refl
+  formatted_same layout cluster n old new Found none = absurd none
+  formatted_same layout cluster n old new Words none = absurd none
+  formatted_same layout cluster n old new Script none = absurd none
+  formatted_same layout cluster n old new ReadFault none = absurd none
 
-  formatted_order : (layout : Layout) (cluster : ℕ) (n : Told) (status : Status) → FormatWord layout cluster t n status → (status ≡ DiskFault → ⊥) → IsInOrder file chapters n
-  formatted_order layout cluster n status word go = subst (IsInOrder file chapters) (formatted_same layout cluster n word.old word.new status go word.formats) is
+  formatted_order : (layout : Layout) (cluster : ℕ) (n : Told) (status : Status) → FormatWord layout cluster t n status → IsInOrder file chapters n
+  formatted_order layout cluster n status word = subst (IsInOrder file chapters) (formatted_same layout cluster n word.old word.new status word.formats) is
 
 -- ---- a stop
 
@@ -356,7 +356,7 @@ every_life_is_in_order file _ _ (Ran t n chapters word life chance) =
     in_order file (sessions_in ToItsEnd t n word ++ chapters) n comes.honest comes.at_end
 every_life_is_in_order file _ _ (Ended t n m chapters word life chance moment honest) =
     ended_order file (sessions_in ToAMoment t n word ++ chapters) (sessions_in ToItsEnd t n word ++ chapters) t n m (word_comes file chapters t (every_life_is_in_order file t chapters life) chance n word) moment honest
-every_life_is_in_order file _ _ (Formatted t n chapters layout cluster status life chance word go) = formatted_order file chapters t (every_life_is_in_order file t chapters life) chance layout cluster n status word go
+every_life_is_in_order file _ _ (Formatted t n chapters layout cluster status life chance word) = formatted_order file chapters t (every_life_is_in_order file t chapters life) chance layout cluster n status word
 every_life_is_in_order file _ _ (Stopped t chapters changes life loose chance) =
     let is = every_life_is_in_order file t chapters life in
     stopped_order file chapters t is.safe is.honest changes loose chance ((order_of file chapters t is).left (changed changes (now t.log)) (left_by t.log changes is.safe.is_log loose) chance)

@@ -29,7 +29,7 @@ use Rattle.df_top.specs.Session.{act_of, list_of}
 use Rattle.df_top.specs.declared.mode.Mode.{Mode}
 use Rattle.df_top.specs.declared.mode.Mode.TheVariants.{Format, Run, Recover, Inspect, Scrub, Workload}
 use Rattle.df_top.specs.declared.status.Status.{Status}
-use Rattle.df_top.specs.declared.status.Status.TheVariants.{DiskFault, Done, Memory}
+use Rattle.df_top.specs.declared.status.Status.TheVariants.{Done, Memory}
 
 -- ---- what a session leaves of a file
 
@@ -144,9 +144,9 @@ pub data Life (file : DataFile) : Told → List Chapter → Type 0 where
   -- or the program was ended at a moment of it, before or within any call of the disk, and the disk goes on telling what was done up to there
   Ended : (t n m : Told) (chapters : List Chapter) (word : Word t n) → Life file t chapters → NoChanceOf (format file) t.log (now t.log) → IsMoment t.log n.log m.log → IsHonest m
       → Life file m (sessions_in ToAMoment t n word ++ chapters)
-  -- or the word `format` was run over it again
+  -- or the word `format` was run over it again, whatever its status
   Formatted : (t n : Told) (chapters : List Chapter) (layout : Layout) (cluster : ℕ) (status : Status) → Life file t chapters → NoChanceOf (format file) t.log (now t.log)
-      → FormatWord layout cluster t n status → (status ≡ DiskFault → ⊥) → Life file n chapters
+      → FormatWord layout cluster t n status → Life file n chapters
   -- or the machine stopped, behind the end of a word or at the moment of which one is told, and left any bytes in the sectors that were loose
   Stopped : (t : Told) (chapters : List Chapter) (changes : List (ℕ × List ℕ)) → Life file t chapters → AreLoose t.log.events changes → NoChanceOf (format file) t.log (changed changes (now t.log))
       → Life file (did (Stop changes) t) chapters

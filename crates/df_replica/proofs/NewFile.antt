@@ -1,5 +1,5 @@
 -- A new file is made by writes of reserved headers and of four copies: these are the model's making, at every moment and at its end.
-use Rattle.std.proofs.Common.{◌≡◌, inl, ℕ, zero, suc, ◌+◌, ◌*◌, ◌/◌, ◌^◌, ◌<◌, ◌≤◌, List, [], ◌∷◌, length, Option, Some, refl, sym, ◌∙◌, ap, subst, arith, Result, Ok, Err}
+use Rattle.std.proofs.Common.{◌≡◌, inl, ℕ, zero, suc, ◌+◌, ◌*◌, ◌/◌, ◌^◌, ◌<◌, ◌≤◌, List, [], ◌∷◌, length, Option, Some, None, refl, sym, ◌∙◌, ap, subst, arith, Result, Ok, Err}
 use Rattle.std.specs.Prelude.{slice_get}
 use Rattle.std.proofs.lemmas.List.{ext_get_or}
 use Rattle.std.proofs.lemmas.List.FromFn.{get_or-map-range_with_len, length-map-range_with_len}
@@ -30,7 +30,7 @@ use Rattle.df_headers.specs.Ring.{IsTable, in_sector}
 use Rattle.df_headers.proofs.Laws.{reserved_table as reserved_is_table, sector_at, table_written}
 use Rattle.df_model.specs.declared.errors.FormatError.{FormatError}
 use Rattle.df_model.specs.declared.errors.FormatError.TheVariants.{ClusterZero, NotBlank, DiskFault}
-use Rattle.df_replica.specs.Formatting.{AddsFormat}
+use Rattle.df_replica.specs.Formatting.{AddsFormat, OnlyOnBlank}
 use Rattle.df_replica.specs.Making.{AreWritable, Makes, MayMakeOn, file_of, making_events, making_steps, reserved_table, sectors_in, sectors_of}
 
 -- ---- the table of reserved headers
@@ -146,7 +146,11 @@ pub makes_call : {T E : Type 0} → (layout : Layout) (cluster : ℕ) → IsUsab
 makes_call layout cluster is before may after (Ok x) adds = makes_all layout cluster is (all_reserved layout cluster is) before may after x adds
 makes_call layout cluster is before may after (Err e) adds = makes_part layout cluster is (all_reserved layout cluster is) before may after e adds
 
+untouched : (old new : Option Told) → new ≡ old → OnlyOnBlank old new
+untouched None new is = tt
+untouched (Some t) new is = inl is
+
 pub unchanged_adds : (es : List Event) (old new : Option Told) (e : FormatError) → new ≡ old → AddsFormat {T = Unit {0}} es old new (Err e)
-unchanged_adds es old new DiskFault is = nothing_is_part es old new is
+unchanged_adds es old new DiskFault is = (nothing_is_part es old new is, untouched old new is)
 unchanged_adds es old new ClusterZero is = is
 unchanged_adds es old new (NotBlank copy) is = is

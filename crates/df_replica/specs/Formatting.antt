@@ -1,5 +1,5 @@
 -- What the making of a file answers, and what it does to the disk.
-use Rattle.std.specs.Prelude.{◌≡◌, ◌<◌, ◌≤◌, ℕ, true, false, List, Option, Some, None, Result, Ok, Err}
+use Rattle.std.specs.Prelude.{◌≡◌, ◌⊎◌, ◌<◌, ◌≤◌, ℕ, true, false, List, Option, Some, None, Result, Ok, Err}
 use Rattle.df_base.specs.Causes.{Rose}
 use Rattle.df_base.specs.Image.{Image}
 use Rattle.df_base.specs.Log.{Event}
@@ -31,10 +31,15 @@ RefusesCluster cluster (Err ClusterZero) = cluster ≡ 0
 RefusesCluster cluster (Err (NotBlank copy)) = 0 < cluster
 RefusesCluster cluster (Err DiskFault) = 0 < cluster
 
--- all these events are added, a part of them, from the first on, where the disk failed, and none at a refusal
+-- nothing was done to the disk, or the sectors of the copies showed zeros alone
+abbrev pub OnlyOnBlank : Option Told → Option Told → Type 0
+OnlyOnBlank None new = Unit {0}
+OnlyOnBlank (Some t) new = (new ≡ Some t) ⊎ IsUnformatted t.shown
+
+-- all these events are added, a part of them, from the first on, where the disk failed, and none at a refusal; and none ever where the disk wasn't blank
 abbrev pub AddsFormat : {T : Type 0} → List Event → Option Told → Option Told → Result T FormatError → Type 0
 AddsFormat events old new (Ok x) = new ≡ after_all events old
-AddsFormat events old new (Err DiskFault) = AddsPart events old new
+AddsFormat events old new (Err DiskFault) = AddsPart events old new × OnlyOnBlank old new
 AddsFormat events old new (Err ClusterZero) = new ≡ old
 AddsFormat events old new (Err (NotBlank copy)) = new ≡ old
 

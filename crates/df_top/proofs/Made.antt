@@ -18,7 +18,7 @@ use Rattle.df_top.proofs.Kept.{goes_told}
 
 format_told : {T : Type 0} (es : List Event) (old new : Option Told) (r : Result T FormatError) → AddsFormat es old new r → ToldBy old new
 format_told es old new (Ok x) is = (es, is)
-format_told es old new (Err formats.DiskFault) is = part_told es old new is
+format_told es old new (Err formats.DiskFault) is = part_told es old new is.0
 format_told es old new (Err formats.ClusterZero) is = ([], is)
 format_told es old new (Err (formats.NotBlank copy)) is = ([], is)
 

@@ -4,6 +4,7 @@ use Rattle.df_disk.specs.Told.{Told}
 use Rattle.df_disk.specs.Adds.{AddsPart}
 use Rattle.df_format.specs.SuperRules.{IsUsable}
 use Rattle.df_replica.specs.Making.{making_events}
+use Rattle.df_replica.proofs.Blanks.{blank_alone}
 use Rattle.df_replica.proofs.NewFile.{all_reserved, makes_part, nothing_is_part, steps_of_making, unchanged_adds}
 use Rattle.df_replica.proofs.making.make_on_blank.Goals as goal
 
@@ -16,6 +17,12 @@ pub returns-in-Err-make_file-clause-makes : goal.returns-in-Err-make_file-clause
 returns-in-Err-make_file-clause-makes g c = λ before after first last may.
     let makes = c.in-Err-make_file.ensures.makes before after (c.in-Ok.ensures.same ∙ first) last may in
     record { moments = makes.moments; made = tt }
+
+pub returns-in-Err-make_file-clause-events : goal.returns-in-Err-make_file-clause-events
+returns-in-Err-make_file-clause-events g c = (
+  subst (λ (o : Option Told). AddsPart (making_events c.args.rooms.now.layout c.args.cluster) o (g.D.Disk.told c.make_file.new.disk)) c.in-Ok.ensures.same c.in-Err-make_file.ensures.events,
+  blank_alone _ (g.D.Disk.told c.args.disk.now) (g.D.Disk.told c.make_file.new.disk) tt c.in-Ok.ensures.blank,
+)
 
 pub returns-in-Err-clause-events : goal.returns-in-Err-clause-events
 returns-in-Err-clause-events g c = unchanged_adds (making_events c.args.rooms.now.layout c.args.cluster) (g.D.Disk.told c.args.disk.now) (g.D.Disk.told c.test_blank.new.disk) c.in-Err.refusal c.in-Err.ensures.same
