@@ -13,7 +13,7 @@ use Rattle.df_state.specs.State.{Represents, State, shape}
 use Rattle.df_damage.specs.Answers.{AnswerIsOfHurt, FindsHad, IsNeedless, RefusesHurt}
 use Rattle.df_damage.specs.Disks.{MayBeHurt}
 use Rattle.df_damage.specs.Openings.{OpensAsLeft}
-use Rattle.df_damage.proofs.Files.{opened_file}
+use Rattle.df_damage.proofs.Files.{opened_file, opened_found}
 use Rattle.df_damage.proofs.Opened.{checkpoint_stays, found_was_had, headers_may_be_hurt, headers_tell, two_copies_are_enough}
 use Rattle.df_damage.proofs.Refused.{refusals_are_of_damage, refusals_blame_hurt}
 
@@ -26,6 +26,7 @@ module _ (file : DataFile) (view : View) (t : Told) (may : MayBeHurt file view t
   finds s is = record {
     of = opened_file file view t may s is;
     found = is.view;
+    is_found = opened_found file view t may s is;
     stands = subst (λ (x : DataFile). Represents s (opened (shape x) (unit_at file.layout x.cluster t.shown) is.view)) (opened_file file view t may s is) is.stands;
     had = (found_was_had file view t s may is).1;
     checkpoint = λ rest two. checkpoint_stays file view t s may rest two is;

@@ -7,6 +7,7 @@ use Rattle.df_layout.specs.declared.places.Zone.TheVariants.{Superblock, WalHead
 use Rattle.df_model.specs.Work.{opened}
 use Rattle.df_model.specs.declared.errors.OpenError.{OpenError}
 use Rattle.df_model.specs.declared.errors.OpenError.TheVariants.{DiskFault}
+use Rattle.df_theory.specs.Found.{IsFound}
 use Rattle.df_theory.specs.View.{View}
 use Rattle.df_units.specs.Bytes.{unit_at}
 use Rattle.df_recovery.specs.Surveys.{Surveys}
@@ -22,10 +23,11 @@ use Rattle.df_damage.specs.Refusals.{BlamesHurt, MayBeOfDamage}
 abbrev pub IsNeedless : DataFile → Told → Type 0
 IsNeedless file t = (IsAtRest file t.log × HasTwoCopies t × IsHurtInside file.layout t Superblock) ⊎ IsHurtInside file.layout t WalHeaders
 
--- a state that is found: it is of this file, and stands for a view that the file had
+-- a state that is found: it is of this file, and stands for the view that is found in what is shown, which the file had
 pub record FindsHad (file : DataFile) (view : View) (t : Told) (s : State) : Type 0 where
   pub of : s.file ≡ file
   pub found : View
+  pub is_found : IsFound (shape file) (unit_at file.layout file.cluster t.shown) found
   pub stands : Represents s (opened (shape file) (unit_at file.layout file.cluster t.shown) found)
   pub had : WasHad file (add Sync t.log) found
   pub checkpoint : IsAtRest file t.log → HasTwoCopies t → found.checkpoint ≡ view.checkpoint
