@@ -31,13 +31,14 @@ use Rattle.df_model.specs.declared.errors.AppendError.{AppendError}
 use Rattle.df_model.specs.declared.errors.AppendError.TheVariants as append
 use Rattle.df_replica.specs.Answering.{Serves, append_answer}
 use Rattle.df_replica.specs.Appending.{append_events, appended, header_given, next_unit, receipt_of}
-use Rattle.df_replica.specs.Serving.{IsCall, next}
+use Rattle.df_replica.specs.Serving.{IsCall, format, next}
 use Rattle.df_replica.specs.Supply.{IsSupplied}
 use Rattle.df_state.specs.State.{IsState, Represents, State, memory, shape, spelling}
-use Rattle.df_replica.proofs.AppendCalls.{allowed_does, refused_does, ring_then, test_is}
+use Rattle.df_replica.proofs.AppendCalls.{allowed_does, allowed_makes, refused_does, refused_makes, ring_then, test_is}
 use Rattle.df_replica.proofs.AppendMemory.{appended_memory}
 use Rattle.df_replica.proofs.AppendTests.{may_next}
 use Rattle.df_replica.proofs.Calls.{AreCalls, Answered, answered_call, stopped_call}
+use Rattle.df_replica.proofs.WritesOn.{StandsIn}
 
 module _ (s : State) (client request : ℕ) (body : List ℕ) (given : Given) (is : IsState s) (live : s.live ≡ true) (fits : client < 2 ^ 128) (sum : given.checksum ≡ number_of (next_unit s client request body).header.checksum) where
   abbrev u : Message
@@ -62,6 +63,7 @@ module _ (s : State) (client request : ℕ) (body : List ℕ) (given : Given) (i
       file = refl;
       live = live;
       stands = λ w work rep. (ap (λ (x : Work × Answer). x.1) (sym (refused_next w rep)), subst (λ (x : Work × Answer). Represents s x.0) (sym (refused_next w rep)) rep);
+      made = λ w work rep. refused_makes s client request body given is sum e some (StandsIn (format s.file) []) w rep;
       ring = λ g w a b k all. subst (λ (x : Told). ShowsRing s.file.layout s.file.cluster (now x.log) s.headers) (sym (some-eq all)) k.ring;
     }
 
@@ -120,6 +122,7 @@ module _ (s : State) (client request : ℕ) (body : List ℕ) (given : Given) (i
       file = refl;
       live = live;
       stands = λ w work rep. allowed_at w work rep;
+      made = λ w work rep. allowed_makes s client request body given is sum none own w rep;
       ring = λ g w a b k all. ring_then s client request body given is sum none own g w a k b all;
     }
 

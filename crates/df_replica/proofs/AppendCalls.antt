@@ -17,7 +17,7 @@ use Rattle.df_prepares.specs.Slots.{IsInOwnSlot}
 use Rattle.df_journal.specs.Append.{EndsAppended, MayAppendOn, ShowsRing, journal_steps, new_sector, with_header}
 use Rattle.df_journal.proofs.Laws.{append_steps, ends_appended, next_sector}
 use Rattle.df_theory.specs.Units as theory
-use Rattle.df_theory.specs.Units.{HeaderPlace, HeaderUnit, PreparePlace, PrepareUnit}
+use Rattle.df_theory.specs.Units.{AnyUnit, HeaderPlace, HeaderUnit, Place, PreparePlace, PrepareUnit}
 use Rattle.df_theory.specs.Next.{MayAppend}
 use Rattle.df_theory.specs.Shape.{Shape}
 use Rattle.df_theory.specs.UnitLog.{put_one}
@@ -41,6 +41,8 @@ use Rattle.df_state.specs.State.{IsState, Represents, State, memory, shape, spel
 use Rattle.df_replica.specs.Appending.{append_events, next_unit}
 use Rattle.df_replica.specs.Serving.{Grade, IsKept, format}
 use Rattle.df_replica.proofs.Calls.{AreCalls, firmly}
+use Rattle.df_replica.proofs.Makes.{OfMade, Unless}
+use Rattle.df_replica.proofs.WritesOn.{StandsIn, steps_stand}
 
 -- ---- a header sector with one new header, in the words of the model
 
@@ -95,9 +97,28 @@ module _ (s : State) (client request : ℕ) (body : List ℕ) (given : Given) (i
             (sym (test_is w k.stands (Some e) some)) refl;
       }
 
+  -- and makes nothing
+  pub refused_makes : (e : AppendError) → first_refusal (append_refusals (memory s) client request body) ≡ Some e → (P : Place → AnyUnit → Type 0) (w : Work) → Represents s w
+      → OfMade (shape s.file) (spelling s.file) P w given command
+  refused_makes e some P w rep =
+      let p = prepare_of (memory_of (shape s.file) (spelling s.file) w) given.checksum client request body in
+      subst (λ (o : Option AppendError). Unless o (P (PreparePlace (p.header.op % s.file.layout.slots)) (PrepareUnit p))) (sym (test_is w rep (Some e) some)) tt
+
   module _ (none : first_refusal (append_refusals (memory s) client request body) ≡ None) (own : IsInOwnSlot s.file.layout u) where
     brings : Brings s.file.layout s.file.cluster (place_in WalPrepares u.header.slot) u (sectors_of u)
     brings = made_brings s.file.layout s.file.cluster (place_in WalPrepares u.header.slot) u (λ same. cc) own
+
+    -- the prepare that it makes is the one that it writes
+    pub allowed_makes : (w : Work) → Represents s w → OfMade (shape s.file) (spelling s.file) (StandsIn (format s.file) (append_events s u)) w given command
+    allowed_makes w rep =
+        let f = format s.file in
+        let events = append_events s u in
+        let p = prepare_of (memory_of (shape s.file) (spelling s.file) w) given.checksum client request body in
+        let wrote : StandsIn f events (PreparePlace u.header.slot) (PrepareUnit (message_of u)) =
+        steps_stand f events (journal_steps u s.headers) (PreparePlace u.header.slot) (PrepareUnit (message_of u)) (append_steps s.file.layout u s.headers own is.ring (sectors_of u) brings)
+        (inl (put_one_law (PreparePlace u.header.slot) (PrepareUnit (message_of u))).at) in
+        subst (λ (o : Option AppendError). Unless o (StandsIn f events (PreparePlace (p.header.op % s.file.layout.slots)) (PrepareUnit p))) (sym (test_is w rep None none))
+        (subst (λ (q : theory.Message). StandsIn f events (PreparePlace (q.header.op % s.file.layout.slots)) (PrepareUnit q)) (sym (prepare_is w rep)) wrote)
 
     module _ (g : Grade) (w : Work) (t : Told) (k : IsKept g s w t.log) where
       next_is : IsNextSector s.file.layout s.file.cluster (now t.log) u.header (u.header.slot / 16) (new_sector u s.headers)

@@ -57,6 +57,7 @@ module _ (s : State) (root : List ℕ) (given : Given) (bytes : AreBytes root) (
       file = refl;
       live = live;
       stands = λ w work rep. (ap (λ (x : Work × Answer). x.1) (sym (refused_next w rep)), subst (λ (x : Work × Answer). Represents s x.0) (sym (refused_next w rep)) rep);
+      made = λ w work rep. tt;
       ring = λ g w a b k all. subst (λ (x : Told). ShowsRing s.file.layout s.file.cluster (now x.log) s.headers) (sym (some-eq all)) k.ring;
     }
 
@@ -98,6 +99,7 @@ module _ (s : State) (root : List ℕ) (given : Given) (bytes : AreBytes root) (
       file = refl;
       live = live;
       stands = λ w work rep. allowed_at w work rep;
+      made = λ w work rep. tt;
       ring = λ g w a b k all. subst (λ (x : Told). ShowsRing s.file.layout s.file.cluster (now x.log) s.headers) (sym (some-eq all)) k.ring;
     }
 

@@ -82,6 +82,7 @@ module _ (s : State) (kind : ℕ) (body : List ℕ) (given : Given) (live : s.li
       file = refl;
       live = live;
       stands = λ w work rep. (ap (λ (x : Work × Answer). x.1) (sym (refused_next w rep)), subst (λ (x : Work × Answer). Represents s x.0) (sym (refused_next w rep)) rep);
+      made = λ w work rep. tt;
       ring = λ g w a b k all. subst (λ (x : Told). ShowsRing s.file.layout s.file.cluster (now x.log) s.headers) (sym (some-eq all)) k.ring;
     }
 
@@ -156,7 +157,7 @@ module _ (s : State) (kind : ℕ) (body : List ℕ) (given : Given) (live : s.li
         subst (λ (x : Told). ShowsRing s.file.layout s.file.cluster (now x.log) s.headers) (sym (some-eq all)) (λ slot h at. wrote.0.shows (now a.log) (HeaderPlace slot) whole ∙ k.ring slot h at)
 
     allowed_as : Answered given command s (written s u.header) (block_events s u) answer
-    allowed_as = record { file = refl; live = live; stands = λ w work rep. allowed_at w work rep; ring = λ g w a b k all. ring_kept g w a b k all }
+    allowed_as = record { file = refl; live = live; stands = λ w work rep. allowed_at w work rep; made = λ w work rep. tt; ring = λ g w a b k all. ring_kept g w a b k all }
 
     written_call : (old new : Option Told) → IsSupplied s old command given → new ≡ after_all (block_events s u) old → IsCall given command s (written s u.header) old new (Some answer)
     written_call old new supplied all = answered_call given command s (block_events s u) input does_block (written s u.header) answer allowed_as old new supplied all

@@ -48,6 +48,7 @@ module _ (s : State) (address : ℕ) (live : s.live ≡ true) where
     file = refl;
     live = live;
     stands = λ w work rep. (ap ToReadBlock (sym same) ∙ ap (λ (m : Memory). ToReadBlock (after.read_answer m given.block address)) rep, rep);
+    made = λ w work rep. tt;
     ring = λ g w a b k all. subst (λ (x : Told). ShowsRing s.file.layout s.file.cluster (now x.log) s.headers) (sym (some-eq all)) k.ring;
   }
 

@@ -1,5 +1,5 @@
 -- Each step that writes a trailer block is the machine's.
-use Rattle.std.proofs.Common.{◌≡◌, ◌≢◌, ◌∙◌, ℕ, ◌+◌, true, false, List, [], ◌∷◌, length, Option, Some, None, refl, sym, ap, subst, arith}
+use Rattle.std.proofs.Common.{◌≡◌, ◌≢◌, inl, ◌∙◌, ℕ, ◌+◌, true, false, List, [], ◌∷◌, length, Option, Some, None, refl, sym, ap, subst, arith}
 use Rattle.std.specs.Prelude.{Ok}
 use Rattle.df_base.specs.Log.{now}
 use Rattle.df_disk.specs.Told.{Told}
@@ -23,12 +23,14 @@ use Rattle.df_model.specs.Work.{Work}
 use Rattle.df_model.specs.declared.answers.Progress.TheVariants.{Working}
 use Rattle.df_state.specs.State.{Capture, IsCourse, IsRunning, IsState, Represents, State, course_of, memory, shape, spelling}
 use Rattle.df_replica.specs.Answering.{Serves}
-use Rattle.df_replica.specs.Serving.{Grade, IsCall, IsKept, next}
+use Rattle.df_replica.specs.Serving.{Grade, IsCall, IsKept, format, next}
 use Rattle.df_replica.specs.Stepping.{OfRunning, advanced, block_events, block_sum, block_to_write, made_by, made_for, trailer_unit}
 use Rattle.df_replica.proofs.Calls.{AreCalls}
 use Rattle.df_replica.proofs.RingSpared.{ring_spared}
-use Rattle.df_replica.proofs.StepAnswers.{does_step, fault_call, next_is, runs, stepped_call, sum_is}
+use Rattle.df_replica.proofs.Makes.{OfStep}
+use Rattle.df_replica.proofs.StepAnswers.{does_step, fault_call, makes_step, next_is, runs, stepped_call, sum_is}
 use Rattle.df_replica.proofs.StepMemory.{block_memory, step_memory}
+use Rattle.df_replica.proofs.WritesOn.{StandsIn, steps_stand}
 
 module _ (s : State) (r : Capture) (a : ℕ) (more : List ℕ) (given : Given) (is : IsRunning s.file s.fields s.head s.blocks r) (running : s.running ≡ Some r) (left : s.blocks.left ≡ a ∷ more)
     (unit : block_of (trailer_unit s r) ≡ block_to_write s r (block_sum s r)) (steps : AreSteps (format_of s.file.layout s.file.cluster) (block_events s r) (block_steps (trailer_unit s r)))
@@ -61,6 +63,18 @@ module _ (s : State) (r : Capture) (a : ℕ) (more : List ℕ) (given : Given) (
         does = does_step s r given running sum w k.stands (a ∷ more) given_steps left three;
       }
 
+  -- the block that it makes is the one that it writes
+  makes : (w : Work) → Represents s w → OfStep (shape s.file) (spelling s.file) (StandsIn (format s.file) (block_events s r)) w given.checksum w.running
+  makes w rep =
+      let f = format s.file in
+      let u = trailer_unit s r in
+      let b : theory.Block = next_trailer (shape s.file) (spelling s.file) w (runs s r given running sum w rep).on given.checksum in
+      let wrote : StandsIn f (block_events s r) (BlockPlace u.header.op) (BlockUnit (block_of u)) =
+      steps_stand f (block_events s r) given_steps (BlockPlace u.header.op) (BlockUnit (block_of u)) steps (inl (put_one_law (BlockPlace u.header.op) (BlockUnit (block_of u))).at) in
+      makes_step s r given running sum (StandsIn f (block_events s r)) w rep (a ∷ more) left
+      (subst (λ (x : ℕ). StandsIn f (block_events s r) (BlockPlace x) (BlockUnit b)) (ap first_of left)
+      (subst (λ (x : theory.Block). StandsIn f (block_events s r) (BlockPlace u.header.op) (BlockUnit x)) (block_is w rep) wrote))
+
   ring : (g : Grade) (w : Work) (x y : Told) → IsKept g s w x.log → Some y ≡ after_all (block_events s r) (Some x) → ShowsRing s.file.layout s.file.cluster (now y.log) s.headers
   ring g w x y k all = ring_spared s.file.layout s.file.cluster s.headers (block_events s r) given_steps x y k.log_is steps (λ slot. refl, tt) k.ring all
 
@@ -72,7 +86,7 @@ module _ (s : State) (r : Capture) (a : ℕ) (more : List ℕ) (given : Given) (
   pub block_call : s.live ≡ true → (old new : Option Told) → new ≡ after_all (block_events s r) old → IsCall given Advance s (advanced s r) old new (Some (ToAdvance (Ok (Working (length s.blocks.left)))))
   block_call live old new all =
       stepped_call s r given running sum (advanced s r) (block_events s r) (Working (length s.blocks.left)) refl live refl does
-      (λ w work rep. block_memory s r running a more left ∙ ap (step_memory (memory s)) (sym sum_here)) answers ring old new sum all
+      (λ w work rep. block_memory s r running a more left ∙ ap (step_memory (memory s)) (sym sum_here)) answers makes ring old new sum all
 
   pub block_fault : (old new : Option Told) (t : State) → t.live ≡ false → AddsPart (block_events s r) old new → IsCall given Advance s t old new None
   block_fault old new t dead part = fault_call s r given running sum (block_events s r) does old new t sum dead part

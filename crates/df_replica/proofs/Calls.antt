@@ -6,12 +6,13 @@ use Rattle.df_base.proofs.Laws.{extends_self}
 use Rattle.df_disk.specs.Told as told
 use Rattle.df_disk.specs.Told.{Told, did}
 use Rattle.df_disk.specs.Adds.{AddsPart, after_all}
+use Rattle.df_damage.specs.Written.{IsWritten}
 use Rattle.df_format.proofs.Laws.{some-eq}
 use Rattle.df_journal.specs.Append.{ShowsRing}
 use Rattle.df_theory.specs.Device.{Format, IsSafeDisk, units_log}
 use Rattle.df_theory.specs.Shape.{Shape}
 use Rattle.df_theory.specs.UnitLog.{UnitLog}
-use Rattle.df_theory.specs.Units.{Parts}
+use Rattle.df_theory.specs.Units.{AnyUnit, BlockPlace, BlockUnit, Parts, Place}
 use Rattle.df_theory.specs.View.{View}
 use Rattle.df_units.proofs.Laws.{all_added, is_format, part_moments}
 use Rattle.df_model.specs.Commands.{Answer, Command, Given, IsInput}
@@ -24,6 +25,9 @@ use Rattle.df_state.specs.declared.file.DataFile.{DataFile}
 use Rattle.df_state.specs.State.{Represents, State, shape, spelling}
 use Rattle.df_replica.specs.Serving.{EachIsGood, Firm, GoesOnTo, Grade, IsCall, IsGoodFor, IsKept, Keeps, KeptFor, Whole, format, next}
 use Rattle.df_replica.specs.Supply.{IsSupplied}
+use Rattle.df_replica.specs.WrittenFor.{IsWrittenFor, WritesOn}
+use Rattle.df_replica.proofs.Makes.{HasEach, OfMade, after_has, made_weaker}
+use Rattle.df_replica.proofs.WritesOn.{StandsIn, brought_is_written, stays_written}
 
 -- ---- logs that go on
 
@@ -73,12 +77,14 @@ abbrev pub AreCalls : Given → Command → State → List Event → Type 0
 AreCalls given command s events =
     (g : Grade) (w : Work) (t : Told) → IsKept g s w t.log → DoesOnDisk (format s.file) (shape s.file) (spelling s.file) t.log w given command events
 
--- and it answered: its answer is the machine's, the state behind it stands for the machine's, and the header ring shows its table
+-- and it answered: its answer is the machine's, the state behind it stands for the machine's, the unit that the command makes is one that a device call wrote, and the header
+-- ring shows its table
 pub record Answered (given : Given) (command : Command) (s t : State) (events : List Event) (answer : Answer) : Type 0 where
   pub file : t.file ≡ s.file
   pub live : t.live ≡ true
   pub stands : (w : Work) → IsWork (shape s.file) (spelling s.file) w → Represents s w
       → (answer ≡ (next s.file w given command).1) × Represents t (next s.file w given command).0
+  pub made : (w : Work) → IsWork (shape s.file) (spelling s.file) w → Represents s w → OfMade (shape s.file) (spelling s.file) (StandsIn (format s.file) events) w given command
   pub ring : (g : Grade) (w : Work) (a b : Told) → IsKept g s w a.log → Some b ≡ after_all events (Some a) → ShowsRing s.file.layout s.file.cluster (now b.log) t.headers
 
 module _ (given : Given) (command : Command) (s : State) (events : List Event) (input : IsInput given command) (does : AreCalls given command s events) where
@@ -128,6 +134,7 @@ module _ (given : Given) (command : Command) (s : State) (events : List Event) (
     live = dead;
     answers = λ g w k. tt;
     keeps = λ g w k. (good_part old new part g w k, tt);
+    written = λ w k. tt;
   }
 
   module _ (t : State) (answer : Answer) (call : Answered given command s t events answer) where
@@ -154,6 +161,30 @@ module _ (given : Given) (command : Command) (s : State) (events : List Event) (
         } in
         ((call.stands w work k_is.stands).0, kept_on)
 
+    -- where all was written that the state before has, all was that the one behind it has
+    leads_on : (w : Work) → Keeps Firm s w None → (a b : Told) → Some b ≡ after_all events (Some a) → IsWrittenFor s.file a.log w → IsWrittenFor s.file b.log (next s.file w given command).0
+    leads_on w k a b all was =
+        let f = format s.file in
+        let sh = shape s.file in
+        let spell = spelling s.file in
+        let P : Place → AnyUnit → Type 0 = λ place x. IsWritten (units_log f (adds events a.log)) place x in
+        let had : HasEach sh P w = record {
+          needs = λ place x need. stays_written f events a.log place x (was.view.needs place x need);
+          trailer = λ r running address b at. stays_written f events a.log (BlockPlace address) (BlockUnit b) (was.trailer r running address b at);
+        } in
+        let made = made_weaker sh spell (StandsIn f events) P (λ place x. brought_is_written f events a.log place x) w given command (call.made w k.0 k.1) in
+        let has = after_has sh spell P w had given command made in
+        subst (λ (l : Log). IsWrittenFor s.file l (next s.file w given command).0) (sym (all_added events a b all)) (record {
+          view = record { sound = (sense_law sh spell w given command input k.0).view; needs = has.needs };
+          trailer = has.trailer;
+        })
+
+    writes_on : (old new : Option Told) → new ≡ after_all events old → (w : Work) → Keeps Firm s w None → WritesOn s.file old new w (next s.file w given command).0
+    writes_on None None all w k = λ was. tt
+    writes_on None (Some b) all w k = absurd (tells_none events b (all_are_part events None (Some b) all))
+    writes_on (Some a) None all w k = λ was. tt
+    writes_on (Some a) (Some b) all w k = λ was. leads_on w k a b all was
+
     -- one that answered
     pub answered_call : (old new : Option Told) → IsSupplied s old command given → new ≡ after_all events old → IsCall given command s t old new (Some answer)
     answered_call old new supplied all = record {
@@ -163,4 +194,5 @@ module _ (given : Given) (command : Command) (s : State) (events : List Event) (
       live = call.live;
       answers = λ g w k. alone g w k;
       keeps = λ g w k. (good_part old new (all_are_part events old new all) g w k, goes_on old new all g w k);
+      written = λ w k. writes_on old new all w k;
     }

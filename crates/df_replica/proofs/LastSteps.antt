@@ -29,12 +29,14 @@ use Rattle.df_model.specs.declared.errors.StepError.{StepError}
 use Rattle.df_model.specs.declared.errors.StepError.TheVariants as step
 use Rattle.df_state.specs.State.{Capture, IsCourse, IsRunning, IsState, Represents, State, course_of, memory, shape, spelling}
 use Rattle.df_replica.specs.Answering.{Serves, step_answer}
-use Rattle.df_replica.specs.Serving.{Grade, IsCall, IsKept, next}
+use Rattle.df_replica.specs.Serving.{Grade, IsCall, IsKept, format, next}
 use Rattle.df_replica.specs.Stepping.{IsMade, OfRunning, finished, last_events, made_by, made_for, next_fields}
 use Rattle.df_replica.proofs.Calls.{AreCalls, all_are_part, firmly}
 use Rattle.df_replica.proofs.RingSpared.{ring_spared}
-use Rattle.df_replica.proofs.StepAnswers.{does_step, fault_call, next_is, runs, stepped_call, sum_is}
+use Rattle.df_replica.proofs.Makes.{OfStep}
+use Rattle.df_replica.proofs.StepAnswers.{does_step, fault_call, makes_step, next_is, runs, stepped_call, sum_is}
 use Rattle.df_replica.proofs.StepMemory.{last_memory, step_memory}
+use Rattle.df_replica.proofs.WritesOn.{StandsIn}
 
 -- what is behind the fields is zeros
 zero_rest : (boot : ℕ) (o : Option ℕ) → ((i : ℕ) → slice_index (boot ∷ offset_list o) i ≡ 0) → boot ∷ offset_list o ≡ 0 ∷ []
@@ -104,6 +106,10 @@ module _ (s : State) (r : Capture) (given : Given) (is : IsState s) (course : Is
     does = does_step s r given running sum w k.stands [] given_steps left (finishes w (firmly g s w t.log k).sense k.stands);
   }
 
+  -- it makes no block
+  makes : (w : Work) → Represents s w → OfStep (shape s.file) (spelling s.file) (StandsIn (format s.file) (last_events s r)) w given.checksum w.running
+  makes w rep = makes_step s r given running sum (StandsIn (format s.file) (last_events s r)) w rep [] left tt
+
   ring : (g : Grade) (w : Work) (x y : Told) → IsKept g s w x.log → Some y ≡ after_all (last_events s r) (Some x) → ShowsRing s.file.layout s.file.cluster (now y.log) s.headers
   ring g w x y k all =
       ring_spared s.file.layout s.file.cluster s.headers (last_events s r) given_steps x y k.log_is (steps s.file.layout s.file.cluster)
@@ -116,7 +122,7 @@ module _ (s : State) (r : Capture) (given : Given) (is : IsState s) (course : Is
 
   pub last_call : s.live ≡ true → (old new : Option Told) → new ≡ after_all (last_events s r) old → IsCall given Advance s (finished s r) old new (Some (ToAdvance (Ok (Done r.sequence))))
   last_call live old new all =
-      stepped_call s r given running sum (finished s r) (last_events s r) (Done r.sequence) refl live refl does (λ w work rep. leaves w work rep) answers ring old new sum all
+      stepped_call s r given running sum (finished s r) (last_events s r) (Done r.sequence) refl live refl does (λ w work rep. leaves w work rep) answers makes ring old new sum all
 
   pub last_fault : (old new : Option Told) (t : State) → t.live ≡ false → AddsPart (last_events s r) old new → IsCall given Advance s t old new None
   last_fault old new t dead part = fault_call s r given running sum (last_events s r) does old new t sum dead part

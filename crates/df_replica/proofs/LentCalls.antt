@@ -1,5 +1,6 @@
--- What a call of a replica answers to a read is the one unit with the checksum that is known.
-use Rattle.std.proofs.Common.{◌≡◌, ℕ, Option, Some, None, Result, Ok, Err, refl, sym, ◌∙◌, ap, subst}
+-- What a call of a replica answers to a read is the one unit with the checksum that is known, and the state's own where that was written.
+use Rattle.std.proofs.Common.{◌≡◌, ℕ, [], ◌∷◌, Option, Some, None, Result, Ok, Err, refl, sym, ◌∙◌, ap, subst}
+use Rattle.df_base.specs.Log.{Log}
 use Rattle.df_disk.specs.Told.{Told}
 use Rattle.df_layout.specs.declared.damage.Class.{Class}
 use Rattle.df_model.specs.After.{lookup_answer, prepare_answer, read_answer, shown_or}
@@ -9,12 +10,16 @@ use Rattle.df_model.specs.Refusals.{first_refusal, lookup_refusals, prepare_refu
 use Rattle.df_model.specs.Work.{Work}
 use Rattle.df_theory.specs.Device.{NoChanceOf}
 use Rattle.df_theory.specs.Units.{Block, Message}
-use Rattle.df_replica.specs.BlockReads.{IsBlockFound}
-use Rattle.df_replica.specs.Reading.{IsFoundBy}
-use Rattle.df_replica.specs.Serving.{Firm, IsCall, Keeps, format}
+use Rattle.df_replica.specs.BlockReads.{IsBlockFound, IsReadBlock}
+use Rattle.df_replica.specs.Reading.{IsFoundBy, IsReadPrepare}
+use Rattle.df_replica.specs.Serving.{Firm, IsCall, Keeps, format, next}
+use Rattle.df_state.specs.declared.file.DataFile.{DataFile}
 use Rattle.df_state.specs.State.{State, shape, spelling}
-use Rattle.df_replica.specs.Lending.{AnswersTheOne, CallIsTheOne}
-use Rattle.df_replica.proofs.Lent.{block_is_the_one, prepare_is_the_one, reply_is_the_one}
+use Rattle.df_replica.specs.Lending.{AnswersOwn, CallIsOwn, CallIsTheOne}
+use Rattle.df_replica.specs.Lookups.{IsReadReply}
+use Rattle.df_replica.specs.Striking.{StruckReadsAreOwn}
+use Rattle.df_replica.specs.WrittenFor.{IsWrittenFor}
+use Rattle.df_replica.proofs.Lent.{block_is_lent, block_is_the_one, prepare_is_lent, prepare_is_the_one, reply_is_lent, reply_is_the_one}
 
 -- an answer that is Ok is what was found, and nothing refused
 ok_in : {X E : Type 0} (o : Option E) (damaged : Class → E) (found : Result X Class) (x : X) → Ok x ≡ shown_or o damaged found → (o ≡ None) × (found ≡ Ok x)
@@ -22,31 +27,43 @@ ok_in (Some e) damaged found x is = absurd (cc)
 ok_in None damaged (Ok y) x is = (refl, let same : y ≡ x = cc in ap Ok same)
 ok_in None damaged (Err class) x is = absurd (cc)
 
-module _ (given : Given) (s u : State) (w : Work) (t : Told) (new : Option Told) (answer : Answer) (keeps : Keeps Firm s w None) (chance : NoChanceOf (format s.file) t.log t.shown) where
+module _ (given : Given) (s u : State) (w : Work) (t : Told) (new : Option Told) (answer : Answer) (keeps : Keeps Firm s w None) where
   -- memory is the machine's
   abbrev known : Memory
   known = memory_of (shape s.file) (spelling s.file) w
 
-  prepare_answered : (op : ℕ) → IsCall given (ReadPrepare op) s u (Some t) new (Some answer) → AnswersTheOne s t.log (ReadPrepare op) answer
-  prepare_answered op call p is =
+  prepare_read : (op : ℕ) → IsCall given (ReadPrepare op) s u (Some t) new (Some answer) → (p : Message) → answer ≡ ToReadPrepare (Ok p) → IsReadPrepare op s (Some t) (Ok p)
+  prepare_read op call p is =
       let said : answer ≡ ToReadPrepare (prepare_answer known given.message op) = (call.answers Firm w keeps).0 in
       let same : Ok p ≡ prepare_answer known given.message op = (let both : ToReadPrepare (Ok p) ≡ ToReadPrepare (prepare_answer known given.message op) = sym is ∙ said in cc) in
       let parts = ok_in (first_refusal (prepare_refusals known op)) _ given.message p same in
-      prepare_is_the_one s t op p chance (ap (λ (m : Memory). first_refusal (prepare_refusals m op)) keeps.1 ∙ parts.0, subst (λ (r : Result Message Class). IsFoundBy s (ReadPrepare op) (Some t) r) parts.1 call.supplied.1)
+      (ap (λ (m : Memory). first_refusal (prepare_refusals m op)) keeps.1 ∙ parts.0, subst (λ (r : Result Message Class). IsFoundBy s (ReadPrepare op) (Some t) r) parts.1 call.supplied.1)
 
-  reply_answered : (client : ℕ) → IsCall given (ReadReply client) s u (Some t) new (Some answer) → AnswersTheOne s t.log (ReadReply client) answer
-  reply_answered client call r is =
+  reply_read : (client : ℕ) → IsCall given (ReadReply client) s u (Some t) new (Some answer) → (r : Message) → answer ≡ ToReadReply (Ok r) → IsReadReply client s (Some t) (Ok r)
+  reply_read client call r is =
       let said : answer ≡ ToReadReply (lookup_answer known given.message client) = (call.answers Firm w keeps).0 in
       let same : Ok r ≡ lookup_answer known given.message client = (let both : ToReadReply (Ok r) ≡ ToReadReply (lookup_answer known given.message client) = sym is ∙ said in cc) in
       let parts = ok_in (first_refusal (lookup_refusals known client)) _ given.message r same in
-      reply_is_the_one s t client r chance (ap (λ (m : Memory). first_refusal (lookup_refusals m client)) keeps.1 ∙ parts.0, subst (λ (x : Result Message Class). IsFoundBy s (ReadReply client) (Some t) x) parts.1 call.supplied.1)
+      (ap (λ (m : Memory). first_refusal (lookup_refusals m client)) keeps.1 ∙ parts.0, subst (λ (x : Result Message Class). IsFoundBy s (ReadReply client) (Some t) x) parts.1 call.supplied.1)
 
-  block_answered : (address : ℕ) → IsCall given (ReadBlock address) s u (Some t) new (Some answer) → AnswersTheOne s t.log (ReadBlock address) answer
-  block_answered address call b is =
+  block_read : (address : ℕ) → IsCall given (ReadBlock address) s u (Some t) new (Some answer) → (b : Block) → answer ≡ ToReadBlock (Ok b) → IsReadBlock address s (Some t) (Ok b)
+  block_read address call b is =
       let said : answer ≡ ToReadBlock (read_answer known given.block address) = (call.answers Firm w keeps).0 in
       let same : Ok b ≡ read_answer known given.block address = (let both : ToReadBlock (Ok b) ≡ ToReadBlock (read_answer known given.block address) = sym is ∙ said in cc) in
       let parts = ok_in (first_refusal (read_refusals known address)) _ given.block b same in
-      block_is_the_one s t address b chance (ap (λ (m : Memory). first_refusal (read_refusals m address)) keeps.1 ∙ parts.0, subst (λ (x : Result Block Class). IsBlockFound s address (Some t) x) parts.1 call.supplied.1)
+      (ap (λ (m : Memory). first_refusal (read_refusals m address)) keeps.1 ∙ parts.0, subst (λ (x : Result Block Class). IsBlockFound s address (Some t) x) parts.1 call.supplied.1)
+
+  -- what is found is shown by an image without chance, so it is the state's own
+
+  module _ (written : IsWrittenFor s.file t.log w) (chance : NoChanceOf (format s.file) t.log t.shown) where
+    prepare_own : (op : ℕ) → IsCall given (ReadPrepare op) s u (Some t) new (Some answer) → AnswersOwn w (ReadPrepare op) answer
+    prepare_own op call p is = prepare_is_lent s w t op p keeps.1 written.view chance (prepare_read op call p is)
+
+    reply_own : (client : ℕ) → IsCall given (ReadReply client) s u (Some t) new (Some answer) → AnswersOwn w (ReadReply client) answer
+    reply_own client call r is = reply_is_lent s w t client r keeps.1 written.view chance (reply_read client call r is)
+
+    block_own : (address : ℕ) → IsCall given (ReadBlock address) s u (Some t) new (Some answer) → AnswersOwn w (ReadBlock address) answer
+    block_own address call b is = block_is_lent s w t address b keeps.1 (block_read address call b is)
 
 pub call_is_the_one : CallIsTheOne
 call_is_the_one given (Append client request body) s u w t new answer call keeps chance = tt
@@ -55,8 +72,36 @@ call_is_the_one given (WriteBlock kind body) s u w t new answer call keeps chanc
 call_is_the_one given (Release address) s u w t new answer call keeps chance = tt
 call_is_the_one given (Begin root) s u w t new answer call keeps chance = tt
 call_is_the_one given Advance s u w t new answer call keeps chance = tt
-call_is_the_one given (ReadPrepare op) s u w t new answer call keeps chance = prepare_answered given s u w t new answer keeps chance op call
-call_is_the_one given (ReadReply client) s u w t new answer call keeps chance = reply_answered given s u w t new answer keeps chance client call
-call_is_the_one given (ReadBlock address) s u w t new answer call keeps chance = block_answered given s u w t new answer keeps chance address call
+call_is_the_one given (ReadPrepare op) s u w t new answer call keeps chance = λ p is. prepare_is_the_one s t op p chance (prepare_read given s u w t new answer keeps op call p is)
+call_is_the_one given (ReadReply client) s u w t new answer call keeps chance = λ r is. reply_is_the_one s t client r chance (reply_read given s u w t new answer keeps client call r is)
+call_is_the_one given (ReadBlock address) s u w t new answer call keeps chance = λ b is. block_is_the_one s t address b chance (block_read given s u w t new answer keeps address call b is)
 call_is_the_one given Scrub s u w t new answer call keeps chance = tt
 call_is_the_one given (Recent place) s u w t new answer call keeps chance = tt
+
+pub call_is_own : CallIsOwn
+call_is_own given (Append client request body) s u w t new answer call keeps written chance = tt
+call_is_own given (Reply op body) s u w t new answer call keeps written chance = tt
+call_is_own given (WriteBlock kind body) s u w t new answer call keeps written chance = tt
+call_is_own given (Release address) s u w t new answer call keeps written chance = tt
+call_is_own given (Begin root) s u w t new answer call keeps written chance = tt
+call_is_own given Advance s u w t new answer call keeps written chance = tt
+call_is_own given (ReadPrepare op) s u w t new answer call keeps written chance = prepare_own given s u w t new answer keeps written chance op call
+call_is_own given (ReadReply client) s u w t new answer call keeps written chance = reply_own given s u w t new answer keeps written chance client call
+call_is_own given (ReadBlock address) s u w t new answer call keeps written chance = block_own given s u w t new answer keeps written chance address call
+call_is_own given Scrub s u w t new answer call keeps written chance = tt
+call_is_own given (Recent place) s u w t new answer call keeps written chance = tt
+
+-- ---- calls one after the other, between which sectors may be struck
+
+pub struck_reads_are_own : StruckReadsAreOwn
+struck_reads_are_own s t w log later [] keeps written are = tt
+struck_reads_are_own s t w log later (c ∷ cs) keeps written are =
+    let u = are.1 in
+    let n = are.2 in
+    let call = are.3 in
+    let then : Work = (next s.file w c.given c.command).0 in
+    let here : IsWrittenFor s.file c.before.log w = subst (λ (l : Log). IsWrittenFor s.file l w) (sym are.0) written in
+    let on : IsWrittenFor u.file n.log then = subst (λ (file : DataFile). IsWrittenFor file n.log then) (sym call.file) (call.written w keeps here) in (
+      λ chance. (call_is_the_one c.given c.command s u w c.before (Some n) c.answer call keeps chance, call_is_own c.given c.command s u w c.before (Some n) c.answer call keeps here chance),
+      struck_reads_are_own u t then n.log later cs (call.answers Firm w keeps).1 on are.4,
+    )

@@ -15,6 +15,8 @@ pub mod Settled
 pub mod Barriers
 pub mod Listed
 pub mod Opens
+pub mod Makes
+pub mod WritesOn
 pub mod Calls
 pub mod Sessions
 pub mod AppendCalls

@@ -47,6 +47,7 @@ module _ (s : State) (client : ℕ) (live : s.live ≡ true) where
     file = refl;
     live = live;
     stands = λ w work rep. (ap ToReadReply (sym same) ∙ ap (λ (m : Memory). ToReadReply (after.lookup_answer m given.message client)) rep, rep);
+    made = λ w work rep. tt;
     ring = λ g w a b k all. subst (λ (x : Told). ShowsRing s.file.layout s.file.cluster (now x.log) s.headers) (sym (some-eq all)) k.ring;
   }
 

@@ -46,6 +46,7 @@ module _ (s : State) (op : ℕ) (live : s.live ≡ true) where
     file = refl;
     live = live;
     stands = λ w work rep. (ap ToReadPrepare (sym same) ∙ ap (λ (m : Memory). ToReadPrepare (after.prepare_answer m given.message op)) rep, rep);
+    made = λ w work rep. tt;
     ring = λ g w a b k all. subst (λ (x : Told). ShowsRing s.file.layout s.file.cluster (now x.log) s.headers) (sym (some-eq all)) k.ring;
   }
 

@@ -45,6 +45,7 @@ module _ (s : State) (address : ℕ) (live : s.live ≡ true) where
     file = refl;
     live = live;
     stands = λ w work rep. (ap (λ (x : Work × Answer). x.1) (sym (next_is w rep given (Some e) some)), subst (λ (x : Work × Answer). Represents s x.0) (sym (next_is w rep given (Some e) some)) rep);
+    made = λ w work rep. tt;
     ring = λ g w a b k all. subst (λ (x : Told). ShowsRing s.file.layout s.file.cluster (now x.log) s.headers) (sym (some-eq all)) k.ring;
   }) told supplied
 
@@ -70,6 +71,7 @@ module _ (s : State) (address : ℕ) (live : s.live ≡ true) where
       file = refl;
       live = live;
       stands = λ w work rep. subst (λ (x : Work × Answer). (ToRelease (Ok tt) ≡ x.1) × Represents (released s address) x.0) (sym (next_is w rep given None none)) (refl, stands given w work rep);
+      made = λ w work rep. tt;
       ring = λ g w a b k all. subst (λ (x : Told). ShowsRing s.file.layout s.file.cluster (now x.log) s.headers) (sym (some-eq all)) k.ring;
     }
 

@@ -1,5 +1,5 @@
 -- Each reply is the machine's: its answer, the state behind it, and what it does to the disk.
-use Rattle.std.proofs.Common.{◌≡◌, ◌∙◌, ℕ, ◌<◌, true, false, Bool, List, [], ◌∷◌, length, map, Option, Some, None, refl, sym, ap, subst, arith}
+use Rattle.std.proofs.Common.{◌≡◌, ◌∙◌, inl, ℕ, ◌<◌, true, false, Bool, List, [], ◌∷◌, length, map, Option, Some, None, refl, sym, ap, subst, arith}
 use Rattle.std.specs.Prelude.{if◌then◌else◌, Ok, Err}
 use Rattle.df_base.proofs.Laws.{AreBytes-check_of, field_at-lt, now_is_image}
 use Rattle.df_base.specs.Image.{IsImage}
@@ -43,6 +43,8 @@ use Rattle.df_replica.specs.Replying.{first_check, next_reply, replied, reply_ev
 use Rattle.df_replica.specs.Serving.{Grade, IsCall, IsKept, format, next}
 use Rattle.df_replica.specs.Supply.{IsSupplied}
 use Rattle.df_replica.proofs.Calls.{AreCalls, Answered, answered_call, stopped_call}
+use Rattle.df_replica.proofs.Makes.{OfMade, Unless}
+use Rattle.df_replica.proofs.WritesOn.{StandsIn, steps_stand}
 use Rattle.df_replica.proofs.ReplyMemory.{replied_memory}
 use Rattle.df_replica.proofs.ReplyTests.{may_reply}
 
@@ -82,11 +84,17 @@ module _ (s : State) (op : ℕ) (body : List ℕ) (given : Given) (is : IsState 
           does = subst (λ (o : Option ReplyError). UnlessRefused o [] (DoesReply w.view (place_of_reply m) (reply_of m given.checksum body) [])) (sym (test_is w k.stands (Some e) some)) refl;
         }
 
+    refused_makes : (w : Work) → Represents s w → OfMade (shape s.file) (spelling s.file) (StandsIn (format s.file) []) w given command
+    refused_makes w rep =
+        let m = memory_of (shape s.file) (spelling s.file) w in
+        subst (λ (o : Option ReplyError). Unless o (StandsIn (format s.file) [] (ReplyPlace (place_of_reply m)) (ReplyUnit (reply_of m given.checksum body)))) (sym (test_is w rep (Some e) some)) tt
+
     refused_as : Answered given command s s [] (ToReply (Err e))
     refused_as = record {
       file = refl;
       live = live;
       stands = λ w work rep. (ap (λ (x : Work × Answer). x.1) (sym (refused_next w rep)), subst (λ (x : Work × Answer). Represents s x.0) (sym (refused_next w rep)) rep);
+      made = λ w work rep. refused_makes w rep;
       ring = λ g w a b k all. subst (λ (x : Told). ShowsRing s.file.layout s.file.cluster (now x.log) s.headers) (sym (some-eq all)) k.ring;
     }
 
@@ -128,6 +136,17 @@ module _ (s : State) (op : ℕ) (body : List ℕ) (given : Given) (is : IsState 
               (subst (λ (place : ℕ). DoesReply w.view place (message_of u) steps) (sym (place_is w k.stands)) does));
         }
 
+    -- the reply that it makes is the one that it writes
+    makes : (w : Work) → Represents s w → OfMade (shape s.file) (spelling s.file) (StandsIn (format s.file) (reply_events s u)) w given command
+    makes w rep =
+        let m = memory_of (shape s.file) (spelling s.file) w in
+        let events = reply_events s u in
+        let wrote : StandsIn (format s.file) events (ReplyPlace u.header.slot) (ReplyUnit (message_of u)) =
+        steps_stand (format s.file) events (write_steps u) (ReplyPlace u.header.slot) (ReplyUnit (message_of u)) (put, tt) (inl (put_one_law (ReplyPlace u.header.slot) (ReplyUnit (message_of u))).at) in
+        subst (λ (o : Option ReplyError). Unless o (StandsIn (format s.file) events (ReplyPlace (place_of_reply m)) (ReplyUnit (reply_of m given.checksum body)))) (sym (none_there w rep))
+        (subst (λ (r : theory.Message). StandsIn (format s.file) events (ReplyPlace (place_of_reply m)) (ReplyUnit r)) (sym (reply_is w rep))
+        (subst (λ (place : ℕ). StandsIn (format s.file) events (ReplyPlace place) (ReplyUnit (message_of u))) (sym (place_is w rep)) wrote))
+
     abbrev answer : Answer
     answer = ToReply (Ok (number_of u.header.checksum))
 
@@ -160,7 +179,7 @@ module _ (s : State) (op : ℕ) (body : List ℕ) (given : Given) (is : IsState 
         subst (λ (x : Told). ShowsRing s.file.layout s.file.cluster (now x.log) s.headers) (sym (some-eq all)) (λ slot h at. put.shows (now a.log) (HeaderPlace slot) whole ∙ k.ring slot h at)
 
     allowed_as : Answered given command s (replied s u.header) (reply_events s u) answer
-    allowed_as = record { file = refl; live = live; stands = λ w work rep. allowed_at w work rep; ring = λ g w a b k all. ring_kept g w a b k all }
+    allowed_as = record { file = refl; live = live; stands = λ w work rep. allowed_at w work rep; made = λ w work rep. makes w rep; ring = λ g w a b k all. ring_kept g w a b k all }
 
     stored_call : (old new : Option Told) → IsSupplied s old command given → new ≡ after_all (reply_events s u) old → IsCall given command s (replied s u.header) old new (Some answer)
     stored_call old new supplied all = answered_call given command s (reply_events s u) input does_reply (replied s u.header) answer allowed_as old new supplied all

@@ -67,6 +67,7 @@ module _ (s : State) (live : s.live ≡ true) where
       file = refl;
       live = live;
       stands = λ w work rep. (answers w work rep, stands w work rep);
+      made = λ w work rep. tt;
       ring = λ g w a b k all. subst (λ (x : Told). ShowsRing s.file.layout s.file.cluster (now x.log) s.headers) (sym (some-eq all)) k.ring;
     }
 
@@ -91,6 +92,7 @@ module _ (s : State) (place : ℕ) (live : s.live ≡ true) where
     file = refl;
     live = live;
     stands = λ w work rep. (ap (λ (m : Memory). ToRecent (slice_get m.findings place)) rep, rep);
+    made = λ w work rep. tt;
     ring = λ g w a b k all. subst (λ (x : Told). ShowsRing s.file.layout s.file.cluster (now x.log) s.headers) (sym (some-eq all)) k.ring;
   }
 

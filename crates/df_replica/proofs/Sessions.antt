@@ -15,6 +15,7 @@ use Rattle.df_state.specs.declared.file.DataFile.{DataFile}
 use Rattle.df_state.specs.State.{State, shape}
 use Rattle.df_replica.specs.Serving.{EachIsGood, Firm, Grade, IsGoodFor, IsKept, Keeps, Whole, format, next}
 use Rattle.df_replica.specs.Session.{Act, AnsweredIsThere, EachIsMidway, FaultStopsThem, HasView, HoldsFor, HoldsSome, IsMidway, LeavesEither, LeavesView, NothingIsServed, OneMoreIsServed, answers_of, work_after}
+use Rattle.df_replica.specs.WrittenFor.{IsWrittenIn}
 use Rattle.df_replica.proofs.Calls.{extends_on, good_safe, firmly, moments}
 
 -- ---- the acts with one more
@@ -122,7 +123,7 @@ midway_now s (Some t) g w k = (
 )
 
 pub nothing_is_served : NothingIsServed
-nothing_is_served s told live = record { file = refl; live = live; answered = λ g w k. (refl, k); kept_on = λ g w k. (midway_now s told g w k, k) }
+nothing_is_served s told live = record { file = refl; live = live; answered = λ g w k. (refl, k); kept_on = λ g w k. (midway_now s told g w k, k); written = λ w k was. was }
 
 -- what was kept goes on being kept where no log is told
 pub keeps_alone : (g : Grade) (s : State) (w : Work) (told : Option Told) → Keeps g s w told → Keeps g s w None
@@ -158,6 +159,11 @@ one_more_is_served s0 s t told0 told new acts answers act answer served call = r
       let before = served.kept_on g w k in
       let on = call.keeps g (work_after s0.file w acts) before.1 in
       (one_more_moments s0 s t told0 told new acts answers act served.file g w before.0 on.0, subst (λ (x : Work). Keeps g t x new) (work_then s0 s t told0 told new acts answers act served.file w) on.1.1);
+  written = λ w k was.
+      let on = call.written (work_after s0.file w acts) (served.answered Firm w k).1 in
+      let later : Work = (next s.file (work_after s0.file w acts) act.given act.command).0 in
+      subst (λ (x : Work). IsWrittenIn s0.file new x) (work_then s0 s t told0 told new acts answers act served.file w)
+      (subst (λ (file : DataFile). IsWrittenIn file told (work_after s0.file w acts) → IsWrittenIn file new later) served.file on (served.written w k was));
 }
 
 -- ---- a fault

@@ -24,10 +24,12 @@ use Rattle.df_model.specs.declared.answers.Progress.{Progress}
 use Rattle.df_model.specs.declared.errors.StepError.TheVariants as step
 use Rattle.df_state.specs.declared.file.DataFile.{DataFile}
 use Rattle.df_state.specs.State.{Capture, Represents, State, course_in, course_of, memory, shape, spelling}
-use Rattle.df_replica.specs.Serving.{Grade, IsCall, IsKept, next}
+use Rattle.df_replica.specs.Serving.{Grade, IsCall, IsKept, format, next}
 use Rattle.df_replica.specs.Stepping.{made_by, made_for, next_fields, pending, trailer_unit}
 use Rattle.df_replica.specs.Supply.{IsSupplied}
 use Rattle.df_replica.proofs.Calls.{AreCalls, Answered, answered_call, stopped_call}
+use Rattle.df_replica.proofs.Makes.{OfLeft, OfStep}
+use Rattle.df_replica.proofs.WritesOn.{StandsIn}
 use Rattle.df_replica.proofs.StepMemory.{step_memory}
 
 -- what is made has a checksum
@@ -71,6 +73,7 @@ module _ (s : State) (given : Given) (live : s.live ≡ true) (idle : s.running 
     file = refl;
     live = live;
     stands = λ w work rep. (ap (λ (x : Work × Answer). x.1) (sym (idle_next w rep)), subst (λ (x : Work × Answer). Represents s x.0) (sym (idle_next w rep)) rep);
+    made = λ w work rep. subst (λ (o : Option Running). OfStep (shape s.file) (spelling s.file) (StandsIn (format s.file) []) w given.checksum o) (sym (idle_work w rep)) tt;
     ring = λ g w a b k all. subst (λ (x : Told). ShowsRing s.file.layout s.file.cluster (now x.log) s.headers) (sym (some-eq all)) k.ring;
   }
 
@@ -113,6 +116,13 @@ module _ (s : State) (r : Capture) (given : Given) (running : s.running ≡ Some
       subst (λ (o : Option Running). DoesAdvance (shape s.file) spell w given.checksum o steps) (sym R.is)
       (subst (λ (k : List ℕ). DoesAdvanceTo (shape s.file) spell w given.checksum R.on k steps) (sym (ap (λ (c : Course). c.left) R.course ∙ left)) does)
 
+  -- and the block that it makes
+  pub makes_step : (P : theory.Place → theory.AnyUnit → Type 0) (w : Work) (rep : Represents s w) (l : List ℕ) → s.blocks.left ≡ l → OfLeft (shape s.file) spell P w given.checksum (runs w rep).on l → OfStep (shape s.file) spell P w given.checksum w.running
+  makes_step P w rep l left made =
+      let R = runs w rep in
+      subst (λ (o : Option Running). OfStep (shape s.file) spell P w given.checksum o) (sym R.is)
+      (subst (λ (k : List ℕ). OfLeft (shape s.file) spell P w given.checksum R.on k) (sym (ap (λ (c : Course). c.left) R.course ∙ left)) made)
+
   -- what it leaves in memory
   pub memory_is : (w : Work) → IsWork (shape s.file) spell w → Represents s w → step_memory (memory s) given.checksum ≡ memory_of (shape s.file) spell (next s.file w given Advance).0
   memory_is w work rep = ap (λ (m : Memory). step_memory m given.checksum) rep ∙ sym (change_law (shape s.file) spell w given Advance work)
@@ -122,6 +132,7 @@ module _ (s : State) (r : Capture) (given : Given) (running : s.running ≡ Some
   module _ (t : State) (events : List Event) (progress : Progress) (same_file : t.file ≡ s.file) (live : t.live ≡ true) (same_headers : t.headers ≡ s.headers)
       (does : AreCalls given Advance s events) (leaves : (w : Work) → IsWork (shape s.file) spell w → Represents s w → memory t ≡ step_memory (memory s) given.checksum)
       (answers : (w : Work) → Represents s w → (next s.file w given Advance).1 ≡ ToAdvance (Ok progress))
+      (makes : (w : Work) → Represents s w → OfStep (shape s.file) spell (StandsIn (format s.file) events) w given.checksum w.running)
       (spares : (g : Grade) (w : Work) (a b : Told) → IsKept g s w a.log → Some b ≡ after_all events (Some a) → ShowsRing s.file.layout s.file.cluster (now b.log) s.headers) where
     stands_at : (w : Work) → IsWork (shape s.file) spell w → Represents s w → Represents t (next s.file w given Advance).0
     stands_at w work rep =
@@ -132,6 +143,7 @@ module _ (s : State) (r : Capture) (given : Given) (running : s.running ≡ Some
       file = same_file;
       live = live;
       stands = λ w work rep. (sym (answers w rep), stands_at w work rep);
+      made = λ w work rep. makes w rep;
       ring = λ g w a b k all. subst (λ (hs : List Header). ShowsRing s.file.layout s.file.cluster (now b.log) hs) (sym same_headers) (spares g w a b k all);
     }
 

@@ -1,23 +1,28 @@
 -- What a read lends, whatever the disk shows as it reads: what was written there.
 use Rattle.std.specs.Prelude.{◌≡◌, ◌%◌, ℕ, Option, Some, None, Result, Ok, Err}
 use Rattle.std.specs.List.{slice_get}
-use Rattle.df_base.specs.Log.{Log}
+use Rattle.df_base.specs.Log.{Log, Sync, add}
+use Rattle.df_base.specs.Moments.{Extends}
 use Rattle.df_disk.specs.Told.{Told}
+use Rattle.df_damage.specs.Answers.{FindsHad}
 use Rattle.df_damage.specs.Written.{IsTheOne, WasWritten}
 use Rattle.df_model.specs.Blocks.{sum_at}
 use Rattle.df_model.specs.Commands.{Answer, Command, Given, ReadBlock, ReadPrepare, ReadReply, ToReadBlock, ToReadPrepare, ToReadReply}
 use Rattle.df_model.specs.Memory.{prepare_sum, reply_sum}
-use Rattle.df_model.specs.Work.{Work, kept}
+use Rattle.df_model.specs.Work.{Work, kept, opened}
 use Rattle.df_theory.specs.Device.{NoChanceOf, units_log}
 use Rattle.df_theory.specs.Sessions.{Answers}
 use Rattle.df_theory.specs.Tails.{In}
 use Rattle.df_theory.specs.Units.{Block, BlockPlace, BlockUnit, Message, PreparePlace, PrepareUnit, ReplyPlace, ReplyUnit, Session}
 use Rattle.df_theory.specs.View.{View, sessions}
-use Rattle.df_state.specs.State.{Represents, State, memory}
+use Rattle.df_units.specs.Bytes.{unit_at}
+use Rattle.df_state.specs.declared.file.DataFile.{DataFile}
+use Rattle.df_state.specs.State.{Represents, State, memory, shape}
 use Rattle.df_replica.specs.BlockReads.{IsReadBlock}
 use Rattle.df_replica.specs.Lookups.{IsReadReply, place_for}
 use Rattle.df_replica.specs.Reading.{IsReadPrepare}
 use Rattle.df_replica.specs.Serving.{Firm, Grade, IsCall, IsKept, Keeps, format}
+use Rattle.df_replica.specs.WrittenFor.{IsWrittenFor}
 
 -- ---- whatever is in memory: the one unit with the checksum that is known
 
@@ -55,9 +60,17 @@ CallIsTheOne =
     (given : Given) (command : Command) (s u : State) (w : Work) (t : Told) (new : Option Told) (answer : Answer) → IsCall given command s u (Some t) new (Some answer) → Keeps Firm s w None → NoChanceOf (format s.file) t.log t.shown
     → AnswersTheOne s t.log command answer
 
--- ---- what the view of a file that is kept from call to call needs was written
+-- ---- of which state it is known that it was written, beside the one behind a call of such a state
+
+-- that of a file which is kept from call to call
 abbrev pub KeptIsWritten : Type 0
-KeptIsWritten = (g : Grade) (s : State) (w : Work) (log : Log) → IsKept g s w log → WasWritten s.file log (kept w)
+KeptIsWritten = (g : Grade) (s : State) (w : Work) (log : Log) → IsKept g s w log → IsWrittenFor s.file log w
+
+-- that which an open found on a disk that may be hurt, however the log goes on behind its barrier
+abbrev pub OpenedIsWrittenFor : Type 0
+OpenedIsWrittenFor =
+    (file : DataFile) (view : View) (t : Told) (s : State) (later : Log) → (finds : FindsHad file view t s) → Extends later (add Sync t.log)
+    → IsWrittenFor s.file later (opened (shape file) (unit_at file.layout file.cluster t.shown) finds.found)
 
 -- ---- so what a read gives is the view's own
 
@@ -85,6 +98,24 @@ ReplyIsLent =
 -- a read of a block that is Ok gives a live one, with the checksum that the machine has of it
 abbrev pub BlockIsLent : Type 0
 BlockIsLent = (s : State) (w : Work) (t : Told) (address : ℕ) (b : Block) → Represents s w → IsReadBlock address s (Some t) (Ok b) → w.live address ≡ Some b.checksum
+
+-- and so does a call of a replica: what a read that is Ok answers is the state's own
+abbrev pub AnswersOwn : Work → Command → Answer → Type 0
+AnswersOwn w (ReadPrepare op) answer = (p : Message) → answer ≡ ToReadPrepare (Ok p) → In p (kept w).tail × (p.header.op ≡ op)
+AnswersOwn w (ReadReply client) answer = (r : Message) → answer ≡ ToReadReply (Ok r) → IsReplyTo client (kept w) r
+AnswersOwn w (ReadBlock address) answer = (b : Block) → answer ≡ ToReadBlock (Ok b) → w.live address ≡ Some b.checksum
+AnswersOwn w command answer = Unit {0}
+
+abbrev pub CallIsOwn : Type 0
+CallIsOwn =
+    (given : Given) (command : Command) (s u : State) (w : Work) (t : Told) (new : Option Told) (answer : Answer) → IsCall given command s u (Some t) new (Some answer) → Keeps Firm s w None → IsWrittenFor s.file t.log w
+    → NoChanceOf (format s.file) t.log t.shown → AnswersOwn w command answer
+
+-- both: a read that is Ok gives the one unit that was ever written with the checksum that is known, and it was written at its place; and it is the state's own. So it is of any
+-- image that came about without chance
+abbrev pub GivesOwn : State → Option Told → Work → Command → Answer → Type 0
+GivesOwn s None w command answer = Unit {0}
+GivesOwn s (Some t) w command answer = NoChanceOf (format s.file) t.log t.shown → AnswersTheOne s t.log command answer × AnswersOwn w command answer
 
 -- ---- as clauses of the reads
 

@@ -1,4 +1,5 @@
 pub mod Formatting
+pub mod WrittenFor
 pub mod Serving
 pub mod Making
 pub mod Replica
@@ -19,6 +20,7 @@ pub mod Scrubbing
 pub mod Supply
 pub mod Session
 pub mod Lending
+pub mod Striking
 pub mod Opened
 pub mod HeldBlocks
 pub mod Following

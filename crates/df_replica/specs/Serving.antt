@@ -19,6 +19,7 @@ use Rattle.df_model.specs.Work.{Work, kept}
 use Rattle.df_state.specs.declared.file.DataFile.{DataFile}
 use Rattle.df_state.specs.State.{Represents, State, shape, spelling}
 use Rattle.df_replica.specs.Supply.{IsSupplied}
+use Rattle.df_replica.specs.WrittenFor.{WritesOn}
 
 -- how much holds of a file: that nothing is to be mended, or that each block that it references is shown, too
 pub data Grade : Type 0 where
@@ -84,7 +85,8 @@ abbrev pub next : DataFile → Work → Given → Command → Work × Answer
 next file w given command = after (shape file) (spelling file) w given command
 
 -- every call, with what it was rightly supplied with, from each state of the machine that the replica stands for: it answers as the machine; and where the file was kept for
--- that state, each moment is good and what comes after is kept
+-- that state, each moment is good and what comes after is kept. Whatever the disk shows: where all was written that the state before has, all was
+-- that the one behind the answer has
 pub record IsCall (given : Given) (command : Command) (s t : State) (old new : Option Told) (answer : Option Answer) : Type 0 where
   pub file : OnSome answer (t.file ≡ s.file)
   pub live : StaysLive answer t
@@ -93,3 +95,4 @@ pub record IsCall (given : Given) (command : Command) (s t : State) (old new : O
   pub answers : (g : Grade) (w : Work) → Keeps g s w None → GoesOnTo g t None (next s.file w given command) answer
   pub keeps : (g : Grade) (w : Work) → Keeps g s w old
       → EachIsGood g s (kept w) (kept (next s.file w given command).0) old new × GoesOnTo g t new (next s.file w given command) answer
+  pub written : (w : Work) → Keeps Firm s w None → OnSome answer (WritesOn s.file old new w (next s.file w given command).0)

@@ -14,6 +14,7 @@ use Rattle.df_model.specs.Work.{Work, kept}
 use Rattle.df_state.specs.declared.file.DataFile.{DataFile}
 use Rattle.df_state.specs.State.{State, shape}
 use Rattle.df_replica.specs.Serving.{Firm, Grade, IsCall, Keeps, Whole, format, next}
+use Rattle.df_replica.specs.WrittenFor.{WritesOn}
 
 -- a command with what it was supplied with
 pub record Act : Type 0 where
@@ -65,12 +66,14 @@ LeavesEither file g w u None = Unit {0}
 LeavesEither file g w u (Some t) = (image : Image) → IsLeft t.log image → NoChanceOf (format file) t.log image → HasView file g w image ⊎ HasView file g u image
 
 -- from one state of a replica to another these acts were served: from each state of the machine that the first stood for, the answers are the machine's and the second stands
--- for the state after them; and where the file was kept, it is, and each moment since is midway
+-- for the state after them; and where the file was kept, it is, and each moment since is midway. Whatever the disk shows: where all was written that
+-- the first state of the machine has, all was that the last one has
 pub record IsServed (s0 s : State) (told0 told : Option Told) (acts : List Act) (answers : List Answer) : Type 0 where
   pub file : s.file ≡ s0.file
   pub live : s.live ≡ true
   pub answered : (g : Grade) (w : Work) → Keeps g s0 w None → (answers ≡ answers_of s0.file w acts) × Keeps g s (work_after s0.file w acts) None
   pub kept_on : (g : Grade) (w : Work) → Keeps g s0 w told0 → EachIsMidway s0.file g w acts told0 told × Keeps g s (work_after s0.file w acts) told
+  pub written : (w : Work) → Keeps Firm s0 w None → WritesOn s0.file told0 told w (work_after s0.file w acts)
 
 -- the call after them ended in a fault: each moment is midway in the acts and this one, and what a stop leaves now has the view after the acts or after one more, never less
 pub record IsStopped (s0 : State) (told0 told : Option Told) (acts : List Act) (act : Act) : Type 0 where
