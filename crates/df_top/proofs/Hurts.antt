@@ -1,14 +1,18 @@
 -- What a word does with a file that may be hurt is of damage.
-use Rattle.std.proofs.Common.{inl, inr, List, [], ◌∷◌, Option, Some, None, sym, subst}
+use Rattle.std.proofs.Common.{◌≡◌, inl, inr, List, [], ◌∷◌, Option, Some, None, sym, subst}
 use Rattle.std.specs.Prelude.{Ok, Err}
-use Rattle.df_disk.specs.Told.{Told}
+use Rattle.df_base.specs.Log.{Sync}
+use Rattle.df_disk.specs.Told.{Told, did}
 use Rattle.df_layout.specs.declared.layout.Layout.{Layout}
 use Rattle.df_model.specs.Commands.{Answer}
 use Rattle.df_model.specs.Work.{Work, opened}
 use Rattle.df_recovery.specs.Surveys.{IsOpened}
+use Rattle.df_replica.specs.Lending.{GivesOwn}
+use Rattle.df_replica.specs.Opened.{ToldBy}
 use Rattle.df_replica.specs.Serving.{Firm, Keeps, next}
 use Rattle.df_replica.specs.Session.{Act}
-use Rattle.df_replica.proofs.Laws.{call_is_the_one, found_keeps}
+use Rattle.df_replica.specs.WrittenFor.{IsWrittenIn}
+use Rattle.df_replica.proofs.Laws.{call_is_own, call_is_the_one, found_keeps, opened_is_written_for}
 use Rattle.df_state.specs.declared.file.DataFile.{DataFile}
 use Rattle.df_state.specs.State.{State as Replica, shape}
 use Rattle.df_theory.specs.Found.{IsFound}
@@ -18,53 +22,65 @@ use Rattle.df_damage.specs.Answers.{FindsHad, IsNeedless, RefusesHurt}
 use Rattle.df_damage.specs.Disks.{MayBeHurt}
 use Rattle.df_damage.specs.Openings.{OpensAsLeft}
 use Rattle.df_damage.proofs.Laws.{answer_is_of_hurt, headers_may_be_hurt, probe_is_of_hurt, two_copies_are_enough}
-use Rattle.df_top.specs.Hurting.{AllGiveTheOne, GiveTheOne, GivesTheOne, IsOfHurt, RefusesCopies, RunsOverHurt, ServesHurt, ServesOverHurt}
+use Rattle.df_top.specs.Hurting.{AllGiveOwn, GiveOwn, IsOfHurt, ReadsOwn, RefusesCopies, RunsOverHurt, ServesHurt, ServesOverHurt}
 use Rattle.df_top.specs.Opening.{RefusesFile}
 use Rattle.df_top.specs.Outside.{Outside}
 use Rattle.df_top.specs.Run.{Does, RefusesSuperblock, Runs, ServesIn, ServesOwn, ServesScript}
 use Rattle.df_top.specs.Session.{AreCalls, Calls, EndsCalls}
+use Rattle.df_top.proofs.Kept.{goes_told}
 use Rattle.df_top.specs.declared.mode.Mode.{Mode}
 use Rattle.df_top.specs.declared.mode.Mode.TheVariants.{Format, Run, Recover, Inspect, Scrub, Workload}
 use Rattle.df_top.specs.declared.status.Status.{Status}
 
 -- ---- reads
 
-gives : (a : Act) (s u : Replica) (w : Work) (old new : Option Told) (x : Answer) → Calls a s u old new (Some x) → Keeps Firm s w None → GivesTheOne s old a.command x
-gives a s u w None new x call keeps = tt
-gives a s u w (Some t) new x call keeps = λ chance. call_is_the_one a.given a.command s u w t new x call.call keeps chance
+gives : (a : Act) (s u : Replica) (w : Work) (old new : Option Told) (x : Answer) → Calls a s u old new (Some x) → Keeps Firm s w None → IsWrittenIn s.file old w → GivesOwn s old w a.command x
+gives a s u w None new x call keeps written = tt
+gives a s u w (Some t) new x call keeps written = λ chance.
+    (call_is_the_one a.given a.command s u w t new x call.call keeps chance, call_is_own a.given a.command s u w t new x call.call keeps written chance)
 
-all_give : (w : Work) (s t : Replica) (old new : Option Told) (acts : List Act) (answers : List Answer) → Keeps Firm s w None → (are : AreCalls s old acts answers t new) → GiveTheOne s old acts answers t new are
-all_give w s t old new [] answers keeps are = tt
-all_give w s t old new (a ∷ acts) [] keeps are = tt
-all_give w s t old new (a ∷ acts) (x ∷ answers) keeps are = (
-  gives a s are.0 w old are.1 x are.2 keeps,
-  all_give (next s.file w a.given a.command).0 are.0 t are.1 new acts answers (are.2.call.answers Firm w keeps).1 are.3,
-)
+all_give : (w : Work) (s t : Replica) (old new : Option Told) (acts : List Act) (answers : List Answer) → Keeps Firm s w None → IsWrittenIn s.file old w → (are : AreCalls s old acts answers t new) → GiveOwn s old w acts answers t new are
+all_give w s t old new [] answers keeps written are = tt
+all_give w s t old new (a ∷ acts) [] keeps written are = tt
+all_give w s t old new (a ∷ acts) (x ∷ answers) keeps written are =
+    let call = are.2.call in
+    let later : Work = (next s.file w a.given a.command).0 in
+    let on : IsWrittenIn are.0.file are.1 later = subst (λ (file : DataFile). IsWrittenIn file are.1 later) (sym call.file) (call.written w keeps written) in (
+      gives a s are.0 w old are.1 x are.2 keeps written,
+      all_give later are.0 t are.1 new acts answers (call.answers Firm w keeps).1 on are.3,
+    )
 
-ends_give : (w : Work) (s t : Replica) (old new : Option Told) (acts : List Act) (answers : List Answer) (failed : Option Act) → Keeps Firm s w None → (ends : EndsCalls s t old new acts answers failed) → AllGiveTheOne s t old new acts answers failed ends
-ends_give w s t old new acts answers None keeps ends = all_give w s t old new acts answers keeps ends
-ends_give w s t old new acts answers (Some a) keeps ends = all_give w s ends.0 old ends.1 acts answers keeps ends.2
+ends_give : (w : Work) (s t : Replica) (old new : Option Told) (acts : List Act) (answers : List Answer) (failed : Option Act) → Keeps Firm s w None → IsWrittenIn s.file old w → (ends : EndsCalls s t old new acts answers failed)
+    → AllGiveOwn s t old new w acts answers failed ends
+ends_give w s t old new acts answers None keeps written ends = all_give w s t old new acts answers keeps written ends
+ends_give w s t old new acts answers (Some a) keeps written ends = all_give w s ends.0 old ends.1 acts answers keeps written ends.2
 
 -- ---- a word
 
 module _ (file : DataFile) (view : View) (t : Told) (may : MayBeHurt file view t) where
   -- a state that is found stands for a state of the machine
-  stands : (s : Replica) → IsOpened file.layout t.shown s → (w : Work) × Keeps Firm s w None
-  stands s is = (
-    opened (shape s.file) (unit_at s.file.layout s.file.cluster t.shown) is.view,
-    found_keeps s t.shown is.view may.whole (subst (λ (l : Layout). IsOpened l t.shown s) (sym is.of) is)
-        (subst (λ (l : Layout). IsFound (shape s.file) (unit_at l s.file.cluster t.shown) is.view) (sym is.of) is.found),
-  )
+  stands : (s : Replica) → IsOpened file.layout t.shown s → (finds : FindsHad file view t s) → Keeps Firm s (opened (shape file) (unit_at file.layout file.cluster t.shown) finds.found) None
+  stands s is finds =
+      let at : (own : DataFile) → s.file ≡ own → IsFound (shape own) (unit_at own.layout own.cluster t.shown) finds.found → IsOpened own.layout t.shown s → Keeps Firm s (opened (shape own) (unit_at own.layout own.cluster t.shown) finds.found) None =
+      λ (own : DataFile) (same : s.file ≡ own) (found : IsFound (shape own) (unit_at own.layout own.cluster t.shown) finds.found) (here : IsOpened own.layout t.shown s).
+      subst (λ (x : DataFile). Keeps Firm s (opened (shape x) (unit_at x.layout x.cluster t.shown) finds.found) None) same
+      (found_keeps s t.shown finds.found may.whole (subst (λ (x : DataFile). IsOpened x.layout t.shown s) (sym same) here) (subst (λ (x : DataFile). IsFound (shape x) (unit_at x.layout x.cluster t.shown) finds.found) (sym same) found)) in
+      at file finds.of finds.is_found is
+
+  -- and all that it has was written, as the disk tells behind the mending
+  written : (s : Replica) (finds : FindsHad file view t s) (mended : Option Told) → ToldBy (Some (did Sync t)) mended → IsWrittenIn s.file mended (opened (shape file) (unit_at file.layout file.cluster t.shown) finds.found)
+  written s finds mended by =
+      let goes = goes_told (did Sync t) mended by in
+      subst (λ (o : Option Told). IsWrittenIn s.file o (opened (shape file) (unit_at file.layout file.cluster t.shown) finds.found)) (sym goes.1) (opened_is_written_for file view t s goes.0.log finds goes.2.grew)
 
   module _ (old new : Outside) (status : Status) where
     refuses : (r : RefusesFile file.layout t old new status) → RefusesHurt file view t r.error
     refuses r = answer_is_of_hurt file view t (Err r.error) may r.is.why r.is.other
 
-    served : (serves : ServesScript file.layout t old new status) → FindsHad file view t serves.replica × AllGiveTheOne _ _ _ _ _ _ _ serves.session.calls
-    served serves = (
-      answer_is_of_hurt file view t (Ok serves.replica) may serves.is_opened,
-      ends_give (stands serves.replica serves.is_opened).0 _ _ _ _ _ _ _ (stands serves.replica serves.is_opened).1 serves.session.calls,
-    )
+    served : (serves : ServesScript file.layout t old new status) → ReadsOwn file view t file.layout old new status serves
+    served serves =
+        let finds : FindsHad file view t serves.replica = answer_is_of_hurt file view t (Ok serves.replica) may serves.is_opened in
+        (finds, ends_give _ _ _ _ _ _ _ _ (stands serves.replica serves.is_opened finds) (written serves.replica finds serves.mended serves.barrier) serves.session.calls)
 
     of_hurt : (mode : Mode) → (does : Does mode file.layout t old new status) → IsOfHurt file view t file.layout mode old new status does
     of_hurt (Format layout cluster) does = does

@@ -99,6 +99,7 @@ module _ (layout : Layout) (t : Told) (old new : Outside) (status : Status) (s :
     replica = s;
     is_opened = is_opened;
     mended = mended;
+    barrier = synced;
     last = last;
     last_is = last_is;
     session = ended;

@@ -3,20 +3,21 @@ use Rattle.std.proofs.Common.{inl, inr}
 use Rattle.std.specs.Prelude.{◌≡◌, ◌⊎◌, List, [], ◌∷◌, Option, Some, None}
 use Rattle.df_disk.specs.Told.{Told}
 use Rattle.df_layout.specs.declared.layout.Layout.{Layout}
-use Rattle.df_theory.specs.Device.{NoChanceOf}
 use Rattle.df_theory.specs.View.{View}
-use Rattle.df_model.specs.Commands.{Answer, Command}
-use Rattle.df_replica.specs.Lending.{AnswersTheOne}
-use Rattle.df_replica.specs.Serving.{format}
+use Rattle.df_units.specs.Bytes.{unit_at}
+use Rattle.df_model.specs.Commands.{Answer}
+use Rattle.df_model.specs.Work.{Work, opened}
+use Rattle.df_replica.specs.Lending.{GivesOwn}
+use Rattle.df_replica.specs.Serving.{next}
 use Rattle.df_replica.specs.Session.{Act}
 use Rattle.df_state.specs.declared.file.DataFile.{DataFile}
-use Rattle.df_state.specs.State.{State as Replica}
+use Rattle.df_state.specs.State.{State as Replica, shape}
 use Rattle.df_damage.specs.Answers.{FindsHad, IsNeedless, RefusesHurt}
 use Rattle.df_damage.specs.Disks.{IsAtRest, MayBeHurt}
 use Rattle.df_damage.specs.Hurt.{HasTwoCopies, IsHurtFile}
 use Rattle.df_damage.specs.Refusals.{MayBeOfDamage}
 use Rattle.df_top.specs.Outside.{Outside}
-use Rattle.df_top.specs.Run.{DidNothing, Does, RefusesSuperblock}
+use Rattle.df_top.specs.Run.{DidNothing, Does, RefusesSuperblock, ServesScript}
 use Rattle.df_top.specs.Session.{AreCalls, EndsCalls}
 use Rattle.df_top.specs.declared.mode.Mode.{Mode}
 use Rattle.df_top.specs.declared.mode.Mode.TheVariants.{Format, Run, Recover, Inspect, Scrub, Workload}
@@ -24,31 +25,31 @@ use Rattle.df_top.specs.declared.status.Status.{Status}
 
 -- ---- reads
 
--- a read that is Ok gives the one unit that was ever written with the checksum that is known, and it was written at its place; of any image that came about without chance, also one that was struck since the open
-abbrev pub GivesTheOne : Replica → Option Told → Command → Answer → Type 0
-GivesTheOne s None command answer = Unit {0}
-GivesTheOne s (Some t) command answer = NoChanceOf (format s.file) t.log t.shown → AnswersTheOne s t.log command answer
-
--- so does each of these calls
-abbrev pub GiveTheOne : (s : Replica) → (old : Option Told) → (acts : List Act) → (answers : List Answer) → (t : Replica) → (new : Option Told) → AreCalls s old acts answers t new → Type 0
-GiveTheOne s old [] answers t new are = Unit {0}
-GiveTheOne s old (a ∷ acts) [] t new are = Unit {0}
-GiveTheOne s old (a ∷ acts) (x ∷ answers) t new are = GivesTheOne s old a.command x × GiveTheOne are.0 are.1 acts answers t new are.3
+-- each of these calls that is a read and Ok gives what is its own, over whatever is shown to it without chance, in the state of the machine that the calls before it lead to
+abbrev pub GiveOwn : (s : Replica) → (old : Option Told) → Work → (acts : List Act) → (answers : List Answer) → (t : Replica) → (new : Option Told) → AreCalls s old acts answers t new → Type 0
+GiveOwn s old w [] answers t new are = Unit {0}
+GiveOwn s old w (a ∷ acts) [] t new are = Unit {0}
+GiveOwn s old w (a ∷ acts) (x ∷ answers) t new are = GivesOwn s old w a.command x × GiveOwn are.0 are.1 (next s.file w a.given a.command).0 acts answers t new are.3
 
 -- and each that was answered, where the last one was not
-abbrev pub AllGiveTheOne : (s t : Replica) → (old new : Option Told) → (acts : List Act) → (answers : List Answer) → (failed : Option Act) → EndsCalls s t old new acts answers failed → Type 0
-AllGiveTheOne s t old new acts answers None ends = GiveTheOne s old acts answers t new ends
-AllGiveTheOne s t old new acts answers (Some a) ends = GiveTheOne s old acts answers ends.0 ends.1 ends.2
+abbrev pub AllGiveOwn : (s t : Replica) → (old new : Option Told) → Work → (acts : List Act) → (answers : List Answer) → (failed : Option Act) → EndsCalls s t old new acts answers failed → Type 0
+AllGiveOwn s t old new w acts answers None ends = GiveOwn s old w acts answers t new ends
+AllGiveOwn s t old new w acts answers (Some a) ends = GiveOwn s old w acts answers ends.0 ends.1 ends.2
+
+-- from the state that was found on: it is one that the file had, and each read of the session gives what is its own
+abbrev pub ReadsOwn : DataFile → View → (t : Told) → (layout : Layout) → (old new : Outside) → (status : Status) → ServesScript layout t old new status → Type 0
+ReadsOwn file view t layout old new status serves =
+    (finds : FindsHad file view t serves.replica) × AllGiveOwn _ _ _ _ (opened (shape file) (unit_at file.layout file.cluster t.shown) finds.found) _ _ _ serves.session.calls
 
 -- ---- a word
 
--- what a word does is of damage: the state that is found is one that the file had, a refusal has its cause in a sector that is hurt, and the reads of a script give what was written
+-- what a word does is of damage: the state that is found is one that the file had, a refusal has its cause in a sector that is hurt, and the reads of a script give what is the
+-- state's own
 abbrev pub IsOfHurt : DataFile → View → (t : Told) → (layout : Layout) → (mode : Mode) → (old new : Outside) → (status : Status) → Does mode layout t old new status → Type 0
 IsOfHurt file view t layout (Format shape cluster) old new status does = ⊥
 IsOfHurt file view t layout Run old new status (inl refuses) = RefusesHurt file view t refuses.error
 IsOfHurt file view t layout Run old new status (inr (inl fails)) = Unit {0}
-IsOfHurt file view t layout Run old new status (inr (inr serves)) =
-    FindsHad file view t serves.replica × AllGiveTheOne _ _ _ _ _ _ _ serves.session.calls
+IsOfHurt file view t layout Run old new status (inr (inr serves)) = ReadsOwn file view t layout old new status serves
 IsOfHurt file view t layout Recover old new status (inl refuses) = RefusesHurt file view t refuses.error
 IsOfHurt file view t layout Recover old new status (inr (inl fails)) = Unit {0}
 IsOfHurt file view t layout Recover old new status (inr (inr recovers)) = FindsHad file view t recovers.replica

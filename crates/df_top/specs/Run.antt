@@ -1,8 +1,9 @@
 -- What the program promises of words that work on a file.
 use Rattle.std.specs.Prelude.{◌≡◌, ◌⊎◌, ◌^◌, ℕ, List, Option, Some}
 use Rattle.df_base.specs.Image.{IsImage}
+use Rattle.df_base.specs.Log.{Sync}
 use Rattle.df_base.specs.Streams.{Appends, AppendsPart}
-use Rattle.df_disk.specs.Told.{Told}
+use Rattle.df_disk.specs.Told.{Told, did}
 use Rattle.df_layout.specs.declared.layout.Layout.{Layout}
 use Rattle.df_lines.specs.Room.{line_bound}
 use Rattle.df_theory.specs.Found.{IsFound}
@@ -15,6 +16,7 @@ use Rattle.df_recovery.specs.Opening.{Refuses}
 use Rattle.df_state.specs.State.{State as Replica, shape}
 use Rattle.df_recovery.specs.Surveys.{IsOpened}
 use Rattle.df_replica.specs.Following.{MayOpen}
+use Rattle.df_replica.specs.Opened.{ToldBy}
 use Rattle.df_replica.specs.Serving.{Grade, StandsFor}
 use Rattle.df_replica.specs.Session.{answers_of}
 use Rattle.df_top.specs.Keeping.{KeepsFile}
@@ -47,11 +49,12 @@ start told old replica = record { outside = record { told = told; left = old.lef
 
 -- the file that the disk shows is opened, and the script is served: what is answered is what the machine answers from the state that is found, on whatever
 -- image; and over an honest disk whose log is safe, all that was answered is kept. No step finds the superblock damaged that it wrote, since the disk tells what
--- it shows.
+-- it shows. Between the barrier and the first call what the disk tells changed by events alone.
 pub record ServesScript (layout : Layout) (t : Told) (old new : Outside) (status : Status) : Type 0 where
   pub replica : Replica
   pub is_opened : IsOpened layout t.shown replica
   pub mended : Option Told
+  pub barrier : ToldBy (Some (did Sync t)) mended
   pub last : State
   pub last_is : last.outside ≡ new
   pub session : Ended (line_bound layout) (start mended old replica) last status

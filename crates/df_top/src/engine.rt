@@ -121,7 +121,7 @@ pub fn run<D: Disk, S: Source, W: Sink>(
     ensures inspects { Means (map string_bytes words.now) Mode.Inspect → AddsPart (Sync ∷ []) (D.told disk.old) (D.told disk.new) }
 
     // Where sectors of the file were damaged, lost or swapped before, they find a state that the file really had, or refuse it
-    // because of a sector that is hurt; and a read of a script gives what was written there.
+    // because of a sector that is hurt; and a read of a script gives what is the state's own, as it was written.
     ensures hurt { (mode : Mode) → IsOfFile mode → Means (map string_bytes words.now) mode → RunsOverHurt mode
         (record { told = D.told disk.old; left = S.left source.old; written = W.written sink.old })
         (record { told = D.told disk.new; left = S.left source.new; written = W.written sink.new }) result }
