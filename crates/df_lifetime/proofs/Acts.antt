@@ -1,5 +1,6 @@
 -- The acts of a session: what each was supplied with is in range, and what a stop leaves of them came through.
-use Rattle.std.proofs.Common.{◌≡◌, inl, inr, List, [], ◌∷◌, ◌++◌, Option, Some, None, refl, ap}
+use Rattle.std.proofs.Common.{◌≡◌, inl, inr, ℕ, zero, suc, List, [], ◌∷◌, ◌++◌, append_assoc, take-append-drop, Option, Some, None, refl, sym, ◌∙◌, ap}
+use Rattle.std.specs.Prelude.{take, drop}
 use Rattle.df_base.specs.Image.{Image}
 use Rattle.df_disk.specs.Told.{Told}
 use Rattle.df_model.specs.Commands.{Answer}
@@ -8,7 +9,7 @@ use Rattle.df_state.specs.State.{State as Replica}
 use Rattle.df_state.specs.declared.file.DataFile.{DataFile}
 use Rattle.df_replica.specs.HeldBlocks.{AreInputs}
 use Rattle.df_replica.specs.Serving.{Grade, next}
-use Rattle.df_replica.specs.Session.{Act, HasView, HoldsSome, work_after}
+use Rattle.df_replica.specs.Session.{Act, HasView, HoldsSome, answers_of, work_after}
 use Rattle.df_top.specs.Session.{AreCalls, EndsCalls, list_of}
 
 -- ---- what they were supplied with
@@ -26,6 +27,20 @@ inputs_join (a ∷ acts) more one two = (one.0, inputs_join acts more one.1 two)
 pub ends_inputs : (s t : Replica) (old new : Option Told) (acts : List Act) (answers : List Answer) (failed : Option Act) → EndsCalls s t old new acts answers failed → AreInputs (acts ++ list_of failed)
 ends_inputs s t old new acts answers None calls = inputs_join acts [] (calls_inputs s t old new acts answers calls) tt
 ends_inputs s t old new acts answers (Some a) calls = inputs_join acts (a ∷ []) (calls_inputs s calls.0 old calls.1 acts answers calls.2) (calls.3.call.input, tt)
+
+-- ---- the first of them, and the others
+
+pub front_and_rest : (k : ℕ) (acts more : List Act) → take k acts ++ (drop k acts ++ more) ≡ acts ++ more
+front_and_rest k acts more = sym (append_assoc (take k acts) (drop k acts) more) ∙ ap (λ (l : List Act). l ++ more) (take-append-drop k acts)
+
+pub work_on : (file : DataFile) (w : Work) (acts more : List Act) → work_after file w (acts ++ more) ≡ work_after file (work_after file w acts) more
+work_on file w [] more = refl
+work_on file w (a ∷ acts) more = work_on file (next file w a.given a.command).0 acts more
+
+pub first_answers : (file : DataFile) (k : ℕ) (w : Work) (acts : List Act) → take k (answers_of file w acts) ≡ answers_of file w (take k acts)
+first_answers file zero w acts = refl
+first_answers file (suc k) w [] = refl
+first_answers file (suc k) w (a ∷ acts) = ap (λ (l : List Answer). (next file w a.given a.command).1 ∷ l) (first_answers file k (next file w a.given a.command).0 acts)
 
 -- ---- what a stop leaves of them
 

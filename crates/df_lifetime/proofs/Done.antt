@@ -17,7 +17,6 @@ use Rattle.df_model.specs.declared.errors.AppendError.{AppendError}
 use Rattle.df_model.specs.declared.errors.ReplyError.{ReplyError}
 use Rattle.df_model.proofs.Laws.{all_pass, reply_may_law}
 use Rattle.df_lifetime.specs.There.{IsThere}
-use Rattle.df_lifetime.proofs.Next.{stays}
 
 at_end : (p : Message) (ps : List Message) → In p (ps ++ p ∷ [])
 at_end p [] = inl refl

@@ -1,5 +1,6 @@
 -- Each thing that happens to a file that is in order leaves it in order.
-use Rattle.std.proofs.Common.{◌≡◌, inl, inr, ℕ, true, false, List, [], ◌∷◌, ◌++◌, Option, Some, None, refl, sym, ◌∙◌, subst, arith}
+use Rattle.std.proofs.Common.{◌≡◌, inl, inr, ℕ, zero, suc, true, false, List, [], ◌∷◌, ◌++◌, Option, Some, None, refl, sym, ◌∙◌, ap, subst, arith}
+use Rattle.std.specs.Prelude.{take, drop}
 use Rattle.std.proofs.lemmas.Bool.{cases_eq}
 use Rattle.std.proofs.lemmas.Bool.Decides.{nat_tests}
 use Rattle.std.proofs.lemmas.List.{append-nil}
@@ -30,42 +31,42 @@ use Rattle.df_replica.specs.Opened.{MendsPartly, StopsOpening}
 use Rattle.df_replica.specs.Serving.{Grade, IsGoodFor, StandsFor, Whole, format}
 use Rattle.df_replica.specs.Session.{Act, HasView, IsMidway, work_after}
 use Rattle.df_replica.proofs.Laws.{good_left, good_safe, safe_is_not_refused}
+use Rattle.df_top.specs.Acknowledging.{CallsMade, IsUntil, KeepsAnswered, run_calls, script_calls}
 use Rattle.df_top.specs.Formats.{Formats}
 use Rattle.df_top.specs.Keeping.{KeepsFile, LeavesAll}
-use Rattle.df_top.specs.Lines.{all_acts, all_answers}
 use Rattle.df_top.specs.Opening.{RefusesFile}
 use Rattle.df_top.specs.Outside.{Outside}
 use Rattle.df_top.specs.Run.{Does, ServesScript}
-use Rattle.df_top.specs.Session.{act_of, list_of}
+use Rattle.df_top.specs.Session.{list_of}
 use Rattle.df_top.specs.Working.{WorksThrough}
 use Rattle.df_top.specs.declared.mode.Mode.{Mode}
 use Rattle.df_top.specs.declared.mode.Mode.TheVariants.{Format, Run, Recover, Inspect, Scrub, Workload}
 use Rattle.df_top.specs.declared.status.Status.{Status}
 use Rattle.df_top.specs.declared.status.Status.TheVariants.{Done, Found, Words, Script, Refused, DiskFault, ReadFault, WriteFault, Memory}
-use Rattle.df_lifetime.specs.Life.{Chapter, EveryLifeGoesOn, EveryLifeIsInOrder, FormatWord, IsInOrder, MayHave, Outcome, ToAMoment, ToItsEnd, Word, chapters_in, chapters_of, sessions_in, start_of}
+use Rattle.df_lifetime.specs.Life.{Chapter, EveryLifeGoesOn, EveryLifeIsInOrder, FormatWord, HaveAnswers, IsInOrder, MayHave, Outcome, ToAMoment, ToItsEnd, Word, calls_in, calls_made, calls_of, chapter_of, chapters_of, sessions_in, start_of}
 use Rattle.df_lifetime.specs.Life.Life.{Begun, Ended, Formatted, Made, Ran, Stopped}
-use Rattle.df_lifetime.proofs.Acts.{HasFront, ends_inputs, has_front}
+use Rattle.df_lifetime.proofs.Acts.{HasFront, ends_inputs, first_answers, front_and_rest, has_front, work_on}
 use Rattle.df_lifetime.proofs.Files.{goes_told, one_file, one_told}
 use Rattle.df_lifetime.proofs.Orders.{Has, Order, after_barrier, goes_on, here, in_order, made_in_order, made_safe, may, none_referenced, order_of, same_moments, stands_shown, synced, synced_moments}
 
--- what a word leaves: an honest disk, and its log in order at each moment and at the end
-pub record Comes (file : DataFile) (cut ended : List Chapter) (t n : Told) : Type 0 where
+-- what a word leaves that made these calls: an honest disk, and its log in order at the end, and at each moment, by what was answered by then
+pub record Comes (file : DataFile) (chapters : List Chapter) (calls : Option CallsMade) (t n : Told) : Type 0 where
   pub honest : IsHonest n
-  pub at_end : Order file ended n.log
-  pub moments : EachMoment t.log n.log (Order file cut)
+  pub at_end : Order file (chapters_of ToItsEnd t.shown calls ++ chapters) n.log
+  pub moments : (k : ℕ) (log : Log) → IsMoment t.log n.log log → HaveAnswers k log calls → Order file (chapters_of (ToAMoment k) t.shown calls ++ chapters) log
 
 module _ (file : DataFile) (chapters : List Chapter) (t : Told) (is : IsInOrder file chapters t) (chance : NoChanceOf (format file) t.log (now t.log)) where
   -- ---- nothing but the barrier was done
 
-  same_comes : (n : Told) → t ≡ n → Comes file chapters chapters t n
-  same_comes n same = subst (λ (x : Told). Comes file chapters chapters t x) same (record { honest = is.honest; at_end = order_of file chapters t is; moments = same_moments file chapters t is chance })
+  same_comes : (n : Told) → t ≡ n → Comes file chapters None t n
+  same_comes n same = subst (λ (x : Told). Comes file chapters None t x) same (record { honest = is.honest; at_end = order_of file chapters t is; moments = λ k log moment had. same_moments file chapters t is chance log moment })
 
-  sync_comes : (n : Told) → did Sync t ≡ n → Comes file chapters chapters t n
+  sync_comes : (n : Told) → did Sync t ≡ n → Comes file chapters None t n
   sync_comes n same =
-      subst (λ (x : Told). Comes file chapters chapters t x) same
-      (record { honest = record { shows = is.honest.shows }; at_end = synced file chapters t is chance; moments = synced_moments file chapters t is chance })
+      subst (λ (x : Told). Comes file chapters None t x) same
+      (record { honest = record { shows = is.honest.shows }; at_end = synced file chapters t is chance; moments = λ k log moment had. synced_moments file chapters t is chance log moment })
 
-  part_comes : (new : Option Told) (n : Told) → new ≡ Some n → AddsPart (Sync ∷ []) (Some t) new → Comes file chapters chapters t n
+  part_comes : (new : Option Told) (n : Told) → new ≡ Some n → AddsPart (Sync ∷ []) (Some t) new → Comes file chapters None t n
   part_comes new n to (inl none) = same_comes n (one_told new t n none to)
   part_comes new n to (inr all) = sync_comes n (one_told new (did Sync t) n all to)
 
@@ -94,7 +95,7 @@ module _ (file : DataFile) (chapters : List Chapter) (t : Told) (is : IsInOrder 
     ];
   }
 
-  mends_comes : (layout : Layout) → layout ≡ file.layout → (new : Option Told) (n : Told) → new ≡ Some n → MendsPartly layout t new → Comes file chapters chapters t n
+  mends_comes : (layout : Layout) → layout ≡ file.layout → (new : Option Told) (n : Told) → new ≡ Some n → MendsPartly layout t new → Comes file chapters None t n
   mends_comes layout own new n to mends =
       let goes = goes_told (did Sync t) new mends.told in
       let same : goes.0 ≡ n = one_told new goes.0 n goes.1 to in
@@ -107,10 +108,10 @@ module _ (file : DataFile) (chapters : List Chapter) (t : Told) (is : IsInOrder 
       record {
         honest = subst IsHonest same (goes.2.honest (record { shows = is.honest.shows }));
         at_end = later n.log (record { since = grew; until = extends_self n.log });
-        moments = after_barrier file chapters t is chance n.log grew later;
+        moments = λ k log moment had. after_barrier file chapters t is chance n.log grew later log moment;
       }
 
-  stops_comes : (layout : Layout) → layout ≡ file.layout → (new : Option Told) (n : Told) → new ≡ Some n → StopsOpening layout t new → Comes file chapters chapters t n
+  stops_comes : (layout : Layout) → layout ≡ file.layout → (new : Option Told) (n : Told) → new ≡ Some n → StopsOpening layout t new → Comes file chapters None t n
   stops_comes layout own new n to (inl none) = same_comes n (one_told new t n none to)
   stops_comes layout own new n to (inr (inl all)) = sync_comes n (one_told new (did Sync t) n all to)
   stops_comes layout own new n to (inr (inr mends)) = mends_comes layout own new n to mends
@@ -136,6 +137,12 @@ module _ (file : DataFile) (chapters : List Chapter) (t : Told) (is : IsInOrder 
       ((subst (λ (f : DataFile). (g : Grade) (v : View) → MayOpen f v t → StandsFor g (unit_at f.layout f.cluster t.shown) v → KeepsFile f g (start_of f t.shown v) t acts xs failed new) one keeps)
       Whole view opens (stands_shown file chapters t is chance))
 
+  answered_as : (replica : Replica) (c : CallsMade) → replica.file ≡ file
+      → ((g : Grade) (v : View) → MayOpen replica.file v t → StandsFor g (unit_at replica.file.layout replica.file.cluster t.shown) v → KeepsAnswered replica.file g (start_of replica.file t.shown v) c) → KeepsAnswered file Whole start c
+  answered_as replica c one keeps =
+      (subst (λ (f : DataFile). (g : Grade) (v : View) → MayOpen f v t → StandsFor g (unit_at f.layout f.cluster t.shown) v → KeepsAnswered f g (start_of f t.shown v) c) one keeps)
+      Whole view opens (stands_shown file chapters t is chance)
+
   module _ (acts : List Act) (xs : List Answer) (failed : Option Act) (n : Told) (keeps : KeepsFile file Whole start t acts xs failed (Some n)) where
     same_end : keeps.after ≡ n
     same_end = one_told (Some n) keeps.after n keeps.is refl
@@ -158,9 +165,6 @@ module _ (file : DataFile) (chapters : List Chapter) (t : Told) (is : IsInOrder 
     abbrev ended : Chapter
     ended = record { shown = t.shown; answered = acts; answers = xs; perhaps = list_of failed }
 
-    abbrev cut : Chapter
-    cut = record { shown = t.shown; answered = []; answers = []; perhaps = acts ++ list_of failed }
-
     module _ (inputs : AreInputs (acts ++ list_of failed)) where
       -- at the end these acts came through
       all_came : (image : Image) (came more rest : List Act) → came ≡ acts ++ more → list_of failed ≡ more ++ rest → HasView file Whole (work_after file start came) image → Has file (ended ∷ chapters) image
@@ -170,32 +174,6 @@ module _ (file : DataFile) (chapters : List Chapter) (t : Told) (is : IsInOrder 
         held = has.0;
         stands = has.1;
       }
-
-      -- up to a moment these did
-      some_came : (image : Image) → HasFront file Whole start (acts ++ list_of failed) image → Has file (cut ∷ chapters) image
-      some_came image has = record {
-        view = kept (work_after file start has.front);
-        had = (view, had, inr (has.front, record { whole = answers.0; found = found_shown; inputs = inputs; answers_are = refl; came = record { more = has.front; rest = has.rest; are = refl; some = has.are }; view = refl }));
-        held = has.has.0;
-        stands = has.has.1;
-      }
-
-      none_came : (image : Image) → Has file chapters image → Has file (cut ∷ chapters) image
-      none_came image has = record { view = has.view; had = (has.view, has.had, inl (record { none = refl; no_answers = refl; same = refl })); held = has.held; stands = has.stands }
-
-      cut_order : (log : Log) → Order file chapters log → Order file (cut ∷ chapters) log
-      cut_order log order = record { safe = order.safe; left = λ image left no. none_came image (order.left image left no) }
-
-      mid_order : (log : Log) → IsMidway file Whole start (acts ++ list_of failed) log → Order file (cut ∷ chapters) log
-      mid_order log mid = record { safe = mid.safe; left = λ image left no. some_came image (has_front file Whole start (acts ++ list_of failed) image (mid.left image left no)) }
-
-      all_moments : EachMoment t.log n.log (Order file (cut ∷ chapters))
-      all_moments =
-          from_before Sync t.log n.log (Order file (cut ∷ chapters)) (cut_order t.log (order_of file chapters t is)) barrier
-          (weaker (did Sync t).log n.log (IsMidway file Whole start (acts ++ list_of failed)) (Order file (cut ∷ chapters)) mid_order midway)
-
-      served_comes : Order file (ended ∷ chapters) n.log → Comes file (cut ∷ chapters) (ended ∷ chapters) t n
-      served_comes at_end = record { honest = honest_end; at_end = at_end; moments = all_moments }
 
   end_order : (acts : List Act) (xs : List Answer) (failed : Option Act) (n : Told) (keeps : KeepsFile file Whole start t acts xs failed (Some n)) → AreInputs (acts ++ list_of failed)
       → LeavesAll file Whole start acts failed n → Order file (record { shown = t.shown; answered = acts; answers = xs; perhaps = list_of failed } ∷ chapters) n.log
@@ -211,6 +189,66 @@ module _ (file : DataFile) (chapters : List Chapter) (t : Told) (is : IsInOrder 
     ];
   }
 
+  -- up to a moment these did
+  module _ (c : CallsMade) (n : Told) (keeps : KeepsFile file Whole start t c.acts c.answers c.failed (Some n)) (inputs : AreInputs (c.acts ++ list_of c.failed)) where
+    abbrev cut : ℕ → Chapter
+    cut k = chapter_of (ToAMoment k) t.shown c
+
+    some_came : (k : ℕ) (image : Image) → HasFront file Whole (work_after file start (take k c.acts)) (drop k c.acts ++ list_of c.failed) image → Has file (cut k ∷ chapters) image
+    some_came k image has = record {
+      view = kept (work_after file (work_after file start (take k c.acts)) has.front);
+      had = (
+        view,
+        had,
+        inr (
+          take k c.acts ++ has.front,
+          record {
+            whole = answers.0;
+            found = found_shown;
+            inputs = subst AreInputs (sym (front_and_rest k c.acts (list_of c.failed))) inputs;
+            answers_are = ap (take k) keeps.answered ∙ first_answers file k start c.acts;
+            came = record { more = has.front; rest = has.rest; are = refl; some = has.are };
+            view = sym (ap (λ (w : Work). kept w) (work_on file start (take k c.acts) has.front));
+          },
+        ),
+      );
+      held = has.has.0;
+      stands = has.has.1;
+    }
+
+    mid_order : (k : ℕ) (log : Log) → IsMidway file Whole (work_after file start (take k c.acts)) (drop k c.acts ++ list_of c.failed) log → Order file (cut k ∷ chapters) log
+    mid_order k log mid = record {
+      safe = mid.safe;
+      left = λ image left no. some_came k image (has_front file Whole (work_after file start (take k c.acts)) (drop k c.acts ++ list_of c.failed) image (mid.left image left no));
+    }
+
+    none_came : (image : Image) → Has file chapters image → Has file (cut 0 ∷ chapters) image
+    none_came image has = record { view = has.view; had = (has.view, has.had, inl (record { none = refl; no_answers = refl; same = refl })); held = has.held; stands = has.stands }
+
+    cut_order : (log : Log) → Order file chapters log → Order file (cut 0 ∷ chapters) log
+    cut_order log order = record { safe = order.safe; left = λ image left no. none_came image (order.left image left no) }
+
+    -- where none was answered it may be a moment before the barrier
+    first_moments : EachMoment t.log n.log (Order file (cut 0 ∷ chapters))
+    first_moments =
+        from_before Sync t.log n.log (Order file (cut 0 ∷ chapters)) (cut_order t.log (order_of file chapters t is)) (barrier c.acts c.answers c.failed n keeps)
+        (weaker (did Sync t).log n.log (IsMidway file Whole start (c.acts ++ list_of c.failed)) (Order file (cut 0 ∷ chapters)) (mid_order 0) (midway c.acts c.answers c.failed n keeps))
+
+    module _ (on : KeepsAnswered file Whole start c) (to : c.new ≡ Some n) where
+      until : (log : Log) → Extends n.log log → IsUntil c.new log
+      until log later = subst (λ (o : Option Told). IsUntil o log) (sym to) later
+
+      all_moments : (k : ℕ) (log : Log) → IsMoment t.log n.log log → HaveAnswers k log (Some c) → Order file (cut k ∷ chapters) log
+      all_moments zero log moment none = first_moments log moment
+      all_moments (suc k) log moment were = mid_order (suc k) log (on (suc k) log were (until log moment.until))
+
+      served_comes : Comes file chapters (Some c) t n
+      served_comes = record {
+        honest = honest_end c.acts c.answers c.failed n keeps;
+        at_end = end_order c.acts c.answers c.failed n keeps inputs (leaves c.acts c.answers c.failed n keeps);
+        moments = all_moments;
+      }
+
   -- ---- nothing was asked of it
 
   module _ (n : Told) (keeps : KeepsFile file Whole start t [] [] None (Some n)) where
@@ -225,40 +263,33 @@ module _ (file : DataFile) (chapters : List Chapter) (t : Told) (is : IsInOrder 
     idle_moments : EachMoment (did Sync t).log n.log (Order file chapters)
     idle_moments = weaker (did Sync t).log n.log (IsMidway file Whole start []) (Order file chapters) idle_order (midway [] [] None n keeps)
 
-    idle_comes : Comes file chapters chapters t n
+    idle_comes : Comes file chapters None t n
     idle_comes = record {
       honest = honest_end [] [] None n keeps;
       at_end = idle_moments n.log (record { since = barrier [] [] None n keeps; until = extends_self n.log });
-      moments = after_barrier file chapters t is chance n.log (barrier [] [] None n keeps) idle_moments;
+      moments = λ k log moment had. after_barrier file chapters t is chance n.log (barrier [] [] None n keeps) idle_moments log moment;
     }
 
   -- ---- a word
 
   module _ (layout : Layout) (own : layout ≡ file.layout) (old new : Outside) (status : Status) (n : Told) (to : new.told ≡ Some n) where
-    script_comes : (serves : ServesScript layout t old new status)
-        → Comes file (chapters_of ToAMoment Run layout t old new status (inr (inr serves)) ++ chapters) (chapters_of ToItsEnd Run layout t old new status (inr (inr serves)) ++ chapters) t n
+    script_comes : (serves : ServesScript layout t old new status) → Comes file chapters (Some (script_calls serves.session)) t n
     script_comes serves =
-        let acts : List Act = all_acts serves.session.turns in
-        let xs : List Answer = all_answers serves.session.turns in
-        let failed : Option Act = act_of serves.session.failing in
+        let c : CallsMade = script_calls serves.session in
         let one : serves.replica.file ≡ file = one_file file layout t.shown view serves.replica own found_shown serves.is_opened in
-        let keeps : KeepsFile file Whole start t acts xs failed (Some n) = keeps_as serves.replica acts xs failed new.told n to one serves.keeps in
-        let inputs : AreInputs (acts ++ list_of failed) = ends_inputs serves.replica serves.last.replica serves.mended serves.last.outside.told acts xs failed serves.session.calls in
-        served_comes acts xs failed n keeps inputs (end_order acts xs failed n keeps inputs (leaves acts xs failed n keeps))
+        let keeps : KeepsFile file Whole start t c.acts c.answers c.failed (Some n) = keeps_as serves.replica c.acts c.answers c.failed new.told n to one serves.keeps in
+        let inputs : AreInputs (c.acts ++ list_of c.failed) = ends_inputs c.from c.to c.old c.new c.acts c.answers c.failed c.calls in
+        served_comes c n keeps inputs (answered_as serves.replica c one serves.acknowledged) (ap (λ (o : Outside). o.told) serves.last_is ∙ to)
 
-    works_comes : (seed count : ℕ) (works : WorksThrough seed count layout t old new status)
-        → Comes file (chapters_of ToAMoment (Workload seed count) layout t old new status (inr (inr works)) ++ chapters) (chapters_of ToItsEnd (Workload seed count) layout t old new status (inr (inr works)) ++ chapters) t n
+    works_comes : (seed count : ℕ) (works : WorksThrough seed count layout t old new status) → Comes file chapters (Some (run_calls works.worked)) t n
     works_comes seed count works =
-        let acts : List Act = works.worked.acts in
-        let xs : List Answer = works.worked.answers in
-        let failed : Option Act = works.worked.failed in
+        let c : CallsMade = run_calls works.worked in
         let one : works.replica.file ≡ file = one_file file layout t.shown view works.replica own found_shown works.is_opened in
-        let keeps : KeepsFile file Whole start t acts xs failed (Some n) = keeps_as works.replica acts xs failed new.told n to one works.keeps in
-        let inputs : AreInputs (acts ++ list_of failed) = ends_inputs works.replica works.last works.mended new.told acts xs failed works.worked.calls in
-        served_comes acts xs failed n keeps inputs (end_order acts xs failed n keeps inputs (leaves acts xs failed n keeps))
+        let keeps : KeepsFile file Whole start t c.acts c.answers c.failed (Some n) = keeps_as works.replica c.acts c.answers c.failed new.told n to one works.keeps in
+        let inputs : AreInputs (c.acts ++ list_of c.failed) = ends_inputs c.from c.to c.old c.new c.acts c.answers c.failed c.calls in
+        served_comes c n keeps inputs (answered_as works.replica c one works.acknowledged) to
 
-    does_comes : (mode : Mode) (does : Does mode layout t old new status)
-        → Comes file (chapters_of ToAMoment mode layout t old new status does ++ chapters) (chapters_of ToItsEnd mode layout t old new status does ++ chapters) t n
+    does_comes : (mode : Mode) (does : Does mode layout t old new status) → Comes file chapters (calls_of mode layout t old new status does) t n
     does_comes (Format shape cluster) does = absurd does
     does_comes Run (inl refuses) = absurd (refused layout old new status own refuses)
     does_comes Run (inr (inl fails)) = stops_comes layout own new.told n to fails.disk
@@ -279,12 +310,12 @@ module _ (file : DataFile) (chapters : List Chapter) (t : Told) (is : IsInOrder 
     does_comes (Workload seed count) (inr (inr works)) = works_comes seed count works
 
   outcome_comes : (mode : Mode) (old new : Outside) (status : Status) (n : Told) → old.told ≡ Some t → new.told ≡ Some n → (outcome : Outcome mode t old new status)
-      → Comes file (chapters_in ToAMoment mode t old new status outcome ++ chapters) (chapters_in ToItsEnd mode t old new status outcome ++ chapters) t n
+      → Comes file chapters (calls_in mode t old new status outcome) t n
   outcome_comes mode old new status n from to (inl nothing) = same_comes n (one_told new.told t n (nothing.without.same ∙ from) to)
   outcome_comes mode old new status n from to (inr (inl refuses)) = absurd (answers.1.usable refuses.error refuses.is)
   outcome_comes mode old new status n from to (inr (inr serves)) = does_comes serves.layout (answers.1.layout serves.layout serves.shown) old new status n to mode serves.serves
 
-  word_comes : (n : Told) (word : Word t n) → Comes file (sessions_in ToAMoment t n word ++ chapters) (sessions_in ToItsEnd t n word ++ chapters) t n
+  word_comes : (n : Told) (word : Word t n) → Comes file chapters (calls_made t n word) t n
   word_comes n word = outcome_comes word.mode word.old word.new word.status n word.from word.to (word.runs t word.from word.whole)
 
   -- ---- the word `format` again
@@ -292,7 +323,7 @@ module _ (file : DataFile) (chapters : List Chapter) (t : Told) (is : IsInOrder 
   formatted_same : (layout : Layout) (cluster : ℕ) (n : Told) (old new : Option (List ℕ)) (status : Status) → Formats layout cluster (Some t) (Some n) old new status → t ≡ n
   formatted_same layout cluster n old new Done made = absurd (answers.1.usable NotFormatted (made.0.may.blank t refl))
   formatted_same layout cluster n old new Refused refuses = one_told (Some n) t n refuses.1.same refl
-  formatted_same layout cluster n old new DiskFault part = elim part.1 [ | inl none ↦ one_told (Some n) t n none refl | inr blank ↦ absurd (answers.1.usable NotFormatted blank) ]
+  formatted_same layout cluster n old new DiskFault part = elim part.1 [ inl none ↦ one_told (Some n) t n none refl | inr blank ↦ absurd (answers.1.usable NotFormatted blank) ]
   formatted_same layout cluster n old new WriteFault (inl made) = absurd (answers.1.usable NotFormatted (made.0.may.blank t refl))
   formatted_same layout cluster n old new WriteFault (inr refuses) = one_told (Some n) t n refuses.1.same refl
   formatted_same layout cluster n old new Memory nothing = one_told (Some n) t n nothing.0 refl
@@ -342,9 +373,6 @@ module _ (file : DataFile) (chapters : List Chapter) (t : Told) (safe : IsSafeDi
 
 -- ---- the laws
 
-ended_order : (file : DataFile) (cut whole : List Chapter) (t n m : Told) → Comes file cut whole t n → IsMoment t.log n.log m.log → IsHonest m → IsInOrder file cut m
-ended_order file cut whole t n m comes moment honest = in_order file cut m honest (comes.moments m.log moment)
-
 pub every_life_is_in_order : EveryLifeIsInOrder
 every_life_is_in_order file _ _ (Made t n makable honest word) = made_in_order file t n makable honest word
 every_life_is_in_order file _ _ (Begun t n m status changes makable honest word wanting moment there loose chance held) =
@@ -354,8 +382,9 @@ every_life_is_in_order file _ _ (Begun t n m status changes makable honest word 
 every_life_is_in_order file _ _ (Ran t n chapters word life chance) =
     let comes = word_comes file chapters t (every_life_is_in_order file t chapters life) chance n word in
     in_order file (sessions_in ToItsEnd t n word ++ chapters) n comes.honest comes.at_end
-every_life_is_in_order file _ _ (Ended t n m chapters word life chance moment honest) =
-    ended_order file (sessions_in ToAMoment t n word ++ chapters) (sessions_in ToItsEnd t n word ++ chapters) t n m (word_comes file chapters t (every_life_is_in_order file t chapters life) chance n word) moment honest
+every_life_is_in_order file _ _ (Ended t n m chapters word answered life chance moment honest had) =
+    let comes = word_comes file chapters t (every_life_is_in_order file t chapters life) chance n word in
+    in_order file (sessions_in (ToAMoment answered) t n word ++ chapters) m honest (comes.moments answered m.log moment had)
 every_life_is_in_order file _ _ (Formatted t n chapters layout cluster status life chance word) = formatted_order file chapters t (every_life_is_in_order file t chapters life) chance layout cluster n status word
 every_life_is_in_order file _ _ (Stopped t chapters changes life loose chance) =
     let is = every_life_is_in_order file t chapters life in

@@ -1,8 +1,8 @@
 -- The life of a file: it is made, words are run over it one after the other, each to its end or up to a moment, and the machine may stop at any time.
-use Rattle.std.specs.Prelude.{◌≡◌, ◌⊎◌, ℕ, List, [], ◌∷◌, ◌++◌, Option, Some}
+use Rattle.std.specs.Prelude.{◌≡◌, ◌⊎◌, ℕ, zero, suc, List, [], ◌∷◌, ◌++◌, take, drop, Option, Some, None}
 use Rattle.std.proofs.Common.{inl, inr}
 use Rattle.df_base.specs.Image.{Image, IsImage, changed}
-use Rattle.df_base.specs.Log.{AreLoose, IsLeft, Stop, now}
+use Rattle.df_base.specs.Log.{AreLoose, IsLeft, Log, Stop, now}
 use Rattle.df_base.specs.Moments.{IsMoment}
 use Rattle.df_disk.specs.Told.{IsHonest, Told, did}
 use Rattle.df_layout.specs.declared.layout.Layout.{Layout}
@@ -21,11 +21,11 @@ use Rattle.df_replica.specs.HeldBlocks.{AreInputs}
 use Rattle.df_replica.specs.Making.{MayMakeOn}
 use Rattle.df_replica.specs.Serving.{format}
 use Rattle.df_replica.specs.Session.{Act, answers_of, work_after}
+use Rattle.df_top.specs.Acknowledging.{CallsMade, WereAnswered, run_calls, script_calls}
 use Rattle.df_top.specs.Formats.{Formats, MakesFile}
-use Rattle.df_top.specs.Lines.{all_acts, all_answers}
 use Rattle.df_top.specs.Outside.{Outside}
-use Rattle.df_top.specs.Run.{DidNothing, Does, RefusesSuperblock, Runs, ServesOwn, ServesScript}
-use Rattle.df_top.specs.Session.{act_of, list_of}
+use Rattle.df_top.specs.Run.{DidNothing, Does, RefusesSuperblock, Runs, ServesOwn}
+use Rattle.df_top.specs.Session.{list_of}
 use Rattle.df_top.specs.declared.mode.Mode.{Mode}
 use Rattle.df_top.specs.declared.mode.Mode.TheVariants.{Format, Run, Recover, Inspect, Scrub, Workload}
 use Rattle.df_top.specs.declared.status.Status.{Status}
@@ -78,37 +78,48 @@ MayHave file (c ∷ chapters) u = (v : View) × MayHave file chapters v × Leads
 
 -- ---- what happens to a file
 
--- a word is run to its end, or up to a moment
+-- a word is run to its end, or up to a moment before which this many of its calls were answered
 pub data Extent : Type 0 where
   ToItsEnd : Extent
-  ToAMoment : Extent
+  ToAMoment : (answered : ℕ) → Extent
 
--- a session over this image that made these calls: at its end all that was answered is known to be there; at a moment before it any of its acts may be
-abbrev pub chapter_of : Extent → Image → List Act → List Answer → (failed : Option Act) → Chapter
-chapter_of ToItsEnd shown acts answers failed = record { shown = shown; answered = acts; answers = answers; perhaps = list_of failed }
-chapter_of ToAMoment shown acts answers failed = record { shown = shown; answered = []; answers = []; perhaps = acts ++ list_of failed }
+-- A session over this image that made these calls. At its end all that was answered is known to be there; at a moment all that was answered by then is, and any
+-- of the calls behind that may be.
+abbrev pub chapter_of : Extent → Image → CallsMade → Chapter
+chapter_of ToItsEnd shown c = record { shown = shown; answered = c.acts; answers = c.answers; perhaps = list_of c.failed }
+chapter_of (ToAMoment k) shown c = record { shown = shown; answered = take k c.acts; answers = take k c.answers; perhaps = drop k c.acts ++ list_of c.failed }
+
+abbrev pub chapters_of : Extent → Image → Option CallsMade → List Chapter
+chapters_of extent shown None = []
+chapters_of extent shown (Some c) = chapter_of extent shown c ∷ []
+
+-- this many of the calls were answered by then: none at any moment, or one and more
+abbrev pub HaveAnswers : ℕ → Log → Option CallsMade → Type 0
+HaveAnswers zero log calls = Unit {0}
+HaveAnswers (suc k) log None = ⊥
+HaveAnswers (suc k) log (Some c) = WereAnswered (suc k) log c
 
 -- what a word did is a session where it served a script, or carried out a generated run
-abbrev pub chapters_of : Extent → (mode : Mode) (layout : Layout) (t : Told) (old new : Outside) (status : Status) → Does mode layout t old new status → List Chapter
-chapters_of extent (Format shape cluster) layout t old new status does = []
-chapters_of extent Run layout t old new status (inl refuses) = []
-chapters_of extent Run layout t old new status (inr (inl fails)) = []
-chapters_of extent Run layout t old new status (inr (inr serves)) = chapter_of extent t.shown (all_acts serves.session.turns) (all_answers serves.session.turns) (act_of serves.session.failing) ∷ []
-chapters_of extent Recover layout t old new status does = []
-chapters_of extent Inspect layout t old new status does = []
-chapters_of extent Scrub layout t old new status does = []
-chapters_of extent (Workload seed count) layout t old new status (inl refuses) = []
-chapters_of extent (Workload seed count) layout t old new status (inr (inl fails)) = []
-chapters_of extent (Workload seed count) layout t old new status (inr (inr works)) = chapter_of extent t.shown works.worked.acts works.worked.answers works.worked.failed ∷ []
+abbrev pub calls_of : (mode : Mode) (layout : Layout) (t : Told) (old new : Outside) (status : Status) → Does mode layout t old new status → Option CallsMade
+calls_of (Format shape cluster) layout t old new status does = None
+calls_of Run layout t old new status (inl refuses) = None
+calls_of Run layout t old new status (inr (inl fails)) = None
+calls_of Run layout t old new status (inr (inr serves)) = Some (script_calls serves.session)
+calls_of Recover layout t old new status does = None
+calls_of Inspect layout t old new status does = None
+calls_of Scrub layout t old new status does = None
+calls_of (Workload seed count) layout t old new status (inl refuses) = None
+calls_of (Workload seed count) layout t old new status (inr (inl fails)) = None
+calls_of (Workload seed count) layout t old new status (inr (inr works)) = Some (run_calls works.worked)
 
 -- what `run` promises of a word on a file
 abbrev pub Outcome : Mode → Told → Outside → Outside → Status → Type 0
 Outcome mode t old new status = DidNothing old new status ⊎ RefusesSuperblock t old new status ⊎ ServesOwn mode t old new status
 
-abbrev pub chapters_in : Extent → (mode : Mode) (t : Told) (old new : Outside) (status : Status) → Outcome mode t old new status → List Chapter
-chapters_in extent mode t old new status (inl nothing) = []
-chapters_in extent mode t old new status (inr (inl refuses)) = []
-chapters_in extent mode t old new status (inr (inr own)) = chapters_of extent mode own.layout t old new status own.serves
+abbrev pub calls_in : (mode : Mode) (t : Told) (old new : Outside) (status : Status) → Outcome mode t old new status → Option CallsMade
+calls_in mode t old new status (inl nothing) = None
+calls_in mode t old new status (inr (inl refuses)) = None
+calls_in mode t old new status (inr (inr own)) = calls_of mode own.layout t old new status own.serves
 
 -- a word on a file, with its status, over a disk that told this before and that after it
 pub record Word (t n : Told) : Type 0 where
@@ -121,8 +132,12 @@ pub record Word (t n : Told) : Type 0 where
   pub whole : IsImage t.shown
   pub runs : Runs mode old new status
 
+-- the calls of its session, if it is one
+abbrev pub calls_made : (t n : Told) → Word t n → Option CallsMade
+calls_made t n word = calls_in word.mode t word.old word.new word.status (word.runs t word.from word.whole)
+
 abbrev pub sessions_in : Extent → (t n : Told) → Word t n → List Chapter
-sessions_in extent t n word = chapters_in extent word.mode t word.old word.new word.status (word.runs t word.from word.whole)
+sessions_in extent t n word = chapters_of extent t.shown (calls_made t n word)
 
 -- the word `format`
 pub record FormatWord (layout : Layout) (cluster : ℕ) (t n : Told) (status : Status) : Type 0 where
@@ -141,9 +156,10 @@ pub data Life (file : DataFile) : Told → List Chapter → Type 0 where
       → Held (shape file) ((format file).unit_at (changed changes (now m.log))) (first_view file.layout file.cluster) → Life file (did (Stop changes) m) []
   -- then a word was run to its end, whatever its status; what was shown as it began did not come about by chance
   Ran : (t n : Told) (chapters : List Chapter) (word : Word t n) → Life file t chapters → NoChanceOf (format file) t.log (now t.log) → Life file n (sessions_in ToItsEnd t n word ++ chapters)
-  -- or the program was ended at a moment of it, before or within any call of the disk, and the disk goes on telling what was done up to there
-  Ended : (t n m : Told) (chapters : List Chapter) (word : Word t n) → Life file t chapters → NoChanceOf (format file) t.log (now t.log) → IsMoment t.log n.log m.log → IsHonest m
-      → Life file m (sessions_in ToAMoment t n word ++ chapters)
+  -- or the program was ended at a moment of it, before or within any call of the disk, when so many of its calls were answered, and the disk goes on telling
+  -- what was done up to there
+  Ended : (t n m : Told) (chapters : List Chapter) (word : Word t n) (answered : ℕ) → Life file t chapters → NoChanceOf (format file) t.log (now t.log) → IsMoment t.log n.log m.log → IsHonest m
+      → HaveAnswers answered m.log (calls_made t n word) → Life file m (sessions_in (ToAMoment answered) t n word ++ chapters)
   -- or the word `format` was run over it again, whatever its status
   Formatted : (t n : Told) (chapters : List Chapter) (layout : Layout) (cluster : ℕ) (status : Status) → Life file t chapters → NoChanceOf (format file) t.log (now t.log)
       → FormatWord layout cluster t n status → Life file n chapters

@@ -14,6 +14,7 @@ mod ScrubTurns
 mod Checks
 mod Tours
 mod Kept
+mod Acknowledged
 mod Served
 mod Reported
 mod OneReport

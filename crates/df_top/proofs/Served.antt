@@ -16,9 +16,10 @@ use Rattle.df_state.specs.State.{State as Replica, shape}
 use Rattle.df_recovery.specs.Surveys.{IsOpened}
 use Rattle.df_replica.specs.Following.{MayOpen}
 use Rattle.df_replica.specs.Opened.{StopsOpening, ToldBy}
-use Rattle.df_replica.specs.Serving.{Firm, Grade, IsGoodFor, IsKept, StandsFor, format}
+use Rattle.df_replica.specs.Serving.{Firm, Grade, IsGoodFor, IsKept, Keeps, StandsFor, format}
 use Rattle.df_replica.specs.Surveying.{TellsSurvey}
 use Rattle.df_replica.proofs.Laws.{found_keeps}
+use Rattle.df_top.specs.Acknowledging.{script_calls}
 use Rattle.df_top.specs.Opening.{FailsToOpen, RefusesFile}
 use Rattle.df_top.specs.Outside.{Outside}
 use Rattle.df_top.specs.Refusing.{PrintsError}
@@ -29,6 +30,7 @@ use Rattle.df_top.specs.Session.{Ended, EndsCalls, EndsWith, State, act_of, stat
 use Rattle.df_top.specs.declared.session.Session.{Session}
 use Rattle.df_top.specs.declared.status.Status.{Status}
 use Rattle.df_top.specs.declared.status.Status.TheVariants.{Refused}
+use Rattle.df_top.proofs.Acknowledged.{keeps_answered}
 use Rattle.df_top.proofs.Kept.{answers_alone, ends_told, goes_told, keeps_file}
 
 -- ---- a session that was just opened
@@ -112,6 +114,10 @@ module _ (layout : Layout) (t : Told) (old new : Outside) (status : Status) (s :
         let calls = subst (λ (o : Option Told). EndsCalls s last.replica (Some n) o (all_acts ended.turns) (all_answers ended.turns) (act_of ended.failing)) last_told (subst (λ (o : Option Told). EndsCalls s last.replica o last.outside.told (all_acts ended.turns) (all_answers ended.turns) (act_of ended.failing)) goes.1 ended.calls) in
         keeps_file g s (opened (shape s.file) (unit_at s.file.layout s.file.cluster t.shown) view) t n live (kept_for n goes.1 g view may stands) (goes.2.honest (record { shows = may.honest.shows })) goes.2.grew
         (good n goes.1 g view may stands) last.replica new.told (all_acts ended.turns) (all_answers ended.turns) (act_of ended.failing) calls;
+    acknowledged = λ g view may stands.
+        let goes = goes_told (did Sync t) mended synced in
+        let w = opened (shape s.file) (unit_at s.file.layout s.file.cluster t.shown) view in
+        keeps_answered s.file g w (script_calls ended) refl live (subst (λ (o : Option Told). Keeps g s w o) (sym goes.1) (kept_for goes.0 goes.1 g view may stands));
     undamaged = undamaged;
   }
 

@@ -18,12 +18,13 @@ use Rattle.df_model.specs.Work.{opened}
 use Rattle.df_recovery.specs.Surveys.{IsOpened}
 use Rattle.df_replica.specs.Following.{MayOpen}
 use Rattle.df_replica.specs.Opened.{ToldBy}
-use Rattle.df_replica.specs.Serving.{Firm, Grade, IsGoodFor, IsKept, StandsFor, format}
+use Rattle.df_replica.specs.Serving.{Firm, Grade, IsGoodFor, IsKept, Keeps, StandsFor, format}
 use Rattle.df_replica.specs.Session.{Act}
 use Rattle.df_replica.proofs.Laws.{found_keeps}
 use Rattle.df_state.specs.State.{State as Replica, shape}
 use Rattle.df_workload.specs.Rounds.{start}
 use Rattle.df_workload.specs.declared.state.State.{State as Run}
+use Rattle.df_top.specs.Acknowledging.{run_calls}
 use Rattle.df_top.specs.Outside.{Blames, HasCauses, Outside, PrintsLine}
 use Rattle.df_top.specs.Session.{EndsCalls}
 use Rattle.df_top.specs.Working.{WorksThrough}
@@ -33,6 +34,7 @@ use Rattle.df_top.specs.declared.works.Fault.TheVariants.{Disk, Damaged}
 use Rattle.df_top.specs.declared.status.Status.{Status}
 use Rattle.df_top.specs.declared.status.Status.TheVariants.{Done, Words, Refused, DiskFault, ReadFault, WriteFault, Memory}
 use Rattle.df_top.proofs.Causes.{calm_done, calm_refused, disk_blame, line_ends, never_printed, no_blame}
+use Rattle.df_top.proofs.Acknowledged.{keeps_answered}
 use Rattle.df_top.proofs.Kept.{answers_alone, ends_told, goes_told, keeps_file}
 use Rattle.df_top.proofs.Runs.{EndsRun}
 
@@ -144,5 +146,9 @@ module _ (seed count : ℕ) (layout : Layout) (t : Told) (old new : Outside) (st
         let calls = subst (λ (o : Option Told). EndsCalls s last o new.told ended.worked.acts ended.worked.answers ended.worked.failed) goes.1 ended.worked.calls in
         keeps_file g s (opened (shape s.file) (unit_at s.file.layout s.file.cluster t.shown) view) t n live (kept_for n goes.1 g view may stands) (goes.2.honest (record { shows = may.honest.shows })) goes.2.grew
         (good n goes.1 g view may stands) last new.told ended.worked.acts ended.worked.answers ended.worked.failed calls;
+    acknowledged = λ g view may stands.
+        let goes = goes_told (did Sync t) mended synced in
+        let w = opened (shape s.file) (unit_at s.file.layout s.file.cluster t.shown) view in
+        keeps_answered s.file g w (run_calls ended.worked) refl live (subst (λ (o : Option Told). Keeps g s w o) (sym goes.1) (kept_for goes.0 goes.1 g view may stands));
     undamaged = undamaged;
   }

@@ -10,6 +10,7 @@ pub mod Refusing
 pub mod Opening
 pub mod Keeping
 pub mod Works
+pub mod Acknowledging
 pub mod Working
 pub mod Reporting
 pub mod Scrubs

@@ -19,6 +19,7 @@ use Rattle.df_replica.specs.Following.{MayOpen}
 use Rattle.df_replica.specs.Opened.{ToldBy}
 use Rattle.df_replica.specs.Serving.{Grade, StandsFor}
 use Rattle.df_replica.specs.Session.{answers_of}
+use Rattle.df_top.specs.Acknowledging.{KeepsAnswered, script_calls}
 use Rattle.df_top.specs.Keeping.{KeepsFile}
 use Rattle.df_top.specs.Opening.{FailsToOpen, IsSilent, PrintsRefusal, RefusesFile}
 use Rattle.df_top.specs.Outside.{Outside}
@@ -48,8 +49,8 @@ abbrev pub start : (told : Option Told) → Outside → Replica → State
 start told old replica = record { outside = record { told = told; left = old.left; written = old.written }; text = old.left; budget = script_budget; lines = 0; replica = replica }
 
 -- the file that the disk shows is opened, and the script is served: what is answered is what the machine answers from the state that is found, on whatever
--- image; and over an honest disk whose log is safe, all that was answered is kept. No step finds the superblock damaged that it wrote, since the disk tells what
--- it shows. Between the barrier and the first call what the disk tells changed by events alone.
+-- image; and over an honest disk whose log is safe, all that was answered is kept, at the end and at each moment from its answer on. No step finds the
+-- superblock damaged that it wrote, since the disk tells what it shows. Between the barrier and the first call what the disk tells changed by events alone.
 pub record ServesScript (layout : Layout) (t : Told) (old new : Outside) (status : Status) : Type 0 where
   pub replica : Replica
   pub is_opened : IsOpened layout t.shown replica
@@ -62,6 +63,8 @@ pub record ServesScript (layout : Layout) (t : Told) (old new : Outside) (status
       → all_answers session.turns ≡ answers_of replica.file (opened (shape replica.file) (unit_at replica.file.layout replica.file.cluster t.shown) view) (all_acts session.turns)
   pub keeps : (g : Grade) (view : View) → MayOpen replica.file view t → StandsFor g (unit_at replica.file.layout replica.file.cluster t.shown) view
       → KeepsFile replica.file g (opened (shape replica.file) (unit_at replica.file.layout replica.file.cluster t.shown) view) t (all_acts session.turns) (all_answers session.turns) (act_of session.failing) new.told
+  pub acknowledged : (g : Grade) (view : View) → MayOpen replica.file view t → StandsFor g (unit_at replica.file.layout replica.file.cluster t.shown) view
+      → KeepsAnswered replica.file g (opened (shape replica.file) (unit_at replica.file.layout replica.file.cluster t.shown) view) (script_calls session)
   pub undamaged : status ≡ Refused → ⊥
 
 -- ---- any word

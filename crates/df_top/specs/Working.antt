@@ -13,6 +13,7 @@ use Rattle.df_replica.specs.Serving.{Grade, StandsFor}
 use Rattle.df_replica.specs.Session.{answers_of}
 use Rattle.df_workload.specs.Rounds.{start}
 use Rattle.df_workload.specs.declared.state.State.{State as Run}
+use Rattle.df_top.specs.Acknowledging.{KeepsAnswered, run_calls}
 use Rattle.df_top.specs.Keeping.{KeepsFile}
 use Rattle.df_top.specs.Outside.{Outside}
 use Rattle.df_top.specs.Works.{Worked, Writes}
@@ -20,8 +21,8 @@ use Rattle.df_top.specs.declared.status.Status.{Status}
 use Rattle.df_top.specs.declared.status.Status.TheVariants.{Refused}
 
 -- The file that the disk shows is opened, and the run is carried out: what is answered is what the machine answers from the state that is found, on whatever
--- image; and over an honest disk whose log is safe, all that was answered is kept. No step finds the superblock damaged that it wrote, since the disk tells what
--- it shows.
+-- image; and over an honest disk whose log is safe, all that was answered is kept, at the end and at each moment from its answer on. No step finds the
+-- superblock damaged that it wrote, since the disk tells what it shows.
 pub record WorksThrough (seed count : ℕ) (layout : Layout) (t : Told) (old new : Outside) (status : Status) : Type 0 where
   pub replica : Replica
   pub is_opened : IsOpened layout t.shown replica
@@ -35,4 +36,6 @@ pub record WorksThrough (seed count : ℕ) (layout : Layout) (t : Told) (old new
       → worked.answers ≡ answers_of replica.file (opened (shape replica.file) (unit_at replica.file.layout replica.file.cluster t.shown) view) worked.acts
   pub keeps : (g : Grade) (view : View) → MayOpen replica.file view t → StandsFor g (unit_at replica.file.layout replica.file.cluster t.shown) view
       → KeepsFile replica.file g (opened (shape replica.file) (unit_at replica.file.layout replica.file.cluster t.shown) view) t worked.acts worked.answers worked.failed new.told
+  pub acknowledged : (g : Grade) (view : View) → MayOpen replica.file view t → StandsFor g (unit_at replica.file.layout replica.file.cluster t.shown) view
+      → KeepsAnswered replica.file g (opened (shape replica.file) (unit_at replica.file.layout replica.file.cluster t.shown) view) (run_calls worked)
   pub undamaged : status ≡ Refused → ⊥
