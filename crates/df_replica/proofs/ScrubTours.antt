@@ -21,6 +21,7 @@ use Rattle.df_replica.specs.Answering.{ServesTour}
 use Rattle.df_replica.specs.Reading.{shown_of}
 use Rattle.df_replica.specs.Scrubbing.{TellsTour, at_start, toured, work_toured}
 use Rattle.df_replica.specs.Serving.{Firm, Grade, Keeps, KeptFor, Whole, format}
+use Rattle.df_replica.specs.WrittenFor.{WritesOn}
 
 newest_few : (fs : List Finding) → length (newest fs) ≤ 64
 newest_few fs = omega (arith, length-drop (length fs - 64) fs)
@@ -77,6 +78,11 @@ keeps_behind s (Some t) list g w k = record {
   ring = k.ring;
 }
 
+-- what was written of the state was of the one behind the tour
+written_behind : (s : State) (told : Option Told) (list : List Finding) (w : Work) → WritesOn s.file told told w (work_toured w list)
+written_behind s None list w was = tt
+written_behind s (Some t) list w was = record { view = was.view; trailer = was.trailer }
+
 -- ---- the machine's tour
 
 tells : (s : State) (told : Option Told) → TellsTour s told
@@ -86,7 +92,7 @@ tells s (Some t) = λ codec w work rep.
     (tour_law (shape s.file) codec (shown_of s.file t.shown) (at_start w) refl work.few)
 
 pub tour_serves : (s : State) (told : Option Told) (list : List Finding) → ServesTour s told list
-tour_serves s told list = record { machine = tells s told; keeps = keeps_behind s told list }
+tour_serves s told list = record { machine = tells s told; keeps = keeps_behind s told list; written = written_behind s told list }
 
 -- ---- how many there are
 

@@ -33,6 +33,7 @@ use Rattle.df_state.specs.State.{State}
 use Rattle.df_replica.specs.Scrubbing.{TellsTour, toured, work_toured}
 use Rattle.df_replica.specs.Serving.{Grade, IsCall, Keeps}
 use Rattle.df_replica.specs.Supply.{IsSupplied}
+use Rattle.df_replica.specs.WrittenFor.{WritesOn}
 
 -- the machine's answer of an append; at a fault of the disk there is none
 abbrev pub append_answer : Result Receipt AppendError → Option Answer
@@ -116,7 +117,8 @@ GivesVerdict told result given = Unit {0}
 abbrev pub ServesScrub : (s t : State) → Option Told → Result Scrubbed Failed → Type 0
 ServesScrub s t told result = (given : Given) → IsSupplied s told Scrub given → GivesVerdict told result given → IsCall given Scrub s t told told (scrub_answer result)
 
--- a whole tour that listed these is checks of the machine's alone, from its start to its end, and what is kept of the file goes on from there
+-- a whole tour that listed these is checks of the machine's alone, from its start to its end; what is kept of the file goes on from there, and so does what was written
 pub record ServesTour (s : State) (told : Option Told) (list : List Finding) : Type 0 where
   pub machine : TellsTour s told
   pub keeps : (g : Grade) (w : Work) → Keeps g s w told → Keeps g (toured s list) (work_toured w list) told
+  pub written : (w : Work) → WritesOn s.file told told w (work_toured w list)
