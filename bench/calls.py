@@ -1,0 +1,124 @@
+"""What each line of a script asks of the device, counted by strace: writes, syncs, reads, bytes, and takes of memory.
+
+The calls are compared with the model's: each write at its place and of its length, each sync and each answer in the model's order.
+"""
+
+import os
+import tempfile
+from collections import defaultdict
+
+from common import CLUSTER, Ground, appends, begin, blocks, digits, done, join, most_blocks, sectors_of, show, trailer_of, working
+from tries import form, script
+from tries.binary import Binary, expect, has_strace
+from tries.form import SECTOR
+from tries.words import layout_of
+
+MEMORY = ("brk", "mmap")
+CALL_OF_EVENT = {"write": "pwrite64", "sync": "fdatasync", "answer": "write"}
+SIZES = {"small": (0, 128, 3840, 7936), "large": (65280, 1048320)}
+BLOCKS = {"small": (0, 128, 3840, 16128), "large": (65280, 524032)}
+HEAD = ["line", "body", "lines", "writes", "syncs", "reads of the file", "bytes written", "sectors that no unit covers, in all",
+        "takes of memory, in all", "reads of the script, in all"]
+
+
+def parts_of(bench, word: str) -> list:
+    """Scripts that together have each line, each for a file of its own."""
+    layout, random = layout_of(word), bench.random
+    count = min(32, layout.slots)
+    parts = [appends(random, range(1, count + 1), size, replies=min(size, 128)).lines for size in SIZES[word]]
+    for size in BLOCKS[word]:
+        number = min(16, most_blocks(layout, 0))
+        trailer = trailer_of(layout, 0, number)
+        reads = b"".join(b"read %d\n" % address for address in range(1, number + 1)) + b"scrub\n" * number
+        parts.append(join(blocks(random, number, size), begin(trailer), working(trailer), done()).lines + reads + b"release 1\n")
+    body = digits(random.randbytes(128))
+    parts.append(b"append 1 1 %s\nreply 1 %s\nprepare 1\nlookup 1\n" % (body, body))
+    return parts
+
+
+def uncovered(layout: form.Layout, event) -> int:
+    """The sectors of a write that neither a unit, sixteen headers nor a copy of the superblock covers."""
+    if event.at < layout.first():
+        return len(event.data) // SECTOR - 1
+    size = int.from_bytes(event.data[112:116], "little")
+    return (len(event.data) - sectors_of(size - form.HEADER)) // SECTOR
+
+
+def kind_of(line: bytes, answer: bytes) -> tuple:
+    """The words of a row: what the line is, and the bytes of its body."""
+    word, *rest = line.split()
+    if word == b"step":
+        return ("step, answered working" if answer.startswith(b"working") else "step, the last"), 0
+    has_body = word in (b"append", b"reply", b"block", b"checkpoint")
+    return word.decode(), len(rest[-1]) // 2 if has_body else 0
+
+
+def lines_of(calls: list) -> list:
+    """The calls of each line: those up to its answer. What comes behind the last answer goes with it."""
+    found, now = [], []
+    for call in calls:
+        now.append(call)
+        if call.name == "write" and call.fd == 1:
+            found.append(now)
+            now = []
+    found[-1] += now
+    return found
+
+
+def traced(bench, ground: Ground, word: str, text: bytes) -> list:
+    """The events and the calls of each line of a script, the first one left out: memory may be taken up to its end."""
+    layout, binary = layout_of(word), Binary(bench.program, ground.folder)
+    binary.put(script.make(None, form.Home(layout, CLUSTER)).data)
+    wanted, (result, calls) = script.run(binary.get(), text), binary.trace(text)
+    expect("the answers", wanted.text, result.text)
+    calls = calls[next(at for at, call in enumerate(calls) if call.name == "read" and call.fd == 0) :]
+    # The model's first event is the sync of the open.
+    events = wanted.events[1:]
+    made = [call for call in calls if call.name in CALL_OF_EVENT.values()]
+    expect("writes, syncs and answers in their order", [CALL_OF_EVENT[event.kind] for event in events], [call.name for call in made])
+    pairs = [(event, call) for event, call in zip(events, made) if event.kind == "write"]
+    expect("the writes", [(len(event.data), event.at) for event, _ in pairs], [tuple(map(int, call.args[-2:])) for _, call in pairs])
+    lost = {id(call): uncovered(layout, event) for event, call in pairs}
+    rows = zip(text.splitlines(), result.text.splitlines(), lines_of(calls))
+    return [(kind_of(line, answer), mine, sum(lost.get(id(call), 0) for call in mine)) for line, answer, mine in rows]
+
+
+def named(calls: list, *names: str) -> list:
+    return [call for call in calls if call.name in names]
+
+
+def row_of(kind: tuple, lines: list) -> list:
+    """One row of the table. `lines` has for each line its calls and the sectors that no unit covers."""
+    calls, count = [call for mine, _ in lines for call in mine], len(lines)
+    writes = named(calls, "pwrite64")
+
+    def each(number: int) -> str:
+        return f"{number / count:,.10g}"
+
+    known = {"pwrite64", "fdatasync", "fsync", "pread64", "write", "read", *MEMORY}
+    others = sorted({call.name for call in calls} - known - {"close"})
+    expect("no other calls", [], others)
+    return [
+        *kind, count, each(len(writes)), each(len(named(calls, "fdatasync", "fsync"))), each(len(named(calls, "pread64"))),
+        each(sum(int(call.args[-2]) for call in writes)), sum(lost for _, lost in lines), len(named(calls, *MEMORY)),
+        len([call for call in named(calls, "read") if call.fd == 0]),
+    ]
+
+
+def show_calls(bench, folder: str) -> None:
+    """The table of each layout."""
+    if not has_strace():
+        print("\nstrace isn't installed: the calls aren't counted")
+        return
+    order = ["append", "reply", "block", "step, answered working", "step, the last", "checkpoint", "release", "prepare", "lookup", "read",
+             "scrub"]
+    for word in SIZES:
+        seen = defaultdict(list)
+        with tempfile.TemporaryDirectory(dir=folder) as inner:
+            ground = Ground("", os.path.realpath(inner), False)
+            for text in parts_of(bench, word):
+                # The first line of each script isn't counted: it may take memory, of which later lines take none.
+                for kind, mine, lost in traced(bench, ground, word, text)[1:]:
+                    seen[kind].append((mine, lost))
+        kinds = sorted(seen, key=lambda kind: (order.index(kind[0]), kind[1]))
+        show(f"Calls a line, layout `{word}`", HEAD, [row_of(kind, seen[kind]) for kind in kinds])

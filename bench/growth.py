@@ -1,0 +1,77 @@
+"""How costs grow: of an append with the ring, of a checkpoint's step with the grid, and of an open with both.
+
+Instructions are counted by valgrind, so they are exact: those of a run less those of the same run without what is looked at. The
+processor's times beside them are medians of the rounds.
+"""
+
+from common import (
+    Bench, Ground, Script, appends, begin, blocks, done, join, most_blocks, put, run, show, trailer_of, with_quartiles, working,
+)
+from tools import has_valgrind, instructions
+from tries.form import Layout
+
+RINGS = (16, 32, 64, 128, 256, 512, 1024)
+GRIDS = (8, 32, 128, 512, 2048, 8192, 16384)
+
+
+class Growing:
+    """Runs over a fresh file each, of one layout: their instructions, and their processor time in each round."""
+
+    def __init__(self, bench: Bench, ground: Ground, layout: Layout, scripts: dict):
+        self.bench, self.ground, self.layout, self.scripts = bench, ground, layout, scripts
+        self.counts = {name: self.count(script) for name, script in scripts.items()}
+        fresh = {name: self.timed(script) for name, script in scripts.items()}
+        self.times = bench.rounds_of(fresh)
+
+    def count(self, script: Script) -> int:
+        path = self.bench.make(self.ground, self.layout)
+        return instructions([self.bench.program, path, "run"], put(self.ground, "script", script.lines))
+
+    def timed(self, script: Script):
+        return lambda: self.bench.fill(self.ground, self.bench.make(self.ground, self.layout), [script])
+
+    def each(self, what: str, without: str, number: int) -> list:
+        """What each of `number` lines costs that one run has and the other hasn't: instructions, and microseconds."""
+        spent = [(one.processor - two.processor) / number * 1e6 for one, two in zip(self.times[what], self.times[without])]
+        return [round((self.counts[what] - self.counts[without]) / number), with_quartiles(spent)]
+
+
+def opened(bench: Bench, ground: Ground, layout: Layout, script: Script) -> list:
+    """What an open of the file costs that a script leaves: instructions, and microseconds; the program's start isn't counted."""
+    path = bench.make(ground, layout)
+    bench.fill(ground, path, [script])
+    program, start = [bench.program, path, "run"], [bench.program, path, "run", "walk"]
+    count = instructions(program) - instructions(start)
+    seen = bench.rounds_of({"open": lambda: run(program), "start": lambda: run(start, wanted=None, status=2)})
+    spent = [(one.processor - two.processor) * 1e6 for one, two in zip(seen["open"], seen["start"])]
+    return [count, with_quartiles(spent, 0)]
+
+
+def show_growth(bench: Bench, ground: Ground) -> None:
+    """The three tables."""
+    if not has_valgrind():
+        print("\nvalgrind isn't installed: growth isn't counted")
+        return
+    of_ring, of_grid, open_ring, open_grid = [], [], [], []
+    for slots in RINGS:
+        layout = Layout(slots, 4096, 4, 4096, 8)
+        script = appends(bench.random, range(1, slots + 1), 128)
+        growing = Growing(bench, ground, layout, {"appends": script, "none": Script(b"", b"")})
+        of_ring.append([slots, *growing.each("appends", "none", slots)])
+        open_ring.append([slots, *opened(bench, ground, layout, script)])
+    for count in GRIDS:
+        layout = Layout(16, 4096, 1, 4096, count)
+        live = most_blocks(layout, 0)
+        trailer = trailer_of(layout, 0, live)
+        parts = [blocks(bench.random, live, 0), begin(trailer), working(trailer), done()]
+        runs = {name: join(*parts[:upto]) for upto, name in enumerate(("blocks", "begun", "worked", "done"), 1)}
+        growing = Growing(bench, ground, layout, runs | {"none": Script(b"", b"")})
+        of_grid.append([count, live, trailer, *growing.each("blocks", "none", live), *growing.each("begun", "blocks", 1),
+                        *growing.each("worked", "begun", trailer), *growing.each("done", "worked", 1)])
+        open_grid.append([count, live, trailer, *opened(bench, ground, layout, runs["done"])])
+    title = f"in memory, instructions and microseconds of the processor, {bench.rounds} rounds"
+    show(f"An append of 128 bytes and its reply by ring, {title}", ["slots", "instructions", "us"], of_ring)
+    show(f"A full grid, {title}", ["blocks", "live", "trailer blocks", "a block", "us", "a begin", "us", "a step, answered working", "us",
+         "the last step", "us"], of_grid)
+    show(f"An open of a full ring, {title}", ["slots", "instructions", "us"], open_ring)
+    show(f"An open of a checkpoint of a full grid, {title}", ["blocks", "live", "trailer blocks", "instructions", "us"], open_grid)

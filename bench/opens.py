@@ -1,0 +1,169 @@
+"""What an open and a tour of the scrubber cost over full files, against reading the same bytes and hashing the units in use.
+
+The yardstick reads each place once, as far as the program reads it, and hashes each unit that stands there, its header and its body.
+"""
+
+import os
+import subprocess
+from typing import NamedTuple
+
+from common import (
+    Bench, Ground, appends, begin, block_at, blocks, done, forget, most_blocks, on_file, prepare_at, quartiles, reply_at, run, show,
+    trailer_of, with_quartiles, working,
+)
+from tries import form
+from tries.binary import Binary, expect, has_strace
+from tries.form import COPIES, HEADERS, SECTOR, Layout
+from yardstick import hashed, plan, read, unit
+
+
+class Case(NamedTuple):
+    """A file: its layout, how many appends with bodies of one size it has, and how many blocks behind its checkpoint."""
+
+    name: str
+    layout: Layout
+    count: int
+    size: int
+    blocks: int
+
+    def trailer(self) -> int:
+        return trailer_of(self.layout, 0, self.blocks)
+
+
+def full(name: str, layout: Layout) -> Case:
+    """Each slot, each reply slot and each block is in use, as far as it goes."""
+    return Case(name, layout, layout.slots, layout.body_max(), most_blocks(layout, 0))
+
+
+MIDDLE = Layout(256, 262144, 64, 262144, 704)
+CASES = (
+    full("`small`, full", form.SMALL), full("256 MiB, full", MIDDLE),
+    Case("`large`, 1,000 short prepares", form.LARGE, 1000, 128, 64),
+    Case("`large`, 1,000 prepares of 1 MiB", form.LARGE, 1000, form.LARGE.body_max(), 64),
+)
+
+
+def scripts_of(bench: Bench, case: Case):
+    """A checkpoint of the blocks, then the appends, each with its reply; the last ones fill the reply slots."""
+    layout, random = case.layout, bench.random
+    yield from (blocks(random, case.blocks, layout.block_max()), begin(case.trailer()), working(case.trailer()), done())
+    for op in range(1, case.count + 1):
+        yield appends(random, range(op, op + 1), case.size, layout.clients, case.size if op + layout.clients > case.count else 0)
+
+
+def made(bench: Bench, case: Case, grounds: list) -> list:
+    """The file on each ground: it is made on the first one, and copied with its holes."""
+    first = bench.make(grounds[0], case.layout)
+    bench.fill(grounds[0], first, scripts_of(bench, case))
+    os.unlink(grounds[0].path("script"))
+    for ground in grounds[1:]:
+        subprocess.run(["cp", "--sparse=always", first, ground.path("file")], check=True)
+    return [ground.path("file") for ground in grounds]
+
+
+def zones(case: Case, words: str) -> dict:
+    """The units that an open has to look at, with their offsets and lengths; those of the grid that a tour reads behind it."""
+    layout, last = case.layout, case.blocks + case.trailer()
+    trailer = range(case.blocks + 1, last + 1)
+    found = {
+        "copies of the superblock": [(SECTOR * copy, SECTOR) for copy in range(COPIES)],
+        "sectors of headers": [(layout.header_sector(slot), SECTOR) for slot in range(0, layout.slots, HEADERS)],
+        "prepares": [prepare_at(layout, slot) for slot in range(layout.slots)],
+        "replies": [reply_at(layout, place) for place in range(layout.clients)],
+        "trailer blocks": [block_at(layout, address) for address in trailer],
+    }
+    if words == "scrub":
+        found["blocks of the tour"] = [block_at(layout, address) for address in range(1, last + 1)]
+    return found
+
+
+def hashes(zone: str, place: bytes) -> list:
+    """The hashes of what a place has."""
+    if zone == "copies of the superblock":
+        return [hashed(32, SECTOR - 32)]
+    if zone == "sectors of headers":
+        return [hashed(at + 16, 240) for at in range(0, SECTOR, form.HEADER)]
+    size = int.from_bytes(place[112:116], "little")
+    return unit(size - form.HEADER) if size else []
+
+
+def steps_of(case: Case, path: str, words: str) -> list:
+    """The yardstick's plan: each place once, and the units that stand there."""
+    steps = []
+    with open(path, "rb") as file:
+        for zone, places in zones(case, words).items():
+            for at, length in places:
+                steps += [read(at, length), *hashes(zone, os.pread(file.fileno(), form.HEADER, at))]
+    return steps
+
+
+def reads_of(bench: Bench, ground: Ground, case: Case, path: str) -> list:
+    """Rows of the table of reads: for each zone its units, and the reads of an open."""
+    binary = Binary(bench.program, ground.folder)
+    binary.path = path
+    result, calls = binary.trace(b"", words=("recover",))
+    expect("the open", 0, result.status)
+    offsets = [int(call.args[-1]) for call in on_file(path, calls) if call.name == "pread64"]
+    rows, left = [], len(offsets)
+    for zone, places in zones(case, "recover").items():
+        # A place at the file's end takes one read more, which finds that nothing follows.
+        reads = sum(at <= offset < at + length for offset in offsets for at, length in places)
+        left -= reads
+        rows.append([case.name, zone, len(places), reads, f"{reads / len(places):.10g}"])
+    expect("no other reads", 0, left)
+    return rows
+
+
+def behind(seen: dict, what: str, start: str, by: str) -> list:
+    """Milliseconds of each round that a run took behind its start."""
+    least = quartiles([getattr(one, by) for one in seen[start]])[0]
+    return [(getattr(one, by) - least) * 1e3 for one in seen[what]]
+
+
+def rows_of(bench: Bench, ground: Ground, case: Case, path: str) -> list:
+    """Two rows of the table of times."""
+    rows = []
+    plan(ground, "plan-nothing", [])
+
+    def nothing():
+        return bench.yardstick.run(ground, path, "plan-nothing")
+
+    for words in ("recover", "scrub"):
+        plan(ground, "plan-" + words, steps_of(case, path, words))
+
+        def program():
+            forget(ground, path)
+            return run([bench.program, path, words], wanted=None)
+
+        def alone():
+            forget(ground, path)
+            return bench.yardstick.run(ground, path, "plan-" + words)
+
+        seen = bench.rounds_of({"program": program, "alone": alone, "start": lambda: bench.start(ground),
+                                 "nothing": nothing})
+        cells = []
+        for by in ("processor", "clock"):
+            both = behind(seen, "program", "start", by), behind(seen, "alone", "nothing", by)
+            cells += [f"{quartiles(values)[0]:,.2f}" for values in both]
+            cells.append(with_quartiles([one / two for one, two in zip(*both)], 3))
+        memory = max(one.memory for one in seen["program"])
+        rows.append([case.name, words, *cells, memory])
+    return rows
+
+
+def show_opens(bench: Bench, grounds: list) -> None:
+    """The reads of an open, and a table of times for each ground."""
+    reads: list = []
+    rows: dict = {ground.name: [] for ground in grounds}
+    for case in CASES:
+        paths = made(bench, case, grounds)
+        if has_strace():
+            reads += reads_of(bench, grounds[0], case, paths[0])
+        for ground, path in zip(grounds, paths):
+            rows[ground.name] += rows_of(bench, ground, case, path)
+        for path in paths:
+            os.unlink(path)
+    show("Reads of an open", ["file", "what", "units", "reads", "reads a unit"], reads)
+    for name, found in rows.items():
+        show(f"An open (`recover`), and one with a tour (`scrub`), {name}, {bench.rounds} rounds; times in milliseconds",
+             ["file", "word", "program, processor", "yardstick", "ratio", "program, clock", "yardstick", "ratio", "KB at most"], found)

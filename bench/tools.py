@@ -1,0 +1,60 @@
+"""What tools count of a run: instructions and copied bytes by valgrind, and by perf's samples where its processor time goes."""
+
+import os
+import re
+import shutil
+import subprocess
+import tempfile
+
+from common import show
+
+LINE = re.compile(r"^\s*(\d+\.\d+)%\s+\[(.)\]\s+(.*?)\s*$")
+COLLECTED = re.compile(r"Collected : (\d+)")
+COPIED = re.compile(r"Total: +([\d,]+) bytes")
+CALLGRIND = ["--tool=callgrind", "--callgrind-out-file=/dev/null"]
+COPIES = ["--tool=dhat", "--mode=copy", "--dhat-out-file=/dev/null"]
+
+
+def counted(tool: list, total: re.Pattern, command: list, source: str) -> int:
+    """A total that a tool of valgrind tells at the end of a run."""
+    with open(source, "rb") as stdin:
+        ended = subprocess.run(["valgrind", *tool, *command], stdin=stdin, capture_output=True, text=True, check=False)
+    found = total.search(ended.stderr)
+    if found is None:
+        raise SystemExit(f"valgrind told no total: {command}\n{ended.stderr}")
+    return int(found[1].replace(",", ""))
+
+
+def instructions(command: list, source: str = os.devnull) -> int:
+    """The instructions of a run outside the kernel."""
+    return counted(CALLGRIND, COLLECTED, command, source)
+
+
+def copied(command: list, source: str = os.devnull) -> int:
+    """The bytes that the functions of the C library that copy and move memory copied in a run."""
+    return counted(COPIES, COPIED, command, source)
+
+
+def has_valgrind() -> bool:
+    return shutil.which("valgrind") is not None
+
+
+def show_profile(title: str, command: list, source: str, least: float = 1.0) -> None:
+    """The functions that take at least so many percent of the samples; those of the kernel as one."""
+    if shutil.which("perf") is None:
+        print(f"\n{title}: perf isn't installed")
+        return
+    with tempfile.TemporaryDirectory() as folder, open(source, "rb") as stdin:
+        data = os.path.join(folder, "samples")
+        record = ["perf", "record", "-q", "-e", "cpu-clock", "-c", "50000", "-o", data, "--", *command]
+        subprocess.run(record, stdin=stdin, stdout=subprocess.DEVNULL, stderr=subprocess.DEVNULL, check=True)
+        report = ["perf", "report", "--stdio", "-i", data, "--sort", "symbol"]
+        text = subprocess.run(report, capture_output=True, text=True, check=True).stdout
+    rows, kernel = [], 0.0
+    for match in filter(None, map(LINE.match, text.splitlines())):
+        share, mode, name = float(match[1]), match[2], match[3]
+        if mode == "k":
+            kernel += share
+        elif share >= least:
+            rows.append([f"`{name}`", f"{share:.1f}"])
+    show(title, ["function", "percent of the samples"], [*rows, ["the kernel", f"{kernel:.1f}"]])

@@ -1,0 +1,221 @@
+"""The yardstick: a small Rattle program that does device calls, hashes and hexadecimal digits of a plan, and nothing else.
+
+A `.rt` file of this repository has to stand in a crate that the gate proves, so the program stands here as text. It is built in a folder
+for temporary files by the kit's rt, like the program: proved safe, nothing said of what it does. It takes the kit's own sha2 and hex.
+"""
+
+import os
+import shutil
+import struct
+import subprocess
+import tempfile
+from typing import NamedTuple
+
+from common import Ground, Spent, put, run
+
+# Bytes of its room, and steps that it reads at once.
+ROOM, STEPS = 2**21, 256
+STEP = struct.Struct("<c7xQQ")
+SOURCE = r'''
+// Device calls, hashes and hexadecimal digits that a plan on standard input lists, and nothing else: `yardstick FILE`.
+#![tactic(auto)]
+
+use hex::decode_to_slice;
+use sha2::{Digest, Sha256};
+use std::env;
+use std::fs::{File, OpenFile, OpenOptions};
+use std::io::{self, ErrorKind, Read};
+use std::os::unix::fs::FileExt;
+
+/// The most bytes of one call, of one hash, and of the digits of one body.
+const ROOM: usize = 1 << 21;
+
+/// The bytes of a step: a letter in the first of eight, and two numbers.
+const STEP: usize = 24;
+
+/// How many steps are read at once.
+const STEPS: usize = 256;
+
+#[derive(Drop)]
+struct Rooms {
+    bytes: Vec<u8>,
+    body: Vec<u8>,
+}
+
+fn past() -> io::Error {
+    ErrorKind::InvalidData.into()
+}
+
+fn number(bytes: &[u8], at: usize) -> u64 {
+    let mut eight = [0u8; 8];
+    if let Some(part) = bytes.get(at..) {
+        if let Some(part) = part.get(..8) {
+            eight.copy_from_slice(part);
+        }
+    }
+    u64::from_le_bytes(eight)
+}
+
+fn part(bytes: &[u8], from: u64, length: u64) -> io::Result<&[u8]> {
+    let Some(rest) = bytes.get(from as usize..) else {
+        return Err(past());
+    };
+    let Some(part) = rest.get(..length as usize) else {
+        return Err(past());
+    };
+    Ok(part)
+}
+
+fn decode(rooms: &mut Rooms, from: u64, length: u64) -> io::Result<u8> {
+    let digits = part(&rooms.bytes, from, length)?;
+    let size = digits.len() / 2;
+    if size > rooms.body.len() {
+        return Err(past());
+    }
+    match decode_to_slice(digits, &mut rooms.body[..size]) {
+        Ok(()) => Ok(0),
+        Err(_) => Err(past()),
+    }
+}
+
+fn read(file: &File, into: &mut [u8], at: u64) -> io::Result<()> {
+    let mut done = 0;
+    for _ in 0..into.len() {
+        if done >= into.len() {
+            break;
+        }
+        let Some(from) = at.checked_add(done as u64) else {
+            return Err(past());
+        };
+        let count = file.read_at(&mut into[done..], from)?;
+        if count == 0 {
+            into[done..].fill(0);
+            return Ok(());
+        }
+        done += count;
+    }
+    Ok(())
+}
+
+fn read_room(file: &File, rooms: &mut Rooms, at: u64, length: u64) -> io::Result<u8> {
+    let size = length as usize;
+    if size > rooms.bytes.len() {
+        return Err(past());
+    }
+    read(file, &mut rooms.bytes[..size], at)?;
+    Ok(0)
+}
+
+fn act(file: &File, rooms: &mut Rooms, step: &[u8]) -> io::Result<u8> {
+    let first = number(step, 8);
+    let length = number(step, 16);
+    match step.first() {
+        Some(b'r') => read_room(file, rooms, first, length),
+        Some(b'w') => {
+            file.write_all_at(part(&rooms.bytes, 0, length)?, first)?;
+            Ok(0)
+        }
+        Some(b's') => {
+            file.sync_data()?;
+            Ok(0)
+        }
+        Some(b'h') => Ok(Sha256::digest(part(&rooms.bytes, first, length)?)[0]),
+        Some(b'd') => decode(rooms, first, length),
+        _ => Err(past()),
+    }
+}
+
+fn main(rt: HostRuntime) -> io::Result<()> {
+    let mut path = String::new(rt.alloc());
+    for word in env::args(&rt)?.skip(1) {
+        path = word;
+    }
+    let file = OpenOptions::new()
+        .read(true)
+        .write(true)
+        .create(true)
+        .open(&rt, path.as_str())?;
+    let mut input = rt.stdin();
+    let mut rooms = Rooms {
+        bytes: vec![in rt.alloc(); 0u8; ROOM]?,
+        body: vec![in rt.alloc(); 0u8; ROOM]?,
+    };
+    let mut plan = vec![in rt.alloc(); 0u8; STEP * STEPS]?;
+    let mut sum = 0u8;
+    for _ in 0..u64::MAX {
+        input.read_exact(&mut plan)?;
+        for step in plan.chunks_exact(STEP) {
+            if step.first() == Some(&b'e') {
+                println!(rt; "{sum}")?;
+                return Ok(());
+            }
+            sum ^= act(&file, &mut rooms, step)?;
+        }
+    }
+    Ok(())
+}
+'''
+
+
+def read(at: int, length: int) -> tuple:
+    """A read of the file into the front of the room, in one call unless the file ends within it."""
+    return b"r", at, length
+
+
+def write(at: int, length: int) -> tuple:
+    return b"w", at, length
+
+
+SYNC = (b"s", 0, 0)
+
+
+def hashed(start: int, length: int) -> tuple:
+    """The SHA-256 of a part of the room."""
+    return b"h", start, length
+
+
+def decoded(start: int, length: int) -> tuple:
+    """The bytes of so many digits in the room."""
+    return b"d", start, length
+
+
+def unit(size: int) -> list:
+    """Both hashes of a unit with a body of this size at the front of the room: of its header, and of the body."""
+    return [hashed(16, 240), hashed(256, size)]
+
+
+class Yardstick(NamedTuple):
+    """The built program."""
+
+    path: str
+
+    def run(self, ground: Ground, path: str, name: str) -> Spent:
+        """Does what a plan lists to a file."""
+        return run([self.path, path], ground.path(name), wanted=None)
+
+
+def plan(ground: Ground, name: str, steps: list) -> str:
+    """Writes a plan: the steps, and the one that ends it, up to a whole number of those that are read at once."""
+    data = b"".join(STEP.pack(*step) for step in [*steps, (b"e", 0, 0)])
+    return put(ground, name, data + bytes(-len(data) % (STEP.size * STEPS)))
+
+
+def build(folder: str) -> Yardstick:
+    """Proves and builds the program."""
+    rt = shutil.which("rt")
+    if rt is None:
+        raise SystemExit("the toolchain's rt isn't there: the yardstick can't be built")
+    root = tempfile.mkdtemp(dir=folder)
+    crate = os.path.join(root, "crates", "yardstick")
+    os.makedirs(os.path.join(crate, "src"))
+    os.mkdir(os.path.join(root, ".git"))
+    with open(os.path.join(root, "crates.txt"), "w", encoding="utf-8") as file:
+        file.write("yardstick: sha2 hex\n")
+    with open(os.path.join(crate, "src", "main.rt"), "w", encoding="utf-8") as file:
+        file.write(SOURCE.lstrip("\n"))
+    # The run that follows the build has no plan, and fails.
+    done = subprocess.run([rt, "run", "--", "none"], cwd=crate, capture_output=True, text=True, stdin=subprocess.DEVNULL)
+    built = os.path.join(crate, "out", "yardstick")
+    if not os.path.isfile(built):
+        raise SystemExit(f"the yardstick isn't built:\n{done.stdout}{done.stderr}")
+    return Yardstick(built)
