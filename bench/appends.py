@@ -7,6 +7,7 @@ from typing import NamedTuple
 
 from common import Bench, Ground, Script, appends, prepare_at, put, quartiles, reply_at, sectors_of, show, with_quartiles
 from tools import copied, has_valgrind, show_profile
+from tries.binary import Binary, has_strace
 from tries.form import SECTOR, Layout
 from yardstick import ROOM, SYNC, decoded, plan, read, unit, write
 
@@ -99,10 +100,18 @@ def rows_of(bench: Bench, ground: Ground, size: int) -> tuple:
     return spent, [size, case.count, *(f"{quartiles(values)[0]:,.0f}" for values in clock), ratio]
 
 
+def moved(bench: Bench, ground: Ground, case: Case) -> int:
+    """The bytes that are moved to the front of the buffer for lines: each read asks for what is free behind those that it holds."""
+    binary = Binary(bench.program, ground.folder)
+    binary.path = bench.make(ground, case.layout)
+    _, calls = binary.trace(case.script.lines)
+    return sum(case.layout.line_max() + 1 - int(call.args[-1]) for call in calls if call.name == "read" and call.fd == 0 and call.result)
+
+
 def show_copies(bench: Bench, ground: Ground) -> None:
     """What is copied in memory for each byte of a body, besides what the system calls and the decoding of digits copy."""
-    if not has_valgrind():
-        print("\nvalgrind isn't installed: the copies aren't counted")
+    if not (has_valgrind() and has_strace()):
+        print("\nvalgrind or strace isn't installed: the copies aren't counted")
         return
     rows = []
     for size in SIZES[1:]:
@@ -110,8 +119,10 @@ def show_copies(bench: Bench, ground: Ground) -> None:
         path = bench.make(ground, case.layout)
         least = copied([bench.program, path, "run"])
         number = copied([bench.program, path, "run"], put(ground, "script", case.script.lines)) - least
-        rows.append([size, case.count, round(number / case.count), f"{number / case.count / size:.3f}"])
-    show("Bytes that an append and its reply copy in memory", ["body", "appends", "bytes", "a byte of the body"], rows)
+        digits = moved(bench, ground, case) / case.count
+        rows.append([size, case.count, round(number / case.count), round(digits), f"{digits / size / 2:.3f}"])
+    show("Bytes that an append and its reply copy in memory", ["body", "appends", "bytes copied by the C library's functions",
+         "bytes of lines moved to the buffer's front", "of a body's digits"], rows)
 
 
 def show_profiles(bench: Bench, ground: Ground) -> None:

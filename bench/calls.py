@@ -14,7 +14,7 @@ from tries.form import SECTOR
 from tries.words import layout_of
 
 MEMORY = ("brk", "mmap")
-CALL_OF_EVENT = {"write": "pwrite64", "sync": "fdatasync", "answer": "write"}
+EVENT_OF_CALL = {"pwrite64": "write", "fdatasync": "sync", "write": "answer"}
 SIZES = {"small": (0, 128, 3840, 7936), "large": (65280, 1048320)}
 BLOCKS = {"small": (0, 128, 3840, 16128), "large": (65280, 524032)}
 HEAD = ["line", "body", "lines", "writes", "syncs", "reads of the file", "bytes written", "sectors that no unit covers, in all",
@@ -53,33 +53,43 @@ def kind_of(line: bytes, answer: bytes) -> tuple:
     return word.decode(), len(rest[-1]) // 2 if has_body else 0
 
 
-def lines_of(calls: list) -> list:
-    """The calls of each line: those up to its answer. What comes behind the last answer goes with it."""
-    found, now = [], []
+def lines_of(calls: list, answers: list) -> list:
+    """The calls of each line: those up to the end of its answer, which may be written in parts. What comes behind goes with the last."""
+    found, now, written = [], [], 0
     for call in calls:
         now.append(call)
-        if call.name == "write" and call.fd == 1:
+        written += call.result if call.name == "write" else 0
+        if len(found) < len(answers) and written == len(answers[len(found)]):
             found.append(now)
-            now = []
+            now, written = [], 0
     found[-1] += now
     return found
 
 
+def in_order(calls: list) -> list:
+    """Whether each is a write, a sync or a part of an answer; the parts of one answer count as one."""
+    return [EVENT_OF_CALL[call.name] for call in calls if call.name in EVENT_OF_CALL]
+
+
 def traced(bench, ground: Ground, word: str, text: bytes) -> list:
-    """The events and the calls of each line of a script, the first one left out: memory may be taken up to its end."""
+    """The events and the calls of each line of a script."""
     layout, binary = layout_of(word), Binary(bench.program, ground.folder)
     binary.put(script.make(None, form.Home(layout, CLUSTER)).data)
     wanted, (result, calls) = script.run(binary.get(), text), binary.trace(text)
     expect("the answers", wanted.text, result.text)
     calls = calls[next(at for at, call in enumerate(calls) if call.name == "read" and call.fd == 0) :]
+    lines = lines_of(calls, wanted.text.splitlines(keepends=True))
     # The model's first event is the sync of the open.
     events = wanted.events[1:]
-    made = [call for call in calls if call.name in CALL_OF_EVENT.values()]
-    expect("writes, syncs and answers in their order", [CALL_OF_EVENT[event.kind] for event in events], [call.name for call in made])
-    pairs = [(event, call) for event, call in zip(events, made) if event.kind == "write"]
-    expect("the writes", [(len(event.data), event.at) for event, _ in pairs], [tuple(map(int, call.args[-2:])) for _, call in pairs])
-    lost = {id(call): uncovered(layout, event) for event, call in pairs}
-    rows = zip(text.splitlines(), result.text.splitlines(), lines_of(calls))
+    wants = [event.kind for event in events if event.kind != "answer"]
+    expect("writes and syncs in their order", wants, [kind for kind in in_order(calls) if kind != "answer"])
+    before = [[kind for kind in in_order(line) if kind != "answer"] + ["answer"] for line in lines]
+    expect("each answer behind its own", [event.kind for event in events], [kind for line in before for kind in line])
+    writes = [event for event in events if event.kind == "write"]
+    made = [call for call in calls if call.name == "pwrite64"]
+    expect("the writes", [(len(event.data), event.at) for event in writes], [tuple(map(int, call.args[-2:])) for call in made])
+    lost = {id(call): uncovered(layout, event) for event, call in zip(writes, made)}
+    rows = zip(text.splitlines(), result.text.splitlines(), lines)
     return [(kind_of(line, answer), mine, sum(lost.get(id(call), 0) for call in mine)) for line, answer, mine in rows]
 
 

@@ -17,11 +17,10 @@ CLUSTER = 7
 
 
 class Spent(NamedTuple):
-    """What a run took: seconds of the processor in the program and in the kernel for it, seconds by the clock, and its peak memory."""
+    """What a run took: seconds of the processor in the program and in the kernel for it, and seconds by the clock."""
 
     processor: float
     clock: float
-    memory: int
 
 
 class Script(NamedTuple):
@@ -55,7 +54,7 @@ def run(command: list, source: Optional[str] = None, wanted: Optional[bytes] = b
     if process.returncode != status or (wanted is not None and printed != wanted):
         raise SystemExit(f"a run ended with status {process.returncode} and {printed[-200:]!r}: {command}")
     # The kernel gives out a run's time whole, and only guesses which part of it was the program's and which its own.
-    return Spent(usage.ru_utime + usage.ru_stime, clock, usage.ru_maxrss)
+    return Spent(usage.ru_utime + usage.ru_stime, clock)
 
 
 def open_answers():

@@ -11,6 +11,7 @@ from common import (
     Bench, Ground, appends, begin, block_at, blocks, done, forget, most_blocks, on_file, prepare_at, quartiles, reply_at, run, show,
     trailer_of, with_quartiles, working,
 )
+from tools import peak
 from tries import form
 from tries.binary import Binary, expect, has_strace
 from tries.form import COPIES, HEADERS, SECTOR, Layout
@@ -38,8 +39,7 @@ def full(name: str, layout: Layout) -> Case:
 MIDDLE = Layout(256, 262144, 64, 262144, 704)
 CASES = (
     full("`small`, full", form.SMALL), full("256 MiB, full", MIDDLE),
-    Case("`large`, 1,000 short prepares", form.LARGE, 1000, 128, 64),
-    Case("`large`, 1,000 prepares of 1 MiB", form.LARGE, 1000, form.LARGE.body_max(), 64),
+    Case("`large`, 1,000 prepares of 65,280 bytes", form.LARGE, 1000, 65280, 64),
 )
 
 
@@ -146,8 +146,7 @@ def rows_of(bench: Bench, ground: Ground, case: Case, path: str) -> list:
             both = behind(seen, "program", "start", by), behind(seen, "alone", "nothing", by)
             cells += [f"{quartiles(values)[0]:,.2f}" for values in both]
             cells.append(with_quartiles([one / two for one, two in zip(*both)], 3))
-        memory = max(one.memory for one in seen["program"])
-        rows.append([case.name, words, *cells, memory])
+        rows.append([case.name, words, *cells, peak([bench.program, path, words])])
     return rows
 
 

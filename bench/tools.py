@@ -8,7 +8,7 @@ import tempfile
 
 from common import show
 
-LINE = re.compile(r"^\s*(\d+\.\d+)%\s+\[(.)\]\s+(.*?)\s*$")
+LINE = re.compile(r"^\s*(\d+\.\d+)%\s+\[(.)\]\s+(.*?)[\s-]*$")
 COLLECTED = re.compile(r"Collected : (\d+)")
 COPIED = re.compile(r"Total: +([\d,]+) bytes")
 CALLGRIND = ["--tool=callgrind", "--callgrind-out-file=/dev/null"]
@@ -33,6 +33,14 @@ def instructions(command: list, source: str = os.devnull) -> int:
 def copied(command: list, source: str = os.devnull) -> int:
     """The bytes that the functions of the C library that copy and move memory copied in a run."""
     return counted(COPIES, COPIED, command, source)
+
+
+def peak(command: list) -> object:
+    """The most kilobytes that a run has resident. A process that is started from here would count this one's too, so `time` starts it."""
+    if shutil.which("time") is None:
+        return "-"
+    ended = subprocess.run([shutil.which("time"), "-f", "%M", *command], stdin=subprocess.DEVNULL, capture_output=True, check=False)
+    return int(ended.stderr.split()[-1])
 
 
 def has_valgrind() -> bool:

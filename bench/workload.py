@@ -3,6 +3,7 @@
 import os
 
 from common import Bench, Ground, on_file, quartiles, run, show, with_quartiles
+from tools import peak
 from tries import binary as runs
 from tries.binary import Binary, expect, has_strace
 from tries.form import SMALL
@@ -59,7 +60,7 @@ def row_of(bench: Bench, traced: Ground, ground: Ground) -> list:
     processor = [[one.processor / number * 1e6 for one in seen[name]] for name in ("program", "alone")]
     clock = with_quartiles([one.clock / two.clock for one, two in zip(seen["program"], seen["alone"])], 3)
     times = [f"{quartiles(values)[0]:,.2f}" for values in processor]
-    memory = max(one.memory for one in seen["program"])
+    memory = peak([bench.program, bench.make(ground, SMALL), *words_of(count)])
     os.unlink(ground.path("file"))
     return [ground.name, count, number, len(steps), with_quartiles(rates, 0), clock, *times, memory]
 
