@@ -5,6 +5,3 @@ mod bits;
 mod set;
 
 pub use set::FreeSet;
-
-#[cfg(test)]
-mod tests;

@@ -5,8 +5,6 @@ mod captured;
 mod changes;
 mod entries;
 mod entry;
-#[cfg(test)]
-mod examples;
 mod grid;
 mod lookups;
 mod reads;
@@ -15,6 +13,3 @@ mod writes;
 
 pub use captured::chains_have_room;
 pub use grid::Grid;
-
-#[cfg(test)]
-mod tests;

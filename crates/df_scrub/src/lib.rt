@@ -1,14 +1,9 @@
 //! The scrubber: a tour over the referenced blocks of the grid, block by block or whole, and the ring of what it found last.
 #![tactic(auto)]
 
-#[cfg(test)]
-mod examples;
 mod scrubber;
 mod steps;
 
 pub use df_layout::Finding;
 pub use df_model::{Scrubbed, Verdict};
 pub use scrubber::Scrubber;
-
-#[cfg(test)]
-mod tests;

@@ -24,6 +24,3 @@ pub use parts::Parts;
 pub use reader::Reader;
 pub use size::{blocks_needed, trailer_size};
 pub use writer::piece;
-
-#[cfg(test)]
-mod tests;

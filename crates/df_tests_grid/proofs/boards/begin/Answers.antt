@@ -1,7 +1,7 @@
 -- One free address at least is taken.
 use Rattle.std.proofs.Common.{◌≡◌, ℕ, ◌≤◌, List, [], ◌∷◌, length, take, refl, arith}
 use Rattle.df_grid.specs.Grid.{free_of}
-use Rattle.df_grid.proofs.examples.begin.Goals as goal
+use Rattle.df_tests_grid.proofs.boards.begin.Goals as goal
 
 some : (xs : List ℕ) → 1 ≤ length xs → take 1 xs ≡ [] → ⊥
 some [] least none = absurd (omega arith)

@@ -1,5 +1,5 @@
 // Sets in use: addresses are given out lowest first, across words, and across words of the summary.
-use crate::FreeSet;
+use df_freeset::FreeSet;
 use std::test::Fail;
 
 #[test]

@@ -1,4 +1,4 @@
-// A disk in memory, a grid in cluster 7, and blocks that are written or lost, for the tests.
+// A disk in memory, a grid of layout small in cluster 7, and the blocks and checkpoints that are written to it.
 ghost use Rattle.std.specs.Prelude.{◌≡◌, ◌≤◌, ◌<◌, IfOk, IsSome, None, OnOk, length};
 ghost use Rattle.df_base.specs.Causes.{HasCause};
 ghost use Rattle.df_layout.specs.declared.layout.Layout.{Layout as AnyLayout};
@@ -10,7 +10,7 @@ ghost use Rattle.df_grid.specs.Table.{IsIdle, IsReady};
 use df_base::{Failed, SECTOR, check};
 use df_buffers::{Block, Raw, Trailer};
 use df_disk::Disk;
-use df_format::{Header, Kind, Reference};
+use df_format::{Header, Kind};
 use df_freeset::FreeSet;
 use df_grid::Grid;
 use df_layout::{Layout, Zone};
@@ -135,7 +135,7 @@ fn block_header(address: u64, body: &[u8]) -> Header
 }
 
 // Writes a block of one byte to the next address, and answers that, None where there is none.
-fn put_next(
+pub(crate) fn put_next(
     grid: &mut Grid,
     board: &mut Board,
     room: Raw<Block>,
@@ -147,6 +147,7 @@ fn put_next(
     ensures layout { grid.new.layout ≡ grid.old.layout }
     ensures cluster { grid.new.cluster ≡ 7 }
     ensures idle { IsIdle grid.old.blocks → IsIdle grid.new.blocks }
+    ensures ready { IsReady grid.old.blocks → IsReady grid.new.blocks }
 {
     let Some(address) = grid.next() else {
         return (room, Ok(None));
@@ -162,28 +163,26 @@ fn put_next(
     }
 }
 
-// Takes blocks that the disk doesn't show, at the least addresses.
-pub(crate) fn adopt_lost(grid: &mut Grid, count: u64)
-    ensures layout { grid.new.layout ≡ grid.old.layout }
-{
-    for _done in 0..count {
-        if let Some(address) = grid.next() {
-            let checksum = [1; 16];
-            grid.adopt(Reference { address, checksum }, true);
-        }
-    }
-}
-
-// Writes a checkpoint whose trailer has one block; fails where no address is free.
-fn checkpoint(grid: &mut Grid, board: &mut Board) -> Result<(), Failed>
+// Begins a checkpoint whose trailer has one block; fails where no address is free.
+pub(crate) fn begin(grid: &mut Grid) -> Result<(), Failed>
     requires idle { IsIdle grid.old.blocks }
     ensures layout { grid.new.layout ≡ grid.old.layout }
+    ensures cluster { grid.new.cluster ≡ grid.old.cluster }
+    ensures ready { OnOk result (IsReady grid.new.blocks) }
 {
     if grid.free() == 0 {
         return Err(Failed);
     }
     grid.capture(1);
-    grid.write_trailer(board, 0, 2, &[1, 2, 3])?;
+    Ok(())
+}
+
+// Ends the checkpoint; fails where a block of its trailer isn't written, or none runs.
+fn end(grid: &mut Grid) -> Result<(), Failed>
+    ensures layout { grid.new.layout ≡ grid.old.layout }
+    ensures cluster { grid.new.cluster ≡ grid.old.cluster }
+    ensures idle { OnOk result (IsIdle grid.new.blocks) }
+{
     let Some(_last) = grid.trailer() else {
         return Err(Failed);
     };
@@ -191,16 +190,14 @@ fn checkpoint(grid: &mut Grid, board: &mut Board) -> Result<(), Failed>
     Ok(())
 }
 
-// Writes five blocks, and a checkpoint of them.
-pub(crate) fn write_five(grid: &mut Grid, board: &mut Board, room: Raw<Block>) -> Result<(), Failed>
-    requires room { room.layout ≡ grid.old.layout }
-    requires cluster { grid.old.cluster ≡ 7 }
-    requires idle { IsIdle grid.old.blocks }
+// Writes the one block of the running trailer, and ends the checkpoint.
+pub(crate) fn write_and_end(grid: &mut Grid, board: &mut Board, sequence: u64) -> Result<(), Failed>
+    requires ready { IsReady grid.old.blocks }
+    requires sequence { (2 ≤ sequence) × (sequence ≤ 100) }
+    ensures layout { grid.new.layout ≡ grid.old.layout }
+    ensures cluster { grid.new.cluster ≡ grid.old.cluster }
+    ensures idle { OnOk result (IsIdle grid.new.blocks) }
 {
-    let (room, _) = put_next(grid, board, room, 0);
-    let (room, _) = put_next(grid, board, room, 0);
-    let (room, _) = put_next(grid, board, room, 0);
-    let (room, _) = put_next(grid, board, room, 0);
-    let (_room, _) = put_next(grid, board, room, 0);
-    checkpoint(grid, board)
+    grid.write_trailer(board, 0, sequence, &[1, 2, 3])?;
+    end(grid)
 }

@@ -2,7 +2,7 @@
 use Rattle.std.proofs.Common.{◌≡◌, ℕ, List, [], ◌∷◌, Some}
 use Rattle.df_format.specs.declared.reference.Reference.{Reference}
 use Rattle.df_grid.specs.Table.{last_of, pair_in}
-use Rattle.df_grid.proofs.examples.end.Goals as goal
+use Rattle.df_tests_grid.proofs.boards.end.Goals as goal
 
 some_written : (r : Reference) (left : List ℕ) (written : List (ℕ × ℕ)) → pair_in (Some r) ≡ last_of left written → written ≡ [] → ⊥
 some_written r [] [] is none = absurd (cc)

@@ -1,10 +1,41 @@
 // What no clause says: that the calls come together over a disk in memory. Expected values are worked out by hand from the rules of
 // what is held.
-use crate::chains_have_room;
-use crate::examples::{Board, begin, fill, new_grid, put_next, release, write_and_end};
-use df_buffers::Raw;
+ghost use Rattle.std.specs.Prelude.{◌≡◌};
+ghost use Rattle.df_grid.specs.Table.{IsIdle, IsReady};
+
+use crate::boards::{Board, begin, new_grid, put_next, write_and_end};
+use df_base::Failed;
+use df_buffers::{Block, Raw};
+use df_grid::{Grid, chains_have_room};
 use df_layout::Layout;
 use std::test::Fail;
+
+// Writes blocks until one goes elsewhere than to the next address from 1 on, and answers how many didn't.
+fn fill(grid: &mut Grid, board: &mut Board, room: Raw<Block>) -> Result<u64, Failed>
+    requires room { room.layout ≡ grid.old.layout }
+    requires cluster { grid.old.cluster ≡ 7 }
+{
+    let mut room = room;
+    for done in 0..100u64 {
+        let (back, written) = put_next(grid, board, room, 9);
+        room = back;
+        if written? != Some(done + 1) {
+            return Ok(done);
+        }
+    }
+    Ok(100)
+}
+
+// Releases a block, and answers the next address.
+fn release(grid: &mut Grid, address: u64) -> (bool, Option<u64>)
+    ensures layout { grid.new.layout ≡ grid.old.layout }
+    ensures cluster { grid.new.cluster ≡ grid.old.cluster }
+    ensures idle { IsIdle grid.old.blocks → IsIdle grid.new.blocks }
+    ensures ready { IsReady grid.old.blocks → IsReady grid.new.blocks }
+{
+    let released = grid.release(address);
+    (released, grid.next())
+}
 
 #[test]
 fn blocks_go_to_the_least_addresses(rt: HostRuntime) -> Result<(), Fail> {

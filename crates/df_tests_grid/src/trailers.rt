@@ -3,14 +3,14 @@ ghost use Rattle.std.specs.Prelude.{◌≡◌, ◌≤◌, ◌+◌, ◌/◌, ◌%
 ghost use Rattle.df_base.specs.Fields.{field_at};
 ghost use Rattle.df_trailer.specs.Reading.{bytes_read};
 
-use crate::{
-    Captured, Fault, Parts, Reader, blocks_needed, parts_have_one_text, piece, refusals_stay,
-    sizes_are_exact, spelling_is_a_codec, text_has_one_parts,
-};
 use arrayvec::ArrayVec;
 use df_base::Check;
 use df_layout::{Field, Layout};
 use df_sessions::Session;
+use df_trailer::{
+    Captured, Fault, Parts, Reader, blocks_needed, parts_have_one_text, piece, refusals_stay,
+    sizes_are_exact, spelling_is_a_codec, text_has_one_parts,
+};
 use std::alloc::{AllocError, Global};
 
 /// The lowest addresses are referenced, each with a checksum of its own number.

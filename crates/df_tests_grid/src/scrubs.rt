@@ -1,10 +1,43 @@
 // What no clause says: that the calls come together over a disk in memory. Expected values are worked out by hand from the rules of
 // a tour.
-use crate::examples::{Board, adopt_lost, new_grid, write_five};
-use crate::{Finding, Scrubbed, Scrubber, Verdict};
-use df_buffers::Raw;
+ghost use Rattle.std.specs.Prelude.{◌≡◌};
+ghost use Rattle.df_grid.specs.Table.{IsIdle};
+
+use crate::boards::{Board, begin, new_grid, put_next, write_and_end};
+use df_base::Failed;
+use df_buffers::{Block, Raw};
+use df_format::Reference;
+use df_grid::Grid;
 use df_layout::{Class, Layout};
+use df_scrub::{Finding, Scrubbed, Scrubber, Verdict};
 use std::test::Fail;
+
+// Takes blocks that the disk doesn't show, at the least addresses.
+fn adopt_lost(grid: &mut Grid, count: u64)
+    ensures layout { grid.new.layout ≡ grid.old.layout }
+{
+    for _done in 0..count {
+        if let Some(address) = grid.next() {
+            let checksum = [1; 16];
+            grid.adopt(Reference { address, checksum }, true);
+        }
+    }
+}
+
+// Writes five blocks, and a checkpoint of them.
+fn write_five(grid: &mut Grid, board: &mut Board, room: Raw<Block>) -> Result<(), Failed>
+    requires room { room.layout ≡ grid.old.layout }
+    requires cluster { grid.old.cluster ≡ 7 }
+    requires idle { IsIdle grid.old.blocks }
+{
+    let (room, _) = put_next(grid, board, room, 0);
+    let (room, _) = put_next(grid, board, room, 0);
+    let (room, _) = put_next(grid, board, room, 0);
+    let (room, _) = put_next(grid, board, room, 0);
+    let (_room, _) = put_next(grid, board, room, 0);
+    begin(grid)?;
+    write_and_end(grid, board, 2)
+}
 
 #[test]
 fn a_tour_finds_the_blocks_that_were_struck(rt: HostRuntime) -> Result<(), Fail> {
