@@ -3,8 +3,6 @@
 
 mod answers;
 mod block_refusals;
-#[cfg(test)]
-mod block_tests;
 mod blocks;
 mod counts;
 mod findings;
@@ -13,13 +11,7 @@ mod line;
 mod messages;
 mod names;
 mod opening;
-#[cfg(test)]
-mod opening_tests;
 mod refusals;
-#[cfg(test)]
-mod report_tests;
-#[cfg(test)]
-mod tests;
 
 pub use answers::{print_appended, print_formatted, print_replied, print_script};
 pub use block_refusals::{

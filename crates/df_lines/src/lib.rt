@@ -1,8 +1,6 @@
 //! The lines of a script: their grammar, and their reading in pieces through one buffer.
 #![tactic(auto)]
 
-#[cfg(test)]
-mod grammar_tests;
 mod line;
 mod meaning;
 mod next;
@@ -18,6 +16,3 @@ pub use next::Next;
 pub use number::{u32_of, u64_of, u128_of};
 pub use parser::parse;
 pub use reader::LineRoom;
-
-#[cfg(test)]
-mod tests;

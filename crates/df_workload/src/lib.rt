@@ -18,6 +18,3 @@ pub use generator::Generator;
 pub use held::Held;
 pub use outcome::Outcome;
 pub use state::{Point, State};
-
-#[cfg(test)]
-mod tests;

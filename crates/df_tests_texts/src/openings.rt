@@ -1,6 +1,6 @@
 // The printed lines on files that aren't made or opened, as the tables of printed texts and of the worked sessions give them.
-use crate::tests::{elsewhere, new_sink};
-use crate::*;
+use crate::printed::{elsewhere, new_sink};
+use df_inspect::{print_format_refusal, print_open_refusal};
 use df_layout::{Class, Field, Layout, Place, Zone};
 use df_model::{FormatError, OpenError};
 use std::test::Fail;

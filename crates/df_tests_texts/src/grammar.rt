@@ -1,6 +1,5 @@
 // Worked lines, and lines that are none.
-use crate::number::u8_of;
-use crate::*;
+use df_lines::{Line, one_meaning, parse, u32_of, u64_of, u128_of};
 use std::process::Abort;
 
 #[test]
@@ -260,13 +259,15 @@ fn numbers_are_read_up_to_their_width(rt: HostRuntime) {
 
 #[test]
 fn a_byte_is_read_up_to_its_width(rt: HostRuntime) {
-    for (digits, byte) in [
-        (b"0".as_slice(), Some(0)),
-        (b"255", Some(255)),
-        (b"256", None),
-        (b"18446744073709551617", None),
-        (b"01", None),
+    for (line, byte) in [
+        (b"block 0 -".as_slice(), Some(0)),
+        (b"block 255 -", Some(255)),
+        (b"block 256 -", None),
+        (b"block 18446744073709551617 -", None),
+        (b"block 01 -", None),
     ] {
-        assert_eq!(rt; u8_of(digits), byte);
+        let mut body = [0u8; 40];
+        assert!(rt; line.len() <= 80);
+        assert_eq!(rt; parse(line, &mut body), byte.map(|kind| block(kind, 0)));
     }
 }

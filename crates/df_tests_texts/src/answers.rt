@@ -1,45 +1,15 @@
 // The printed lines of the log's commands, as the tables of printed texts and of the worked sessions give them.
-use super::*;
+use crate::printed::{elsewhere, header, new_sink};
 use df_base::{Failed, MemorySink, Sink};
-use df_format::{Header, Kind};
+use df_format::Kind;
+use df_inspect::{
+    print_append_refusal, print_appended, print_format_refusal, print_formatted,
+    print_lookup_refusal, print_open_refusal, print_prepare, print_prepare_refusal, print_replied,
+    print_reply, print_reply_refusal, print_script,
+};
 use df_layout::{Class, Place, Zone};
 use df_model::{AppendError, FormatError, LookupError, OpenError, PrepareError, ReplyError};
-use std::alloc::Global;
 use std::test::Fail;
-
-pub(crate) fn elsewhere(zone: Zone, index: u64) -> Class {
-    Class::Elsewhere(Place { zone, index })
-}
-
-pub(crate) fn new_sink(alloc: Global) -> MemorySink {
-    MemorySink::new(alloc, Vec::new(alloc))
-}
-
-// The header of a message, as far as a line shows it.
-pub(crate) fn header(
-    kind: Kind,
-    op: u64,
-    client: u128,
-    request: u64,
-    mark: u64,
-    checkpoint: u64,
-) -> Header {
-    Header {
-        checksum: [1; 16],
-        checksum_body: [2; 16],
-        cluster: 7,
-        parent: [3; 16],
-        client,
-        op,
-        request,
-        mark,
-        checkpoint,
-        size: 256,
-        slot: 9,
-        kind,
-        block_kind: 0,
-    }
-}
 
 #[test]
 fn answers_are_a_word_and_a_number(rt: HostRuntime) -> Result<(), Fail> {

@@ -1,7 +1,10 @@
 // The printed reports, as the worked sessions give them.
-use crate::tests::new_sink;
-use crate::*;
+use crate::printed::new_sink;
 use df_base::{Failed, MemorySink};
+use df_inspect::{
+    Workload, print_failing, print_inspection, print_recent, print_summary, print_tour,
+    print_workload,
+};
 use df_layout::{Class, Finding, Layout, Mend, Place, Zone};
 use df_model::Summary;
 use df_sessions::Session;

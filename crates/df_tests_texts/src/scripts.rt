@@ -2,32 +2,66 @@
 
 ghost use Rattle.std.specs.Prelude.{None};
 
-use super::*;
-use df_base::{Failed, MemorySource, Source};
+use df_base::{Failed, MemorySource, OutOfMemory, Source};
 use df_layout::Layout;
+use df_lines::{Line, LineRoom, Next};
+use std::alloc::{AllocError, Global};
 use std::process::Abort;
 use std::test::Fail;
 
-/// Three lines. The second is as long as a reader for 64 bytes takes, and the last has no byte 10.
-const SCRIPT: &[u8] = b"append 4 1 -\n\
-    append 55 1 000102030405060708090a0b0c0d0e0f10111213141516171819\n\
-    append 6 2 ff";
+// A reader over the least layout: its lines have 8,256 bytes at most.
+fn least_room(alloc: Global) -> Result<LineRoom, OutOfMemory> {
+    let layout = Layout {
+        slots: 16,
+        message_size: 4096,
+        clients: 1,
+        block_size: 4096,
+        blocks: 8,
+    };
+    LineRoom::reserve(alloc, &layout)
+}
 
-const LONG_BODY: &[u8] = &[
-    0, 1, 2, 3, 4, 5, 6, 7, 8, 9, 10, 11, 12, 13, 14, 15, 16, 17, 18, 19, 20, 21, 22, 23, 24, 25,
-];
+// The body of the second line: 0, 1, 2 and so on, modulo 256.
+fn long_body(alloc: Global) -> Result<Vec<u8>, AllocError> {
+    let mut body = Vec::new(alloc);
+    for number in 0..4122u32 {
+        body.push((number % 256) as u8)?;
+    }
+    Ok(body)
+}
+
+// Appends a line of these words and that body, without its byte 10.
+fn push_long_line(text: &mut Vec<u8>, words: &[u8]) -> Result<(), AllocError> {
+    let digits = b"0123456789abcdef";
+    text.extend_from_slice(words)?;
+    for number in 0..4122u32 {
+        let byte = (number % 256) as usize;
+        text.push(digits[byte / 16])?;
+        text.push(digits[byte % 16])?;
+    }
+    Ok(())
+}
+
+/// Three lines. The second is as long as that reader takes, and the last has no byte 10.
+fn script(alloc: Global) -> Result<Vec<u8>, AllocError> {
+    let mut text = b"append 4 1 -\n".to_vec(alloc)?;
+    push_long_line(&mut text, b"append 55 1 ")?;
+    text.extend_from_slice(b"\nappend 6 2 ff")?;
+    Ok(text)
+}
 
 #[test]
 fn a_script_is_read_in_pieces_of_any_size(rt: HostRuntime) -> Result<(), Fail> {
-    for piece in [1, 2, 7, 64, 65, 1000] {
+    let body = long_body(rt.alloc())?;
+    for piece in [1, 2, 7, 8256, 8257, 10_000] {
         let mut source = Drip {
-            source: MemorySource::new(SCRIPT.to_vec(rt.alloc())?, Vec::new(rt.alloc())),
+            source: MemorySource::new(script(rt.alloc())?, Vec::new(rt.alloc())),
             piece,
             ended: 0,
         };
-        let mut room = LineRoom::with_bound(rt.alloc(), 64)?;
+        let mut room = least_room(rt.alloc())?;
         expect_line(&rt, &mut room, &mut source, 4, 1, b"")?;
-        expect_line(&rt, &mut room, &mut source, 55, 1, LONG_BODY)?;
+        expect_line(&rt, &mut room, &mut source, 55, 1, &body)?;
         expect_line(&rt, &mut room, &mut source, 6, 2, b"\xff")?;
         assert_eq!(rt; room.next(&mut source), Ok(Next::End));
         assert_eq!(rt; room.next(&mut source), Ok(Next::End));
@@ -38,12 +72,13 @@ fn a_script_is_read_in_pieces_of_any_size(rt: HostRuntime) -> Result<(), Fail> {
 
 #[test]
 fn a_failed_read_loses_nothing(rt: HostRuntime) -> Result<(), Fail> {
-    let mut source = MemorySource::new(SCRIPT.to_vec(rt.alloc())?, [1, 3].to_vec(rt.alloc())?);
-    let mut room = LineRoom::with_bound(rt.alloc(), 64)?;
+    let body = long_body(rt.alloc())?;
+    let mut source = MemorySource::new(script(rt.alloc())?, [1, 3].to_vec(rt.alloc())?);
+    let mut room = least_room(rt.alloc())?;
     assert_eq!(rt; room.next(&mut source), Err(Failed));
     expect_line(&rt, &mut room, &mut source, 4, 1, b"")?;
     assert_eq!(rt; room.next(&mut source), Err(Failed));
-    expect_line(&rt, &mut room, &mut source, 55, 1, LONG_BODY)?;
+    expect_line(&rt, &mut room, &mut source, 55, 1, &body)?;
     expect_line(&rt, &mut room, &mut source, 6, 2, b"\xff")?;
     assert_eq!(rt; room.next(&mut source), Ok(Next::End));
     Ok(())
@@ -51,17 +86,16 @@ fn a_failed_read_loses_nothing(rt: HostRuntime) -> Result<(), Fail> {
 
 #[test]
 fn a_line_past_the_bound_is_refused(rt: HostRuntime) -> Result<(), Fail> {
-    let line = b"append 555 1 000102030405060708090a0b0c0d0e0f10111213141516171819";
     for ending in [
         b"".as_slice(),
         b"\n".as_slice(),
         b"\nappend 6 1 -\n".as_slice(),
     ] {
         let mut text = b"append 4 1 -\n".to_vec(rt.alloc())?;
-        text.extend_from_slice(line)?;
+        push_long_line(&mut text, b"append 555 1 ")?;
         text.extend_from_slice(ending)?;
         let mut source = MemorySource::new(text, Vec::new(rt.alloc()));
-        let mut room = LineRoom::with_bound(rt.alloc(), 64)?;
+        let mut room = least_room(rt.alloc())?;
         expect_line(&rt, &mut room, &mut source, 4, 1, b"")?;
         assert_eq!(rt; room.next(&mut source), Ok(Next::Refused));
         assert_eq!(rt; room.next(&mut source), Ok(Next::Refused));
@@ -76,7 +110,7 @@ fn an_empty_line_is_refused_and_an_empty_script_ends(rt: HostRuntime) -> Result<
         (b"\n".as_slice(), Next::Refused),
     ] {
         let mut source = MemorySource::new(text.to_vec(rt.alloc())?, Vec::new(rt.alloc()));
-        let mut room = LineRoom::with_bound(rt.alloc(), 64)?;
+        let mut room = least_room(rt.alloc())?;
         assert_eq!(rt; room.next(&mut source), Ok(want));
     }
     Ok(())

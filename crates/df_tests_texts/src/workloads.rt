@@ -1,6 +1,6 @@
 // Runs over a file that answers each command, by the numbers that the description of them gives.
 
-use crate::{Asked, Generator, Outcome};
+use df_workload::{Asked, Generator, Outcome};
 
 // Tells the generator that its command was carried out, where it is within its rounds.
 fn accept(generator: &mut Generator) {

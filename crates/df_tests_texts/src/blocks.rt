@@ -1,8 +1,12 @@
 // The printed lines of the commands on blocks and checkpoints, as the worked sessions give them.
-use crate::tests::{header, new_sink};
-use crate::*;
+use crate::printed::{header, new_sink};
 use df_base::{Failed, MemorySink, Sink};
 use df_format::Kind;
+use df_inspect::{
+    print_begin_refusal, print_begun, print_block, print_block_refusal, print_not_live,
+    print_progress, print_read_refusal, print_released, print_scrubbed, print_step_refusal,
+    print_wrote,
+};
 use df_layout::{Class, Place, Zone};
 use df_model::{BeginError, BlockError, Progress, ReadError, Scrubbed, StepError, Verdict};
 use std::test::Fail;

@@ -1,0 +1,39 @@
+// What the tests of printed lines print, and into what: a header, a class and a sink whose calls all succeed.
+use df_base::MemorySink;
+use df_format::{Header, Kind};
+use df_layout::{Class, Place, Zone};
+use std::alloc::Global;
+
+pub(crate) fn elsewhere(zone: Zone, index: u64) -> Class {
+    Class::Elsewhere(Place { zone, index })
+}
+
+pub(crate) fn new_sink(alloc: Global) -> MemorySink {
+    MemorySink::new(alloc, Vec::new(alloc))
+}
+
+// The header of a message, as far as a line shows it.
+pub(crate) fn header(
+    kind: Kind,
+    op: u64,
+    client: u128,
+    request: u64,
+    mark: u64,
+    checkpoint: u64,
+) -> Header {
+    Header {
+        checksum: [1; 16],
+        checksum_body: [2; 16],
+        cluster: 7,
+        parent: [3; 16],
+        client,
+        op,
+        request,
+        mark,
+        checkpoint,
+        size: 256,
+        slot: 9,
+        kind,
+        block_kind: 0,
+    }
+}
