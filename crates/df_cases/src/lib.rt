@@ -6,6 +6,3 @@ mod seen;
 
 pub use cases::{Decision, case};
 pub use seen::Seen;
-
-#[cfg(test)]
-mod tests;

@@ -5,8 +5,6 @@ mod reserved;
 mod sectors;
 mod spelled;
 mod table;
-#[cfg(test)]
-mod tests;
 
 pub use reserved::reserved_header;
 pub use sectors::read_sector;

@@ -3,8 +3,6 @@
 
 mod answers;
 mod counts;
-#[cfg(test)]
-mod examples;
 mod scans;
 mod shown;
 mod slot;
@@ -14,6 +12,3 @@ pub use answers::Lacking;
 pub use shown::{scanned_replies_are_shown, stored_replies_are_found};
 pub use slot::{read_reply_slot, write_reply};
 pub use table::ReplyTable;
-
-#[cfg(test)]
-mod tests;

@@ -8,6 +8,3 @@ mod table;
 pub use passing::{ops_stay_apart, requests_of_a_table, sessions_keep_passing};
 pub use session::Session;
 pub use table::SessionTable;
-
-#[cfg(test)]
-mod tests;

@@ -6,6 +6,3 @@ mod laws;
 
 pub use counters::{Counters, behind, lost};
 pub use laws::{found_together, stood_together};
-
-#[cfg(test)]
-mod tests;

@@ -1,4 +1,4 @@
-// A disk in memory and replies to put on it, for the tests.
+// A disk in memory, replies that are put on it, and the sessions of those who asked.
 ghost use Rattle.std.specs.Prelude.{◌≡◌, ◌≤◌, length, IsSome, None};
 ghost use Rattle.df_base.specs.Causes.{HasCause};
 ghost use Rattle.df_layout.specs.declared.layout.Layout.{Layout as AnyLayout};
@@ -6,12 +6,12 @@ ghost use Rattle.df_format.specs.Rules.{ObeysRules};
 ghost use Rattle.df_format.specs.Own.{own_place};
 ghost use Rattle.df_format.specs.Making.{for_body};
 
-use crate::write_reply;
 use df_base::{Failed, SECTOR, check};
 use df_buffers::{Raw, Reply};
 use df_disk::Disk;
 use df_format::{Header, Kind};
 use df_layout::{Layout, Zone};
+use df_replies::write_reply;
 use df_sessions::SessionTable;
 use std::alloc::{AllocError, Global};
 

@@ -1,7 +1,7 @@
 -- Its second sector may be written.
 use Rattle.std.proofs.Common.{arith}
-use Rattle.df_headers.proofs.Tables.{table_written}
-use Rattle.df_headers.proofs.tests.write_second.Goals as goal
+use Rattle.df_headers.proofs.Laws.{table_written}
+use Rattle.df_tests_slots.proofs.headers.write_second.Goals as goal
 
 pub write_sector-requires-clause-sealed : goal.write_sector-requires-clause-sealed
 write_sector-requires-clause-sealed c = (table_written c.args.layout.now 7 1 c.args.table.now c.requires.table (omega (arith, c.requires.slots))).sixteen

@@ -1,7 +1,7 @@
 -- A table of reserved headers is one.
 use Rattle.std.proofs.Common.{◌≡◌, ◌∙◌, length, ap, rules}
-use Rattle.df_headers.proofs.Tables.{reserved_table}
-use Rattle.df_headers.proofs.tests.reserved_table.Goals as goal
+use Rattle.df_headers.proofs.Laws.{reserved_table}
+use Rattle.df_tests_slots.proofs.headers.reserved_table.Goals as goal
 
 pub returns : goal.returns
 returns c =

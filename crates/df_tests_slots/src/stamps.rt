@@ -1,5 +1,5 @@
 // The two tests at their limits.
-use crate::{Counters, behind, found_together, lost, stood_together};
+use df_stamps::{Counters, behind, found_together, lost, stood_together};
 
 #[test]
 fn each_limit_is_still_allowed(rt: HostRuntime) {

@@ -1,5 +1,5 @@
 // The table, row by row, as it stands in the format's description.
-use crate::{Decision, Seen, case};
+use df_cases::{Decision, Seen, case};
 
 #[test]
 fn decisions_are_those_of_the_table(rt: HostRuntime) {

@@ -3,11 +3,11 @@ ghost use Rattle.std.specs.Prelude.{◌≡◌, None, IfOk};
 ghost use Rattle.df_base.specs.Causes.{HasCause};
 ghost use Rattle.df_headers.specs.Ring.{IsTable};
 
-use super::*;
 use df_base::{Failed, SECTOR};
 use df_buffers::{HeaderSector, Identity, Raw, Wanted};
 use df_disk::Disk;
 use df_format::Header;
+use df_headers::{HeaderTable, read_sector, reserved_header};
 use df_layout::{Class, Layout, Place, Zone};
 use std::alloc::{AllocError, Global};
 use std::test::Fail;

@@ -3,11 +3,13 @@
 ghost use Rattle.std.specs.Prelude.{◌≡◌};
 ghost use Rattle.df_layout.specs.declared.places.Zone.{Zone as AnyZone};
 
-use super::*;
-use crate::examples::{Board, Stored, ask, put};
+use crate::stored::{Board, Stored, ask, put};
 use df_buffers::{Identity, Raw, Wanted};
 use df_disk::Disk;
 use df_layout::{Class, Layout, Place, Zone};
+use df_replies::{
+    Lacking, ReplyTable, read_reply_slot, scanned_replies_are_shown, stored_replies_are_found,
+};
 use df_sessions::SessionTable;
 use df_stamps::Counters;
 use std::test::Fail;

@@ -1,5 +1,7 @@
 // A table in use, with the places, requests and replies that the description of sessions gives.
-use crate::{Session, SessionTable, ops_stay_apart, requests_of_a_table, sessions_keep_passing};
+use df_sessions::{
+    Session, SessionTable, ops_stay_apart, requests_of_a_table, sessions_keep_passing,
+};
 
 #[test]
 fn a_client_keeps_its_place_and_its_latest_request(rt: HostRuntime) {
