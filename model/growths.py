@@ -1,10 +1,11 @@
 """Refuses the program's growths of memory one at a time, for each word.
 
-    python3 model/growths.py crates/datafile/out/datafile
+    python3 model/growths.py crates/datafile/out/datafile [crates/df_growths/out/df_growths]
 
-The C library is told to ask the kernel for each piece of memory by a call of its own, and strace refuses the Nth of these calls, for each N
-that there is. A growth within a page of a piece needs no call, and isn't refused. Prints what came of them, in counts, or the first outcome
-that isn't allowed, with status 1. It needs strace, and the C library of GNU. See docs/MODEL-TRIES.md.
+The first program carries the words out over a file, the second over a disk, a source and a sink in memory. The C library is told to ask
+the kernel for each piece of memory by a call of its own, and strace refuses the Nth of these calls, for each N that there is. A growth
+within a page of a piece needs no call, and isn't refused. Prints what came of them, in counts, or the first outcome that isn't allowed, with
+status 1. It needs strace, and the C library of GNU. See docs/MODEL-TRIES.md.
 """
 
 import os
@@ -18,13 +19,14 @@ sys.dont_write_bytecode = True
 from collections import Counter
 from typing import NamedTuple, Optional
 
-from tries.worked_growths import BEFORE, HURT, SCRIPT, WORDS
+from tries.worked_growths import BEFORE, FACTS, HURT, SCRIPT, WORDS
 
 WAIT = 120
 # Each piece of memory is a map of its own. Without one the C library tries a break, and then a map of a mebibyte.
 PIECES = {"GLIBC_TUNABLES": "glibc.malloc.mmap_threshold=1"}
 CALL = re.compile(r"^\d+\s+(mmap|mremap|munmap)\(")
-DONE, MEMORY = 0, 8
+DONE, DISK_FAULT, WRITE_FAULT, MEMORY = 0, 5, 7, 8
+REFUSED = (DISK_FAULT, WRITE_FAULT, MEMORY)
 
 
 class Broken(Exception):
@@ -104,6 +106,43 @@ def refusing(take: Take) -> tuple:
     return rules + (f"mremap:error=ENOMEM:when={take.moves + 1}",) if take.name == "mremap" else rules
 
 
+def told(outcome: Outcome) -> tuple:
+    """The facts that the program over memory tells, and what the words printed; nothing where it wasn't made ready."""
+    match = FACTS.match(outcome.text)
+    if outcome.status != 0 or match is None:
+        return None, b""
+    names = ("status", "events_before", "events", "unread", "script", "disk", "sink", "recovered")
+    return dict(zip(names, map(int, match.groups()))), outcome.text[match.end() :]
+
+
+def in_memory(words: list, plain: Outcome, got: Outcome) -> str:
+    """Which allowed outcome this is, over the objects in memory: want of memory before anything was done, or a fault of the object whose
+    growth was refused."""
+    (wanted, text), (facts, printed) = told(plain), told(got)
+    if facts is None:
+        return "the try wasn't made ready, or its outcome not printed"
+    if got.text == plain.text:
+        return "nothing changed"
+    if {**facts, "recovered": wanted["recovered"]} == wanted and printed == text and facts["recovered"] in REFUSED:
+        return "the words as without it; the recovery behind them was refused memory"
+    status, made = facts["status"], words[0] != "format"
+    if not text.startswith(printed):
+        raise Broken("what was printed is no front of the text")
+    if made and facts["recovered"] != DONE:
+        raise Broken("the file isn't recovered")
+    if facts["disk"] + facts["sink"] > 1:
+        raise Broken("more than one growth was refused")
+    if facts["disk"] == 1 and status == DISK_FAULT:
+        return "a fault of the disk, which was refused"
+    if facts["sink"] == 1 and status == WRITE_FAULT:
+        return "a fault of the sink, which was refused"
+    if facts["disk"] + facts["sink"] == 0 and status == MEMORY:
+        untouched = facts["events"] == facts["events_before"] and facts["unread"] == facts["script"]
+        if untouched and not printed:
+            return "want of memory, with nothing written, printed or read"
+    raise Broken(f"facts {facts}, where without a refusal they are {wanted}")
+
+
 def over_file(words: list, plain: Outcome, got: Outcome, before: Optional[bytes]) -> str:
     """Which allowed outcome this is, over a file."""
     if got == plain:
@@ -141,6 +180,12 @@ def hurt_file(runs: Runs) -> bytes:
     return bytes(data)
 
 
+def over_memory(program: str, folder: str) -> None:
+    runs = Runs(program, folder)
+    for words in WORDS:
+        show(words, each(runs, words, b"", None, lambda plain, got: in_memory(words, plain, got)))
+
+
 def over_files(program: str, folder: str) -> None:
     runs = Runs(program, folder)
     data = hurt_file(runs)
@@ -159,6 +204,8 @@ def main() -> int:
     with tempfile.TemporaryDirectory() as folder:
         try:
             over_files(sys.argv[1], folder)
+            for program in sys.argv[2:]:
+                over_memory(program, folder)
         except Broken as error:
             print(f"NOT ALLOWED, {error}")
             return 1

@@ -1,4 +1,6 @@
-"""The words, the script and the file of the tries that refuse growths of memory."""
+"""The words, the script and the file of the tries that refuse growths of memory: those of crates/df_growths."""
+
+import re
 
 BEFORE = b"append 5 1 -\nreply 1 aa\nblock 1 bb\ncheckpoint 0102\nstep\nstep\n"
 # A copy of the superblock, a sector of headers, and a sector of the referenced block.
@@ -10,3 +12,4 @@ SCRIPT = (
 WORDS = (
     ["format", "small", "7"], ["format", "small", "0"], ["run"], ["recover"], ["inspect"], ["scrub"], ["workload", "42", "20"], ["walk"],
 )
+FACTS = re.compile(rb"status (\d+)\nevents (\d+) (\d+)\nunread (\d+) (\d+)\nrefused (\d+) (\d+)\nrecover (\d+)\n")
