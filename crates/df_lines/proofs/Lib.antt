@@ -5,5 +5,6 @@ pub mod Arguments
 pub mod OneMeaning
 pub mod Pieces
 pub mod Finding
+pub mod Feeds
 pub mod Texts
 pub mod Laws

@@ -8,6 +8,7 @@ ghost use Rattle.df_lines.specs.Text.{unread};
 ghost use Rattle.df_lines.specs.Window.{Finds, is_feed, line_end};
 
 use df_base::{Failed, OutOfMemory, Source};
+use memchr::memchr;
 use std::alloc::Global;
 use std::marker::Model;
 
@@ -176,7 +177,7 @@ fn feed_behind(bytes: &[u8], seen: usize) -> Option<usize>
 fn first_feed(bytes: &[u8]) -> Option<usize>
     ensures { result ≡ position is_feed bytes.now }
 {
-    bytes.iter().position(|byte| *byte == b'\n')
+    memchr(b'\n', bytes)
 }
 
 /// Moves the bytes from `start` to `end` to the front.

@@ -1,0 +1,5 @@
+use Rattle.df_lines.proofs.Feeds.{first_feed_is}
+use Rattle.df_lines.proofs.window.first_feed.Goals as goal
+
+pub returns : goal.returns
+returns c = first_feed_is _ _ c.memchr.ensures
