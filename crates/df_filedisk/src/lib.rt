@@ -4,10 +4,6 @@
 mod file;
 mod opening;
 mod positioned;
-#[cfg(test)]
-mod stream_tests;
 mod streams;
-#[cfg(test)]
-mod tests;
 
 pub use file::FileDisk;

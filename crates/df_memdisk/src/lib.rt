@@ -5,15 +5,11 @@
 
 mod change;
 mod dropping;
-#[cfg(test)]
-mod dropping_tests;
 mod history;
 mod memory;
 mod shown;
 mod stop;
 mod strike;
-#[cfg(test)]
-mod tests;
 mod written;
 
 pub use change::{Change, StopError};

@@ -1,70 +1,34 @@
 // What no contract can say: which bytes reach a file and come from it, and what short and
 // interrupted reads leave in the buffer.
-use super::*;
-use crate::positioned::read_whole;
+use crate::guarded::{Guarded, Turn};
 use df_base::{Failed, SECTOR};
 use df_disk::Disk;
-use std::cell::Cell;
+use df_filedisk::FileDisk;
 use std::fs;
-use std::io::{self, ErrorKind};
-use std::os::unix::fs::FileExt;
 use std::test::Fail;
 
-// What a file does at one read.
-#[derive(Clone, Copy)]
-enum Turn {
-    Gives(usize),
-    Interrupted,
-    Breaks,
-}
-
-// A file whose reads follow a list of turns. Each byte that it gives is the last of the offset.
-#[derive(Drop)]
-struct Scripted<'a> {
-    turns: &'a [Turn],
-    reads: Cell<usize>,
-}
-
-impl<'a> FileExt for Scripted<'a> {
-    fn read_at(&self, into: &mut [u8], offset: u64) -> io::Result<usize> {
-        let read = self.reads.get();
-        self.reads.set(read.wrapping_add(1));
-        match self.turns.get(read).copied() {
-            Some(Turn::Gives(most)) => {
-                let count = most.min(into.len());
-                into[..count].fill((offset & 0xff) as u8);
-                Ok(count)
-            }
-            Some(Turn::Interrupted) => Err(ErrorKind::Interrupted.into()),
-            Some(Turn::Breaks) | None => Err(ErrorKind::Other.into()),
-        }
-    }
-
-    fn write_at(&self, _bytes: &[u8], _offset: u64) -> io::Result<usize> {
-        Err(ErrorKind::Other.into())
-    }
-}
-
-fn make_scripted<'a>(turns: &'a [Turn]) -> Scripted<'a> {
-    Scripted {
-        turns,
-        reads: Cell::new(0),
-    }
-}
-
 #[test]
-fn short_reads_go_on_and_end_in_zeros(rt: HostRuntime) {
+fn short_reads_go_on_and_end_in_zeros(rt: HostRuntime) -> Result<(), Fail> {
+    let name = "file_of_short_reads";
     let short = [
         Turn::Gives(3),
         Turn::Interrupted,
         Turn::Gives(2),
         Turn::Gives(0),
     ];
-    let mut into = [9u8; 8];
-    assert!(rt; read_whole(&make_scripted(&short), &mut into, 4096).is_ok());
-    assert_eq!(rt; into, [0, 0, 0, 3, 3, 0, 0, 0]);
+    let guarded = Guarded::new(&rt, &short);
+    let mut disk = FileDisk::new(&guarded, String::from_str(rt.alloc(), name)?);
+    let mut sector = [9u8; SECTOR];
+    assert_eq!(rt; disk.read(1, &mut sector), Ok(()));
+    let mut wanted = [0u8; SECTOR];
+    wanted[3..5].fill(3);
+    assert_eq!(rt; sector, wanted);
     let broken = [Turn::Gives(3), Turn::Breaks, Turn::Gives(8)];
-    assert!(rt; read_whole(&make_scripted(&broken), &mut into, 4096).is_err());
+    let guarded = Guarded::new(&rt, &broken);
+    let mut disk = FileDisk::new(&guarded, String::from_str(rt.alloc(), name)?);
+    assert_eq!(rt; disk.read(1, &mut sector), Err(Failed));
+    fs::remove_file(&rt, name)?;
+    Ok(())
 }
 
 #[test]

@@ -1,7 +1,7 @@
 // Each call once, on rows whose outcome is known beforehand.
-use super::*;
 use df_base::{Failed, SECTOR};
 use df_disk::Disk;
+use df_memdisk::{Change, MemoryDisk, StopError, Strike};
 use std::alloc::Global;
 use std::process::Abort;
 use std::test::Fail;

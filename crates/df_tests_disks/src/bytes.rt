@@ -2,7 +2,10 @@
 // once, are interrupted, or fail.
 ghost use Rattle.std.specs.Prelude.{◌≤◌, IfOk};
 
-use super::*;
+use df_base::{
+    Failed, FromRead, MemorySink, MemorySource, Sink, Source, ToWrite, check, fields_are_spelled,
+    put_u16, put_u32, put_u64, put_u128, u16_at, u32_at, u64_at, u128_at,
+};
 use std::alloc::Global;
 use std::io::{self, ErrorKind, Read, Write};
 use std::test::Fail;

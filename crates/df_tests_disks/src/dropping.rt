@@ -1,7 +1,7 @@
 // A disk that loses its second and third write, over one whose third device call fails.
-use crate::{DroppingDisk, MemoryDisk};
 use df_base::{Failed, SECTOR};
 use df_disk::Disk;
+use df_memdisk::{DroppingDisk, MemoryDisk};
 use std::test::Fail;
 
 #[test]
