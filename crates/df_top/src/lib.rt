@@ -24,6 +24,3 @@ pub use mode::{Mode, mode_of, words_have_one_meaning};
 pub use reporting::an_image_has_one_report;
 pub use serving::serve;
 pub use status::Status;
-
-#[cfg(test)]
-mod tests;

@@ -1,6 +1,6 @@
 // Which words have a meaning, as the table of words gives them.
-use crate::{Mode, an_image_has_one_report, mode_of, words_have_one_meaning};
 use df_layout::Layout;
+use df_top::{Mode, an_image_has_one_report, mode_of, words_have_one_meaning};
 use std::alloc::{AllocError, Global};
 
 fn words_of(alloc: Global, texts: &[&str]) -> Result<Vec<String>, AllocError> {
