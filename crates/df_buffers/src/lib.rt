@@ -1,13 +1,7 @@
 //! Rooms for units: raw ones that hold any bytes, and sound ones whose bytes are a unit that is valid at its own place.
 #![tactic(auto)]
 
-#[cfg(test)]
-mod class_tests;
 mod copies;
-#[cfg(test)]
-mod copy_tests;
-#[cfg(test)]
-mod examples;
 mod find;
 mod headers;
 mod identity;
@@ -19,8 +13,6 @@ mod raw;
 mod rooms;
 mod slots;
 mod sound;
-#[cfg(test)]
-mod tests;
 
 pub use identity::{Identity, Wanted};
 pub use kinds::{Block, HeaderSector, Prepare, Reply, RoomKind, SuperSector, Trailer, UnitKind};

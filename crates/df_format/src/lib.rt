@@ -1,33 +1,19 @@
 //! The bytes of a unit in the file: the header's one spelling, and which unit a slot shows.
 #![tactic(auto)]
 
-#[cfg(test)]
-mod class_tests;
 mod codec;
 mod copy_laws;
 mod decode;
-#[cfg(test)]
-mod examples;
-#[cfg(test)]
-mod fault_tests;
 mod header;
 mod kind;
-#[cfg(test)]
-mod kind_tests;
 mod make;
 mod own;
 mod pieces;
 mod reference;
 mod rules;
 mod super_codec;
-#[cfg(test)]
-mod super_examples;
 mod super_rules;
-#[cfg(test)]
-mod super_tests;
 mod superblock;
-#[cfg(test)]
-mod tests;
 mod unit_laws;
 
 pub use codec::{decode_header, encode_header, seal_header};

@@ -12,6 +12,3 @@ pub use fields::Field;
 pub use layout::Layout;
 pub use order::{layouts_are_numbers, places_are_apart, places_are_inside, zones_in_order};
 pub use places::{Place, Span, Zone};
-
-#[cfg(test)]
-mod tests;

@@ -5,8 +5,6 @@ mod best;
 mod choice;
 mod laws;
 mod slot;
-#[cfg(test)]
-mod tests;
 mod votes;
 
 pub use choice::{Chosen, choose};

@@ -1,7 +1,7 @@
 // The choice over tables of four slots: rows in which a content is chosen, and rows in which no two copies agree.
-use crate::{Chosen, Slot, choose};
 use df_format::{SuperCopy, SuperFields};
 use df_layout::{Class, Place, Zone};
+use df_quorum::{Chosen, Slot, choose};
 
 const EARLY: SuperFields = SuperFields {
     version: 1,

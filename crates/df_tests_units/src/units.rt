@@ -4,12 +4,12 @@ ghost use Rattle.df_format.specs.Rules.{ObeysRules};
 ghost use Rattle.df_format.specs.Making.{for_body};
 
 use crate::examples::{PREPARE, changed, spelled};
-use crate::{Header, Kind, decode_header, decode_unit, make_unit};
 use df_base::check;
+use df_format::{Header, Kind, decode_header, decode_unit, make_unit};
 use df_layout::{Class, Layout, Place, Zone};
 
 // What the maker of the example says of it; its size and its checksum are set.
-#[tactic(auto, unfolding(crate::specs::Spelling::no_checksum))]
+#[tactic(auto, unfolding(df_format::specs::Spelling::no_checksum))]
 fn given(body: &[u8]) -> Header
     requires { length body.now ≤ 3840 }
     ensures { ObeysRules (for_body result body.now) }

@@ -1,5 +1,5 @@
 // The places of the two named layouts by number, and the limits, as the format's own tables give them.
-use crate::{
+use df_layout::{
     Field, Layout, Place, Span, Zone, layouts_are_numbers, places_are_apart, places_are_inside,
     zones_in_order,
 };

@@ -1,6 +1,6 @@
 // Copies of the superblock against values from outside: the bytes of the first one, and which sectors are a copy.
 use crate::super_examples::{FIRST, LATER, sealed, written};
-use crate::{SuperCopy, SuperFields, decode_copy, decode_own_copy, test_fields};
+use df_format::{SuperCopy, SuperFields, decode_copy, decode_own_copy, test_fields};
 use df_layout::{Class, Layout, Place, Zone};
 
 // The first 80 bytes of its copy 2, the others are zero. The checksum is from another implementation of SHA-256.

@@ -2,7 +2,7 @@
 ghost use Rattle.std.specs.Prelude.{◌≡◌};
 
 use crate::examples::{BLOCK, FIRST_TRAILER, PREPARE, REPLY, RESERVED, TRAILER, changed, spelled};
-use crate::{Header, decode_header, decode_unit};
+use df_format::{Header, decode_header, decode_unit};
 use df_layout::{Class, Layout, Place, Zone};
 
 // A slot that begins with these bytes, nines behind them.

@@ -1,31 +1,11 @@
 // What the rooms of the superblock's copies answer to given bytes.
 ghost use Rattle.std.specs.Prelude.{◌≡◌};
 
-use crate::{ProbeRoom, Raw, SuperSector};
-use df_format::{SuperCopy, SuperFields, decode_copy, encode_copy, test_fields};
+use crate::super_examples::{FIRST, written};
+use df_buffers::{ProbeRoom, Raw, SuperSector};
+use df_format::{SuperCopy, decode_copy};
 use df_layout::{Class, Layout, Place, Zone};
 use std::alloc::Global;
-
-// What the first superblock of layout small and cluster 7 says.
-const FIRST: SuperFields = SuperFields {
-    version: 1,
-    slots: 32,
-    message_size: 8192,
-    clients: 4,
-    block_size: 16_384,
-    blocks: 64,
-    cluster: 7,
-    sequence: 1,
-    op: 0,
-    op_checksum: [0; 16],
-    head: 0,
-    replies: 0,
-    trailer_address: 0,
-    trailer_checksum: [0; 16],
-    trailer_size: 0,
-    boot: 0,
-    first_nonzero: None,
-};
 
 fn place(index: u64) -> Place
     ensures zone { result.zone ≡ Zone.Superblock }
@@ -35,17 +15,6 @@ fn place(index: u64) -> Place
         zone: Zone::Superblock,
         index,
     }
-}
-
-// The sector of a copy of these fields.
-fn written(number: u8) -> [u8; 4096] {
-    let mut bytes = [9; 4096];
-    if let Ok(content) = test_fields(&FIRST)
-        && number < 4
-    {
-        encode_copy(&content, number, &mut bytes);
-    }
-    bytes
 }
 
 // What the room of copy 1 answers with these bytes; None where memory was refused.
@@ -60,7 +29,7 @@ fn answer(alloc: Global, bytes: &[u8; 4096]) -> Option<Result<SuperCopy, Class>>
 
 #[test]
 fn tells_the_class_of_a_copy(rt: HostRuntime) {
-    let copy = decode_copy(&written(1));
+    let copy = decode_copy(&written(&FIRST, 1));
     assert!(rt; copy.is_some());
     let elsewhere = Class::Elsewhere(Place {
         zone: Zone::Superblock,
@@ -68,18 +37,21 @@ fn tells_the_class_of_a_copy(rt: HostRuntime) {
     });
     let mut almost_blank = [0; 4096];
     almost_blank[4095] = 1;
-    let mut other_number = written(1);
+    let mut other_number = written(&FIRST, 1);
     other_number[16] = 4;
     let cases = [
         ([0; 4096], Some(Err(Class::Blank))),
         (almost_blank, Some(Err(Class::Garbled))),
         (other_number, Some(Err(Class::Garbled))),
-        (written(2), Some(Err(elsewhere))),
+        (written(&FIRST, 2), Some(Err(elsewhere))),
     ];
     for (bytes, class) in cases {
         assert_eq!(rt; answer(rt.alloc(), &bytes), class);
     }
-    assert_eq!(rt; answer(rt.alloc(), &written(1)), copy.map(|copy| Ok(copy)));
+    assert_eq!(rt;
+        answer(rt.alloc(), &written(&FIRST, 1)),
+        copy.map(|copy| Ok(copy))
+    );
 }
 
 #[test]
@@ -87,7 +59,7 @@ fn reserves_a_room_for_each_copy(rt: HostRuntime) {
     let mut room = ProbeRoom::reserve(rt.alloc()).expect(&rt, "memory of the copies' rooms");
     for number in 0..4 {
         let sector = room.sector_mut(number);
-        sector.bytes_mut().copy_from_slice(&written(number));
+        sector.bytes_mut().copy_from_slice(&written(&FIRST, number));
     }
     for number in 0..4 {
         let index = u64::from(number);

@@ -1,6 +1,6 @@
 // Two superblocks of layout small and cluster 7, and their sectors.
-use crate::{SuperFields, encode_copy, test_fields};
 use df_base::check;
+use df_format::{SuperFields, encode_copy, test_fields};
 
 // What the first superblock of layout small and cluster 7 says.
 pub(crate) const FIRST: SuperFields = SuperFields {

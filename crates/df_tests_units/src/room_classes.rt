@@ -1,11 +1,11 @@
 // What rooms of layout small answer to given bytes: the unit wanted, or the class of what is there.
 ghost use Rattle.std.specs.Prelude.{◌≡◌, length, IfOk};
 
-use crate::examples::{BLOCK, Fields, PREPARE, REPLY, RESERVED, TRAILER, changed, spelled};
-use crate::{
+use crate::room_examples::{BLOCK, Fields, PREPARE, REPLY, RESERVED, TRAILER, changed, spelled};
+use df_base::OutOfMemory;
+use df_buffers::{
     Block, HeaderSector, Identity, Prepare, Raw, Reply, RoomKind, Trailer, UnitKind, Wanted,
 };
-use df_base::OutOfMemory;
 use df_format::{Header, decode_header};
 use df_layout::{Class, Layout, Place, Zone};
 use std::alloc::Global;

@@ -1,6 +1,6 @@
 // Which superblocks can be used: each field's test failing in turn, and passing at its limits.
 use crate::super_examples::{FIRST, LATER, sealed, written};
-use crate::{SuperFault, SuperFields, decode_copy, test_fields};
+use df_format::{SuperFault, SuperFields, decode_copy, test_fields};
 use df_layout::{Field, Layout};
 
 // A number of so many bytes, at an offset of the sector.

@@ -5,8 +5,8 @@ ghost use Rattle.df_format.specs.Own.{own_place};
 ghost use Rattle.df_format.specs.Whole.{greatest_size};
 ghost use Rattle.df_format.specs.Making.{for_body};
 
-use crate::examples::{block, prepare, reply, trailer};
-use crate::{Block, Identity, Prepare, Raw, Reply, Rooms, Trailer, UnitKind, Wanted};
+use crate::room_examples::{block, prepare, reply, trailer};
+use df_buffers::{Block, Identity, Prepare, Raw, Reply, Rooms, Trailer, UnitKind, Wanted};
 use df_format::Header;
 use df_layout::{Layout, Place};
 

@@ -2,8 +2,10 @@
 ghost use Rattle.std.specs.Prelude.{◌≡◌, length};
 
 use crate::examples::{BLOCK, FIRST_TRAILER, PREPARE, REPLY, RESERVED, TRAILER, changed, spelled};
-use crate::{Header, Kind, decode_header, encode_header, seal_header};
 use df_base::{Check, check};
+use df_format::{
+    Header, Kind, decode_header, encode_header, headers_have_one_spelling, seal_header,
+};
 
 // A header of cluster 7 without a body, all other fields zero.
 fn plain(kind: Kind, front: &[u8; 124]) -> Header {
@@ -34,6 +36,7 @@ fn checksum_of(front: &[u8; 124]) -> Check {
 fn rewritten(bytes: &[u8]) -> Option<[u8; 256]>
     requires { length bytes.now ≡ 256 }
 {
+    headers_have_one_spelling();
     let header = decode_header(bytes)?;
     let mut into = [9; 256];
     encode_header(&seal_header(header), &mut into);
