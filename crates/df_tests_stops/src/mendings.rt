@@ -7,8 +7,9 @@ use df_top::Status;
 use std::alloc::Global;
 use std::test::Fail;
 
-// Sectors of a file that show 0xa5, and the sectors that the next run mends, in order: each with a write and a sync. A header
-// sector comes before the copies.
+// Sectors of a file that show 0xa5, and the sectors that the next run mends, in order. All header sectors that are needed are written
+// first, with one sync behind them, and then each copy, with a sync of its own. In each of these files one header sector is needed at
+// most, so each sector has a write and a sync.
 const MENDINGS: [(&[u64], &[u16]); 4] = [
     (&[5], &[5]),
     (&[0, 2], &[0, 2]),

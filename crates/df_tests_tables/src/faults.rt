@@ -73,7 +73,8 @@ fn each_failing_device_call_of_a_session_is_a_disk_fault(rt: HostRuntime) -> Res
     Ok(())
 }
 
-// The open, and then the writes of two sectors of headers and two copies, with their syncs.
+// The open takes 49 calls: the four copies, the barrier, the copies once more, the trailer's block twice, two sectors of headers, 32
+// prepares and four replies. Behind it come the writes of two sectors of headers with one sync, and of two copies with a sync each.
 #[test]
 fn each_failing_device_call_of_a_mending_is_a_disk_fault(rt: HostRuntime) -> Result<(), Fail> {
     let views = views(rt.alloc(), Work::Mending)?;
@@ -87,7 +88,7 @@ fn each_failing_device_call_of_a_mending_is_a_disk_fault(rt: HostRuntime) -> Res
         assert_eq!(rt; status, Status::DiskFault, "call {call}");
         assert!(rt; recovered, "call {call}");
     }
-    assert!(rt; faults > 51 && faults < ENDED - 1, "{faults} calls");
+    assert_eq!(rt; faults, 56);
     Ok(())
 }
 

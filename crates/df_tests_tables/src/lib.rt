@@ -6,6 +6,8 @@ mod faults;
 #[cfg(test)]
 mod loose;
 #[cfg(test)]
+mod mended;
+#[cfg(test)]
 mod session;
 #[cfg(test)]
 mod stops;

@@ -104,7 +104,8 @@ fn a_stop_at_each_write_leaves_the_view_before_or_after(rt: HostRuntime) -> Resu
     Ok(())
 }
 
-// The session's last block is loose up to the barrier, and then two sectors of headers and two copies are written.
+// The session's last block is loose in the first reads of the four copies and at the barrier. Two sectors of headers are loose up to the
+// sync behind both, and each of two copies up to its own.
 #[test]
 fn a_stop_at_each_write_of_a_mending_leaves_the_view(rt: HostRuntime) -> Result<(), Fail> {
     let views = views(rt.alloc(), Work::Mending)?;
@@ -113,6 +114,6 @@ fn a_stop_at_each_write_of_a_mending_leaves_the_view(rt: HostRuntime) -> Result<
         let left = are_left(rt.alloc(), Work::Mending, &views, moment)?;
         assert!(rt; left, "call {}", moment.call);
     }
-    assert!(rt; moments.len() > 8, "{} moments", moments.len());
+    assert_eq!(rt; moments.len(), 12);
     Ok(())
 }

@@ -14,8 +14,8 @@ pub(crate) enum Work {
     Mending,
 }
 
-// A small file behind the whole session; a later device call may be listed to fail.
-fn whole_file(alloc: Global, failing: &[u64]) -> Result<MemoryDisk, Fail> {
+/// A small file behind the whole session; a later device call may be listed to fail.
+pub(crate) fn whole_file(alloc: Global, failing: &[u64]) -> Result<MemoryDisk, Fail> {
     let mut disk = small_file(alloc, failing)?;
     let ran = run_script(alloc, &mut disk, &front(alloc, LINES)?)?;
     if ran.status == Status::Done {
@@ -35,10 +35,16 @@ fn hurt(disk: &mut MemoryDisk) -> Result<(), Fail> {
     Ok(())
 }
 
+/// That file, hurt: an open mends it.
+pub(crate) fn hurt_file(alloc: Global, failing: &[u64]) -> Result<MemoryDisk, Fail> {
+    let mut disk = whole_file(alloc, failing)?;
+    hurt(&mut disk)?;
+    Ok(disk)
+}
+
 // A recovery whose device call of this number fails, behind so many calls of the session.
 fn cut_mending(alloc: Global, before: u64, call: u64) -> Result<(MemoryDisk, Ran), Fail> {
-    let mut disk = whole_file(alloc, &[before.saturating_add(call)])?;
-    hurt(&mut disk)?;
+    let mut disk = hurt_file(alloc, &[before.saturating_add(call)])?;
     let ran = run_words(alloc, &mut disk, &["recover"])?;
     Ok((disk, ran))
 }
