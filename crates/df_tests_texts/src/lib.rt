@@ -1,5 +1,4 @@
-//! Tests of what is read and printed: the grammar of script lines and their reading in pieces, each printed line, and the commands
-//! that a generated run asks for.
+//! Tests of what is printed: each line of an answer, a refusal and a report; and the commands that a generated run asks for.
 #![tactic(auto)]
 
 #[cfg(test)]
@@ -7,14 +6,10 @@ mod answers;
 #[cfg(test)]
 mod blocks;
 #[cfg(test)]
-mod grammar;
-#[cfg(test)]
 mod openings;
 #[cfg(test)]
 mod printed;
 #[cfg(test)]
 mod reports;
-#[cfg(test)]
-mod scripts;
 #[cfg(test)]
 mod workloads;
