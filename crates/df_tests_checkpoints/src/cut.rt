@@ -1,8 +1,7 @@
 // Small files behind a script, and behind one that was stopped within its last line.
 use df_images::{Fate, stop};
 use df_memdisk::MemoryDisk;
-use df_runs::{FORMAT_CALLS, run_script, small_file};
-use df_top::Status;
+use df_runs::{FORMAT_CALLS, Status, run_script, small_file};
 use std::alloc::Global;
 use std::test::Fail;
 

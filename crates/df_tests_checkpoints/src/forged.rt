@@ -5,8 +5,7 @@ use df_base::SECTOR;
 use df_disk::Disk;
 use df_format::{SuperFields, decode_copy, encode_copy, test_fields};
 use df_memdisk::MemoryDisk;
-use df_runs::{printed, run_script};
-use df_top::Status;
+use df_runs::{Status, printed, run_script};
 use std::alloc::Global;
 use std::test::Fail;
 

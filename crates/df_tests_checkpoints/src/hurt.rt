@@ -1,8 +1,7 @@
 // Files of a checkpoint whose sectors are hurt at rest: copies of an earlier one, and blocks.
 use crate::cut::served;
 use df_memdisk::Strike;
-use df_runs::{printed, run_script};
-use df_top::Status;
+use df_runs::{Status, printed, run_script};
 use std::test::Fail;
 
 // A file behind this script, its strikes, and what the next script prints and ends in.

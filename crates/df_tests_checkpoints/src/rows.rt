@@ -1,6 +1,5 @@
 // Worked scripts of blocks and checkpoints over a new file, with the lines that they end in.
-use df_runs::{made_file, ops_of_one, run_script};
-use df_top::Status;
+use df_runs::{Status, made_file, ops_of_one, run_script};
 use std::alloc::Global;
 use std::test::Fail;
 

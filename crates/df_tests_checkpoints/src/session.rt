@@ -3,8 +3,7 @@ use df_images::survey_small;
 use df_layout::Layout;
 use df_memdisk::MemoryDisk;
 use df_model::Summary;
-use df_runs::{long_session, run_script, small_file};
-use df_top::Status;
+use df_runs::{Status, long_session, run_script, small_file};
 use std::alloc::Global;
 use std::test::Fail;
 

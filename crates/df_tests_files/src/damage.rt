@@ -1,8 +1,7 @@
 // Files behind two or three checkpoints whose sectors are hurt: the first reason of the order of open is told, and a trailer that
 // isn't shown with its class.
 use df_memdisk::{MemoryDisk, Strike};
-use df_runs::{printed, run_script, small_file};
-use df_top::Status;
+use df_runs::{Status, printed, run_script, small_file};
 use std::alloc::Global;
 use std::test::Fail;
 

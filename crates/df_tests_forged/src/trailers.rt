@@ -1,8 +1,7 @@
 // Trailers that can't be, and their neighbours that can, each over a file in memory: what `run` prints of them.
 use crate::file::{Forged, Part, forge};
 use df_memdisk::MemoryDisk;
-use df_runs::{printed, run_script};
-use df_top::Status;
+use df_runs::{Status, printed, run_script};
 use std::alloc::Global;
 use std::test::Fail;
 

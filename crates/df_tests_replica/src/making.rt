@@ -1,10 +1,9 @@
 // Files that are made whole on a disk in memory: what is written, each refusal, and each failing call.
 use df_base::SECTOR;
 use df_disk::Disk;
-use df_images::{format_in, rooms_of};
+use df_images::{FormatError, format_in, rooms_of};
 use df_layout::Layout;
 use df_memdisk::MemoryDisk;
-use df_replica::FormatError;
 use df_runs::{FORMAT_CALLS, FRONT, blank};
 use std::alloc::Global;
 use std::test::Fail;

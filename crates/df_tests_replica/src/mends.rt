@@ -1,9 +1,8 @@
 // Small files on a disk in memory that are hurt, opened and mended: the calls and events of a mending, and each failing
 // call.
-use df_images::{open, open_in, rooms_of, small_file, strike, survey_small};
+use df_images::{OpenError, open, open_in, rooms_of, small_file, strike, survey_small};
 use df_layout::Layout;
 use df_memdisk::MemoryDisk;
-use df_replica::OpenError;
 use std::alloc::Global;
 use std::test::Fail;
 

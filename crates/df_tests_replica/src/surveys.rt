@@ -1,11 +1,9 @@
 // Surveys of small files on a disk in memory: the calls, what is to be mended, each refusal, and each failing call.
 use df_disk::Disk;
-use df_images::{lists, rooms_of, small_file, strike, survey_in, survey_small};
+use df_images::{OpenError, lists, rooms_of, small_file, strike, survey_in, survey_small};
 use df_layout::{Class, Layout, Mend, Place, Zone};
 use df_memdisk::MemoryDisk;
-use df_replica::OpenError;
-use df_runs::run_script;
-use df_top::Status;
+use df_runs::{Status, run_script};
 use std::alloc::Global;
 use std::test::Fail;
 

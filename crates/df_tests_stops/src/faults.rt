@@ -3,9 +3,9 @@
 use crate::found::is_found;
 use crate::session::{OPEN_CALLS, script, session, text_of};
 use df_runs::{
-    FORMAT_CALLS, blank, lines, made_file, printed, run_failing, run_script, run_words, word,
+    FORMAT_CALLS, Status, blank, lines, made_file, printed, run_failing, run_script, run_words,
+    word,
 };
-use df_top::Status;
 use std::alloc::Global;
 use std::test::Fail;
 

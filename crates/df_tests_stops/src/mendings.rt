@@ -2,8 +2,7 @@
 use crate::session::OPEN_CALLS;
 use df_images::{FATES, Fate, stop, strike};
 use df_memdisk::MemoryDisk;
-use df_runs::{made_file, ops_of_one, printed, run_script};
-use df_top::Status;
+use df_runs::{Status, made_file, ops_of_one, printed, run_script};
 use std::alloc::Global;
 use std::test::Fail;
 

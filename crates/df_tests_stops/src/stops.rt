@@ -5,7 +5,7 @@ use crate::moments::{Moment, moments};
 use crate::session::{Kept, run_session, session, text_of};
 use df_images::{Fate, stop_since};
 use df_memdisk::MemoryDisk;
-use df_top::Status;
+use df_runs::Status;
 use std::alloc::Global;
 use std::test::Fail;
 

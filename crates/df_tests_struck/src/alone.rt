@@ -2,8 +2,7 @@
 use crate::seen::{Seen, heal, look};
 use df_layout::{Place, Zone};
 use df_memdisk::{MemoryDisk, Strike};
-use df_runs::{long_session, run_script, small_file};
-use df_top::Status;
+use df_runs::{Status, long_session, run_script, small_file};
 use std::alloc::Global;
 use std::test::Fail;
 

@@ -1,11 +1,9 @@
 // What is seen of a file in memory: the state that a survey finds or its refusal, and whether two reports of it are one.
-use df_images::survey_small;
+use df_images::{OpenError, survey_small};
 use df_layout::Place;
 use df_memdisk::{MemoryDisk, Strike};
 use df_model::Summary;
-use df_replica::OpenError;
-use df_runs::{run_script, run_words, small_file};
-use df_top::Status;
+use df_runs::{Status, run_script, run_words, small_file};
 use std::alloc::Global;
 use std::test::Fail;
 

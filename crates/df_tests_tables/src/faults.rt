@@ -6,8 +6,7 @@ use crate::told::{is_before_or_after, views};
 use crate::work::{Work, cut};
 use df_images::{Fate, stop_since};
 use df_memdisk::MemoryDisk;
-use df_runs::{Ran, lines, run_failing, small_file, word};
-use df_top::Status;
+use df_runs::{Ran, Status, lines, run_failing, small_file, word};
 use std::alloc::Global;
 use std::test::Fail;
 

@@ -2,8 +2,7 @@
 // over a hurt file and of its recovery. The status is the fault's, and the next recovery is done, with all that was done before it.
 use crate::told::{is_before_or_after, told};
 use crate::work::{hurt_file, whole_file};
-use df_runs::{Ran, lines, run_failing, run_script, word};
-use df_top::Status;
+use df_runs::{Ran, Status, lines, run_failing, run_script, word};
 use std::alloc::Global;
 use std::test::Fail;
 

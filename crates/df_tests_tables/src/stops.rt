@@ -4,8 +4,7 @@ use crate::loose::{fated, loose_of};
 use crate::told::{is_before_or_after, views};
 use crate::work::{Work, cut};
 use df_images::{Fate, stop_since};
-use df_runs::lines;
-use df_top::Status;
+use df_runs::{Status, lines};
 use std::alloc::Global;
 use std::test::Fail;
 

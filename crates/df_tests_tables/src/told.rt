@@ -2,8 +2,7 @@
 use crate::session::{LINES, front};
 use crate::work::Work;
 use df_memdisk::MemoryDisk;
-use df_runs::{run_script, run_words, small_file};
-use df_top::Status;
+use df_runs::{Status, run_script, run_words, small_file};
 use std::alloc::Global;
 use std::test::Fail;
 

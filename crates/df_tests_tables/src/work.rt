@@ -1,8 +1,7 @@
 // What is stopped and fails: a run of the session, or a recovery of a hurt file.
 use crate::session::{LINES, front};
 use df_memdisk::{MemoryDisk, Strike};
-use df_runs::{FORMAT_CALLS, FORMAT_EVENTS, Ran, run_script, run_words, small_file};
-use df_top::Status;
+use df_runs::{FORMAT_CALLS, FORMAT_EVENTS, Ran, Status, run_script, run_words, small_file};
 use std::alloc::Global;
 use std::test::Fail;
 

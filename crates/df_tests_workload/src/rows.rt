@@ -1,7 +1,6 @@
 // What generated runs print over new files, and which words ask for one. The numbers are those of a program of its own, in Python,
 // after the description of the generator.
-use df_runs::{made_file, printed, run_failing, run_words, small_file, words};
-use df_top::Status;
+use df_runs::{Status, made_file, printed, run_failing, run_words, small_file, words};
 use std::test::Fail;
 
 const FIRST: &str =

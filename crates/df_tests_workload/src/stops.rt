@@ -1,7 +1,6 @@
 // A generated run that a failing device ends: nothing is printed, and what was answered is there at the next open.
 use df_memdisk::MemoryDisk;
-use df_runs::{Ran, printed, run_words, small_file};
-use df_top::Status;
+use df_runs::{Ran, Status, printed, run_words, small_file};
 use std::alloc::Global;
 use std::test::Fail;
 
