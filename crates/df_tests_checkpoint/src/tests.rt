@@ -27,6 +27,10 @@ impl Captured for Highest {
             None
         }
     }
+
+    fn counted(&self, _groups: u64) -> Option<u64> {
+        None
+    }
 }
 
 // A layout of 1,024 blocks of 4,096 bytes.

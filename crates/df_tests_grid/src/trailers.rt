@@ -28,6 +28,10 @@ impl Captured for Lowest {
             None
         }
     }
+
+    fn counted(&self, _groups: u64) -> Option<u64> {
+        None
+    }
 }
 
 fn layout_of(blocks: u32) -> Layout

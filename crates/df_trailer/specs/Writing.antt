@@ -4,6 +4,7 @@ use Rattle.df_sessions.specs.declared.session.Session as table
 use Rattle.df_theory.specs.Units as model
 use Rattle.df_trailer.specs.Rooms.{session_of}
 use Rattle.df_trailer.specs.Spelling.{is_referenced, listed, number_of}
+use Rattle.df_trailer.specs.Text.{ones}
 
 -- what a text has from an offset on stands at the front of a room
 abbrev pub IsShown : List ℕ → ℕ → List ℕ → Type 0
@@ -15,6 +16,10 @@ sessions_of ss = map session_of ss
 -- the blocks that were captured, in order of address
 abbrev pub captured_blocks : (ℕ → Option ℕ) → ℕ → List (Option ℕ)
 captured_blocks captured blocks = listed (λ place. captured (suc place)) blocks
+
+-- how many of the first n addresses are captured
+abbrev pub referenced_among : (ℕ → Option ℕ) → ℕ → ℕ
+referenced_among captured n = ones (map is_referenced (captured_blocks captured n))
 
 -- their bits as one number
 abbrev pub captured_bits : (ℕ → Option ℕ) → ℕ → ℕ
