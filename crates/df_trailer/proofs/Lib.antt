@@ -19,6 +19,7 @@ pub mod Said
 pub mod Sessions
 pub mod Shown
 pub mod Sizes
+pub mod Skipped
 pub mod Spelled
 pub mod Spread
 pub mod Stays

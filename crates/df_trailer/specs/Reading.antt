@@ -28,13 +28,20 @@ pub record IsKept (l : Layout) (text head bits : List ℕ) (behind : ℕ) : Type
 abbrev pub AreChecksKept : List ℕ → ℕ → List ℕ → Type 0
 AreChecksKept text at checks = (i : ℕ) → i < length checks → at + i < length text → slice_index checks i ≡ slice_index text (at + i)
 
--- the tests of what comes behind a head of so many bytes: as many bytes of bits, which are this number, and so many bytes in all
-abbrev pub rest_tests : (blocks head size bits behind : ℕ) → List (Bool × Failing)
-rest_tests blocks head size bits behind =
+-- the tests of the bits behind a head of so many bytes: as many bytes as they need, which are this number
+abbrev pub bits_tests : (blocks head size bits behind : ℕ) → List (Bool × Failing)
+bits_tests blocks head size bits behind =
     (nat_lt behind size, fails Ends TrailerBits (head + behind))
     ∷ (nat_le (2 ^ blocks) bits, fails Says TrailerBits (head + size - 1))
-    ∷ (not (behind == size + 16 * ones (bits_of blocks bits)), fails Ends TrailerEnd (head + behind))
     ∷ []
+
+-- the test of the end: so many bytes in all
+abbrev pub end_tests : (blocks head size bits behind : ℕ) → List (Bool × Failing)
+end_tests blocks head size bits behind = (not (behind == size + 16 * ones (bits_of blocks bits)), fails Ends TrailerEnd (head + behind)) ∷ []
+
+-- the tests of what comes behind a head
+abbrev pub rest_tests : (blocks head size bits behind : ℕ) → List (Bool × Failing)
+rest_tests blocks head size bits behind = bits_tests blocks head size bits behind ++ end_tests blocks head size bits behind
 
 -- the first that fails
 abbrev pub failing_of : Layout → ℕ → List ℕ → List ℕ → ℕ → Option Failing
@@ -46,6 +53,11 @@ bits_room r = listed (byte_in_words r.parts.bits.items) (bits_size (layout_of r.
 
 abbrev pub checks_room : Reader → List ℕ
 checks_room r = listed (byte_in_checks r.parts.checks.items) (16 * r.layout.blocks)
+
+-- what fails in the head and the bits that a reader keeps
+abbrev pub failing_before_end : Reader → Option Failing
+failing_before_end r =
+    first_refusal (head_tests r.layout.clients r.op r.front.head.items ++ bits_tests r.layout.blocks (length r.front.head.items) (bits_size (layout_of r.layout)) (bits_in (bits_room r)) r.behind)
 
 -- what fails in what a reader keeps
 abbrev pub failing_in : Reader → Option Failing

@@ -6,7 +6,7 @@ use crate::bitmap::put_byte;
 use df_base::Check;
 
 /// Bytes of a checksum.
-const CHECK: u64 = 16;
+pub(crate) const CHECK: u64 = 16;
 
 /// Puts a byte into the room for the bits, if it is one of theirs.
 pub(crate) fn put_bits(words: &mut [u64], blocks: u32, behind: u64, byte: u8)

@@ -6,6 +6,7 @@ mod bitmap;
 mod captured;
 mod fault;
 mod front;
+mod groups;
 mod head;
 mod meaning;
 mod parts;

@@ -10,7 +10,7 @@ use crate::bitmap::is_set;
 use crate::fault::{Cause, Failing};
 use crate::front::Front;
 use crate::parts::{root_in, sessions_in, spread};
-use crate::rest::failing_rest;
+use crate::rest::{failing_bits, failing_end};
 use crate::{Fault, Parts};
 use df_base::Check;
 use df_layout::Layout;
@@ -60,6 +60,7 @@ fn check_at(checks: &[Check], number: u64) -> Check
 }
 
 impl Reader {
+    ghost use Rattle.df_trailer.specs.Reading.{failing_before_end};
     ghost use Rattle.df_trailer.specs.Rooms.{AreParts, number_in};
     ghost use Rattle.df_trailer.specs.Text.{fault, parts_of, refusal};
     ghost use Rattle.df_trailer.specs.Sessions.{AreRead};
@@ -118,20 +119,44 @@ impl Reader {
         }
     }
 
-    /// The first part that fails in what came so far.
-    fn failing(&self) -> Option<Failing>
+    /// The first part of head and bits that fails in what came so far.
+    fn failing_before_end(&self) -> Option<Failing>
         requires { bytes_read self.now < 2 ^ 62 }
-        ensures { result ≡ failing_in self.now }
+        ensures { result ≡ failing_before_end self.now }
     {
         match self.front.failing(self.layout.clients, self.op) {
             Some(failing) => Some(failing),
-            None => failing_rest(
+            None => failing_bits(
                 self.layout.blocks,
                 self.front.head.len() as u64,
                 &self.parts.bits,
                 self.behind,
             ),
         }
+    }
+
+    /// The first part that fails in what came so far.
+    fn failing(&self) -> Option<Failing>
+        requires { bytes_read self.now < 2 ^ 62 }
+        ensures { result ≡ failing_in self.now }
+    {
+        match self.failing_before_end() {
+            Some(failing) => Some(failing),
+            None => failing_end(
+                self.layout.blocks,
+                self.front.head.len() as u64,
+                &self.parts.bits,
+                self.behind,
+            ),
+        }
+    }
+
+    /// What fails in what came so far, whatever comes behind it: more of a text can still mend its end, so that isn't tested.
+    fn refused(&self) -> Result<(), Fault>
+        requires { bytes_read self.now < 2 ^ 62 }
+        ensures { result ≡ answer (refusal_in (failing_in self.now)) }
+    {
+        refusal_of(self.failing_before_end())
     }
 
     /// Takes the next piece of the text. It refuses exactly where the text so far says what it may not say, whatever
@@ -145,7 +170,7 @@ impl Reader {
     {
         let head = self.front.take(piece);
         self.take_rest(&piece[head..]);
-        refusal_of(self.failing())
+        self.refused()
     }
 
     /// Answers the first part that fails in the whole text, which is what was fed.

@@ -1,7 +1,7 @@
 // What comes behind the head: bits, and what is told of the text by them.
 ghost use Rattle.std.specs.Prelude.{◌≡◌, ◌+◌, ◌*◌, ◌/◌, ◌<◌, ◌≤◌, ◌^◌, length};
 ghost use Rattle.df_model.specs.Refusals.{first_refusal};
-ghost use Rattle.df_trailer.specs.Reading.{rest_tests};
+ghost use Rattle.df_trailer.specs.Reading.{bits_tests, end_tests};
 ghost use Rattle.df_trailer.specs.Rooms.{bits_in_words};
 
 use crate::bitmap::{count_set, has_unused};
@@ -9,12 +9,12 @@ use crate::fault::Failing;
 use crate::head::{ends, says};
 use df_layout::Field;
 
-/// The first part that fails behind a head of so many bytes, where so many bytes came behind it.
-pub(crate) fn failing_rest(blocks: u32, head: u64, words: &[u64], behind: u64) -> Option<Failing>
+/// The first part of the bits that fails, where so many bytes came behind a head of so many.
+pub(crate) fn failing_bits(blocks: u32, head: u64, words: &[u64], behind: u64) -> Option<Failing>
     requires room { blocks ≤ 64 * length words.now }
     requires some { 0 < blocks }
     requires small { head + behind < 2 ^ 62 }
-    ensures { result ≡ first_refusal (rest_tests blocks head ((blocks + 7) / 8) (bits_in_words ((blocks + 7) / 8) words.now) behind) }
+    ensures { result ≡ first_refusal (bits_tests blocks head ((blocks + 7) / 8) (bits_in_words ((blocks + 7) / 8) words.now) behind) }
 {
     let size = u64::from(blocks.div_ceil(8));
     if behind < size {
@@ -23,6 +23,16 @@ pub(crate) fn failing_rest(blocks: u32, head: u64, words: &[u64], behind: u64) -
     if has_unused(words, blocks) {
         return says(Field::TrailerBits, head + size - 1);
     }
+    None
+}
+
+/// What fails where a text ends, so many bytes behind a head of so many, with these bits.
+pub(crate) fn failing_end(blocks: u32, head: u64, words: &[u64], behind: u64) -> Option<Failing>
+    requires room { blocks ≤ 64 * length words.now }
+    requires small { head + behind < 2 ^ 62 }
+    ensures { result ≡ first_refusal (end_tests blocks head ((blocks + 7) / 8) (bits_in_words ((blocks + 7) / 8) words.now) behind) }
+{
+    let size = u64::from(blocks.div_ceil(8));
     if behind != size + 16 * count_set(words, blocks) {
         return ends(Field::TrailerEnd, head + behind);
     }

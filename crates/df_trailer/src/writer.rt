@@ -8,6 +8,7 @@ ghost use Rattle.df_trailer.specs.Spelling.{spell, spell_checks, spell_sessions}
 ghost use Rattle.df_trailer.specs.Writing.{IsShown, captured_bits, captured_blocks, captured_parts, piece_of, sessions_of};
 
 use crate::Captured;
+use crate::groups::begin_before;
 use crate::window::{put, put_u32, put_u64, put_u128};
 use df_base::u128_at;
 use df_layout::Layout;
@@ -83,7 +84,7 @@ fn bits_byte<G: Captured>(grid: &G, blocks: u32, number: u64) -> u8
     byte
 }
 
-/// Puts the bits.
+/// Puts the bytes of the bits that the window shows.
 fn put_bits<G: Captured>(room: &mut [u8], from: u64, start: u64, grid: &G, blocks: u32) -> u64
     requires small { start < 2 ^ 60 }
     requires window { from + length room.old < 2 ^ 62 }
@@ -92,11 +93,13 @@ fn put_bits<G: Captured>(room: &mut [u8], from: u64, start: u64, grid: &G, block
         → IsShown (text ++ spelled ((blocks + 7) / 8) (captured_bits (G.captured grid.now) blocks)) from room.new }
     ensures length { length room.new ≡ length room.old }
 {
-    let mut at = start;
-    for number in 0..u64::from(blocks.div_ceil(8)) {
-        at = put(room, from, at, &[bits_byte(grid, blocks, number)]);
+    let size = u64::from(blocks.div_ceil(8));
+    let end = from + room.len() as u64;
+    for number in from.saturating_sub(start)..end.saturating_sub(start).min(size) {
+        let byte = bits_byte(grid, blocks, number);
+        put(room, from, start + number, &[byte]);
     }
-    at
+    start + size
 }
 
 /// Puts the checksum of the block at an address, if there is one.
@@ -104,7 +107,6 @@ fn put_check<G: Captured>(room: &mut [u8], from: u64, at: u64, grid: &G, address
     requires small { at + 16 < 2 ^ 62 }
     requires window { from + length room.old < 2 ^ 62 }
     ensures next { result ≡ at + length (spell_checks (G.captured grid.now address ∷ [])) }
-    ensures most { result ≤ at + 16 }
     ensures shown { (text : List ℕ) → length text ≡ at → IsShown text from room.old → IsShown (text ++ spell_checks (G.captured grid.now address ∷ [])) from room.new }
     ensures length { length room.new ≡ length room.old }
 {
@@ -114,16 +116,22 @@ fn put_check<G: Captured>(room: &mut [u8], from: u64, at: u64, grid: &G, address
     }
 }
 
-/// Puts the checksums of the referenced blocks.
+/// Puts the checksums of the referenced blocks that the window shows. The answer is where the checksums end, or an offset behind the window
+/// where they end behind it.
 fn put_checks<G: Captured>(room: &mut [u8], from: u64, start: u64, grid: &G, blocks: u32) -> u64
     requires small { start < 2 ^ 60 }
     requires window { from + length room.old < 2 ^ 62 }
-    ensures next { result ≡ start + length (spell_checks (captured_blocks (G.captured grid.now) blocks)) }
+    ensures left { min (result - from) (length room.new) ≡ min (start + length (spell_checks (captured_blocks (G.captured grid.now) blocks)) - from) (length room.new) }
     ensures shown { (text : List ℕ) → length text ≡ start → IsShown text from room.old → IsShown (text ++ spell_checks (captured_blocks (G.captured grid.now) blocks)) from room.new }
     ensures length { length room.new ≡ length room.old }
 {
-    let mut at = start;
-    for place in 0..u64::from(blocks) {
+    let end = from + room.len() as u64;
+    let begin = begin_before(grid, start, from, blocks);
+    let mut at = begin.at;
+    for place in begin.place..u64::from(blocks) {
+        if at >= end {
+            return at;
+        }
         at = put_check(room, from, at, grid, place + 1);
     }
     at

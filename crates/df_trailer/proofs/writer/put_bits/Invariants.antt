@@ -1,11 +1,10 @@
-use Rattle.std.proofs.Common.{◌≡◌, ℕ, ◌+◌, ◌++◌, List, length}
+use Rattle.std.proofs.Common.{◌≡◌, ℕ, ◌++◌, List, length}
 use Rattle.df_base.specs.Fields.{spelled}
 use Rattle.df_trailer.specs.Writing.{IsShown, captured_bits}
 use Rattle.df_trailer.proofs.writer.put_bits.Given as goal
 
 abbrev pub invariant-loop-number : goal.invariant-loop-number
 invariant-loop-number g l =
-    (l.at ≡ l.fn.start + l.number)
-    × (length l.room ≡ length l.fn.room)
+    (length l.room ≡ length l.fn.room)
     × ((text : List ℕ) → length text ≡ l.fn.start → IsShown text l.fn.from l.fn.room
     → IsShown (text ++ spelled l.number (captured_bits (g.G.Captured.captured l.grid) l.blocks)) l.fn.from l.room)

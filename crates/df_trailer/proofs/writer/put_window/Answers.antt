@@ -28,13 +28,12 @@ returns-clause-shown g c =
     let n2 : length t2 ≡ c.put_u32-at.result = omega (arith, n1, length-append t1 (spelled 4 n), length-spelled 4 n, c.put_u32-at.ensures.next) in
     let n3 : length t3 ≡ c.put_sessions-at.result = omega (arith, n2, length-append t2 ss, length_sessions (sessions_of c.args.sessions.now), length_of c.args.sessions.now, c.put_sessions-at.ensures.next) in
     let n4 : length t4 ≡ c.put_bits-at.result = omega (arith, n3, length-append t3 (spelled q x), length-spelled q x, c.put_bits-at.ensures.next) in
-    let n5 : length t5 ≡ c.put_checks-end.result = omega (arith, n4, length-append t4 cs, c.put_checks-end.ensures.next) in
     let shown : IsShown t5 c.args.from c.put_checks-end.new.room =
     c.put_checks-end.ensures.shown t4 n4 (c.put_bits-at.ensures.shown t3 n3 (c.put_sessions-at.ensures.shown t2 n2 (c.put_u32-at.ensures.shown t1 n1 c.put_root-at.ensures.shown))) in
     let same : t5 ≡ spell (layout_of c.args.layout.now) (captured_parts root c.args.sessions.now f) =
     same_text (spelled 4 (length root)) root (spelled 4 n) ss (spelled q x) cs
     ∙ ap (λ (m : ℕ). spelled 4 (length root) ++ (root ++ (spelled 4 m ++ (ss ++ (spelled q x ++ cs))))) (sym (length_of c.args.sessions.now)) in
     let room : length c.put_checks-end.new.room ≡ length c.args.room.now = omega (arith, c.put_root-at.ensures.length, c.put_u32-at.ensures.length, c.put_sessions-at.ensures.length, c.put_bits-at.ensures.length, c.put_checks-end.ensures.length) in
-    let size : c.left_of.result ≡ min (length t5 - c.args.from) (length c.put_checks-end.new.room) = omega (arith, c.left_of.ensures, n5, room) in
+    let size : c.left_of.result ≡ min (length t5 - c.args.from) (length c.put_checks-end.new.room) = omega (arith, c.left_of.ensures, c.put_checks-end.ensures.left, n4, length-append t4 cs, room) in
     window_is t5 c.put_checks-end.new.room c.args.from c.left_of.result shown size
     ∙ ap (λ (m : ℕ). take m (drop c.args.from t5)) room ∙ ap (λ (t : List ℕ). take (length c.args.room.now) (drop c.args.from t)) same

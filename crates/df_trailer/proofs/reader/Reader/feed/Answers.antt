@@ -6,7 +6,7 @@ use Rattle.df_trailer.specs.Text.{answer, refusal_in}
 use Rattle.df_trailer.proofs.Fed.{IsFed, fails_as_read, read_more}
 use Rattle.df_trailer.proofs.reader.Reader.feed.Goals as goal
 
-fed : (c : goal.After-refusal_of) → IsFed c.args.self.now c.take_rest.new.self c.args.piece.now c.take-head.result
+fed : (c : goal.After-refused) → IsFed c.args.self.now c.take_rest.new.self c.args.piece.now c.take-head.result
 fed c =
     let n : ℕ = c.take-head.result in
     let piece : List ℕ = c.args.piece.now in
@@ -37,5 +37,5 @@ returns-clause-kept c = λ layout op text read. read_more layout op text c.args.
 
 pub returns-clause-refusal : goal.returns-clause-refusal
 returns-clause-refusal c = λ layout op text read.
-    c.refusal_of.ensures
-    ∙ ap (λ (o : Option Failing). answer (refusal_in o)) (c.failing.ensures ∙ fails_as_read layout op (text ++ c.args.piece.now) c.take_rest.new.self (returns-clause-kept c layout op text read))
+    c.refused.ensures
+    ∙ ap (λ (o : Option Failing). answer (refusal_in o)) (fails_as_read layout op (text ++ c.args.piece.now) c.take_rest.new.self (returns-clause-kept c layout op text read))
