@@ -1,5 +1,5 @@
 -- How many entries pass a test, counted by what is looked up at each address.
-use Rattle.std.proofs.Common.{◌≡◌, ℕ, suc, ◌+◌, Bool, true, false, cond, Option, Some, None, List, [], ◌∷◌, length, map, refl, ap, ◌∙◌, arith}
+use Rattle.std.proofs.Common.{◌≡◌, ℕ, suc, ◌+◌, Bool, true, false, cond, Option, Some, None, List, [], ◌∷◌, length, map, refl, ap, arith}
 use Rattle.std.specs.Prelude.{slice_get}
 use Rattle.df_model.specs.Blocks.{sum_at}
 use Rattle.df_units.specs.Meaning.{number_of}
@@ -10,7 +10,7 @@ use Rattle.df_grid.specs.declared.entry.Entry.{Entry}
 use Rattle.df_grid.specs.Table.{picked}
 use Rattle.df_grid.proofs.Picks.{pick_at}
 
-counted_from : (test : Entry → Bool) (f : ℕ → Option ℕ) (s : ℕ) (es : List Entry) → ((i : ℕ) (e : Entry) → slice_get es i ≡ Some e → f i ≡ cond (test e) (Some (number_of e.checksum)) None)
+pub counted_from : (test : Entry → Bool) (f : ℕ → Option ℕ) (s : ℕ) (es : List Entry) → ((i : ℕ) (e : Entry) → slice_get es i ≡ Some e → f i ≡ cond (test e) (Some (number_of e.checksum)) None)
     → length (picked test s es) ≡ ones (map is_referenced (listed f (length es)))
 counted_from test f s [] each = refl
 counted_from test f s (e ∷ es) each = go (f 0) (test e) (each 0 e refl) (counted_from test (λ k. f (suc k)) (s + 1) es (λ i x at. each (suc i) x at))

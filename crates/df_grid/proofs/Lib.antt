@@ -2,6 +2,7 @@ pub mod Zips
 pub mod Single
 pub mod Picks
 pub mod Counted
+pub mod Groups
 pub mod Chains
 pub mod Held
 pub mod Free

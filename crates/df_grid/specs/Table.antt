@@ -1,7 +1,7 @@
 -- The table in the words of the machine: which blocks are live, what the running and the durable checkpoint hold, and so which
 -- addresses are free.
-use Rattle.std.specs.Prelude.{◌≡◌, ℕ, zero, suc, ◌+◌, ◌<◌, ◌≤◌, Bool, true, false, ◌||◌, not, if◌then◌else◌, List, [], ◌∷◌, ◌++◌, length, map, take, drop, slice_get, Option, Some, None}
-use Rattle.std.specs.List.{filter, range_with_len}
+use Rattle.std.specs.Prelude.{◌≡◌, ℕ, zero, suc, ◌+◌, ◌*◌, ◌/◌, ◌<◌, ◌≤◌, Bool, true, false, ◌||◌, not, if◌then◌else◌, List, [], ◌∷◌, ◌++◌, length, map, take, drop, slice_get, Option, Some, None}
+use Rattle.std.specs.List.{count_by, filter, range_with_len}
 use Rattle.df_model.specs.Work.{is_in}
 use Rattle.df_model.specs.Blocks.{Blocks, is_held_in, trailer_written, with_entry}
 use Rattle.df_model.specs.Sense.{RiseFrom}
@@ -25,6 +25,23 @@ is_captured e = e.captured
 
 abbrev pub is_durable : Entry → Bool
 is_durable e = e.durable
+
+-- ---- counts of captured blocks
+
+-- how many of the first n entries are of captured blocks
+abbrev pub captured_among : List Entry → ℕ → ℕ
+captured_among es n = count_by is_captured (take n es)
+
+-- a count for each full group of 256 among the first n entries: of the first group, of the first two, and so on
+pub record AreCounts (es : List Entry) (n : ℕ) (counts : List ℕ) : Type 0 where
+  pub size : length counts ≡ n / 256
+  pub each : (g count : ℕ) → slice_get counts g ≡ Some count → count ≡ captured_among es (256 * (g + 1))
+
+-- The counts that there are are right; while an address of the running trailer is to come, all are there. No layout has more entries.
+pub record IsCounted (es : List Entry) (left counts : List ℕ) : Type 0 where
+  pub few : length es ≤ 16384
+  pub each : (g count : ℕ) → slice_get counts g ≡ Some count → (256 * (g + 1) ≤ length es) × (count ≡ captured_among es (256 * (g + 1)))
+  pub all : (left ≡ [] → ⊥) → length counts ≡ length es / 256
 
 -- ---- lists of addresses with their checksums
 

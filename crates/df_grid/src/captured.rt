@@ -1,4 +1,4 @@
-// The grid as a checkpoint's text asks for what is captured, and how long a trailer is at most.
+// The grid as a checkpoint's text asks for what is captured and counted, and how long a trailer is at most.
 ghost use Rattle.df_model.specs.Blocks.{sum_at};
 ghost use Rattle.df_grid.specs.Laws.{ChainsHaveRoom};
 
@@ -11,6 +11,10 @@ impl Captured for Grid {
 
     fn captured(&self, address: u64) -> Option<Check> {
         Grid::captured(self, address)
+    }
+
+    fn counted(&self, groups: u64) -> Option<u64> {
+        Grid::counted(self, groups)
     }
 }
 

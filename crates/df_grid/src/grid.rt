@@ -1,12 +1,12 @@
 // The grid: which addresses are held and why, and what a new block, a release and a checkpoint make of that.
-ghost use Rattle.std.specs.Prelude.{◌≡◌, ◌≢◌, ◌<◌, ◌≤◌, Bool, false, true, List, ℕ, [], length, map, take, replicate, slice_get, All, IfSome, nat_lt};
+ghost use Rattle.std.specs.Prelude.{◌≡◌, ◌≢◌, ◌*◌, ◌<◌, ◌≤◌, Bool, false, true, List, ℕ, [], length, map, take, replicate, slice_get, All, IfSome, IsSome, nat_lt};
 ghost use Rattle.std.specs.List.{filter};
 ghost use Rattle.df_model.specs.Blocks.{block_released, blocks_captured, capture_finished, is_held_in, sum_at};
 ghost use Rattle.df_model.specs.Work.{is_known};
 ghost use Rattle.df_trailer.specs.Rooms.{number_in};
 ghost use Rattle.df_trailer.specs.Spelling.{is_referenced};
 ghost use Rattle.df_trailer.specs.Text.{ones};
-ghost use Rattle.df_trailer.specs.Writing.{captured_blocks};
+ghost use Rattle.df_trailer.specs.Writing.{captured_blocks, referenced_among};
 ghost use Rattle.df_units.specs.Meaning.{number_of};
 ghost use Rattle.df_grid.specs.Grid.{GridState, HasAddress, IsUnheld, free_of, referenced_of, with_blocks};
 ghost use Rattle.df_grid.specs.Table.{IsIdle, adopted, last_of, no_blocks, pair_in};
@@ -173,6 +173,15 @@ impl Grid {
         ensures { number_in result ≡ sum_at address self.now.blocks.captured }
     {
         self.table.captured(address)
+    }
+
+    /// How many of the first 256 * `groups` addresses the running checkpoint captured, None where that isn't kept. It is for each full
+    /// group of 256 addresses of the grid, while a block of the checkpoint's trailer is to come, and costs one look.
+    pub fn counted(&self, groups: u64) -> Option<u64>
+        ensures count { IfSome result (λ count. count ≡ referenced_among (λ a. sum_at a self.now.blocks.captured) (256 * groups)) }
+        ensures kept { self.now.blocks.left ≢ [] → 256 * groups ≤ self.now.layout.blocks → IsSome result }
+    {
+        self.table.counted(groups)
     }
 
     /// Ends a checkpoint whose trailer blocks are all written: it is the durable one, and only it holds addresses beside the live ones.

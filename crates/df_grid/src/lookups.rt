@@ -1,11 +1,12 @@
-// What is looked up in the table's entries.
+// What is looked up and counted in the table's entries.
 ghost use Rattle.std.specs.Prelude.{◌≡◌, ◌≤◌, length, nat_lt, slice_get};
 ghost use Rattle.std.specs.List.{filter};
 ghost use Rattle.df_grid.specs.Entries.{is_marked};
-ghost use Rattle.df_grid.specs.Table.{entry_at, is_durable, is_live, pair_in, picked};
+ghost use Rattle.df_grid.specs.Table.{AreCounts, entry_at, is_durable, is_live, pair_in, picked};
 
 use crate::entries::Entries;
 use crate::entry::{Entry, is_marked};
+use arrayvec::ArrayVec;
 use df_format::Reference;
 
 /// The entry of an address, None where there is no such address.
@@ -68,6 +69,25 @@ pub(crate) fn count_live(entries: &Entries) -> u64
         place += 1;
     }
     count
+}
+
+/// Addresses of a group: so often what was captured is counted.
+const GROUP: u64 = 256;
+
+/// How many entries of the first group are of captured blocks, of the first two, and so on, as long as groups are full.
+pub(crate) fn count_captured(entries: &Entries) -> ArrayVec<u64, 64>
+    requires { length entries.now ≤ 16384 }
+    ensures { AreCounts entries.now (length entries.now) result.items }
+{
+    let mut counts = ArrayVec::new();
+    let mut count = 0;
+    for place in 0..entries.len() {
+        count += u64::from(entries.get(place + 1).captured);
+        if (place + 1) % GROUP == 0 {
+            counts.push(count);
+        }
+    }
+    counts
 }
 
 /// How many entries are of referenced blocks.

@@ -1,12 +1,12 @@
 // The block table with the free set and the chains of both checkpoints: what the grid knows, and how that changes.
-ghost use Rattle.std.specs.Prelude.{◌≡◌, ◌≢◌, ◌+◌, ◌-◌, ◌<◌, ◌≤◌, ◌↔◌, Bool, true, false, List, ℕ, [], ◌∷◌, Some, None, length, map, take, replicate, slice_get, slice_set, All, IfSome, nat_lt};
+ghost use Rattle.std.specs.Prelude.{◌≡◌, ◌≢◌, ◌+◌, ◌-◌, ◌*◌, ◌<◌, ◌≤◌, ◌↔◌, Bool, true, false, List, ℕ, [], ◌∷◌, Some, None, length, map, take, replicate, slice_get, slice_set, All, IfSome, IsSome, nat_lt};
 ghost use Rattle.std.specs.List.{filter, range_with_len};
 ghost use Rattle.df_model.specs.Blocks.{block_released, block_written, blocks_captured, capture_finished, entries, is_held_in, reference_in, sum_at};
 ghost use Rattle.df_model.specs.Work.{is_known};
 ghost use Rattle.df_trailer.specs.Rooms.{number_in};
 ghost use Rattle.df_trailer.specs.Spelling.{is_referenced};
 ghost use Rattle.df_trailer.specs.Text.{ones};
-ghost use Rattle.df_trailer.specs.Writing.{captured_blocks};
+ghost use Rattle.df_trailer.specs.Writing.{captured_blocks, referenced_among};
 ghost use Rattle.df_units.specs.Meaning.{number_of};
 ghost use Rattle.df_grid.specs.Entries.{HasEntry};
 ghost use Rattle.df_grid.specs.Table.{IsIdle, TableState, adopted, last_of, next_written, no_blocks, pair_in, unheld};
@@ -14,7 +14,9 @@ ghost use Rattle.df_grid.specs.Table.{IsIdle, TableState, adopted, last_of, next
 use crate::changes::{capture_all, finish_all, replace, take_least};
 use crate::entries::Entries;
 use crate::entry::{Entry, checksum_if};
-use crate::lookups::{count_durable, count_live, count_marked, entry_in, first_marked};
+use crate::lookups::{
+    count_captured, count_durable, count_live, count_marked, entry_in, first_marked,
+};
 use arrayvec::ArrayVec;
 use df_base::Check;
 use df_format::Reference;
@@ -22,13 +24,15 @@ use df_freeset::FreeSet;
 use std::marker::Model;
 
 /// The table of blocks. Both parts of the running trailer and the durable one's chain are lists of addresses, the chains from the last
-/// block to the first; no layout has a trailer of more than 70 blocks.
+/// block to the first; no layout has a trailer of more than 70 blocks. A capture also counts what it captured, for each full group of
+/// 256 addresses; no layout has more than 64 of these.
 pub struct Table {
     entries: Entries,
     free: FreeSet,
     written: ArrayVec<u64, 70>,
     left: ArrayVec<u64, 70>,
     chain: ArrayVec<u64, 70>,
+    counts: ArrayVec<u64, 64>,
 }
 
 // Its owner lets go of it in one call, and not field by field.
@@ -40,26 +44,29 @@ impl Drop for Table {
             written: _,
             left: _,
             chain: _,
+            counts: _,
         } = self;
     }
 }
 
 impl Model for Table {
     ghost use Rattle.std.specs.Prelude.{length};
-    ghost use Rattle.df_grid.specs.Table.{TableState, IsTable, blocks_in};
+    ghost use Rattle.df_grid.specs.Table.{TableState, IsCounted, IsTable, blocks_in};
 
     ghost Value = { TableState };
 
     ghost view = { λ t. record { size = length t.entries; blocks = blocks_in t.entries t.written.items t.left.items t.chain.items } };
 
-    ghost invariant = { λ t. IsTable t.entries t.free t.written.items t.left.items t.chain.items };
+    ghost invariant = { λ t. IsTable t.entries t.free t.written.items t.left.items t.chain.items × IsCounted t.entries t.left.items t.counts.items };
 }
 
 impl Table {
-    /// A table in which no address is held, over a free set with none taken and marks that are all zero.
+    /// A table in which no address is held, over a free set with none taken and marks that are all zero; a layout has no more blocks
+    /// than 16,384.
     pub(crate) fn over(free: FreeSet, checks: Vec<Check>, marks: Vec<u8>) -> Table
         requires free { free ≡ replicate (length checks.items) false }
         requires marks { length checks.items ≡ length marks.items }
+        requires few { length checks.items ≤ 16384 }
         requires zero { All (λ mark. mark ≡ 0) marks.items }
         ensures { result ≡ record { size = length checks.items; blocks = no_blocks } }
     {
@@ -69,6 +76,7 @@ impl Table {
             written: ArrayVec::new(),
             left: ArrayVec::new(),
             chain: ArrayVec::new(),
+            counts: ArrayVec::new(),
         }
     }
 
@@ -84,6 +92,7 @@ impl Table {
             written: _,
             left: _,
             chain: _,
+            counts: _,
         } = self;
         let (checks, marks) = entries.into_room();
         (free, checks, marks)
@@ -127,6 +136,18 @@ impl Table {
     {
         let entry = entry_in(&self.entries, address)?;
         checksum_if(entry.captured, entry.checksum)
+    }
+
+    /// How many of the first 256 * `groups` addresses the running checkpoint captured, None where that isn't kept. It is for each full
+    /// group, while a block of the running trailer is to come.
+    pub(crate) fn counted(&self, groups: u64) -> Option<u64>
+        ensures count { IfSome result (λ count. count ≡ referenced_among (λ a. sum_at a self.now.blocks.captured) (256 * groups)) }
+        ensures kept { self.now.blocks.left ≢ [] → 256 * groups ≤ self.now.size → IsSome result }
+    {
+        if groups == 0 {
+            return Some(0);
+        }
+        self.counts.get((groups - 1) as usize).copied()
     }
 
     /// The least address that isn't held, None where all are.
@@ -228,7 +249,7 @@ impl Table {
         true
     }
 
-    /// The live blocks are captured, and the least free addresses are the trailer's.
+    /// The live blocks are captured and counted, and the least free addresses are the trailer's.
     pub(crate) fn capture(&mut self, blocks: u64)
         requires idle { IsIdle self.old.blocks }
         requires free { blocks ≤ length (unheld self.old.size self.old.blocks) }
@@ -236,6 +257,7 @@ impl Table {
         ensures { self.new ≡ record self.old { blocks = blocks_captured self.old.blocks (take blocks (unheld self.old.size self.old.blocks)) } }
     {
         capture_all(&mut self.entries);
+        self.counts = count_captured(&self.entries);
         self.left = take_least(&mut self.free, blocks);
     }
 
@@ -261,6 +283,7 @@ impl Table {
     {
         finish_all(&mut self.entries, &mut self.free);
         self.chain = self.written.take();
+        self.counts.clear();
     }
 
     /// The durable checkpoint holds a block: a live one that it references, or the next one of its trailer.

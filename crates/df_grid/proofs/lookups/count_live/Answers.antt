@@ -1,5 +1,5 @@
 -- One more entry is counted, where it is of a live block.
-use Rattle.std.proofs.Common.{◌≡◌, ◌≤◌, ◌+◌, ◌-◌, ◌∙◌, ℕ, suc, List, ◌∷◌, Some, drop, length, ap, arith}
+use Rattle.std.proofs.Common.{◌≡◌, ◌+◌, ◌-◌, ◌∙◌, ℕ, List, ◌∷◌, Some, drop, length, ap, arith}
 use Rattle.std.specs.Prelude.{slice_get}
 use Rattle.df_grid.specs.declared.entry.Entry.{Entry}
 use Rattle.df_grid.specs.Table.{is_live, picked}

@@ -1,5 +1,5 @@
 -- What is counted is what is looked up.
-use Rattle.std.proofs.Common.{length, map, ap, ◌∙◌}
+use Rattle.std.proofs.Common.{map, ap, ◌∙◌}
 use Rattle.df_model.specs.Blocks.{sum_at}
 use Rattle.df_trailer.specs.Spelling.{is_referenced}
 use Rattle.df_trailer.specs.Text.{ones}

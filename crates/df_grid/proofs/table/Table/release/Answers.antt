@@ -1,8 +1,9 @@
 -- What was live is gone, and nothing else.
-use Rattle.std.proofs.Common.{sym, ap, ◌∙◌}
+use Rattle.std.proofs.Common.{◌-◌, refl, sym, ap, ◌∙◌}
 use Rattle.df_model.specs.Work.{is_known}
 use Rattle.df_model.specs.Blocks.{sum_at}
 use Rattle.df_grid.specs.Table.{TableState, is_live}
+use Rattle.df_grid.proofs.Groups.{counts_kept}
 use Rattle.df_grid.proofs.Held.{look_none}
 use Rattle.df_grid.proofs.Views.{un_not, un_not_false, is_live_there, not_live, not_live_state, released_kept, released_state, entry_is}
 use Rattle.df_grid.proofs.table.Table.release.Goals as goal
@@ -32,7 +33,11 @@ replace-requires-clause-inside c = let s = c.self.inside in (entry_is s.entries 
 
 pub invariant_of-self : goal.invariant_of-self
 invariant_of-self c = let s = c.self.inside in
-    rw (c.replace.ensures.entries, c.replace.ensures.free) (released_kept s.entries s.free s.written.items s.left.items s.chain.items c.self.invariant c.args.address c.in-Some.entry (sym c.entry_in.ensures ∙ c.in-Some.is) (un_not_false c.in-Some.entry.live c.if-not-entry.false))
+    let there = entry_is s.entries c.args.address c.in-Some.entry (sym c.entry_in.ensures ∙ c.in-Some.is) in
+    rw (c.replace.ensures.entries, c.replace.ensures.free) (
+      released_kept s.entries s.free s.written.items s.left.items s.chain.items c.self.invariant.0 c.args.address c.in-Some.entry (sym c.entry_in.ensures ∙ c.in-Some.is) (un_not_false c.in-Some.entry.live c.if-not-entry.false),
+      counts_kept s.entries s.left.items s.counts.items c.self.invariant.1 (c.args.address - 1) _ c.in-Some.entry there.1 refl s.left.items (λ some. some),
+    )
 
 pub returns-clause-answer : goal.returns-clause-answer
 returns-clause-answer c = let s = c.self.inside in
@@ -40,4 +45,4 @@ returns-clause-answer c = let s = c.self.inside in
 
 pub returns-clause-blocks : goal.returns-clause-blocks
 returns-clause-blocks c = let s = c.self.inside in
-    rw (← c.self.view_is, c.replace.ensures.entries) (released_state s.entries s.free s.written.items s.left.items s.chain.items c.self.invariant c.args.address c.in-Some.entry (sym c.entry_in.ensures ∙ c.in-Some.is))
+    rw (← c.self.view_is, c.replace.ensures.entries) (released_state s.entries s.free s.written.items s.left.items s.chain.items c.self.invariant.0 c.args.address c.in-Some.entry (sym c.entry_in.ensures ∙ c.in-Some.is))
