@@ -1,6 +1,7 @@
 pub mod OneLink
 pub mod Walked
 pub mod Fed
+pub mod Referenced
 pub mod Adopted
 pub mod Complete
 pub mod ReadWhole

@@ -1,9 +1,9 @@
 -- No block of a trailer is missed where a link breaks its chain, or where the chain is whole.
-use Rattle.std.proofs.Common.{◌≡◌, ℕ, ◌+◌, ◌-◌, ◌<◌, ◌≤◌, Some, List, [], ◌∷◌, length, refl, sym, ap, ◌∙◌, subst, arith, inl, inr}
+use Rattle.std.proofs.Common.{◌≡◌, ℕ, ◌+◌, ◌-◌, ◌<◌, Some, List, [], ◌∷◌, length, refl, sym, ap, ◌∙◌, subst, arith, inl, inr}
 use Rattle.std.specs.Prelude.{Ok}
 use Rattle.df_theory.specs.Units.{Block, BlockPlace, BlockUnit, Content, Units}
 use Rattle.df_theory.specs.Shape.{Shape}
-use Rattle.df_theory.specs.Trailer.{InChain, IsCount, Links}
+use Rattle.df_theory.specs.Trailer.{InChain, Links}
 use Rattle.df_theory.specs.Opens.{AreLinks, Arrives, IsLink, IsShown}
 use Rattle.df_model.specs.Supply.{Shown}
 use Rattle.df_checkpoint.specs.Chain.{asked}

@@ -1,12 +1,12 @@
 -- What the grid holds of a checkpoint that was read.
-use Rattle.std.specs.Prelude.{◌≡◌, ◌+◌, ◌-◌, ◌<◌, ◌≤◌, ℕ, true, List, [], map, Option, None, Result, Ok, Err}
+use Rattle.std.specs.Prelude.{◌≡◌, ◌+◌, ◌-◌, ◌<◌, ℕ, true, List, [], map, Option, Some, None, Result, Ok, Err}
 use Rattle.std.specs.List.{range_with_len}
 use Rattle.df_layout.specs.declared.fields.Field.TheVariants.{TrailerChain}
 use Rattle.df_model.specs.Blocks.{Blocks, entries}
 use Rattle.df_model.specs.Work.{is_known}
 use Rattle.df_units.specs.Meaning.{number_of}
 use Rattle.df_trailer.specs.declared.reader.Reader.{Reader}
-use Rattle.df_trailer.specs.Reading.{kept_at, referenced_below}
+use Rattle.df_trailer.specs.Reading.{kept_at}
 use Rattle.df_grid.specs.Grid.{GridState, HasAddress, with_blocks}
 use Rattle.df_checkpoint.specs.declared.links.Link.{Link}
 use Rattle.df_checkpoint.specs.declared.fault.TrailerFault.{TrailerFault}
@@ -37,11 +37,16 @@ pub record SameFile (old new : GridState) : Type 0 where
   pub layout : new.layout ≡ old.layout
   pub cluster : new.cluster ≡ old.cluster
 
--- the block at an address is adopted where it is referenced, or the address is one of the chain's
-abbrev pub LiveStep : GridState → GridState → Reader → List Link → ℕ → Result ℕ ℕ → Type 0
-LiveStep old new reader refs address (Ok count) =
-    (new ≡ with_blocks old (blocks_to (kept_at reader) (address + 1))) × (count ≡ referenced_below reader (address + 1)) × (count ≤ address) × (is_among address refs ≡ true → kept_at reader address ≡ None)
-LiveStep old new reader refs address (Err at) = (at ≡ address) × (is_among address refs ≡ true) × (is_known (kept_at reader address) ≡ true) × SameFile old new
+-- of the addresses of the chain this is the least one that is referenced
+pub record IsFirst (reader : Reader) (refs : List Link) (at : ℕ) : Type 0 where
+  pub chained : is_among at refs ≡ true
+  pub known : is_known (kept_at reader at) ≡ true
+  pub least : (a : ℕ) → a < at → is_among a refs ≡ true → kept_at reader a ≡ None
+
+-- this is the least one, or none of them is referenced
+abbrev pub FirstAnswer : Reader → List Link → Option ℕ → Type 0
+FirstAnswer reader refs (Some at) = IsFirst reader refs at
+FirstAnswer reader refs None = (a : ℕ) → is_among a refs ≡ true → kept_at reader a ≡ None
 
 -- the address is one of the chain's and is referenced, and it is the least one
 pub record LiveRefused (g : GridState) (reader : Reader) (refs : List Link) (at : ℕ) : Type 0 where
@@ -49,12 +54,6 @@ pub record LiveRefused (g : GridState) (reader : Reader) (refs : List Link) (at 
   pub chained : is_among at refs ≡ true
   pub known : is_known (kept_at reader at) ≡ true
   pub least : (a : ℕ) → HasAddress g a → a < at → is_among a refs ≡ true → kept_at reader a ≡ None
-
--- all are adopted and no address of the chain is one of theirs, or this is the least one that is
-abbrev pub LiveAnswer : GridState → GridState → Reader → List Link → Result (Unit {0}) ℕ → Type 0
-LiveAnswer old new reader refs (Ok x) =
-    (new ≡ with_blocks old (blocks_to (kept_at reader) (old.layout.blocks + 1))) × ((a : ℕ) → HasAddress old a → is_among a refs ≡ true → kept_at reader a ≡ None)
-LiveAnswer old new reader refs (Err at) = SameFile old new × LiveRefused old reader refs at
 
 -- of any reader: what it keeps is adopted, and none of the chain is referenced, or this is the least one that is
 abbrev pub AdoptAnswer : GridState → GridState → Reader → List Link → Result (Unit {0}) TrailerFault → Type 0

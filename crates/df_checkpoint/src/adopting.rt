@@ -1,63 +1,68 @@
-// What the grid takes over of a checkpoint that was read: the blocks that it references, and those of its trailer.
-ghost use Rattle.std.specs.Prelude.{◌≡◌, ◌≤◌, ℕ, [], false, length, true};
+// What the grid takes over of a checkpoint that was read: the blocks that it references, and those of its trailer. Before anything is taken
+// over, each address of the chain is tested: none of them may be referenced.
+ghost use Rattle.std.specs.Prelude.{◌≡◌, ◌+◌, ◌≤◌, ℕ, [], OnErr, false, length, true};
 ghost use Rattle.df_model.specs.Blocks.{is_held_in};
 ghost use Rattle.df_trailer.specs.Reading.{HasBit, kept_at, referenced_below};
 ghost use Rattle.df_grid.specs.Grid.{with_blocks};
 ghost use Rattle.df_grid.specs.Table.{no_blocks};
 ghost use Rattle.df_checkpoint.specs.Chain.{AreApart, is_among};
-ghost use Rattle.df_checkpoint.specs.Adopting.{AdoptAnswer, LiveAnswer, LiveStep, blocks_to, chained};
+ghost use Rattle.df_checkpoint.specs.Adopting.{AdoptAnswer, FirstAnswer, blocks_to, chained};
 
 use crate::TrailerFault;
-use crate::backwards::is_among;
 use crate::forwards::link_after;
 use crate::links::{Link, broken};
 use df_format::Reference;
 use df_grid::Grid;
 use df_trailer::Reader;
 
+// The least address of the chain that the text refers to, where there is one.
+fn first_referenced(reader: &Reader, blocks: &[Link]) -> Option<u64>
+    requires bits { (address : ℕ) → is_among address blocks.now ≡ true → HasBit reader.now address }
+    ensures { FirstAnswer reader.now blocks.now result }
+{
+    let mut least: Option<u64> = None;
+    for link in blocks {
+        if reader.refers(link.address) {
+            least = match least {
+                Some(least) => Some(least.min(link.address)),
+                None => Some(link.address),
+            };
+        }
+    }
+    least
+}
+
 // Adopts the block at an address, where the text refers to it; how many lower addresses it refers to is counted. The answer is the count
-// with this address, or the address, where it is one of the chain's.
-fn adopt_at(
-    grid: &mut Grid,
-    reader: &Reader,
-    blocks: &[Link],
-    address: u64,
-    before: u64,
-) -> Result<u64, u64>
+// with this address.
+fn adopt_at(grid: &mut Grid, reader: &Reader, address: u64, before: u64) -> u64
     requires inside { HasBit reader.now address }
     requires address { address ≤ grid.old.layout.blocks }
     requires before { before ≡ referenced_below reader.now address }
     requires blocks { grid.old.blocks ≡ blocks_to (kept_at reader.now) address }
-    ensures step { LiveStep grid.old grid.new reader.now blocks.now address result }
+    ensures live { grid.new ≡ with_blocks grid.old (blocks_to (kept_at reader.now) (address + 1)) }
+    ensures count { result ≡ referenced_below reader.now (address + 1) }
+    ensures few { result ≤ address }
 {
     match reader.reference(address, before) {
         Some(checksum) => {
-            if is_among(blocks, address) {
-                return Err(address);
-            }
             grid.adopt(Reference { address, checksum }, true);
-            Ok(before + 1)
+            before + 1
         }
-        None => Ok(before),
+        None => before,
     }
 }
 
-// Adopts all blocks that the text refers to, as live ones. The answer is the least address of the chain that is one of theirs, where there
-// is one; the grid then holds those below it.
-fn adopt_live(grid: &mut Grid, reader: &Reader, blocks: &[Link]) -> Result<(), u64>
+// Adopts all blocks that the text refers to, as live ones.
+fn adopt_live(grid: &mut Grid, reader: &Reader)
     requires bits { (address : ℕ) → 1 ≤ address → address ≤ grid.old.layout.blocks → HasBit reader.now address }
     requires free { grid.old.blocks ≡ no_blocks }
-    ensures live { LiveAnswer grid.old grid.new reader.now blocks.now result }
+    ensures { grid.new ≡ with_blocks grid.old (blocks_to (kept_at reader.now) (grid.old.layout.blocks + 1)) }
 {
     let last = u64::from(grid.layout().blocks);
     let mut before = 0;
     for address in 1..last + 1 {
-        match adopt_at(grid, reader, blocks, address, before) {
-            Ok(count) => before = count,
-            Err(address) => return Err(address),
-        }
+        before = adopt_at(grid, reader, address, before);
     }
-    Ok(())
 }
 
 // Adopts the blocks of the chain, in order of index.
@@ -74,19 +79,21 @@ fn adopt_chain(grid: &mut Grid, blocks: &[Link])
 }
 
 /// Adopts the checkpoint that was read: the blocks that it references, and those of its chain. It is refused with the least address of the
-/// chain that is referenced, where there is one.
+/// chain that is referenced, where there is one, and the grid is then as before.
 pub(crate) fn adopt(grid: &mut Grid, reader: &Reader, blocks: &[Link]) -> Result<(), TrailerFault>
     requires apart { AreApart grid.old blocks.now }
     requires few { length blocks.now ≤ 70 }
     requires bits { (address : ℕ) → 1 ≤ address → address ≤ grid.old.layout.blocks → HasBit reader.now address }
     requires free { grid.old.blocks ≡ no_blocks }
-    ensures { AdoptAnswer grid.old grid.new reader.now blocks.now result }
+    ensures answer { AdoptAnswer grid.old grid.new reader.now blocks.now result }
+    ensures refused { OnErr result (grid.new ≡ grid.old) }
 {
-    match adopt_live(grid, reader, blocks) {
-        Ok(()) => {
+    match first_referenced(reader, blocks) {
+        Some(address) => Err(broken(address)),
+        None => {
+            adopt_live(grid, reader);
             adopt_chain(grid, blocks);
             Ok(())
         }
-        Err(address) => Err(broken(address)),
     }
 }

@@ -61,9 +61,9 @@ fn find_chain<D: Disk>(
 /// Reads the trailer that a superblock names: the chain from its last block back to index 0, then the text from its first block on, each
 /// block proved again. Where it is Ok, the grid has adopted the referenced blocks as live ones, and the chain's blocks in order of index,
 /// and the reader gives the parts. The grid is one in which no address is held, of the superblock's layout and cluster, and the reader is
-/// one of its layout and op that was fed nothing. After a refusal the grid holds nothing, or where it is refused for an address of the
-/// chain that is referenced, the referenced blocks below that address. Over a disk that tells what it shows, the second reading refuses no
-/// block that the first one took.
+/// one of its layout and op that was fed nothing. After a refusal the grid holds nothing: whether an address of the chain is referenced is
+/// tested before the first block is adopted. Over a disk that tells what it shows, the second reading refuses no block that the first one
+/// took.
 pub fn read_chain<D: Disk>(
     disk: &mut D,
     content: &Super,

@@ -65,6 +65,7 @@ impl Reader {
     ghost use Rattle.df_trailer.specs.Text.{fault, parts_of, refusal};
     ghost use Rattle.df_trailer.specs.Sessions.{AreRead};
     ghost use Rattle.df_trailer.specs.Reading.{HasBit, HasRead, IsRestTaken, bytes_read, failing_in, kept_at, referenced_below};
+    ghost use Rattle.df_trailer.specs.Spelling.{is_referenced};
 
     /// A reader that was fed nothing, of the trailer of a checkpoint of this op.
     pub fn new(layout: Layout, op: u64, parts: Parts) -> Reader
@@ -198,6 +199,14 @@ impl Reader {
         } else {
             None
         }
+    }
+
+    /// Tells whether the text refers to the block at an address of the grid, once `end` has answered Ok.
+    pub fn refers(&self, address: u64) -> bool
+        requires inside { HasBit self.now address }
+        ensures { result ≡ is_referenced (kept_at self.now address) }
+    {
+        is_set(&self.parts.bits, address - 1)
     }
 
     /// The parts of the text, in the rooms that the reader was given, once `end` has answered Ok.

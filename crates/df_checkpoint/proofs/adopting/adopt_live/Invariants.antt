@@ -1,8 +1,7 @@
--- The blocks below the address are adopted, and none of the chain is one of them.
-use Rattle.std.proofs.Common.{◌≡◌, ℕ, ◌<◌, ◌≤◌, true, None}
+-- The blocks below the address are adopted.
+use Rattle.std.proofs.Common.{◌≡◌, ◌<◌}
 use Rattle.df_trailer.specs.Reading.{kept_at, referenced_below}
 use Rattle.df_grid.specs.Grid.{with_blocks}
-use Rattle.df_checkpoint.specs.Chain.{is_among}
 use Rattle.df_checkpoint.specs.Adopting.{blocks_to}
 use Rattle.df_checkpoint.proofs.adopting.adopt_live.Given as goal
 
@@ -11,5 +10,4 @@ invariant-loop-address l = record {
   grid : l.grid ≡ with_blocks l.fn.grid (blocks_to (kept_at l.fn.reader) l.address);
   count : l.before ≡ referenced_below l.fn.reader l.address;
   few : l.before < l.address;
-  apart : (a : ℕ) → 1 ≤ a → a < l.address → is_among a l.fn.blocks ≡ true → kept_at l.fn.reader a ≡ None;
 }

@@ -26,7 +26,7 @@ returns-in-Ok-read_text-clause-answer g c = λ sh same parse.
     (found_same c.args.grid.now (g.D.Disk.told c.args.disk.now) c.args.content.now c.fields-content.result.now (Ok c.in-Ok.blocks) sh c.fields-content.ensures.value (c.in-Ok.ensures.found sh same))
     (text_same c.args.grid.now c.find_chain.new.grid (g.D.Disk.told c.args.disk.now) (g.D.Disk.told c.find_chain.new.disk) c.in-Ok.blocks.items c.deref.result.now c.args.content.now.op c.args.reader.now c.read_text.new.reader (Ok c.in-Ok-read_text.field-0)
     c.in-Ok.ensures.grid c.in-Ok.ensures.same c.deref.ensures.0 c.in-Ok-read_text.ensures.text c.requires.fresh)
-    (adopt_same c.args.grid.now c.read_text.new.grid c.adopt.new.grid c.in-Ok.blocks.items c.deref-in-Ok-read_text.result.now c.read_text.new.reader c.adopt.result (c.in-Ok-read_text.ensures.grid ∙ c.in-Ok.ensures.grid) c.deref-in-Ok-read_text.ensures.0 c.adopt.ensures)
+    (adopt_same c.args.grid.now c.read_text.new.grid c.adopt.new.grid c.in-Ok.blocks.items c.deref-in-Ok-read_text.result.now c.read_text.new.reader c.adopt.result (c.in-Ok-read_text.ensures.grid ∙ c.in-Ok.ensures.grid) c.deref-in-Ok-read_text.ensures.0 c.adopt.ensures.answer)
 
 pub returns-in-Ok-read_text-clause-idle : goal.returns-in-Ok-read_text-clause-idle
-returns-in-Ok-read_text-clause-idle g c = adopted_idle c.read_text.new.grid c.adopt.new.grid c.read_text.new.reader c.deref-in-Ok-read_text.result.now c.adopt.result c.adopt.ensures
+returns-in-Ok-read_text-clause-idle g c = adopted_idle c.read_text.new.grid c.adopt.new.grid c.read_text.new.reader c.deref-in-Ok-read_text.result.now c.adopt.result c.adopt.ensures.answer
