@@ -1,5 +1,7 @@
 // The grid as a checkpoint's text asks for what is captured and counted, and how long a trailer is at most.
+ghost use Rattle.std.specs.Prelude.{◌≡◌, ◌≢◌, ◌*◌, ◌≤◌, [], IfSome, IsSome};
 ghost use Rattle.df_model.specs.Blocks.{sum_at};
+ghost use Rattle.df_trailer.specs.Writing.{referenced_among};
 ghost use Rattle.df_grid.specs.Laws.{ChainsHaveRoom};
 
 use crate::Grid;
@@ -13,7 +15,10 @@ impl Captured for Grid {
         Grid::captured(self, address)
     }
 
-    fn counted(&self, groups: u64) -> Option<u64> {
+    fn counted(&self, groups: u64) -> Option<u64>
+        ensures count { IfSome result (λ count. count ≡ referenced_among (λ a. sum_at a self.now.blocks.captured) (256 * groups)) }
+        ensures kept { self.now.blocks.left ≢ [] → 256 * groups ≤ self.now.layout.blocks → IsSome result }
+    {
         Grid::counted(self, groups)
     }
 }
