@@ -15,8 +15,8 @@ use df_disk::Disk;
 use df_format::SuperFields;
 use df_grid::Grid;
 
-/// Whether an address is one of those that were read.
-pub(crate) fn is_among(blocks: &[Link], address: u64) -> bool
+// Whether an address is one of those that were read.
+fn is_among(blocks: &[Link], address: u64) -> bool
     ensures { result ≡ is_among address blocks.now }
 {
     blocks.iter().any(|link| link.address == address)
