@@ -14,6 +14,7 @@ use df_trailer::{
 use std::alloc::{AllocError, Global};
 
 /// The lowest addresses are referenced, each with a checksum of its own number.
+#[derive(Drop)]
 struct Lowest {
     count: u64,
 }
@@ -31,6 +32,24 @@ impl Captured for Lowest {
 
     fn counted(&self, _groups: u64) -> Option<u64> {
         None
+    }
+}
+
+/// The same, where it is kept how many of the first addresses are referenced.
+#[derive(Drop)]
+struct Counted {
+    lowest: Lowest,
+}
+
+impl Captured for Counted {
+    ghost captured = { λ s address. if nat_le address s.lowest.count then Some (field_at 16 0 (replicate 16 (address % 256))) else None };
+
+    fn captured(&self, address: u64) -> Option<Check> {
+        self.lowest.captured(address)
+    }
+
+    fn counted(&self, groups: u64) -> Option<u64> {
+        Some(groups.saturating_mul(256).min(self.lowest.count))
     }
 }
 
@@ -106,6 +125,43 @@ fn a_trailer_is_cut_into_blocks(rt: HostRuntime) {
         8
     );
     assert_eq!(rt; blocks_needed(&layout_of(16_384), 1024, 64, 16_384), 70);
+}
+
+/// The byte at an offset of the text of 1,024 blocks, of which so many are referenced, a multiple of eight: lengths, bits and checksums.
+fn byte_of_text(count: u64, at: u64) -> u8 {
+    match at {
+        0..=7 => 0,
+        8..=135 if 8 * (at - 8) < count => 255,
+        8..=135 => 0,
+        _ => (((at - 136) / 16 + 1) % 256) as u8,
+    }
+}
+
+/// Tells whether a piece has the bytes of that text, and as many as are left of it.
+fn is_right(count: u64, index: u64) -> bool
+    requires count { count ≤ 1024 }
+    requires index { index < 2 ^ 32 }
+{
+    let layout = layout_of(1024);
+    let mut room = [0u8; 3840];
+    let lowest = Lowest { count };
+    let size = piece(&layout, &[], &[], &Counted { lowest }, index, &mut room);
+    for (i, byte) in room[..size as usize].iter().enumerate() {
+        if *byte != byte_of_text(count, 3840 * index + i as u64) {
+            return false;
+        }
+    }
+    size == (136 + 16 * count).saturating_sub(3840 * index).min(3840)
+}
+
+#[test]
+fn a_piece_is_begun_behind_the_groups_that_are_counted_before_it(rt: HostRuntime) {
+    for index in 0..6 {
+        assert!(rt; is_right(0, index), "{index}");
+        assert!(rt; is_right(256, index), "{index}");
+        assert!(rt; is_right(600, index), "{index}");
+        assert!(rt; is_right(1024, index), "{index}");
+    }
 }
 
 #[test]
