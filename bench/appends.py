@@ -1,15 +1,15 @@
-"""What an append and its reply cost beyond their device calls, by the size of the body, and of that the hashes and the digits.
+"""What an append and its reply cost beyond their calls, by the size of the body, and of that the hashes and the digits.
 
 Everything but the last column of parts is measured: the program, the same calls alone, the same hashes alone, the same digits alone.
 """
 
 from typing import NamedTuple
 
-from common import Bench, Ground, Script, appends, prepare_at, put, quartiles, reply_at, sectors_of, show, with_quartiles
+from common import Bench, Ground, Script, appends, put, quartiles, sectors_of, show, with_quartiles
 from tools import copied, has_valgrind, show_profile
-from tries.binary import Binary, has_strace
-from tries.form import SECTOR, Layout
-from yardstick import ROOM, SYNC, decoded, plan, read, unit, write
+from tries.binary import Binary, expect, has_strace
+from tries.form import Layout
+from yardstick import SYNC, answered, decoded, plan, taken, unit, write
 
 SIZES = (0, 128, 3840, 7936, 65280, 1048320)
 # Of the bodies of one run at most so many bytes in all, and on a disk so many appends, since each takes three syncs.
@@ -32,14 +32,28 @@ def case_of(bench: Bench, ground: Ground, size: int) -> Case:
     return Case(size, Layout(slots, message, 4, 16384, 64), count, appends(bench.random, range(1, count + 1), size))
 
 
-def device_calls(case: Case) -> list:
-    """The writes and syncs of the appends and their replies."""
+def traced(bench: Bench, ground: Ground, case: Case) -> list:
+    """The calls of the appends and their replies, as strace saw them, from the first read of the script on."""
+    binary = Binary(bench.program, ground.folder)
+    binary.path = bench.make(ground, case.layout)
+    result, calls = binary.trace(case.script.lines)
+    expect("the answers", case.script.answers, result.text)
+    return calls[next(at for at, call in enumerate(calls) if call.name == "read" and call.fd == 0) :]
+
+
+def steps_of(calls: list) -> list:
+    """The same calls for the yardstick: the writes and syncs of the file, the reads of the script, and the answers."""
     steps = []
-    for op in range(1, case.count + 1):
-        slot = op % case.layout.slots
-        steps += [write(prepare_at(case.layout, slot)[0], sectors_of(case.size)), SYNC]
-        steps += [write(case.layout.header_sector(slot), SECTOR), SYNC]
-        steps += [write(reply_at(case.layout, 0)[0], sectors_of(0)), SYNC]
+    for call in calls:
+        if call.name == "fdatasync":
+            steps.append(SYNC)
+        elif call.name == "pwrite64":
+            length, at = map(int, call.args[-2:])
+            steps.append(write(at, length))
+        elif call.name == "read":
+            steps.append(taken(int(call.args[-1])))
+        elif call.name == "write":
+            steps.append(answered(int(call.args[-1])))
     return steps
 
 
@@ -48,31 +62,29 @@ def hashes(case: Case) -> list:
     return case.count * [*unit(case.size), *unit(0)]
 
 
-def plans(bench: Bench, ground: Ground, case: Case) -> dict:
-    """The yardstick's plans, and the file that has the digits."""
-    fit = max(1, min(case.count, ROOM // max(1, 2 * case.size)))
-    text = bench.random.randbytes(fit * case.size).hex().encode()
-    first = [read(0, len(text))] if text else []
+def plans(bench: Bench, ground: Ground, case: Case) -> None:
+    """The yardstick's plans, and the files that have the script and the digits. These are read body by body, as the program reads them."""
+    digits = case.count * [taken(2 * case.size)] if case.size else []
     steps = {
-        "calls": device_calls(case), "hashes": hashes(case), "nothing": [], "reads": first,
-        "digits": first + [decoded(at % fit * 2 * case.size, 2 * case.size) for at in range(case.count) if case.size],
+        "calls": steps_of(traced(bench, ground, case)), "hashes": hashes(case), "nothing": [], "reads": digits,
+        "digits": [step for one in digits for step in (one, decoded(0, 2 * case.size))],
     }
-    put(ground, "digits", text)
+    put(ground, "lines", case.script.lines)
+    put(ground, "digits", (bench.random.randbytes(case.size).hex().encode() for _ in range(case.count)))
     for name, listed in steps.items():
         plan(ground, "plan-" + name, listed)
-    return steps
 
 
 def runs_of(bench: Bench, ground: Ground, case: Case) -> dict:
     """What is run in each round."""
-    def alone(name: str, path: str = ""):
-        return lambda: bench.yardstick.run(ground, path or bench.make(ground, case.layout), "plan-" + name)
+    def alone(name: str, script: str = "lines"):
+        return lambda: bench.yardstick.run(ground, bench.make(ground, case.layout), "plan-" + name, ground.path(script))
 
     return {
         "program": lambda: bench.fill(ground, bench.make(ground, case.layout), [case.script]),
         "open": lambda: bench.fill(ground, bench.make(ground, case.layout), []),
         "calls": alone("calls"), "nothing": alone("nothing"), "hashes": alone("hashes"),
-        "digits": alone("digits", ground.path("digits")), "reads": alone("reads", ground.path("digits")),
+        "digits": alone("digits", "digits"), "reads": alone("reads", "digits"),
     }
 
 
@@ -102,10 +114,8 @@ def rows_of(bench: Bench, ground: Ground, size: int) -> tuple:
 
 def moved(bench: Bench, ground: Ground, case: Case) -> int:
     """The bytes that are moved to the front of the buffer for lines: each read asks for what is free behind those that it holds."""
-    binary = Binary(bench.program, ground.folder)
-    binary.path = bench.make(ground, case.layout)
-    _, calls = binary.trace(case.script.lines)
-    return sum(case.layout.line_max() + 1 - int(call.args[-1]) for call in calls if call.name == "read" and call.fd == 0 and call.result)
+    calls = traced(bench, ground, case)
+    return sum(case.layout.line_max() + 1 - int(call.args[-1]) for call in calls if call.name == "read" and call.result)
 
 
 def show_copies(bench: Bench, ground: Ground) -> None:

@@ -1,4 +1,4 @@
-"""The yardstick: a small Rattle program that does device calls, hashes and hexadecimal digits of a plan, and nothing else.
+"""The yardstick: a small Rattle program that does the calls, hashes and hexadecimal digits of a plan, and nothing else.
 
 A `.rt` file of this repository has to stand in a crate that the gate proves, so the program stands here as text. It is built in a folder
 for temporary files by the kit's rt, like the program: proved safe, nothing said of what it does. It takes the kit's own sha2 and hex.
@@ -13,22 +13,23 @@ from typing import NamedTuple
 
 from common import Ground, Spent, put, run
 
-# Bytes of its room, and steps that it reads at once.
-ROOM, STEPS = 2**21, 256
+# Bytes of its room, which take the longest line of a script, and steps that it reads at once.
+ROOM, STEPS = 2**21 + 4096, 256
 STEP = struct.Struct("<c7xQQ")
 SOURCE = r'''
-// Device calls, hashes and hexadecimal digits that a plan on standard input lists, and nothing else: `yardstick FILE`.
+// Calls, hashes and hexadecimal digits that a plan on standard input lists, and nothing else: `yardstick FILE SCRIPT`. The calls are those
+// on the file, reads of the script, and writes to standard output.
 #![tactic(auto)]
 
 use hex::decode_to_slice;
 use sha2::{Digest, Sha256};
 use std::env;
 use std::fs::{File, OpenFile, OpenOptions};
-use std::io::{self, ErrorKind, Read};
+use std::io::{self, ErrorKind, Read, Stdout, Write};
 use std::os::unix::fs::FileExt;
 
 /// The most bytes of one call, of one hash, and of the digits of one body.
-const ROOM: usize = 1 << 21;
+const ROOM: usize = (1 << 21) + 4096;
 
 /// The bytes of a step: a letter in the first of eight, and two numbers.
 const STEP: usize = 24;
@@ -40,6 +41,12 @@ const STEPS: usize = 256;
 struct Rooms {
     bytes: Vec<u8>,
     body: Vec<u8>,
+}
+
+#[derive(Drop)]
+struct Files {
+    file: File,
+    script: File,
 }
 
 fn past() -> io::Error {
@@ -106,19 +113,36 @@ fn read_room(file: &File, rooms: &mut Rooms, at: u64, length: u64) -> io::Result
     Ok(0)
 }
 
-fn act(file: &File, rooms: &mut Rooms, step: &[u8]) -> io::Result<u8> {
+fn take(script: &mut File, rooms: &mut Rooms, length: u64) -> io::Result<u8> {
+    let size = length as usize;
+    if size > rooms.bytes.len() {
+        return Err(past());
+    }
+    script.read(&mut rooms.bytes[..size])?;
+    Ok(0)
+}
+
+fn answer(out: &mut Stdout, rooms: &Rooms, length: u64) -> io::Result<u8> {
+    out.write_all(part(&rooms.bytes, 0, length)?)?;
+    out.flush()?;
+    Ok(0)
+}
+
+fn act(files: &mut Files, out: &mut Stdout, rooms: &mut Rooms, step: &[u8]) -> io::Result<u8> {
     let first = number(step, 8);
     let length = number(step, 16);
     match step.first() {
-        Some(b'r') => read_room(file, rooms, first, length),
+        Some(b'r') => read_room(&files.file, rooms, first, length),
         Some(b'w') => {
-            file.write_all_at(part(&rooms.bytes, 0, length)?, first)?;
+            files.file.write_all_at(part(&rooms.bytes, 0, length)?, first)?;
             Ok(0)
         }
         Some(b's') => {
-            file.sync_data()?;
+            files.file.sync_data()?;
             Ok(0)
         }
+        Some(b'i') => take(&mut files.script, rooms, length),
+        Some(b'o') => answer(out, rooms, length),
         Some(b'h') => Ok(Sha256::digest(part(&rooms.bytes, first, length)?)[0]),
         Some(b'd') => decode(rooms, first, length),
         _ => Err(past()),
@@ -127,15 +151,21 @@ fn act(file: &File, rooms: &mut Rooms, step: &[u8]) -> io::Result<u8> {
 
 fn main(rt: HostRuntime) -> io::Result<()> {
     let mut path = String::new(rt.alloc());
+    let mut script = String::new(rt.alloc());
     for word in env::args(&rt)?.skip(1) {
-        path = word;
+        path = script;
+        script = word;
     }
-    let file = OpenOptions::new()
-        .read(true)
-        .write(true)
-        .create(true)
-        .open(&rt, path.as_str())?;
+    let mut files = Files {
+        file: OpenOptions::new()
+            .read(true)
+            .write(true)
+            .create(true)
+            .open(&rt, path.as_str())?,
+        script: File::open(&rt, script.as_str())?,
+    };
     let mut input = rt.stdin();
+    let mut out = rt.stdout();
     let mut rooms = Rooms {
         bytes: vec![in rt.alloc(); 0u8; ROOM]?,
         body: vec![in rt.alloc(); 0u8; ROOM]?,
@@ -149,7 +179,7 @@ fn main(rt: HostRuntime) -> io::Result<()> {
                 println!(rt; "{sum}")?;
                 return Ok(());
             }
-            sum ^= act(&file, &mut rooms, step)?;
+            sum ^= act(&mut files, &mut out, &mut rooms, step)?;
         }
     }
     Ok(())
@@ -167,6 +197,16 @@ def write(at: int, length: int) -> tuple:
 
 
 SYNC = (b"s", 0, 0)
+
+
+def taken(length: int) -> tuple:
+    """A read of the script that asks for so many bytes."""
+    return b"i", 0, length
+
+
+def answered(length: int) -> tuple:
+    """A write to standard output."""
+    return b"o", 0, length
 
 
 def hashed(start: int, length: int) -> tuple:
@@ -189,9 +229,9 @@ class Yardstick(NamedTuple):
 
     path: str
 
-    def run(self, ground: Ground, path: str, name: str) -> Spent:
-        """Does what a plan lists to a file."""
-        return run([self.path, path], ground.path(name), wanted=None)
+    def run(self, ground: Ground, path: str, name: str, script: str = os.devnull) -> Spent:
+        """Does what a plan lists to a file, and to a script."""
+        return run([self.path, path, script], ground.path(name), wanted=None)
 
 
 def plan(ground: Ground, name: str, steps: list) -> str:
@@ -214,7 +254,7 @@ def build(folder: str) -> Yardstick:
     with open(os.path.join(crate, "src", "main.rt"), "w", encoding="utf-8") as file:
         file.write(SOURCE.lstrip("\n"))
     # The run that follows the build has no plan, and fails.
-    done = subprocess.run([rt, "run", "--", "none"], cwd=crate, capture_output=True, text=True, stdin=subprocess.DEVNULL)
+    done = subprocess.run([rt, "run", "--", "none", "none"], cwd=crate, capture_output=True, text=True, stdin=subprocess.DEVNULL)
     built = os.path.join(crate, "out", "yardstick")
     if not os.path.isfile(built):
         raise SystemExit(f"the yardstick isn't built:\n{done.stdout}{done.stderr}")
