@@ -129,6 +129,7 @@ fn blocks_and_checkpoints_are_answered_in_order(rt: HostRuntime) -> Result<(), F
         return Err("a new file is refused".into());
     };
     let long = vec![in rt.alloc(); 0xddu8; 16_129]?;
+    let most = long.len() - 1;
     let rows = [
         (Step::Write(0, &[], Err(BlockError::KindZero)), 0, 0),
         (
@@ -155,8 +156,8 @@ fn blocks_and_checkpoints_are_answered_in_order(rt: HostRuntime) -> Result<(), F
         (Step::Write(1, &[0xbb], Ok(4)), 1, 1),
         (Step::Advance(Ok(Progress::Working { left: 1 })), 1, 1),
         (Step::Advance(Ok(Progress::Done { sequence: 3 })), 13, 9),
-        (Step::Write(255, &long[..16_128], Ok(1)), 1, 1),
-        (Step::Read(1, Ok((255, &long[..16_128]))), 1, 0),
+        (Step::Write(255, &long[..most], Ok(1)), 1, 1),
+        (Step::Read(1, Ok((255, &long[..most]))), 1, 0),
         (Step::Read(4, Ok((1, &[0xbb]))), 1, 0),
     ];
     assert_eq!(rt; first_other(&mut disk, &mut replica, &rows)?, None);
