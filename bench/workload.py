@@ -10,7 +10,7 @@ from tries.form import SMALL
 from yardstick import SYNC, plan, read, write
 
 # On a disk each round of the run takes some three syncs.
-COUNTS = {False: 100_000, True: 250}
+COUNTS = {False: 100_000, True: 500}
 COUNTED = (b"appended", b"replied", b"wrote", b"released", b"checkpoints")
 
 
