@@ -1,5 +1,5 @@
 // A checkpoint's trailer is read: the chain backwards, the text forwards, and what both name into the grid.
-ghost use Rattle.std.specs.Prelude.{◌≡◌, ◌≢◌, ◌-◌, ◌≤◌, ◌<◌, [], IfOk, OnOk};
+ghost use Rattle.std.specs.Prelude.{◌≡◌, ◌≢◌, ◌-◌, ◌≤◌, ◌<◌, [], IfOk, OnErr, OnOk};
 ghost use Rattle.arrayvec.specs.ArrayVec.{array_vec_len};
 ghost use Rattle.df_format.specs.SuperRules.{IsSuper};
 ghost use Rattle.df_theory.specs.Shape.{Shape};
@@ -78,6 +78,7 @@ pub fn read_chain<D: Disk>(
     ensures complete { OnOk result (IsComplete grid.old content.now.op reader.new) }
     ensures rooms { reader.new.layout ≡ reader.old.layout }
     ensures idle { OnOk result (IsIdle grid.new.blocks) }
+    ensures refused { OnErr result (grid.new ≡ grid.old) }
     ensures grid { SameFile grid.old grid.new }
     ensures same { D.told disk.new ≡ D.told disk.old }
     ensures cause { IsBlamed (D.faults disk.old) (D.faults disk.new) result }

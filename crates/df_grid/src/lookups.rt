@@ -8,6 +8,7 @@ use crate::entries::Entries;
 use crate::entry::{Entry, is_marked};
 use arrayvec::ArrayVec;
 use df_format::Reference;
+use df_trailer::GROUP;
 
 /// The entry of an address, None where there is no such address.
 pub(crate) fn entry_in(entries: &Entries, address: u64) -> Option<Entry>
@@ -70,9 +71,6 @@ pub(crate) fn count_live(entries: &Entries) -> u64
     }
     count
 }
-
-/// Addresses of a group: so often what was captured is counted.
-const GROUP: u64 = 256;
 
 /// How many entries of the first group are of captured blocks, of the first two, and so on, as long as groups are full.
 pub(crate) fn count_captured(entries: &Entries) -> ArrayVec<u64, 64>

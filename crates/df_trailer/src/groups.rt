@@ -5,9 +5,7 @@ ghost use Rattle.df_trailer.specs.Writing.{referenced_among};
 
 use crate::Captured;
 use crate::behind::CHECK;
-
-/// Addresses of a group.
-const GROUP: u64 = 256;
+use crate::captured::GROUP;
 
 /// Where the checksums of the blocks from a place on begin.
 #[derive(Clone, Copy)]
