@@ -19,7 +19,7 @@ use Rattle.df_format.specs.Shown.{unit_in, class_of, header_or_class}
 use Rattle.df_format.specs.Valid.{IsUnit}
 use Rattle.df_format.specs.Wanted.{IsWanted, Wanted as Words, Any as AnyOne, Op as WithOp, Checksum as WithChecksum, Answer as AnswerTo}
 use Rattle.df_format.specs.UnitLaws.{place_size}
-use Rattle.df_format.proofs.Wholes.{one_unit, valid_stale, body_follows, ring_has_no_body}
+use Rattle.df_format.proofs.Laws.{one_unit, valid_stale, body_follows, ring_has_no_body, count_is, front_brings}
 use Rattle.df_buffers.specs.declared.identity.Identity.{Identity}
 use Rattle.df_buffers.specs.declared.identity.Wanted.{Wanted}
 use Rattle.df_buffers.specs.declared.identity.Wanted.TheVariants.{Any}
@@ -27,7 +27,6 @@ use Rattle.df_buffers.specs.Rooms.{StandsIn, FillsRoom, room_size}
 use Rattle.df_buffers.specs.Found.{words_of, Finds, FindsKind, IsThere, class_for, shown_in}
 use Rattle.df_format.specs.Brings.{Brings}
 use Rattle.df_format.specs.UnitLaws.{AreForPlace}
-use Rattle.df_format.proofs.Laws.{count_is, front_brings}
 use Rattle.df_buffers.specs.Sounds.{BringsOwn, Holding, IsSound, AreWhole, unit_with}
 
 ok_same : {h k : Header} → (let one : Result Header Class = Ok h in one ≡ Ok k) → h ≡ k

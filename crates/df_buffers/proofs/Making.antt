@@ -17,7 +17,7 @@ use Rattle.df_format.specs.Whole.{greatest_size}
 use Rattle.df_format.specs.Making.{for_body}
 use Rattle.df_format.specs.Valid.{IsUnit}
 use Rattle.df_format.specs.UnitLaws.{MadeIsUnit}
-use Rattle.df_format.proofs.Wholes.{begun_is_shown}
+use Rattle.df_format.proofs.Laws.{begun_is_shown}
 use Rattle.df_buffers.specs.Rooms.{StandsIn, FillsRoom}
 use Rattle.df_buffers.specs.Sounds.{IsSound, unit_with}
 use Rattle.df_buffers.proofs.Finds.{is_no_ring, fits_slot, found_whole}

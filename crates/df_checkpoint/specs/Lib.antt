@@ -5,3 +5,4 @@ pub mod Adopting
 pub mod Reads
 pub mod Waiting
 pub mod Laws
+pub mod Below

@@ -8,8 +8,7 @@ use Rattle.df_model.specs.declared.errors.OpenError.TheVariants.{DiskFault}
 use Rattle.df_theory.specs.View.{View}
 use Rattle.df_units.specs.Bytes.{unit_at}
 use Rattle.df_recovery.specs.Surveys.{IsOpened, Surveys}
-use Rattle.df_state.specs.declared.file.DataFile.{DataFile}
-use Rattle.df_state.specs.State.{Represents, State, shape}
+use Rattle.df_recovery.specs.Below.{DataFile, Represents, State, shape}
 use Rattle.df_damage.specs.Answers.{AnswerIsOfHurt, FindsHad, IsNeedless, RefusesHurt}
 use Rattle.df_damage.specs.Disks.{MayBeHurt}
 use Rattle.df_damage.specs.Openings.{OpensAsLeft}

@@ -4,12 +4,12 @@ use Rattle.std.proofs.Math.Bridge.{le_prop}
 use Rattle.std.proofs.Math.Nat.{ℕ_set}
 use Rattle.df_disk.specs.Told.{Told}
 use Rattle.df_layout.specs.declared.layout.Layout.{Layout}
-use Rattle.df_layout.proofs.Same.{same_layout}
+use Rattle.df_layout.proofs.Laws.{same_layout}
 use Rattle.df_format.specs.Copies.{Content, content_at}
 use Rattle.df_format.specs.SuperRules.{IsSuper, fault_of}
 use Rattle.df_format.specs.declared.superblock.SuperFault.{SuperFault}
 use Rattle.df_format.specs.declared.superblock.SuperFields.{SuperFields}
-use Rattle.df_format.proofs.SuperFaults.{faults}
+use Rattle.df_format.proofs.Laws.{faults}
 use Rattle.df_quorum.specs.Quorum
 use Rattle.df_theory.specs.Found.{IsFound}
 use Rattle.df_theory.specs.Opens.{BadField, Opens, Refusal, Refused}
@@ -17,15 +17,13 @@ use Rattle.df_theory.specs.Trailer.{IsReference}
 use Rattle.df_theory.specs.UnitLog.{settled}
 use Rattle.df_theory.specs.View.{PassesTests, View}
 use Rattle.df_theory.proofs.Laws.{fields_hold_law, no_bad_field_law}
-use Rattle.df_trailer.specs.Text.{parse_of}
+use Rattle.df_recovery.specs.Below.{parse_of, DataFile, State, shape}
 use Rattle.df_units.specs.Bytes.{unit_at}
 use Rattle.df_units.specs.Meaning.{content_of, layout_of}
 use Rattle.df_units.specs.Superblocks.{AreFieldsOf}
 use Rattle.df_units.proofs.Laws.{choice_chosen, passing_is_usable, shown_checks}
 use Rattle.df_recovery.specs.Opening.{HasFault, HasSuper, IsLayoutOf}
 use Rattle.df_recovery.specs.Surveys.{HasFile, IsOpened}
-use Rattle.df_state.specs.declared.file.DataFile.{DataFile}
-use Rattle.df_state.specs.State.{State, shape}
 use Rattle.df_damage.specs.Disks.{MayBeHurt}
 use Rattle.df_damage.proofs.Barriers.{distinct, empty, log, rests, shown, shows_settled}
 

@@ -9,7 +9,7 @@ use Rattle.df_theory.specs.Units.{Units}
 use Rattle.df_theory.proofs.Laws.{disk_stop_law, found_law, now_units, rests_safe, safe_disk_law}
 use Rattle.df_units.specs.Format.{format_of}
 use Rattle.df_units.proofs.Laws.{is_format}
-use Rattle.df_state.specs.State.{shape}
+use Rattle.df_recovery.specs.Below.{shape}
 use Rattle.df_damage.specs.Disks.{StoppedMayBeHurt, TidyMayBeHurt}
 
 pub tidy_may_be_hurt : TidyMayBeHurt

@@ -5,11 +5,11 @@ use Rattle.std.proofs.Math.Bridge.{le_prop}
 use Rattle.std.proofs.Math.Nat.{ℕ_set}
 use Rattle.df_base.specs.Image.{Image, IsImage}
 use Rattle.df_layout.specs.declared.layout.Layout.{Layout}
-use Rattle.df_layout.proofs.Same.{same_layout}
+use Rattle.df_layout.proofs.Laws.{same_layout}
 use Rattle.df_format.specs.Copies.{Content, content_at}
 use Rattle.df_format.specs.SuperRules.{IsSuper}
 use Rattle.df_format.specs.declared.superblock.SuperFields.{SuperFields}
-use Rattle.df_format.proofs.SuperFaults.{faults}
+use Rattle.df_format.proofs.Laws.{faults}
 use Rattle.df_quorum.specs.Quorum
 use Rattle.df_theory.specs.Found.{IsFound}
 use Rattle.df_theory.specs.Opens.{Found, Opened, Opens, Refusal, Refused}
@@ -20,11 +20,9 @@ use Rattle.df_units.specs.Bytes.{unit_at}
 use Rattle.df_units.specs.Meaning.{content_of, layout_of}
 use Rattle.df_units.specs.Superblocks.{AreFieldsOf}
 use Rattle.df_units.proofs.Laws.{chosen_choice, passing_is_usable, shown_checks}
-use Rattle.df_trailer.specs.Text.{parse_of}
+use Rattle.df_recovery.specs.Below.{parse_of, shape, DataFile}
 use Rattle.df_model.specs.declared.errors.OpenError.{OpenError}
 use Rattle.df_model.specs.declared.errors.OpenError.TheVariants.{NotFormatted, NoQuorum, Version, BadField, LayoutDiffers, Damaged, DiskFault}
-use Rattle.df_state.specs.State.{shape}
-use Rattle.df_state.specs.declared.file.DataFile.{DataFile}
 use Rattle.df_recovery.specs.Opening.{HasSuper, IsLayoutOf, Refuses}
 use Rattle.df_recovery.specs.Surveys.{HasFile, Surveys}
 use Rattle.df_recovery.proofs.Laws.{one_super, super_or_refusal}

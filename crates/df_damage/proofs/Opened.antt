@@ -10,12 +10,10 @@ use Rattle.df_theory.specs.Shows.{Needs}
 use Rattle.df_theory.specs.Units.{AnyUnit, BlockPlace, Content, CopyPlace, Header, HeaderPlace, HeaderUnit, Place, PreparePlace, ReplyPlace, Units}
 use Rattle.df_theory.specs.View.{View, boot_of}
 use Rattle.df_theory.proofs.Laws.{checkpoint_stays_law, found_law, headers_tell_law, hurt_law, one_found_law}
-use Rattle.df_trailer.specs.Text.{parse_of}
+use Rattle.df_recovery.specs.Below.{parse_of, DataFile, shape}
 use Rattle.df_units.specs.Bytes.{message_unit, unit_at}
 use Rattle.df_units.specs.Meaning.{header_of, layout_of, place_of}
 use Rattle.df_units.proofs.Laws.{chosen_choice, of_places}
-use Rattle.df_state.specs.declared.file.DataFile.{DataFile}
-use Rattle.df_state.specs.State.{shape}
 use Rattle.df_damage.specs.Disks.{MayBeHurt}
 use Rattle.df_damage.specs.Hurt.{IsUnhurtZone}
 use Rattle.df_damage.specs.Openings.{CheckpointStays, FoundWasHad, HasEachHeader, HeadersMayBeHurt, HeadersTell, OpensAsLeft, TwoCopiesAreEnough}

@@ -6,7 +6,7 @@ use Rattle.df_disk.specs.Told.{Told}
 use Rattle.df_layout.specs.declared.places.Place.{Place}
 use Rattle.df_layout.specs.Zones.{file_sectors}
 use Rattle.df_format.specs.declared.superblock.SuperFault.TheVariants.{BadField as BrokenField, Version as OtherVersion}
-use Rattle.df_format.proofs.SuperFaults.{faults}
+use Rattle.df_format.proofs.Laws.{faults}
 use Rattle.df_model.specs.declared.errors.OpenError.{OpenError}
 use Rattle.df_model.specs.declared.errors.OpenError.TheVariants.{BadField, Damaged, DiskFault, LayoutDiffers, NoQuorum, NotFormatted, Version}
 use Rattle.df_theory.specs.Copies.{Agree}
@@ -24,8 +24,7 @@ use Rattle.df_units.proofs.Laws.{chosen_choice, is_format}
 use Rattle.df_recovery.specs.Opening.{Refuses}
 use Rattle.df_recovery.specs.Surveys.{Surveys}
 use Rattle.df_recovery.proofs.Laws.{super_or_refusal}
-use Rattle.df_state.specs.declared.file.DataFile.{DataFile}
-use Rattle.df_state.specs.State.{shape}
+use Rattle.df_recovery.specs.Below.{DataFile, shape}
 use Rattle.df_damage.specs.Disks.{MayBeHurt}
 use Rattle.df_damage.specs.Hurt.{IsHurtFile, IsHurtPlace, IsUnhurt}
 use Rattle.df_damage.specs.Refusals.{BlamesHurt, IsBlamed, MayBeOfDamage, ProbeIsOfHurt, RefusalsAreOfDamage, RefusalsBlameHurt}

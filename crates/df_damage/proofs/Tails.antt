@@ -5,7 +5,7 @@ use Rattle.df_theory.specs.Tails.{In}
 use Rattle.df_theory.specs.Units.{Header, Message, PreparePlace, PrepareUnit}
 use Rattle.df_theory.specs.View.{Checkpoint}
 use Rattle.df_theory.proofs.Laws.{chain_ops, read_law}
-use Rattle.df_state.specs.State.{shape}
+use Rattle.df_recovery.specs.Below.{shape}
 use Rattle.df_damage.specs.Openings.{WholeTailIsFound}
 use Rattle.df_damage.proofs.Barriers.{in_pools, log, rests, shown}
 use Rattle.df_damage.proofs.Files.{opened_found}

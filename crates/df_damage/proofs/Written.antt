@@ -9,7 +9,7 @@ use Rattle.df_theory.specs.UnitLog.{settled}
 use Rattle.df_theory.specs.Units.{AnyUnit, Place, Units}
 use Rattle.df_theory.proofs.Laws.{settled_law}
 use Rattle.df_units.specs.Format.{format_of}
-use Rattle.df_state.specs.declared.file.DataFile.{DataFile}
+use Rattle.df_recovery.specs.Below.{DataFile}
 use Rattle.df_damage.specs.Past.{IsOneOf}
 use Rattle.df_damage.specs.Written.{HadIsWritten, OpenedIsWritten, WasWritten}
 use Rattle.df_damage.proofs.Barriers.{in_pools}

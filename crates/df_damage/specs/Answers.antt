@@ -11,8 +11,7 @@ use Rattle.df_theory.specs.Found.{IsFound}
 use Rattle.df_theory.specs.View.{View}
 use Rattle.df_units.specs.Bytes.{unit_at}
 use Rattle.df_recovery.specs.Surveys.{Surveys}
-use Rattle.df_state.specs.declared.file.DataFile.{DataFile}
-use Rattle.df_state.specs.State.{Represents, State, shape}
+use Rattle.df_recovery.specs.Below.{DataFile, Represents, State, shape}
 use Rattle.df_damage.specs.Disks.{IsAtRest, MayBeHurt}
 use Rattle.df_damage.specs.Hurt.{HasTwoCopies, IsHurtFile, IsHurtInside, IsUnhurtZone}
 use Rattle.df_damage.specs.Openings.{HasEachHeader}

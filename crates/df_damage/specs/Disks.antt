@@ -11,8 +11,7 @@ use Rattle.df_theory.specs.Units.{Content, CopyPlace, CopyUnit}
 use Rattle.df_theory.specs.View.{View}
 use Rattle.df_units.specs.Bytes.{unit_at}
 use Rattle.df_units.specs.Format.{format_of}
-use Rattle.df_state.specs.declared.file.DataFile.{DataFile}
-use Rattle.df_state.specs.State.{shape}
+use Rattle.df_recovery.specs.Below.{DataFile, shape}
 
 -- the log of the disk is safe and began with an empty disk, and this view is found in what it leaves; what is shown is any image, so long as no unit of it came about by chance, seen from behind the barrier of an open
 pub record MayBeHurt (file : DataFile) (view : View) (t : Told) : Type 0 where

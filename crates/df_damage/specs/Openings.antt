@@ -10,8 +10,7 @@ use Rattle.df_theory.specs.Units.{Header, HeaderPlace, HeaderUnit, Message}
 use Rattle.df_theory.specs.View.{View}
 use Rattle.df_units.specs.Bytes.{unit_at}
 use Rattle.df_recovery.specs.Surveys.{IsOpened}
-use Rattle.df_state.specs.declared.file.DataFile.{DataFile}
-use Rattle.df_state.specs.State.{State, shape}
+use Rattle.df_recovery.specs.Below.{DataFile, State, shape}
 use Rattle.df_damage.specs.Disks.{IsAtRest, MayBeHurt}
 use Rattle.df_damage.specs.Hurt.{HasTwoCopies, IsHurtInside, IsUnhurtZone}
 use Rattle.df_damage.specs.Past.{WasHad}

@@ -5,8 +5,7 @@ use Rattle.df_base.specs.Log.{Log, settled}
 use Rattle.df_theory.specs.Holds.{Holds}
 use Rattle.df_theory.specs.View.{View}
 use Rattle.df_units.specs.Bytes.{unit_at}
-use Rattle.df_state.specs.declared.file.DataFile.{DataFile}
-use Rattle.df_state.specs.State.{shape}
+use Rattle.df_recovery.specs.Below.{DataFile, shape}
 
 -- the image is one of these
 abbrev pub IsOneOf : List Image → Image → Type 0

@@ -15,8 +15,7 @@ use Rattle.df_units.specs.Bytes.{unit_at}
 use Rattle.df_recovery.specs.Found.{IsLayoutShown}
 use Rattle.df_recovery.specs.Opening.{Refuses}
 use Rattle.df_recovery.specs.Surveys.{Surveys}
-use Rattle.df_state.specs.declared.file.DataFile.{DataFile}
-use Rattle.df_state.specs.State.{shape}
+use Rattle.df_recovery.specs.Below.{DataFile, shape}
 use Rattle.df_damage.specs.Disks.{IsAtRest, MayBeHurt}
 use Rattle.df_damage.specs.Hurt.{HasTwoCopies, IsHurtFile, IsHurtPlace}
 

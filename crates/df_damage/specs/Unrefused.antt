@@ -7,8 +7,7 @@ use Rattle.df_model.specs.declared.errors.OpenError.TheVariants.{DiskFault}
 use Rattle.df_recovery.specs.Found.{IsLayoutShown}
 use Rattle.df_recovery.specs.Opening.{Refuses}
 use Rattle.df_recovery.specs.Surveys.{Surveys}
-use Rattle.df_state.specs.State.{shape}
-use Rattle.df_state.specs.declared.file.DataFile.{DataFile}
+use Rattle.df_recovery.specs.Below.{shape, DataFile}
 use Rattle.df_theory.specs.Found.{IsFound}
 use Rattle.df_theory.specs.View.{View}
 use Rattle.df_units.specs.Bytes.{unit_at}

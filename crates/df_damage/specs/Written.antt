@@ -11,8 +11,7 @@ use Rattle.df_theory.specs.Units.{AnyUnit, Place}
 use Rattle.df_theory.specs.View.{View}
 use Rattle.df_units.specs.Format.{format_of}
 use Rattle.df_recovery.specs.Surveys.{IsOpened}
-use Rattle.df_state.specs.declared.file.DataFile.{DataFile}
-use Rattle.df_state.specs.State.{State, shape}
+use Rattle.df_recovery.specs.Below.{DataFile, State, shape}
 use Rattle.df_damage.specs.Disks.{MayBeHurt}
 use Rattle.df_damage.specs.Past.{WasHad}
 

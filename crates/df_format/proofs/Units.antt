@@ -12,7 +12,7 @@ use Rattle.df_layout.specs.declared.places.Place.{Place}
 use Rattle.df_layout.specs.declared.places.Zone.{Zone}
 use Rattle.df_layout.specs.declared.places.Zone.TheVariants.{Superblock, WalHeaders, WalPrepares, ClientReplies, Grid}
 use Rattle.df_layout.specs.Spans.{HasPlace, place_sectors, sectors_before, span_of}
-use Rattle.df_layout.proofs.Spans.{are_apart}
+use Rattle.df_layout.proofs.Laws.{are_apart}
 use Rattle.df_format.specs.declared.header.Header.{Header}
 use Rattle.df_format.specs.Spelling.{spelling}
 use Rattle.df_format.specs.Rules.{IsSealed}

@@ -4,3 +4,4 @@ pub mod Grid
 pub mod Reads
 pub mod Writes
 pub mod Laws
+pub mod Below

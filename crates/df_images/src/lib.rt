@@ -9,7 +9,10 @@ pub use calls::{
     Answer, Call, cut_file, cut_making, faulty_file, make_call, ops_and_append, ops_of_one, serve,
     served_file,
 };
-pub use df_replica::{FormatError, OpenError};
+pub use df_replica::{
+    AppendError, BeginError, BlockError, FormatError, LookupError, NotLive, OpenError,
+    PrepareError, Progress, ReadError, Replica, ReplyError, StepError,
+};
 pub use files::{
     SURVEY_CALLS, format_in, found, lists, new_file, open, open_in, rooms_of, small_file, strike,
     survey_in, survey_small,

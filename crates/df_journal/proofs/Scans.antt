@@ -13,8 +13,7 @@ use Rattle.df_layout.specs.Spans.{place_sectors, sectors_before, span_of}
 use Rattle.df_format.specs.Message.{Message}
 use Rattle.df_format.specs.Own.{place_in}
 use Rattle.df_format.specs.Shown.{bytes_of, class_at, class_of, header_or_class, unit_at, unit_in}
-use Rattle.df_format.proofs.Laws.{shown_belongs}
-use Rattle.df_format.proofs.Laws.{valid_stale}
+use Rattle.df_format.proofs.Laws.{shown_belongs, valid_stale}
 use Rattle.df_buffers.specs.Rooms.{header_bytes}
 use Rattle.df_theory.specs.Units.{HeaderPlace, PreparePlace}
 use Rattle.df_units.specs.Meaning.{message_of}

@@ -20,8 +20,7 @@ use Rattle.df_theory.specs.Shape.{Shape, clients, slots}
 use Rattle.df_theory.specs.View.{Checkpoint}
 use Rattle.df_theory.specs.Cases
 use Rattle.df_theory.specs.Found.{slot_behind}
-use Rattle.df_theory.proofs.Laws.{chain_append, last_mark-append, sessions-append}
-use Rattle.df_theory.proofs.Laws.{chain_ops, in_either, in_single}
+use Rattle.df_theory.proofs.Laws.{chain_append, last_mark-append, sessions-append, chain_ops, in_either, in_single}
 use Rattle.df_units.specs.Meaning.{header_of, number_of}
 use Rattle.df_buffers.specs.declared.slots.SlotSeen.{SlotSeen}
 use Rattle.df_journal.specs.declared.tail.Tail.{Tail}

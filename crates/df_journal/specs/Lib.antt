@@ -5,3 +5,4 @@ pub mod Scanned
 pub mod Counts
 pub mod Tail
 pub mod Append
+pub mod Below

@@ -5,8 +5,7 @@ use Rattle.df_base.specs.Image.{Image}
 use Rattle.df_disk.specs.Told.{Told}
 use Rattle.df_model.specs.Commands.{Answer}
 use Rattle.df_model.specs.Work.{Work}
-use Rattle.df_state.specs.State.{State as Replica}
-use Rattle.df_state.specs.declared.file.DataFile.{DataFile}
+use Rattle.df_replica.specs.Below.{State as Replica, DataFile}
 use Rattle.df_replica.specs.HeldBlocks.{AreInputs}
 use Rattle.df_replica.specs.Serving.{Grade, next}
 use Rattle.df_replica.specs.Session.{Act, HasView, HoldsSome, answers_of, work_after}

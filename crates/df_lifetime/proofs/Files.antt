@@ -15,9 +15,7 @@ use Rattle.df_theory.specs.Units.{Content}
 use Rattle.df_theory.specs.View.{View}
 use Rattle.df_theory.proofs.Laws.{one_chosen_law}
 use Rattle.df_units.specs.Bytes.{unit_at}
-use Rattle.df_recovery.specs.Surveys.{IsOpened}
-use Rattle.df_state.specs.State.{State, shape}
-use Rattle.df_state.specs.declared.file.DataFile.{DataFile}
+use Rattle.df_replica.specs.Below.{IsOpened, State, shape, DataFile}
 use Rattle.df_replica.specs.Opened.{ToldBy}
 use Rattle.df_replica.proofs.Laws.{extends_on}
 

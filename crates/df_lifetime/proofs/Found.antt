@@ -16,8 +16,7 @@ use Rattle.df_model.specs.Work.{Work, kept}
 use Rattle.df_model.proofs.Laws.{found_law, next_law, sense_law}
 use Rattle.df_trailer.specs.Text.{parse_of}
 use Rattle.df_trailer.proofs.Laws.{codec}
-use Rattle.df_state.specs.State.{shape, spelling}
-use Rattle.df_state.specs.declared.file.DataFile.{DataFile}
+use Rattle.df_replica.specs.Below.{shape, spelling, DataFile}
 use Rattle.df_replica.specs.HeldBlocks.{AreInputs}
 use Rattle.df_replica.specs.Serving.{next}
 use Rattle.df_replica.specs.Session.{Act, answers_of, work_after}

@@ -22,8 +22,7 @@ use Rattle.df_model.specs.Supply.{Codec, block_read, message_given}
 use Rattle.df_model.specs.Work.{Work}
 use Rattle.df_model.specs.declared.reading.LookupError.TheVariants as lookup
 use Rattle.df_model.proofs.Laws.{block_read_law, prepare_read_law, reply_read_law}
-use Rattle.df_state.specs.State.{memory, shape, spelling}
-use Rattle.df_state.specs.declared.file.DataFile.{DataFile}
+use Rattle.df_replica.specs.Below.{memory, shape, spelling, DataFile}
 use Rattle.df_replica.specs.Reading.{shown_of}
 use Rattle.df_replica.specs.Serving.{Firm, Grade, KeptFor, Whole, format, next}
 use Rattle.df_lifetime.specs.Reads.{IsRead, KeptPreparesAreRead, KeptRepliesAreRead, LiveBlocksAreRead}

@@ -22,9 +22,7 @@ use Rattle.df_units.proofs.Laws.{is_format}
 use Rattle.df_model.specs.Commands.{Answer}
 use Rattle.df_model.specs.Work.{Work, kept}
 use Rattle.df_model.specs.declared.errors.OpenError.TheVariants.{NotFormatted}
-use Rattle.df_state.specs.State.{State as Replica, shape}
-use Rattle.df_state.specs.declared.file.DataFile.{DataFile}
-use Rattle.df_damage.specs.Unrefused.{IsNotRefused}
+use Rattle.df_replica.specs.Below.{State as Replica, shape, DataFile, IsNotRefused}
 use Rattle.df_replica.specs.Following.{MayOpen}
 use Rattle.df_replica.specs.HeldBlocks.{AreInputs}
 use Rattle.df_replica.specs.Opened.{MendsPartly, StopsOpening}

@@ -16,8 +16,7 @@ use Rattle.df_theory.proofs.Laws.{disk_barrier_law, firm_units, found_law, rests
 use Rattle.df_units.specs.Bytes.{unit_at}
 use Rattle.df_units.specs.Making.{first_view}
 use Rattle.df_units.proofs.Laws.{is_format}
-use Rattle.df_state.specs.State.{shape}
-use Rattle.df_state.specs.declared.file.DataFile.{DataFile}
+use Rattle.df_replica.specs.Below.{shape, DataFile}
 use Rattle.df_replica.specs.Following.{MayOpen}
 use Rattle.df_replica.specs.Making.{MayMakeOn, file_of, making_events}
 use Rattle.df_replica.specs.Serving.{format}

@@ -14,8 +14,7 @@ use Rattle.df_units.specs.Bytes.{unit_at}
 use Rattle.df_units.specs.Making.{first_view}
 use Rattle.df_model.specs.Commands.{Answer}
 use Rattle.df_model.specs.Work.{Work, kept, opened}
-use Rattle.df_state.specs.State.{shape}
-use Rattle.df_state.specs.declared.file.DataFile.{DataFile}
+use Rattle.df_replica.specs.Below.{shape, DataFile}
 use Rattle.df_replica.specs.Following.{MayOpen}
 use Rattle.df_replica.specs.HeldBlocks.{AreInputs}
 use Rattle.df_replica.specs.Making.{MayMakeOn}

@@ -7,7 +7,7 @@ use Rattle.df_theory.specs.Units.{Block, Message, Session}
 use Rattle.df_theory.specs.View.{head, sessions}
 use Rattle.df_model.specs.Commands.{Answer, Command, Given, ReadBlock, ReadPrepare, ReadReply, ToReadBlock, ToReadPrepare, ToReadReply}
 use Rattle.df_model.specs.Work.{Work}
-use Rattle.df_state.specs.State.{State}
+use Rattle.df_replica.specs.Below.{State}
 use Rattle.df_replica.specs.Serving.{Grade, IsCall, IsKept, Whole}
 
 -- a call over an honest disk, from a state of the replica that keeps the file for this state of the machine, that was answered so

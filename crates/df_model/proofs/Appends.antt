@@ -8,9 +8,7 @@ use Rattle.df_theory.specs.Tails.{last_checksum}
 use Rattle.df_theory.specs.Shape.{Shape}
 use Rattle.df_theory.specs.View.{View, head, sessions}
 use Rattle.df_theory.specs.Next.{IsStamped, MayAppend, appended}
-use Rattle.df_theory.proofs.Laws.{in_either, in_single}
-use Rattle.df_theory.proofs.Laws.{sessions-append}
-use Rattle.df_theory.proofs.Laws.{append_sound}
+use Rattle.df_theory.proofs.Laws.{in_either, in_single, sessions-append, append_sound}
 use Rattle.df_model.specs.Work.{Running, Work}
 use Rattle.df_model.specs.Codec.{AreLawful}
 use Rattle.df_model.specs.Refusals.{append_refusals, first_refusal, is_new, last_op, next_request, session_of_client}

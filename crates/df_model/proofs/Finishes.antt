@@ -9,9 +9,7 @@ use Rattle.df_theory.specs.Shape.{Shape}
 use Rattle.df_theory.specs.View.{Checkpoint, View, head, sequence, sessions}
 use Rattle.df_theory.specs.Next.{IsFinish, MayFinish, Records, checkpointed}
 use Rattle.df_theory.specs.Tails.{last_checksum}
-use Rattle.df_theory.proofs.Laws.{checkpoint_sound}
-use Rattle.df_theory.proofs.Laws.{sessions-drop}
-use Rattle.df_theory.proofs.Laws.{in_dropped}
+use Rattle.df_theory.proofs.Laws.{checkpoint_sound, sessions-drop, in_dropped}
 use Rattle.df_model.specs.Work.{Running, Work, is_captured, is_in, is_known, is_of}
 use Rattle.df_model.specs.Codec.{AreLawful, IsCodec}
 use Rattle.df_model.specs.After.{checkpoint_of, finished}

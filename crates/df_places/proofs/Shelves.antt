@@ -14,7 +14,7 @@ use Rattle.df_format.specs.declared.kind.Kind.TheVariants.{Reserved, Prepare, Re
 use Rattle.df_format.specs.Message.{Message}
 use Rattle.df_format.specs.Shown.{bytes_of, class_at, class_of, unit_at, unit_in}
 use Rattle.df_format.specs.UnitLaws.{place_size}
-use Rattle.df_format.proofs.Wholes.{one_unit}
+use Rattle.df_format.proofs.Laws.{one_unit}
 use Rattle.df_buffers.specs.declared.identity.Identity.{Identity}
 use Rattle.df_buffers.specs.Found.{FindsKind, IsThere, class_for}
 use Rattle.df_buffers.specs.Rooms.{FillsRoom, StandsIn, room_size}

@@ -10,7 +10,7 @@ use Rattle.df_format.specs.Valid.{IsUnit}
 use Rattle.df_buffers.specs.Sounds.{Holding}
 use Rattle.df_theory.specs.Units.{PreparePlace, PrepareUnit}
 use Rattle.df_theory.specs.Runs.{Step}
-use Rattle.df_units.specs.Meaning.{message_of}
+use Rattle.df_places.specs.Below.{message_of}
 use Rattle.df_places.specs.Units.{unit_events, unit_steps}
 
 -- the place of a slot

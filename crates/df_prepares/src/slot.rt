@@ -6,7 +6,7 @@ ghost use Rattle.df_format.specs.Brings.{Brings};
 ghost use Rattle.df_format.specs.Message.{sectors_end};
 ghost use Rattle.df_prepares.specs.Slots.{slot_place, IsInOwnSlot, write_events, write_steps};
 ghost use Rattle.df_theory.specs.Device.{AreSteps};
-ghost use Rattle.df_units.specs.Format.{format_of};
+ghost use Rattle.df_places.specs.Below.{format_of};
 
 use df_base::Failed;
 use df_buffers::{Prepare, Sound};

@@ -3,10 +3,12 @@
 
 mod best;
 mod choice;
-mod laws;
+mod choice_laws;
 mod slot;
 mod votes;
 
 pub use choice::{Chosen, choose};
-pub use laws::{copies_decide, one_is_chosen, three_equal_are_chosen, two_newest_are_chosen};
+pub use choice_laws::{
+    copies_decide, one_is_chosen, three_equal_are_chosen, two_newest_are_chosen,
+};
 pub use slot::Slot;

@@ -10,9 +10,9 @@ use Rattle.df_disk.specs.Told.{Told}
 use Rattle.df_layout.specs.declared.layout.Layout.{Layout}
 use Rattle.df_format.specs.Copies.{Content, content_at, content_with}
 use Rattle.df_format.specs.SuperRules.{IsSuper}
-use Rattle.df_format.proofs.SuperFaults.{faults}
+use Rattle.df_format.proofs.Laws.{faults}
 use Rattle.df_quorum.specs.Quorum.{AreMembers, IsChosen}
-use Rattle.df_quorum.proofs.Choices.{one_law}
+use Rattle.df_quorum.proofs.Laws.{one_law}
 use Rattle.df_sessions.specs.Requests.{sessions_of}
 use Rattle.df_theory.specs.Units
 use Rattle.df_theory.specs.Units.{AnyUnit, CopyPlace, CopyUnit}

@@ -4,14 +4,13 @@ use Rattle.std.proofs.lemmas.Slice.Eq.{bytes_eq-Decides}
 use Rattle.df_base.specs.Image.{Image, blank}
 use Rattle.df_layout.specs.declared.damage.Class.{Class}
 use Rattle.df_format.specs.Copies.{Content, content_at, is_blank_copy}
-use Rattle.df_format.proofs.CopyShown.{same_copy}
-use Rattle.df_format.proofs.CopyClasses.{blank_copy_none}
+use Rattle.df_format.proofs.Laws.{same_copy, blank_copy_none}
 use Rattle.df_format.specs.SuperRules.{fault_of}
 use Rattle.df_format.specs.declared.superblock.SuperFault.{SuperFault}
 use Rattle.df_format.specs.declared.superblock.SuperFault.TheVariants.{Version as OtherVersion, BadField as BrokenField}
 use Rattle.df_format.specs.declared.superblock.SuperFields.{SuperFields}
 use Rattle.df_quorum.specs.Quorum.{Agree, IsChosen}
-use Rattle.df_quorum.proofs.Choices.{one_law}
+use Rattle.df_quorum.proofs.Laws.{one_law}
 use Rattle.df_recovery.specs.Opening.{IsUnformatted, HasFault, HasSuper}
 use Rattle.df_recovery.specs.OpeningLaws.{SuperOrRefusal, OneSuper, OneRefusal}
 use Rattle.df_model.specs.declared.errors.OpenError.TheVariants.{NotFormatted, NoQuorum, Version, BadField, LayoutDiffers, Damaged, DiskFault}

@@ -10,11 +10,11 @@ use Rattle.df_layout.specs.declared.places.Zone.TheVariants.{Superblock}
 use Rattle.df_format.specs.Own.{place_in}
 use Rattle.df_format.specs.declared.superblock.SuperCopy.{SuperCopy}
 use Rattle.df_format.specs.Copies.{Content, copy_in, if_here, copy_at, content_at, is_blank_copy, class_of_sound, class_of_copy, copy_or_class, own_copy}
-use Rattle.df_format.proofs.CopyClasses.{copy_is_not_blank, is_here, valid_is_stale}
+use Rattle.df_format.proofs.Laws.{copy_is_not_blank, is_here, valid_is_stale}
 use Rattle.df_quorum.specs.declared.slot.Slot.{Slot}
 use Rattle.df_quorum.specs.declared.slot.Slot.TheVariants.{Bad}
 use Rattle.df_quorum.specs.Quorum.{Copies, IsChosen, IsSplit, HasChosen, AreMembers, AreClasses, class_in, copies_of, nothing}
-use Rattle.df_quorum.proofs.Choices.{same_law}
+use Rattle.df_quorum.proofs.Laws.{same_law}
 use Rattle.df_quorum.specs.declared.choice.Chosen.{Chosen}
 use Rattle.df_disk.specs.Told.{Told}
 use Rattle.df_recovery.specs.Opening.{IsUnformatted, shown_classes, Refuses}

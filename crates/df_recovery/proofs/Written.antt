@@ -8,8 +8,7 @@ use Rattle.df_format.specs.Copies.{Content, copy_in, if_here, copy_at, content_o
 use Rattle.df_format.specs.CopyLaws.{IsWritten}
 use Rattle.df_format.specs.declared.superblock.SuperCopy.{SuperCopy}
 use Rattle.df_format.specs.declared.superblock.SuperFields.{SuperFields}
-use Rattle.df_format.proofs.CopySpelled.{was_written}
-use Rattle.df_format.proofs.SuperFaults.{faults}
+use Rattle.df_format.proofs.Laws.{was_written, faults}
 use Rattle.df_quorum.specs.Quorum.{IsChosen}
 use Rattle.df_recovery.specs.Opening.{HasSuper}
 use Rattle.df_recovery.specs.OpeningLaws.{SuperIsWritten}

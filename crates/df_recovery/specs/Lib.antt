@@ -7,3 +7,4 @@ pub mod Surveys
 pub mod Scanning
 pub mod Finding
 pub mod Plan
+pub mod Below

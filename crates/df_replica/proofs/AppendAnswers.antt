@@ -11,7 +11,7 @@ use Rattle.df_format.specs.Making.{for_body}
 use Rattle.df_format.specs.Message.{Message}
 use Rattle.df_format.specs.Spelling.{spelling_rest}
 use Rattle.df_journal.specs.Append.{ShowsRing}
-use Rattle.df_prepares.specs.Slots.{IsInOwnSlot}
+use Rattle.df_journal.specs.Below.{IsInOwnSlot}
 use Rattle.df_sessions.specs.Table.{IsTable}
 use Rattle.df_theory.specs.Shape.{Shape}
 use Rattle.df_units.specs.Meaning.{number_of}

@@ -13,7 +13,7 @@ use Rattle.df_format.specs.declared.header.Header.{Header}
 use Rattle.df_format.specs.Message.{Message, sectors_of}
 use Rattle.df_format.specs.Own.{place_in}
 use Rattle.df_format.proofs.Laws.{made_brings, some-eq}
-use Rattle.df_prepares.specs.Slots.{IsInOwnSlot}
+use Rattle.df_journal.specs.Below.{IsInOwnSlot}
 use Rattle.df_journal.specs.Append.{EndsAppended, MayAppendOn, ShowsRing, journal_steps, new_sector, with_header}
 use Rattle.df_journal.proofs.Laws.{append_steps, ends_appended, next_sector}
 use Rattle.df_theory.specs.Units as theory

@@ -3,8 +3,7 @@ use Rattle.std.proofs.Common.{◌≡◌, ◌∙◌, ℕ, ◌≤◌, List, [], �
 use Rattle.std.proofs.lemmas.List.{take_all}
 use Rattle.df_base.specs.Fields.{spelled}
 use Rattle.df_base.proofs.Laws.{spelled-field_at}
-use Rattle.df_format.proofs.Laws.{some-eq}
-use Rattle.df_format.proofs.SuperFaults.{faults}
+use Rattle.df_format.proofs.Laws.{some-eq, faults}
 use Rattle.df_format.specs.Spelling.{IsCheck}
 use Rattle.df_format.specs.SuperRules.{IsSuper, fault_of}
 use Rattle.df_grid.specs.Table.{last_of}

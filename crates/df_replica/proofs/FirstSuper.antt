@@ -2,7 +2,7 @@
 use Rattle.std.proofs.Common.{◌≡◌, ℕ, ◌<◌, None, refl, arith}
 use Rattle.df_layout.specs.declared.layout.Layout.{Layout}
 use Rattle.df_format.specs.SuperRules.{IsSuper, fault_of}
-use Rattle.df_format.proofs.SuperFaults.{faults}
+use Rattle.df_format.proofs.Laws.{faults}
 use Rattle.df_format.specs.First.{first_super}
 
 first_is_super : (layout : Layout) (cluster : ℕ) → 0 < cluster → IsSuper (first_super layout cluster)

@@ -5,3 +5,5 @@ pub use Rattle.df_replica.proofs.Sessions.{answered_is_there, fault_stops_them, 
 pub use Rattle.df_replica.proofs.NotRefused.{safe_is_not_refused}
 pub use Rattle.df_replica.proofs.LentCalls.{call_is_own, call_is_the_one, struck_reads_are_own}
 pub use Rattle.df_replica.proofs.LentKept.{kept_is_written, opened_is_written_for}
+pub use Rattle.df_damage.proofs.Laws.{answer_is_of_hurt, headers_may_be_hurt, probe_is_of_hurt, two_copies_are_enough}
+pub use Rattle.df_recovery.proofs.Laws.{filter_more, one_super}

@@ -28,7 +28,7 @@ use Rattle.df_model.specs.declared.reading.ReadError.{ReadError}
 use Rattle.df_model.specs.declared.reading.ReadError.TheVariants as read
 use Rattle.df_model.specs.declared.answers.Scrubbed.{Scrubbed}
 use Rattle.df_model.specs.Work.{Work}
-use Rattle.df_scrub.specs.Scrubber.{verdict_in}
+use Rattle.df_state.specs.Below.{verdict_in}
 use Rattle.df_state.specs.State.{State}
 use Rattle.df_replica.specs.Scrubbing.{TellsTour, toured, work_toured}
 use Rattle.df_replica.specs.Serving.{Grade, IsCall, Keeps}

@@ -25,3 +25,4 @@ pub mod Opened
 pub mod HeldBlocks
 pub mod Following
 pub mod Completeness
+pub mod Below

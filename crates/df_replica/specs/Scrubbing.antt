@@ -12,7 +12,7 @@ use Rattle.df_model.specs.Supply.{Codec, first_check}
 use Rattle.df_model.specs.Work.{Work, first_tour}
 use Rattle.df_model.specs.declared.answers.Scrubbed.{Scrubbed}
 use Rattle.df_model.specs.declared.answers.Verdict.{Verdict}
-use Rattle.df_scrub.specs.Scrubber.{IsStep, ScrubState}
+use Rattle.df_state.specs.Below.{IsStep, ScrubState}
 use Rattle.df_state.specs.State.{Represents, State, grid_with, memory, shape, spelling}
 use Rattle.df_replica.specs.Reading.{shown_of}
 

@@ -9,7 +9,7 @@ ghost use Rattle.df_format.specs.Making.{for_body};
 ghost use Rattle.df_format.specs.Own.{own_place};
 ghost use Rattle.df_format.specs.Rules.{ObeysRules};
 ghost use Rattle.df_format.specs.Spelling.{IsCheck};
-ghost use Rattle.df_prepares.specs.Slots.{IsInOwnSlot};
+ghost use Rattle.df_journal.specs.Below.{IsInOwnSlot};
 ghost use Rattle.df_headers.specs.Ring.{IsTable};
 ghost use Rattle.df_journal.specs.Append.{with_header as table_with};
 ghost use Rattle.df_sessions.specs.Table.{IsTable as IsSessions};

@@ -6,7 +6,7 @@ ghost use Rattle.df_base.specs.Causes.{HasCause};
 ghost use Rattle.df_disk.specs.Told.{Told};
 ghost use Rattle.df_model.specs.Commands.{Recent, ToRecent};
 ghost use Rattle.df_model.specs.Memory.{referenced_of};
-ghost use Rattle.df_scrub.specs.Tours.{ListsFailing};
+ghost use Rattle.df_state.specs.Below.{ListsFailing};
 ghost use Rattle.df_state.specs.State.{grid_with, memory};
 ghost use Rattle.df_replica.specs.Answering.{Serves, ServesScrub, ServesTour};
 ghost use Rattle.df_replica.specs.Scrubbing.{IsScrub, LeavesTour};

@@ -70,7 +70,7 @@ impl Drop for Surveyed {
 
 impl Model for Surveyed {
     ghost use Rattle.std.specs.Prelude.{◌≡◌, false, None};
-    ghost use Rattle.df_scrub.specs.Scrubber.{new_scrub};
+    ghost use Rattle.df_state.specs.Below.{new_scrub};
     ghost use Rattle.df_state.specs.State.{IsState};
     ghost use Rattle.df_replica.specs.Replica.{Survey};
 

@@ -8,7 +8,7 @@ mod scripts;
 mod served;
 
 pub use copies::{FRONT, copy, probe_room};
-pub use df_top::Status;
+pub use df_top::{Status, words_have_one_meaning};
 pub use long::long_session;
 pub use runs::{
     FORMAT_CALLS, FORMAT_EVENTS, Ran, blank, made_file, printed, run_failing, run_script,

@@ -4,8 +4,7 @@ use df_base::{MemorySink, MemorySource};
 use df_layout::Layout;
 use df_lines::LineRoom;
 use df_memdisk::MemoryDisk;
-use df_state::Rooms;
-use df_top::{Mode, mode_of, serve};
+use df_top::{Mode, Rooms, mode_of, serve};
 use std::alloc::Global;
 use std::test::Fail;
 

@@ -7,7 +7,7 @@ use Rattle.df_layout.specs.declared.damage.Class.{Class}
 use Rattle.df_layout.specs.declared.damage.Finding.{Finding}
 use Rattle.df_format.specs.declared.reference.Reference.{Reference}
 use Rattle.df_theory.specs.Units.{Block, Layout}
-use Rattle.df_units.specs.Meaning.{layout_of, number_of}
+use Rattle.df_grid.specs.Below.{layout_of, number_of}
 use Rattle.df_model.specs.Work.{Tour, Work, first_tour}
 use Rattle.df_model.specs.Memory.{Memory}
 use Rattle.df_model.specs.Blocks.{Blocks, reference_in, referenced_in}

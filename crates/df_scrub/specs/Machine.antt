@@ -1,7 +1,7 @@
 -- A step of the scrubber in the words of the machine.
 use Rattle.std.specs.Prelude.{◌≡◌, Option}
 use Rattle.df_disk.specs.Told.{Told}
-use Rattle.df_units.specs.Meaning.{layout_of}
+use Rattle.df_grid.specs.Below.{layout_of}
 use Rattle.df_model.specs.Work.{Work}
 use Rattle.df_model.specs.Memory.{Memory}
 use Rattle.df_model.specs.After.{after_check, to_check}

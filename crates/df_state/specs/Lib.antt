@@ -1,2 +1,3 @@
 pub mod State
 pub mod Captures
+pub mod Below

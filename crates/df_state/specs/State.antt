@@ -19,14 +19,10 @@ use Rattle.df_theory.specs.Shape.{Shape}
 use Rattle.df_model.specs.Blocks.{Blocks, sum_at}
 use Rattle.df_model.specs.Memory.{Course, Memory, memory_of}
 use Rattle.df_model.specs.Work.{Tour, Work}
-use Rattle.df_trailer.specs.Spelling.{spell}
-use Rattle.df_trailer.specs.Text.{parse_of}
-use Rattle.df_trailer.specs.Writing.{captured_parts}
+use Rattle.df_checkpoint.specs.Below.{spell, parse_of, captured_parts, shape_of, content_of, layout_of, number_of}
 use Rattle.df_grid.specs.Grid.{GridState}
 use Rattle.df_grid.specs.Table.{IsIdle}
 use Rattle.df_grid.specs.Writes.{first_address, first_sum}
-use Rattle.df_units.specs.Format.{shape_of}
-use Rattle.df_units.specs.Meaning.{content_of, layout_of, number_of}
 use Rattle.df_state.specs.declared.file.DataFile.{DataFile}
 
 -- what the running checkpoint captured, beside the blocks that the grid marks, and how far its trailer is written

@@ -7,7 +7,7 @@ use Rattle.df_layout.specs.declared.places.Zone.TheVariants.{Superblock}
 use Rattle.df_format.specs.Own.{place_in}
 use Rattle.df_format.specs.declared.superblock.SuperCopy.{SuperCopy}
 use Rattle.df_format.specs.Copies.{copy_in, if_here, is_blank_copy, class_of_sound, class_of_copy, copy_or_class, own_copy}
-use Rattle.df_format.proofs.CopyClasses.{copy_is_not_blank}
+use Rattle.df_format.proofs.Laws.{copy_is_not_blank}
 use Rattle.df_quorum.specs.declared.slot.Slot.{Slot}
 use Rattle.df_quorum.specs.declared.slot.Slot.TheVariants.{Bad}
 use Rattle.df_quorum.specs.Quorum.{nothing}

@@ -5,7 +5,7 @@ use Rattle.std.proofs.lemmas.Slice.Eq.{bytes_eq-Decides}
 use Rattle.std.specs.Str.{bytes_eq}
 use Rattle.df_format.specs.Copies.{Content, rank_of}
 use Rattle.df_format.specs.declared.superblock.SuperFields.{SuperFields}
-use Rattle.df_quorum.proofs.Choices.{two_law}
+use Rattle.df_quorum.proofs.Laws.{two_law}
 use Rattle.df_quorum.specs.Quorum.{Copies, Agree, IsChosen}
 
 -- a content that two copies show, where whatever else two copies show is lower

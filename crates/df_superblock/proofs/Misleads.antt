@@ -9,7 +9,7 @@ use Rattle.df_format.specs.declared.superblock.SuperFields.{SuperFields}
 use Rattle.df_quorum.specs.Quorum.{Copies, Agree, IsChosen}
 use Rattle.df_superblock.specs.Copies.{IsMisled}
 use Rattle.df_superblock.specs.Events.{repair_events}
-use Rattle.df_quorum.proofs.Choices.{same_content as same_copy, agree_at as agree_of}
+use Rattle.df_quorum.proofs.Laws.{same_content as same_copy, agree_at as agree_of}
 use Rattle.df_superblock.proofs.Choices.{same_content, shows_content, partner}
 use Rattle.df_superblock.proofs.Sights.{Keeps, PutsCopy, firm_shows, loose_wrote, seen_apart}
 use Rattle.df_base.proofs.Laws.{AtEach}

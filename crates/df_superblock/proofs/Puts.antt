@@ -7,8 +7,7 @@ use Rattle.df_format.specs.SuperRules.{IsUsable}
 use Rattle.df_format.specs.declared.superblock.SuperCopy.{SuperCopy}
 use Rattle.df_format.specs.declared.superblock.SuperFields.{SuperFields}
 use Rattle.df_format.specs.Copies.{Content, content_at, content_of, content_with, copy_at, copy_in, if_here}
-use Rattle.df_format.proofs.CopyShown.{written_copy, one_sector}
-use Rattle.df_format.proofs.CopySpelled.{one_copy_spelling}
+use Rattle.df_format.proofs.Laws.{written_copy, one_sector, one_copy_spelling}
 use Rattle.df_superblock.proofs.Sights.{PutsCopy}
 
 single : (n m : ℕ) (bytes : List ℕ) → length bytes ≡ 4096 → (m ≡ n → ⊥) → covers n bytes m ≡ false

@@ -1,8 +1,9 @@
 // Calls of a replica in order, with what each answers: appends and replies, and their refusals.
-use df_images::{Answer, Call, make_call, new_file, open, ops_of_one, served_file};
+use df_images::{
+    Answer, AppendError, Call, ReplyError, make_call, new_file, open, ops_of_one, served_file,
+};
 use df_layout::Layout;
 use df_memdisk::MemoryDisk;
-use df_replica::{AppendError, ReplyError};
 use std::alloc::Global;
 use std::test::Fail;
 

@@ -1,8 +1,9 @@
 // Calls of blocks and checkpoints of a replica in order, with what each answers, and how many device calls and events it makes.
-use df_images::{open, small_file};
+use df_images::{
+    BeginError, BlockError, NotLive, Progress, ReadError, Replica, StepError, open, small_file,
+};
 use df_layout::Layout;
 use df_memdisk::MemoryDisk;
-use df_replica::{BeginError, BlockError, NotLive, Progress, ReadError, Replica, StepError};
 use std::test::Fail;
 
 // A call with the answer that is wanted: a block's address, or its kind and its body.

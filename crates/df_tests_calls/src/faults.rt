@@ -1,7 +1,6 @@
 // Each device call of an append and of a reply failing in turn: the replica goes no further, and an open of what is left, where
 // a write that failed came through, finds the call done.
-use df_images::{Answer, Call, faulty_file, found};
-use df_replica::{AppendError, ReplyError};
+use df_images::{Answer, AppendError, Call, ReplyError, faulty_file, found};
 use std::alloc::Global;
 use std::test::Fail;
 

@@ -1,10 +1,12 @@
 // Reads of a replica among its other calls: the units that are lent, byte by byte, what refuses a read, and its one device call,
 // which may fail.
 use df_format::Header;
-use df_images::{Call, found, make_call, open, served_file, small_file};
+use df_images::{
+    AppendError, Call, LookupError, PrepareError, Replica, ReplyError, found, make_call, open,
+    served_file, small_file,
+};
 use df_layout::Layout;
 use df_memdisk::MemoryDisk;
-use df_replica::{AppendError, LookupError, PrepareError, Replica, ReplyError};
 use std::alloc::Global;
 use std::test::Fail;
 

@@ -3,10 +3,11 @@
 use crate::reads::{Unit, is_prepare, is_reply};
 use df_base::SECTOR;
 use df_disk::Disk;
-use df_images::{Call, make_call, open, served_file, small_file};
+use df_images::{
+    Call, LookupError, PrepareError, Replica, make_call, open, served_file, small_file,
+};
 use df_layout::{Class, Layout, Place, Zone};
 use df_memdisk::{MemoryDisk, Strike};
-use df_replica::{LookupError, PrepareError, Replica};
 use std::alloc::Global;
 use std::test::Fail;
 

@@ -1,7 +1,7 @@
 // What the tests share: places, classes and summaries by short names.
+use df_images::OpenError;
 use df_layout::{Class, Layout, Mend, Place, Zone};
 use df_model::Summary;
-use df_replica::OpenError;
 
 pub(crate) fn place(zone: Zone, index: u64) -> Place {
     Place { zone, index }

@@ -1,6 +1,5 @@
 // What is full or too long: a body, a line, the requests that wait, and the ring.
-use df_runs::{made_file, ops_of_one, run_script, small_file};
-use df_top::Status;
+use df_runs::{Status, made_file, ops_of_one, run_script, small_file};
 use std::alloc::Global;
 use std::test::Fail;
 

@@ -2,8 +2,9 @@
 use df_base::SECTOR;
 use df_disk::Disk;
 use df_memdisk::Strike;
-use df_runs::{blank, copy, printed, run_script, run_words, small_file};
-use df_top::{Status, words_have_one_meaning};
+use df_runs::{
+    Status, blank, copy, printed, run_script, run_words, small_file, words_have_one_meaning,
+};
 use std::test::Fail;
 
 // Words over one disk after the other, what they print, and how they end.

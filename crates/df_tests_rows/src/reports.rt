@@ -1,8 +1,7 @@
 // The words that report a file: what `inspect` and `recover` print behind stops, strikes and a long session.
 use df_base::SECTOR;
 use df_memdisk::{Change, MemoryDisk, Strike};
-use df_runs::{FORMAT_CALLS, Ran, ops_of_one, printed, run_script, run_words, small_file};
-use df_top::Status;
+use df_runs::{FORMAT_CALLS, Ran, Status, ops_of_one, printed, run_script, run_words, small_file};
 use std::alloc::Global;
 use std::test::Fail;
 

@@ -1,6 +1,5 @@
 // Worked scripts over a new small file, with the text and the status that they end in.
-use df_runs::{run_script, small_file};
-use df_top::Status;
+use df_runs::{Status, run_script, small_file};
 use std::test::Fail;
 
 // A first session: each line with its answer in the same place of `FIRST_TEXT`.

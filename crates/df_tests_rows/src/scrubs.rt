@@ -1,7 +1,8 @@
 // The lines and the word of the scrubber over a file whose blocks were struck.
 use df_memdisk::{MemoryDisk, Strike};
-use df_runs::{FORMAT_CALLS, printed, run_failing, run_script, run_words, small_file, word};
-use df_top::Status;
+use df_runs::{
+    FORMAT_CALLS, Status, printed, run_failing, run_script, run_words, small_file, word,
+};
 use std::alloc::Global;
 use std::test::Fail;
 

@@ -1,6 +1,5 @@
 // A long session of four clients with checkpoints between its ops, and the report of the file behind it.
-use df_runs::{printed, run_script, run_words, small_file};
-use df_top::Status;
+use df_runs::{Status, printed, run_script, run_words, small_file};
 use std::alloc::Global;
 use std::test::Fail;
 

@@ -2,9 +2,9 @@
 use df_layout::Layout;
 use df_memdisk::MemoryDisk;
 use df_runs::{
-    Ran, blank, printed, run_failing, run_script, run_words, serve_failing, small_file, word, words,
+    Ran, Status, blank, printed, run_failing, run_script, run_words, serve_failing, small_file,
+    word, words,
 };
-use df_top::Status;
 use std::alloc::Global;
 use std::test::Fail;
 

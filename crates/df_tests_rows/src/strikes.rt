@@ -1,8 +1,7 @@
 // Runs over files whose sectors were damaged, lost or swapped: what was answered is there, or the file is refused with the
 // place and its class.
 use df_memdisk::{MemoryDisk, Strike};
-use df_runs::{ops_of_one, run_script, small_file};
-use df_top::Status;
+use df_runs::{Status, ops_of_one, run_script, small_file};
 use std::test::Fail;
 
 // A file behind so many ops of client 1 and the lines behind them, its strikes, and what the next script prints and ends in.

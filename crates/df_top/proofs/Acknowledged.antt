@@ -7,8 +7,7 @@ use Rattle.df_base.specs.Moments.{Extends}
 use Rattle.df_disk.specs.Told.{Told}
 use Rattle.df_model.specs.Commands.{Answer}
 use Rattle.df_model.specs.Work.{Work}
-use Rattle.df_state.specs.declared.file.DataFile.{DataFile}
-use Rattle.df_state.specs.State.{State as Replica}
+use Rattle.df_replica.specs.Below.{DataFile, State as Replica}
 use Rattle.df_replica.specs.Serving.{Grade, Keeps, next}
 use Rattle.df_replica.specs.Session.{Act, EachIsMidway, IsMidway, work_after}
 use Rattle.df_replica.proofs.Laws.{fault_stops_them}

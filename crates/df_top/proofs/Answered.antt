@@ -9,7 +9,7 @@ use Rattle.df_base.specs.Streams.{Appends, AppendsPart}
 use Rattle.df_inspect.specs.Prints.{Prints}
 use Rattle.df_lines.specs.Grammar.{Said}
 use Rattle.df_model.specs.Commands.{Answer, Command, Given}
-use Rattle.df_state.specs.State.{State as Replica}
+use Rattle.df_replica.specs.Below.{State as Replica}
 use Rattle.df_replica.specs.Answering.{Serves}
 use Rattle.df_replica.specs.Opened.{ToldBy}
 use Rattle.df_replica.specs.Supply.{IsSupplied}

@@ -7,7 +7,7 @@ use Rattle.df_model.specs.declared.answers.Receipt.{Receipt}
 use Rattle.df_model.specs.declared.answers.Verdict.TheVariants.{Sound}
 use Rattle.df_model.specs.declared.errors.AppendError.{AppendError}
 use Rattle.df_model.specs.declared.errors.AppendError.TheVariants as append
-use Rattle.df_state.specs.State.{State as Replica}
+use Rattle.df_replica.specs.Below.{State as Replica}
 use Rattle.df_replica.specs.Answering.{Serves, append_answer}
 use Rattle.df_replica.specs.Appending.{IsAppend, IsBlamed, append_events, next_unit}
 use Rattle.df_replica.specs.Opened.{ToldBy}

@@ -13,7 +13,7 @@ use Rattle.df_model.specs.Commands.{Answer, Given, ReadBlock, ToReadBlock}
 use Rattle.df_model.specs.declared.answers.Verdict.TheVariants.{Sound}
 use Rattle.df_model.specs.declared.reading.ReadError.{ReadError}
 use Rattle.df_model.specs.declared.reading.ReadError.TheVariants as read
-use Rattle.df_state.specs.State.{State as Replica}
+use Rattle.df_replica.specs.Below.{State as Replica}
 use Rattle.df_replica.specs.Answering.{GivesBlock, ServesBlockRead, read_block_answer}
 use Rattle.df_replica.specs.BlockReads.{BlamesRead, IsBlockFound, block_found, block_leaves, what_block}
 use Rattle.df_replica.specs.Serving.{IsCall}

@@ -9,7 +9,7 @@ use Rattle.df_model.specs.Commands.{Answer, Given, Release, ToWriteBlock, WriteB
 use Rattle.df_model.specs.declared.answers.Verdict.TheVariants.{Sound}
 use Rattle.df_model.specs.declared.errors.BlockError.{BlockError}
 use Rattle.df_model.specs.declared.errors.BlockError.TheVariants as block
-use Rattle.df_state.specs.State.{State as Replica}
+use Rattle.df_replica.specs.Below.{State as Replica}
 use Rattle.df_replica.specs.Answering.{Serves, write_block_answer}
 use Rattle.df_replica.specs.Blocks.{BlamesWriteBlock, IsWriteBlock, block_events, next_block}
 use Rattle.df_replica.specs.Opened.{ToldBy}

@@ -3,7 +3,7 @@ use Rattle.std.proofs.Common.{◌≡◌, inl, inr, ℕ, Bool, List, [], ◌∷�
 use Rattle.df_base.specs.Causes.{Rose}
 use Rattle.df_model.specs.declared.errors.OpenError.{OpenError}
 use Rattle.df_model.specs.declared.errors.OpenError.TheVariants as opens
-use Rattle.df_recovery.specs.Scanning.{SurveysBy}
+use Rattle.df_replica.specs.Below.{SurveysBy}
 use Rattle.df_top.specs.Outside.{Blames, HasCauses, Outside, PrintsLine}
 use Rattle.df_top.specs.Refusing.{PrintsError}
 use Rattle.df_layout.specs.declared.damage.Mend.{Mend}

@@ -11,7 +11,7 @@ use Rattle.df_model.specs.declared.answers.Progress.TheVariants.{Done, Working}
 use Rattle.df_model.specs.declared.answers.Verdict.TheVariants.{Sound}
 use Rattle.df_model.specs.declared.errors.StepError.{StepError}
 use Rattle.df_model.specs.declared.errors.StepError.TheVariants as step
-use Rattle.df_state.specs.State.{Capture, State as Replica}
+use Rattle.df_replica.specs.Below.{Capture, State as Replica}
 use Rattle.df_replica.specs.Answering.{Serves, step_answer}
 use Rattle.df_replica.specs.Opened.{ToldBy}
 use Rattle.df_replica.specs.Stepping.{BlamesStep, IsStep, OfRunning, Tells, block_events, last_events, made_by, step_events}

@@ -12,9 +12,7 @@ use Rattle.df_model.specs.declared.answers.Scrubbed.{Scrubbed}
 use Rattle.df_model.specs.declared.answers.Scrubbed.TheVariants.{Checked, TourEnd}
 use Rattle.df_model.specs.declared.answers.Verdict.{Verdict}
 use Rattle.df_model.specs.declared.answers.Verdict.TheVariants.{Sound, Failing}
-use Rattle.df_scrub.specs.Scrubber.{IsStep, IsVerdict, ScrubState, after_step, left_in, with_check}
-use Rattle.df_scrub.specs.Tours.{failing_among}
-use Rattle.df_state.specs.State.{State as Replica, grid_with, memory}
+use Rattle.df_replica.specs.Below.{IsStep, IsVerdict, ScrubState, after_step, left_in, with_check, failing_among, State as Replica, grid_with, memory}
 
 -- ---- the referenced blocks stand in order of address
 

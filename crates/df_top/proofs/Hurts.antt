@@ -6,22 +6,16 @@ use Rattle.df_disk.specs.Told.{Told, did}
 use Rattle.df_layout.specs.declared.layout.Layout.{Layout}
 use Rattle.df_model.specs.Commands.{Answer}
 use Rattle.df_model.specs.Work.{Work, opened}
-use Rattle.df_recovery.specs.Surveys.{IsOpened}
+use Rattle.df_replica.specs.Below.{IsOpened, FindsHad, IsNeedless, RefusesHurt, MayBeHurt, OpensAsLeft, DataFile, State as Replica, shape}
 use Rattle.df_replica.specs.Lending.{GivesOwn}
 use Rattle.df_replica.specs.Opened.{ToldBy}
 use Rattle.df_replica.specs.Serving.{Firm, Keeps, next}
 use Rattle.df_replica.specs.Session.{Act}
 use Rattle.df_replica.specs.WrittenFor.{IsWrittenIn}
-use Rattle.df_replica.proofs.Laws.{call_is_own, call_is_the_one, found_keeps, opened_is_written_for}
-use Rattle.df_state.specs.declared.file.DataFile.{DataFile}
-use Rattle.df_state.specs.State.{State as Replica, shape}
+use Rattle.df_replica.proofs.Laws.{call_is_own, call_is_the_one, found_keeps, opened_is_written_for, answer_is_of_hurt, headers_may_be_hurt, probe_is_of_hurt, two_copies_are_enough}
 use Rattle.df_theory.specs.Found.{IsFound}
 use Rattle.df_theory.specs.View.{View}
 use Rattle.df_units.specs.Bytes.{unit_at}
-use Rattle.df_damage.specs.Answers.{FindsHad, IsNeedless, RefusesHurt}
-use Rattle.df_damage.specs.Disks.{MayBeHurt}
-use Rattle.df_damage.specs.Openings.{OpensAsLeft}
-use Rattle.df_damage.proofs.Laws.{answer_is_of_hurt, headers_may_be_hurt, probe_is_of_hurt, two_copies_are_enough}
 use Rattle.df_top.specs.Hurting.{AllGiveOwn, GiveOwn, IsOfHurt, ReadsOwn, RefusesCopies, RunsOverHurt, ServesHurt, ServesOverHurt}
 use Rattle.df_top.specs.Opening.{RefusesFile}
 use Rattle.df_top.specs.Outside.{Outside}

@@ -14,8 +14,7 @@ use Rattle.df_theory.specs.TidyLaws.{IsTidy}
 use Rattle.df_theory.specs.Units.{Parts}
 use Rattle.df_model.specs.Commands.{Answer}
 use Rattle.df_model.specs.Work.{Work, kept}
-use Rattle.df_state.specs.declared.file.DataFile.{DataFile}
-use Rattle.df_state.specs.State.{State as Replica, shape, spelling}
+use Rattle.df_replica.specs.Below.{DataFile, State as Replica, shape, spelling}
 use Rattle.df_replica.specs.Opened.{ToldBy}
 use Rattle.df_replica.specs.Serving.{Firm, Grade, IsGoodFor, IsKept, Keeps, KeptFor, Whole, format}
 use Rattle.df_replica.specs.Session.{Act, EachIsMidway, HasView, HoldsSome, IsMidway, IsServed, LeavesEither, LeavesView, answers_of, work_after}

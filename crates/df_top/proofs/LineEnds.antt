@@ -9,7 +9,7 @@ use Rattle.df_lines.specs.Text.{unread}
 use Rattle.df_disk.specs.Told.{Told}
 use Rattle.df_model.specs.Commands.{Answer}
 use Rattle.df_replica.specs.Session.{Act}
-use Rattle.df_state.specs.State.{State as Replica}
+use Rattle.df_replica.specs.Below.{State as Replica}
 use Rattle.df_top.specs.Outside.{Outside}
 use Rattle.df_top.specs.Session.{AreCalls, EndedIsEnd, State, state}
 use Rattle.df_top.specs.Step.{EndsIn, RefusesLine, ServesLine, Takes, Turns}

@@ -14,17 +14,14 @@ use Rattle.df_layout.specs.declared.damage.Mend.{Mend}
 use Rattle.df_layout.specs.declared.layout.Layout.{Layout}
 use Rattle.df_layout.specs.declared.places.Zone.TheVariants.{WalHeaders}
 use Rattle.df_quorum.specs.Quorum.{AreMembers}
-use Rattle.df_quorum.proofs.Choices.{one_law}
-use Rattle.df_recovery.proofs.Laws.{filter_more, one_super}
-use Rattle.df_recovery.specs.Plan.{if_wanted, needs_header, slot_mends}
-use Rattle.df_recovery.specs.Surveys.{IsOpened}
+use Rattle.df_quorum.proofs.Laws.{one_law}
+use Rattle.df_replica.proofs.Laws.{filter_more, one_super}
+use Rattle.df_replica.specs.Below.{if_wanted, needs_header, slot_mends, IsOpened, memory, reply_sum, shape, spelling, stored_sum, DataFile}
 use Rattle.df_replica.specs.Replica.{Survey, summary_of}
 use Rattle.df_replica.specs.Surveying.{IsMendable, copy_mend_at, mends_of}
 use Rattle.df_script_model.specs.Texts.{body_text, line_of, numbered, spaced}
 use Rattle.df_sessions.specs.Requests.{session_of, sessions_of}
 use Rattle.df_sessions.specs.declared.session.Session.{Session}
-use Rattle.df_state.specs.State.{memory, reply_sum, shape, spelling, stored_sum}
-use Rattle.df_state.specs.declared.file.DataFile.{DataFile}
 use Rattle.df_theory.specs.Found.{IsFound}
 use Rattle.df_theory.specs.Units
 use Rattle.df_theory.specs.View.{View}

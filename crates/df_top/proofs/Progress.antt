@@ -8,7 +8,7 @@ use Rattle.df_lines.specs.Grammar.{Said}
 use Rattle.df_lines.specs.Script.{Begins, IsRefused}
 use Rattle.df_lines.specs.Text.{after_line}
 use Rattle.df_model.specs.Commands.{Answer}
-use Rattle.df_state.specs.State.{State as Replica}
+use Rattle.df_replica.specs.Below.{State as Replica}
 use Rattle.df_replica.specs.Session.{Act}
 use Rattle.df_top.specs.Lines.{Turned, all_acts, all_answers, all_text, command_in, commands_of, line_text, said_in}
 use Rattle.df_top.specs.Session.{AreCalls, Ended, EndsText, Executed, State}

@@ -16,7 +16,7 @@ use Rattle.df_model.specs.declared.reading.LookupError.{LookupError}
 use Rattle.df_model.specs.declared.reading.LookupError.TheVariants as lookup
 use Rattle.df_model.specs.declared.reading.PrepareError.{PrepareError}
 use Rattle.df_model.specs.declared.reading.PrepareError.TheVariants as prepare
-use Rattle.df_state.specs.State.{State as Replica}
+use Rattle.df_replica.specs.Below.{State as Replica}
 use Rattle.df_replica.specs.Answering.{Gives, ServesRead, read_prepare_answer, read_reply_answer}
 use Rattle.df_replica.specs.Lookups.{ReplyBlames, reply_found, reply_leaves}
 use Rattle.df_replica.specs.Reading.{IsFoundBy, PrepareBlames, message_at, prepare_found, prepare_leaves}

@@ -8,7 +8,7 @@ use Rattle.df_model.specs.Commands.{Answer, Given, Reply, ToReply}
 use Rattle.df_model.specs.declared.answers.Verdict.TheVariants.{Sound}
 use Rattle.df_model.specs.declared.errors.ReplyError.{ReplyError}
 use Rattle.df_model.specs.declared.errors.ReplyError.TheVariants as reply
-use Rattle.df_state.specs.State.{State as Replica}
+use Rattle.df_replica.specs.Below.{State as Replica}
 use Rattle.df_replica.specs.Answering.{Serves, reply_answer}
 use Rattle.df_replica.specs.Replying.{BlamesReply, IsReply, next_reply, reply_events}
 use Rattle.df_replica.specs.Opened.{ToldBy}

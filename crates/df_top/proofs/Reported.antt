@@ -17,10 +17,8 @@ use Rattle.df_model.proofs.Laws.{tour_law}
 use Rattle.df_model.specs.declared.answers.Summary.{Summary}
 use Rattle.df_model.specs.declared.errors.OpenError.{OpenError}
 use Rattle.df_model.specs.declared.errors.OpenError.TheVariants as opens
-use Rattle.df_recovery.specs.Found.{Syncs}
-use Rattle.df_recovery.specs.Surveys.{IsOpened}
+use Rattle.df_replica.specs.Below.{Syncs, IsOpened, State as Replica, shape}
 use Rattle.df_sessions.specs.declared.session.Session.{Session}
-use Rattle.df_state.specs.State.{State as Replica, shape}
 use Rattle.df_replica.specs.Following.{MayOpen}
 use Rattle.df_replica.specs.Opened.{ToldBy}
 use Rattle.df_replica.specs.Reading.{shown_of}

@@ -19,7 +19,7 @@ use Rattle.df_model.specs.declared.errors.ReplyError.{ReplyError}
 use Rattle.df_model.specs.declared.errors.ReplyError.TheVariants as reply
 use Rattle.df_model.specs.declared.errors.StepError.{StepError}
 use Rattle.df_model.specs.declared.errors.StepError.TheVariants as step
-use Rattle.df_state.specs.State.{Capture, State as Replica}
+use Rattle.df_replica.specs.Below.{Capture, State as Replica}
 use Rattle.df_replica.specs.Answering.{Serves, append_answer, begin_answer, reply_answer, step_answer, write_block_answer}
 use Rattle.df_replica.specs.Appending.{IsAppend, IsBlamed, append_events, next_unit}
 use Rattle.df_replica.specs.Beginning.{IsBegin}

@@ -9,9 +9,8 @@ use Rattle.df_lines.specs.Room.{line_bound}
 use Rattle.df_lines.specs.Script.{Begins, IsRefused, IsScript}
 use Rattle.df_lines.specs.Text.{after_line, taken}
 use Rattle.df_lines.proofs.Laws.{one_script}
-use Rattle.df_state.specs.declared.file.DataFile.{DataFile}
+use Rattle.df_replica.specs.Below.{DataFile, IsNotRefused, State as Replica}
 use Rattle.df_theory.specs.View.{View}
-use Rattle.df_damage.specs.Unrefused.{IsNotRefused}
 use Rattle.df_replica.specs.Following.{MayOpen}
 use Rattle.df_replica.specs.Session.{Act}
 use Rattle.df_replica.proofs.Laws.{safe_is_not_refused}
@@ -24,7 +23,6 @@ use Rattle.df_top.specs.Run.{Does, DidNothing, RefusesSuperblock, ServesOwn, Ser
 use Rattle.df_top.specs.Lines.{Turned, said_in}
 use Rattle.df_top.specs.Session.{EndsWith, act_of, said_of}
 use Rattle.df_workload.specs.declared.state.State.{State as Generated}
-use Rattle.df_state.specs.State.{State as Replica}
 use Rattle.df_top.specs.Works.{Writes}
 use Rattle.df_top.specs.declared.mode.Mode.{Mode}
 use Rattle.df_top.specs.declared.mode.Mode.TheVariants.{Format, Run, Recover, Inspect, Scrub, Workload}

@@ -18,9 +18,8 @@ use Rattle.df_replica.specs.Answering.{GivesVerdict, Serves, ServesScrub, scrub_
 use Rattle.df_replica.specs.Scrubbing.{IsCheckFound, check_found}
 use Rattle.df_replica.specs.Serving.{IsCall}
 use Rattle.df_replica.specs.Session.{Act}
-use Rattle.df_scrub.specs.Scrubber.{verdict_in}
+use Rattle.df_replica.specs.Below.{verdict_in, State as Replica}
 use Rattle.df_script_model.specs.Texts.{recent_text, scrubbed_text}
-use Rattle.df_state.specs.State.{State as Replica}
 use Rattle.df_top.specs.Lines.{command_in, found_in, found_of}
 use Rattle.df_top.specs.Session.{AreCalls}
 use Rattle.df_top.specs.Step.{Makes, ServesLine, ShowsRing}

@@ -12,8 +12,7 @@ use Rattle.df_units.specs.Bytes.{unit_at}
 use Rattle.df_model.specs.Work.{opened}
 use Rattle.df_model.specs.declared.errors.OpenError.{OpenError}
 use Rattle.df_model.specs.declared.errors.OpenError.TheVariants as opens
-use Rattle.df_state.specs.State.{State as Replica, shape}
-use Rattle.df_recovery.specs.Surveys.{IsOpened}
+use Rattle.df_replica.specs.Below.{State as Replica, shape, IsOpened}
 use Rattle.df_replica.specs.Following.{MayOpen}
 use Rattle.df_replica.specs.Opened.{StopsOpening, ToldBy}
 use Rattle.df_replica.specs.Serving.{Firm, Grade, IsGoodFor, IsKept, Keeps, StandsFor, format}

@@ -15,13 +15,12 @@ use Rattle.df_layout.specs.declared.layout.Layout.{Layout}
 use Rattle.df_theory.specs.View.{View}
 use Rattle.df_units.specs.Bytes.{unit_at}
 use Rattle.df_model.specs.Work.{opened}
-use Rattle.df_recovery.specs.Surveys.{IsOpened}
+use Rattle.df_replica.specs.Below.{IsOpened, State as Replica, shape}
 use Rattle.df_replica.specs.Following.{MayOpen}
 use Rattle.df_replica.specs.Opened.{ToldBy}
 use Rattle.df_replica.specs.Serving.{Firm, Grade, IsGoodFor, IsKept, Keeps, StandsFor, format}
 use Rattle.df_replica.specs.Session.{Act}
 use Rattle.df_replica.proofs.Laws.{found_keeps}
-use Rattle.df_state.specs.State.{State as Replica, shape}
 use Rattle.df_workload.specs.Rounds.{start}
 use Rattle.df_workload.specs.declared.state.State.{State as Run}
 use Rattle.df_top.specs.Acknowledging.{run_calls}

@@ -5,8 +5,7 @@ use Rattle.df_base.specs.Moments.{Extends}
 use Rattle.df_disk.specs.Told.{Told}
 use Rattle.df_model.specs.Commands.{Answer}
 use Rattle.df_model.specs.Work.{Work}
-use Rattle.df_state.specs.declared.file.DataFile.{DataFile}
-use Rattle.df_state.specs.State.{State as Replica}
+use Rattle.df_replica.specs.Below.{DataFile, State as Replica}
 use Rattle.df_replica.specs.Serving.{Grade}
 use Rattle.df_replica.specs.Session.{Act, IsMidway, work_after}
 use Rattle.df_workload.specs.declared.state.State.{State as Run}

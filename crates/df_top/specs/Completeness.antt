@@ -6,7 +6,7 @@ use Rattle.df_layout.specs.declared.layout.Layout.{Layout}
 use Rattle.df_lines.specs.Grammar.{Said}
 use Rattle.df_lines.specs.Room.{line_bound}
 use Rattle.df_lines.specs.Script.{Begins}
-use Rattle.df_state.specs.declared.file.DataFile.{DataFile}
+use Rattle.df_replica.specs.Below.{DataFile}
 use Rattle.df_theory.specs.View.{View}
 use Rattle.df_replica.specs.Following.{MayOpen}
 use Rattle.df_top.specs.Mode.{IsOfFile}

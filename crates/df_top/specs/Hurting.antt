@@ -10,12 +10,7 @@ use Rattle.df_model.specs.Work.{Work, opened}
 use Rattle.df_replica.specs.Lending.{GivesOwn}
 use Rattle.df_replica.specs.Serving.{next}
 use Rattle.df_replica.specs.Session.{Act}
-use Rattle.df_state.specs.declared.file.DataFile.{DataFile}
-use Rattle.df_state.specs.State.{State as Replica, shape}
-use Rattle.df_damage.specs.Answers.{FindsHad, IsNeedless, RefusesHurt}
-use Rattle.df_damage.specs.Disks.{IsAtRest, MayBeHurt}
-use Rattle.df_damage.specs.Hurt.{HasTwoCopies, IsHurtFile}
-use Rattle.df_damage.specs.Refusals.{MayBeOfDamage}
+use Rattle.df_replica.specs.Below.{DataFile, State as Replica, shape, FindsHad, IsNeedless, RefusesHurt, IsAtRest, MayBeHurt, HasTwoCopies, IsHurtFile, MayBeOfDamage}
 use Rattle.df_top.specs.Outside.{Outside}
 use Rattle.df_top.specs.Run.{DidNothing, Does, RefusesSuperblock, ServesScript}
 use Rattle.df_top.specs.Session.{AreCalls, EndsCalls}

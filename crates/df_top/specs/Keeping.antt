@@ -7,8 +7,7 @@ use Rattle.df_theory.specs.Device.{units_log}
 use Rattle.df_theory.specs.TidyLaws.{IsTidy}
 use Rattle.df_model.specs.Commands.{Answer}
 use Rattle.df_model.specs.Work.{Work, kept}
-use Rattle.df_state.specs.declared.file.DataFile.{DataFile}
-use Rattle.df_state.specs.State.{shape}
+use Rattle.df_replica.specs.Below.{DataFile, shape}
 use Rattle.df_replica.specs.Serving.{Grade, format}
 use Rattle.df_replica.specs.Session.{Act, IsMidway, LeavesEither, LeavesView, answers_of, work_after}
 use Rattle.df_top.specs.Session.{list_of}

@@ -10,8 +10,7 @@ use Rattle.df_layout.specs.declared.layout.Layout.{Layout}
 use Rattle.df_theory.specs.View.{View}
 use Rattle.df_units.specs.Bytes.{unit_at}
 use Rattle.df_model.specs.Work.{opened}
-use Rattle.df_recovery.specs.Surveys.{IsOpened}
-use Rattle.df_state.specs.State.{State as Replica, shape}
+use Rattle.df_replica.specs.Below.{IsOpened, State as Replica, shape}
 use Rattle.df_replica.specs.Following.{MayOpen}
 use Rattle.df_replica.specs.Replica.{Survey, summary_of}
 use Rattle.df_replica.specs.Serving.{Grade, StandsFor}

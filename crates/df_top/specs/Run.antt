@@ -11,10 +11,7 @@ use Rattle.df_theory.specs.View.{View}
 use Rattle.df_units.specs.Bytes.{unit_at}
 use Rattle.df_model.specs.Work.{opened}
 use Rattle.df_model.specs.declared.errors.OpenError.{OpenError}
-use Rattle.df_recovery.specs.Found.{IsLayoutShown}
-use Rattle.df_recovery.specs.Opening.{Refuses}
-use Rattle.df_state.specs.State.{State as Replica, shape}
-use Rattle.df_recovery.specs.Surveys.{IsOpened}
+use Rattle.df_replica.specs.Below.{IsLayoutShown, Refuses, IsOpened, State as Replica, shape}
 use Rattle.df_replica.specs.Following.{MayOpen}
 use Rattle.df_replica.specs.Opened.{ToldBy}
 use Rattle.df_replica.specs.Serving.{Grade, StandsFor}

@@ -11,10 +11,8 @@ use Rattle.df_units.specs.Bytes.{unit_at}
 use Rattle.df_model.specs.Memory.{referenced_of}
 use Rattle.df_model.specs.Work.{opened}
 use Rattle.df_model.specs.declared.answers.Scrubbed.TheVariants.{TourEnd}
-use Rattle.df_recovery.specs.Surveys.{IsOpened}
-use Rattle.df_scrub.specs.Tours.{failing_in}
+use Rattle.df_replica.specs.Below.{IsOpened, failing_in, State as Replica, grid_with, memory, shape}
 use Rattle.df_script_model.specs.Texts.{scrubbed_text}
-use Rattle.df_state.specs.State.{State as Replica, grid_with, memory, shape}
 use Rattle.df_replica.specs.Following.{MayOpen}
 use Rattle.df_replica.specs.Scrubbing.{IsMachineTour}
 use Rattle.df_replica.specs.Serving.{Grade, StandsFor}

@@ -9,7 +9,7 @@ use Rattle.df_lines.specs.Room.{IsAtEnd}
 use Rattle.df_lines.specs.Script.{Begins, IsRefused}
 use Rattle.df_lines.specs.Text.{unread}
 use Rattle.df_model.specs.Commands.{Advance, Answer, Command}
-use Rattle.df_state.specs.State.{State as Replica}
+use Rattle.df_replica.specs.Below.{State as Replica}
 use Rattle.df_replica.specs.Opened.{ToldBy}
 use Rattle.df_replica.specs.Serving.{IsCall}
 use Rattle.df_replica.specs.Session.{Act}

@@ -9,7 +9,7 @@ use Rattle.df_lines.specs.Script.{IsLine}
 use Rattle.df_lines.specs.Text.{after_line, taken}
 use Rattle.df_layout.specs.declared.damage.Finding.{Finding}
 use Rattle.df_model.specs.Commands.{Answer, Command, Recent}
-use Rattle.df_state.specs.State.{State as Replica}
+use Rattle.df_replica.specs.Below.{State as Replica}
 use Rattle.df_replica.specs.Session.{Act}
 use Rattle.df_script_model.specs.Script.{answer_text}
 use Rattle.df_top.specs.Lines.{Turned, found_in, command_in, commands_of, line_text}

@@ -6,8 +6,7 @@ use Rattle.df_theory.specs.Found.{IsFound}
 use Rattle.df_theory.specs.View.{View}
 use Rattle.df_units.specs.Bytes.{unit_at}
 use Rattle.df_model.specs.Work.{opened}
-use Rattle.df_recovery.specs.Surveys.{IsOpened}
-use Rattle.df_state.specs.State.{State as Replica, shape}
+use Rattle.df_replica.specs.Below.{IsOpened, State as Replica, shape}
 use Rattle.df_replica.specs.Following.{MayOpen}
 use Rattle.df_replica.specs.Serving.{Grade, StandsFor}
 use Rattle.df_replica.specs.Session.{answers_of}

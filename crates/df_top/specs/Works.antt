@@ -11,7 +11,7 @@ use Rattle.df_model.specs.declared.errors.StepError.TheVariants as step
 use Rattle.df_replica.specs.Session.{Act}
 use Rattle.df_replica.specs.Stepping.{OfRunning}
 use Rattle.df_script_model.specs.Texts.{damaged_text}
-use Rattle.df_state.specs.State.{State as Replica}
+use Rattle.df_replica.specs.Below.{State as Replica}
 use Rattle.df_workload.specs.Asking.{asks}
 use Rattle.df_workload.specs.Following.{Follows}
 use Rattle.df_workload.specs.Hearing.{outcome_of, runs_after}

@@ -7,8 +7,7 @@ use Rattle.df_format.specs.Message.{sectors_end}
 use Rattle.df_format.specs.Valid.{IsUnit}
 use Rattle.df_theory.specs.Device.{AreSteps}
 use Rattle.df_theory.specs.Units.{PreparePlace, PrepareUnit}
-use Rattle.df_units.specs.Format.{format_of}
-use Rattle.df_units.specs.Meaning.{message_of}
+use Rattle.df_places.specs.Below.{format_of, message_of}
 use Rattle.df_places.specs.Units.{unit_events, unit_steps}
 use Rattle.df_prepares.specs.Slots.{slot_place}
 use Rattle.df_prepares.proofs.Own.{in_place}

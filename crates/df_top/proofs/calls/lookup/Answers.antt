@@ -1,7 +1,7 @@
 -- A read comes to a turn by what was found and by what was printed of it.
 use Rattle.std.proofs.Common.{◌≡◌, ap, subst, sym, ◌∙◌}
 use Rattle.std.specs.Prelude.{codes}
-use Rattle.df_state.specs.State.{State as Replica}
+use Rattle.df_replica.specs.Below.{State as Replica}
 use Rattle.df_model.specs.Commands.{ReadReply}
 use Rattle.df_replica.specs.Lookups.{reply_leaves}
 use Rattle.df_top.specs.Step.{Answers}

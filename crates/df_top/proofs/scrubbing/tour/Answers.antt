@@ -3,7 +3,7 @@ use Rattle.std.proofs.Common.{◌∙◌, Ok, Option, ap, refl, subst}
 use Rattle.df_disk.specs.Told.{Told}
 use Rattle.df_model.specs.declared.answers.Scrubbed.TheVariants.{Checked}
 use Rattle.df_replica.specs.Scrubbing.{IsScrub}
-use Rattle.df_state.specs.State.{State}
+use Rattle.df_replica.specs.Below.{State}
 use Rattle.df_top.specs.Touring.{TakesStep}
 use Rattle.df_top.specs.declared.status.Status.{Status}
 use Rattle.df_top.specs.declared.turns.Turn.TheVariants.{Ends}

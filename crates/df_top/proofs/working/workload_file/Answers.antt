@@ -4,7 +4,7 @@ use Rattle.std.specs.Prelude.{Ok, Option}
 use Rattle.df_disk.specs.Told.{Told}
 use Rattle.df_layout.specs.declared.layout.Layout.{Layout}
 use Rattle.df_model.specs.declared.answers.Summary.{Summary}
-use Rattle.df_state.specs.State.{State}
+use Rattle.df_replica.specs.Below.{State}
 use Rattle.df_replica.specs.Surveying.{TellsSurvey}
 use Rattle.df_workload.specs.Rounds.{start}
 use Rattle.df_workload.specs.declared.state.State.{State as Run}

@@ -1,0 +1,3 @@
+-- What the contracts above cite of the crates below this one.
+pub use Rattle.df_units.specs.Format.{format_of}
+pub use Rattle.df_units.specs.Meaning.{message_of}
