@@ -10,9 +10,15 @@ use std::alloc::Global;
 use std::marker::Model;
 
 /// A room for each of the four copies of the superblock; contracts see the list of them.
-#[derive(Drop)]
 pub struct ProbeRoom {
     copies: Vec<Raw<SuperSector>>,
+}
+
+// Its owner lets go of it in one call, and not field by field.
+impl Drop for ProbeRoom {
+    fn drop(self) {
+        let ProbeRoom { copies: _ } = self;
+    }
 }
 
 impl Model for ProbeRoom {

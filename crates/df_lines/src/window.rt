@@ -24,12 +24,23 @@ pub(crate) enum Found {
 }
 
 /// The held bytes are those from `start` to `end` of the buffer.
-#[derive(Drop)]
 pub(crate) struct Window {
     buffer: Vec<u8>,
     start: usize,
     end: usize,
     ended: bool,
+}
+
+// Its owner lets go of it in one call, and not field by field.
+impl Drop for Window {
+    fn drop(self) {
+        let Window {
+            buffer: _,
+            start: _,
+            end: _,
+            ended: _,
+        } = self;
+    }
 }
 
 impl Model for Window {
