@@ -6,12 +6,22 @@ use std::alloc::Global;
 use std::test::Fail;
 
 /// What a run answered.
-#[derive(Drop)]
 pub struct Ran {
     pub status: Status,
     pub text: Vec<u8>,
     /// Growths that the sink was refused.
     pub refused: u64,
+}
+
+// Its owner lets go of it in one call, and not field by field.
+impl Drop for Ran {
+    fn drop(self) {
+        let Ran {
+            status: _,
+            text: _,
+            refused: _,
+        } = self;
+    }
 }
 
 impl Ran {
@@ -32,17 +42,36 @@ pub const FORMAT_CALLS: u64 = 15;
 /// Events of that format: two writes and a sync, and a write and a sync of each copy.
 pub const FORMAT_EVENTS: u64 = 11;
 
-/// These words.
-pub fn words(alloc: Global, texts: &[&str]) -> Result<Vec<String>, Fail> {
-    let mut words = Vec::new(alloc);
-    for text in texts {
-        words.push(String::from_str(alloc, text)?)?;
+/// Words of a run.
+pub struct WordList {
+    list: Vec<String>,
+}
+
+// Its owner lets go of it in one call, and not string by string.
+impl Drop for WordList {
+    fn drop(self) {
+        let WordList { list: _ } = self;
     }
-    Ok(words)
+}
+
+impl WordList {
+    /// The words, in order.
+    pub fn list(&self) -> &[String] {
+        self.list.as_slice()
+    }
+}
+
+/// These words.
+pub fn words(alloc: Global, texts: &[&str]) -> Result<WordList, Fail> {
+    let mut list = Vec::new(alloc);
+    for text in texts {
+        list.push(String::from_str(alloc, text)?)?;
+    }
+    Ok(WordList { list })
 }
 
 /// One word.
-pub fn word(alloc: Global, text: &str) -> Result<Vec<String>, Fail> {
+pub fn word(alloc: Global, text: &str) -> Result<WordList, Fail> {
     words(alloc, &[text])
 }
 
@@ -61,7 +90,7 @@ fn run_in(
 pub fn run_failing(
     alloc: Global,
     disk: &mut MemoryDisk,
-    words: &[String],
+    words: &WordList,
     script: &[u8],
     source_fails: &[u64],
     sink_fails: &[u64],
@@ -69,7 +98,7 @@ pub fn run_failing(
     let script = Vec::from_slice(alloc, script)?;
     let mut source = MemorySource::new(script, Vec::from_slice(alloc, source_fails)?);
     let mut sink = MemorySink::new(alloc, Vec::from_slice(alloc, sink_fails)?);
-    let status = run_in(alloc, words, &mut source, &mut sink, disk);
+    let status = run_in(alloc, words.list(), &mut source, &mut sink, disk);
     Ran::of(alloc, status, &sink)
 }
 

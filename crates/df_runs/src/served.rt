@@ -18,7 +18,8 @@ pub fn serve_failing(
     sink_fails: &[u64],
 ) -> Result<Ran, Fail> {
     let words = word(alloc, "run")?;
-    let Some(Mode::Run) = mode_of(&words) else {
+    let list = words.list();
+    let Some(Mode::Run) = mode_of(list) else {
         return Err("the word has another meaning".into());
     };
     let Ok(lines) = LineRoom::reserve(alloc, layout) else {
@@ -30,6 +31,6 @@ pub fn serve_failing(
     let script = Vec::from_slice(alloc, script)?;
     let mut source = MemorySource::new(script, Vec::from_slice(alloc, source_fails)?);
     let mut sink = MemorySink::new(alloc, Vec::from_slice(alloc, sink_fails)?);
-    let status = serve(rooms, lines, &words, &mut source, &mut sink, disk);
+    let status = serve(rooms, lines, list, &mut source, &mut sink, disk);
     Ran::of(alloc, status, &sink)
 }
