@@ -9,15 +9,12 @@ ghost use Rattle.df_grid.specs.Grid.{HasAddress};
 ghost use Rattle.df_checkpoint.specs.Chain.{IsBlamed, LinkAnswer, OfTold, before_of, content_in, is_link};
 
 use crate::TrailerFault;
-use df_base::Check;
+use df_base::{Check, HEADER};
 use df_buffers::{Sound, Trailer};
 use df_disk::Disk;
 use df_format::{Header, Reference, SuperFields};
 use df_grid::Grid;
 use df_layout::{Field, Layout};
-
-/// Bytes of a block that aren't body.
-const HEADER: u32 = 256;
 
 /// Where a block of the chain stands, and the checksum that its header has to have; address 0 ends the chain.
 #[derive(Clone, Copy, Debug, PartialEq, Eq, Default)]
@@ -44,7 +41,7 @@ fn piece_size(layout: &Layout, content: &SuperFields, index: u64) -> u64
     requires { index < 70 }
     ensures { result ≡ piece_size (layout.now.block_size - 256) content.now.trailer_size index }
 {
-    let room = u64::from(layout.block_size - HEADER);
+    let room = u64::from(layout.block_size - HEADER as u32);
     room.min(content.trailer_size.saturating_sub(room * index))
 }
 

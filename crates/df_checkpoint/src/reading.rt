@@ -19,14 +19,12 @@ use crate::backwards::walk;
 use crate::forwards::read_text;
 use crate::links::Link;
 use arrayvec::ArrayVec;
+use df_base::HEADER;
 use df_disk::Disk;
 use df_format::{Super, SuperFields};
 use df_grid::{Grid, chains_have_room};
 use df_layout::Layout;
 use df_trailer::Reader;
-
-/// Bytes of a block that aren't body.
-const HEADER: u32 = 256;
 
 // How many blocks a trailer of the superblock's size has.
 fn block_count(layout: &Layout, content: &SuperFields) -> u64
@@ -34,7 +32,7 @@ fn block_count(layout: &Layout, content: &SuperFields) -> u64
 {
     content
         .trailer_size
-        .div_ceil(u64::from(layout.block_size - HEADER))
+        .div_ceil(u64::from(layout.block_size - HEADER as u32))
 }
 
 // The chain that the superblock names.

@@ -4,10 +4,8 @@ ghost use Rattle.df_theory.specs.Trailer.{IsCount};
 ghost use Rattle.df_units.specs.Meaning.{layout_of};
 ghost use Rattle.df_trailer.specs.Spelling.{text_size};
 
+use df_base::HEADER;
 use df_layout::Layout;
-
-/// Bytes of a block that aren't body.
-const HEADER: u32 = 256;
 
 /// Bytes of a trailer's text with a root of so many bytes, so many sessions and so many referenced blocks.
 pub fn trailer_size(layout: &Layout, root: u64, sessions: u64, references: u64) -> u64
@@ -27,5 +25,7 @@ pub fn blocks_needed(layout: &Layout, root: u64, sessions: u64, references: u64)
     ensures count { IsCount (layout.now.block_size - 256) (text_size (layout_of layout.now) root sessions references) result }
     ensures most { result ≤ 70 }
 {
-    trailer_size(layout, root, sessions, references).div_ceil(u64::from(layout.block_size - HEADER))
+    trailer_size(layout, root, sessions, references).div_ceil(u64::from(
+        layout.block_size - HEADER as u32,
+    ))
 }

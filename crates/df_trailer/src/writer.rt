@@ -10,12 +10,9 @@ ghost use Rattle.df_trailer.specs.Writing.{IsShown, captured_bits, captured_bloc
 use crate::Captured;
 use crate::groups::begin_before;
 use crate::window::{put, put_u32, put_u64, put_u128};
-use df_base::u128_at;
+use df_base::{HEADER, u128_at};
 use df_layout::Layout;
 use df_sessions::Session;
-
-/// Bytes of a block that aren't body.
-const HEADER: u32 = 256;
 
 /// Puts a root with its length.
 fn put_root(room: &mut [u8], from: u64, root: &[u8]) -> u64
@@ -186,7 +183,7 @@ pub fn piece<G: Captured>(
     ensures piece { take result into.new ≡ piece_of (layout.now.block_size - 256) index (spell (layout_of layout.now) (captured_parts root.now sessions.now (G.captured grid.now))) }
     ensures length { length into.new ≡ length into.old }
 {
-    let body = layout.block_size - HEADER;
+    let body = layout.block_size - HEADER as u32;
     put_window(
         &mut into[..body as usize],
         u64::from(body) * index,
