@@ -1,6 +1,6 @@
 -- The checkpoint of a superblock: with the trailer that was read, or with none.
-use Rattle.std.proofs.Common.{◌≡◌, ◌≢◌, inl, inr, ℕ, zero, suc, ◌-◌, ◌<◌, ◌≤◌, List, [], ◌∷◌, map, Option, Some, None, refl, sym, ◌∙◌, ap, subst, arith}
-use Rattle.std.specs.Prelude.{Result, Ok, Err}
+use Rattle.std.proofs.Common.{◌≡◌, ◌≢◌, inl, inr, ℕ, zero, suc, ◌-◌, ◌<◌, List, [], ◌∷◌, Option, Some, None, refl, sym, ◌∙◌, ap, subst, arith}
+use Rattle.std.specs.Prelude.{Ok, Err}
 use Rattle.df_base.specs.Image.{Image}
 use Rattle.df_disk.specs.Told.{Told}
 use Rattle.df_layout.specs.declared.fields.Field.TheVariants.{Pending}
@@ -13,16 +13,15 @@ use Rattle.df_sessions.specs.Requests.{sessions_of}
 use Rattle.df_theory.specs.Units
 use Rattle.df_theory.specs.Sessions.{Has, Tracks}
 use Rattle.df_theory.specs.Trailer.{InChain, IsReference, IsTrailer, no_parts, text_of}
-use Rattle.df_theory.specs.View.{PassesTests}
-use Rattle.df_model.specs.Blocks.{Blocks, addresses, entries}
+use Rattle.df_model.specs.Blocks.{addresses, entries}
 use Rattle.df_model.specs.Supply.{Shown}
 use Rattle.df_model.specs.declared.errors.OpenError.TheVariants as OpenError
 use Rattle.df_units.specs.Bytes.{unit_at}
-use Rattle.df_units.specs.Meaning.{content_of, layout_of}
+use Rattle.df_units.specs.Meaning.{layout_of}
 use Rattle.df_units.specs.Superblocks.{AreFieldsOf}
 use Rattle.df_units.proofs.Laws.{usable_passes}
 use Rattle.df_trailer.specs.Reading.{HasRead}
-use Rattle.df_trailer.specs.Rooms.{AreParts, without_reply}
+use Rattle.df_trailer.specs.Rooms.{AreParts}
 use Rattle.df_trailer.specs.Sessions.{AreRead}
 use Rattle.df_trailer.specs.Text.{parse_of, parts_of}
 use Rattle.df_trailer.specs.declared.parts.Parts as rooms
@@ -38,7 +37,7 @@ use Rattle.df_checkpoint.specs.declared.fault.TrailerFault.TheVariants.{BadField
 use Rattle.df_checkpoint.proofs.Laws.{its_text, some_chain}
 use Rattle.df_state.specs.State.{shape}
 use Rattle.df_state.specs.declared.file.DataFile.{DataFile}
-use Rattle.df_recovery.specs.Checkpoints.{Base, HasCheckpoint, RefusesTrailer, TellsCheckpoint, error_of}
+use Rattle.df_recovery.specs.Checkpoints.{Base, HasCheckpoint, HasText, RefusesTrailer, TellsCheckpoint, TellsText, error_of}
 use Rattle.df_recovery.proofs.Tracked.{has_is, has_not, sessions_back, tracked}
 
 -- ---- no trailer
@@ -109,38 +108,51 @@ module _ (file : DataFile) (shown : Shown) (f : SuperFields) (g : GridState) (re
   sessions_said : adopted.parts.sessions ≡ sessions_of parts.sessions.items
   sessions_said = sym (ap sessions_of said.sessions ∙ sessions_back adopted.parts.sessions)
 
-  pub adopted_base : (image : Units.Units) → shown.units ≡ image → (places : ℕ) → AreRead places f.op parts.sessions.items → IsPending parts.sessions.items f.replies f.op None
-      → HasCheckpoint file image f (record { root = parts.root.items; sessions = parts.sessions.items; blocks = g.blocks })
+  pub adopted_text : (image : Units.Units) → shown.units ≡ image → HasText file image f (record { root = parts.root.items; sessions = parts.sessions.items; blocks = g.blocks })
   unfolding said sessions_said
-  adopted_base image is places read pending = record {
+  adopted_text image is = record {
     chain = adopted.chain;
     parts = adopted.parts;
     trailer = adopted.trailer;
     shown = subst (λ (units : Units.Units). (a : ℕ) (b : Units.Block) → InChain a b adopted.chain → units (Units.BlockPlace a) ≡ Some (Units.BlockUnit b)) is adopted.shows;
-    tracks = subst (Tracks f.replies f.op) (sym sessions_said) (tracked places f.replies f.op parts.sessions.items read pending);
     root_is = said.root;
     sessions_are = sessions_said;
     blocks_are = adopted.blocks;
   }
 
-  pub adopted_untracked : (n : ℕ) → 0 < f.trailer_address → IsPending parts.sessions.items f.replies f.op (Some n) → IsUntracked (shape file) shown (content_in f) n
-  unfolding said sessions_said
-  adopted_untracked n named lacking = record {
-    chain = adopted.chain;
-    whole = record {
-      links = adopted.trailer.links;
-      count = adopted.trailer.count;
-      inside = adopted.trailer.inside;
-      size = adopted.trailer.size;
-      shows = adopted.shows;
-    };
-    parts = adopted.parts;
-    says = its_text (shape file) f.op adopted.chain adopted.parts (some_chain (file.layout.block_size - 256) (content_in f) adopted.chain named adopted.trailer.links) adopted.trailer.says;
-    above = lacking.above;
-    reached = lacking.reached;
-    lacks = λ has. has_not n parts.sessions.items lacking.lacks (subst (λ (ss : List Units.Session). Has ss n) sessions_said has);
-    least = λ m above less. subst (λ (ss : List Units.Session). Has ss m) (sym sessions_said) (has_is m parts.sessions.items (lacking.least m above less));
-  }
+-- ---- the ops that wait
+
+-- each of them has its session
+text_tracked : (file : DataFile) (image : Units.Units) (f : SuperFields) (base : Base) → HasText file image f base → AreRead file.layout.clients f.op base.sessions → IsPending base.sessions f.replies f.op None → HasCheckpoint file image f base
+text_tracked file image f base text read pending = record {
+  chain = text.chain;
+  parts = text.parts;
+  trailer = text.trailer;
+  shown = text.shown;
+  tracks = subst (Tracks f.replies f.op) (sym text.sessions_are) (tracked file.layout.clients f.replies f.op base.sessions read pending);
+  root_is = text.root_is;
+  sessions_are = text.sessions_are;
+  blocks_are = text.blocks_are;
+}
+
+-- one of them has none
+text_untracked : (file : DataFile) (shown : Shown) (f : SuperFields) (base : Base) (n : ℕ) → HasText file shown.units f base → 0 < f.trailer_address → IsPending base.sessions f.replies f.op (Some n) → IsUntracked (shape file) shown (content_in f) n
+text_untracked file shown f base n text named lacking = record {
+  chain = text.chain;
+  whole = record {
+    links = text.trailer.links;
+    count = text.trailer.count;
+    inside = text.trailer.inside;
+    size = text.trailer.size;
+    shows = text.shown;
+  };
+  parts = text.parts;
+  says = its_text (shape file) f.op text.chain text.parts (some_chain (file.layout.block_size - 256) (content_in f) text.chain named text.trailer.links) text.trailer.says;
+  above = lacking.above;
+  reached = lacking.reached;
+  lacks = λ has. has_not n base.sessions lacking.lacks (subst (λ (ss : List Units.Session). Has ss n) text.sessions_are has);
+  least = λ m above less. subst (λ (ss : List Units.Session). Has ss m) (sym text.sessions_are) (has_is m base.sessions (lacking.least m above less));
+}
 
 -- a reader that has read a whole text gives this of it
 pub complete_gives : (P : Layout → ℕ → Type 0) (g : GridState) (op : ℕ) (reader : Reader) (layout : Layout) → IsComplete g op reader → g.layout ≡ layout → ((l : Layout) (o : ℕ) (text : List ℕ) → HasRead l o reader text → P l o) → P layout op
@@ -156,26 +168,23 @@ some_address : (n : ℕ) → n ≢ 0 → 0 < n
 some_address zero other = absurd (other refl)
 some_address (suc n) other = omega arith
 
-pub told_base : (file : DataFile) (told : Option Told) (f : SuperFields) (g h : GridState) (reader : Reader) (parts : rooms.Parts) (base : Base) → h.layout ≡ file.layout → h.cluster ≡ file.cluster → g.layout ≡ file.layout
-    → OfTold h told (λ shown. ChainAnswer (shape file) shown (content_in f) g reader (Ok tt)) → GivesParts reader parts → AreRead file.layout.clients f.op parts.sessions.items → IsPending parts.sessions.items f.replies f.op None
-    → base ≡ record { root = parts.root.items; sessions = parts.sessions.items; blocks = g.blocks } → TellsCheckpoint file told f (Ok base)
-told_base file None f g h reader parts base layout cluster same answer gives read pending is = tt
-told_base file (Some t) f g h reader parts base layout cluster same answer gives read pending is =
-    subst (HasCheckpoint file (unit_at file.layout file.cluster t.shown) f) (sym is)
-    (adopted_base file (shown_of h.layout h.cluster t.shown) f g reader parts answer same gives (unit_at file.layout file.cluster t.shown) (λ i. unit_at (layout i) (cluster i) t.shown) file.layout.clients read pending)
+pub told_text : (file : DataFile) (told : Option Told) (f : SuperFields) (g h : GridState) (reader : Reader) (parts : rooms.Parts) → h.layout ≡ file.layout → h.cluster ≡ file.cluster → g.layout ≡ file.layout
+    → OfTold h told (λ shown. ChainAnswer (shape file) shown (content_in f) g reader (Ok tt)) → GivesParts reader parts → TellsText file told f (record { root = parts.root.items; sessions = parts.sessions.items; blocks = g.blocks })
+told_text file None f g h reader parts layout cluster same answer gives = tt
+told_text file (Some t) f g h reader parts layout cluster same answer gives =
+    adopted_text file (shown_of h.layout h.cluster t.shown) f g reader parts answer same gives (unit_at file.layout file.cluster t.shown) (λ i. unit_at (layout i) (cluster i) t.shown)
+
+pub told_base : (file : DataFile) (told : Option Told) (f : SuperFields) (base : Base) → TellsText file told f base → AreRead file.layout.clients f.op base.sessions → IsPending base.sessions f.replies f.op None → TellsCheckpoint file told f (Ok base)
+told_base file None f base text read pending = tt
+told_base file (Some t) f base text read pending = text_tracked file (unit_at file.layout file.cluster t.shown) f base text read pending
 
 -- an op that waits has no session
-pub told_untracked : (file : DataFile) (told : Option Told) (f : SuperFields) (g h : GridState) (reader : Reader) (parts : rooms.Parts) (n : ℕ) → h.layout ≡ file.layout → h.cluster ≡ file.cluster → g.layout ≡ file.layout → f.trailer_address ≢ 0
-    → OfTold h told (λ shown. ChainAnswer (shape file) shown (content_in f) g reader (Ok tt)) → GivesParts reader parts → IsPending parts.sessions.items f.replies f.op (Some n) → TellsCheckpoint file told f (Err (OpenError.BadField Pending n))
-told_untracked file None f g h reader parts n layout cluster same named answer gives lacking = tt
-told_untracked file (Some t) f g h reader parts n layout cluster same named answer gives lacking =
+pub told_untracked : (file : DataFile) (told : Option Told) (f : SuperFields) (base : Base) (n : ℕ) → f.trailer_address ≢ 0 → TellsText file told f base → IsPending base.sessions f.replies f.op (Some n) → TellsCheckpoint file told f (Err (OpenError.BadField Pending n))
+told_untracked file None f base n named text lacking = tt
+told_untracked file (Some t) f base n named text lacking =
     let some = some_address f.trailer_address named in (
       some,
-      inr (inr (inr (
-        refl,
-        subst (λ (shown : Shown). IsUntracked (shape file) shown (content_in f) n) (λ i. shown_of (layout i) (cluster i) t.shown)
-            (adopted_untracked file (shown_of h.layout h.cluster t.shown) f g reader parts answer same gives n some lacking),
-      ))),
+      inr (inr (inr (refl, text_untracked file (shown_of file.layout file.cluster t.shown) f base n text some lacking))),
     )
 
 -- the trailer is refused

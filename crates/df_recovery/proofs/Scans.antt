@@ -17,7 +17,7 @@ use Rattle.df_recovery.specs.Checkpoints.{Base, TellsCheckpoint}
 use Rattle.df_recovery.specs.Finding.{IsOfFile, read_of}
 use Rattle.df_recovery.specs.Found.{IsFound}
 use Rattle.df_recovery.specs.Opening.{IsLayoutOf}
-use Rattle.df_recovery.specs.Scanning.{AreScanned, IsFileOf, IsServed, RefusesBase, TellsRead, answer_of, base_scanned}
+use Rattle.df_recovery.specs.Scanning.{AreCopies, IsFileOf, IsReadBehind, IsScan, IsServed, RefusesBase, TellsRead, answer_of, base_scanned}
 use Rattle.df_recovery.specs.Surveys.{Surveys}
 use Rattle.df_recovery.specs.declared.scanned.Scanned.{Scanned}
 use Rattle.df_recovery.specs.declared.scanning.Copies.{Copies}
@@ -40,19 +40,25 @@ tells_synced file None f result tells = tt
 tells_synced file (Some t) f (Ok base) tells = tells
 tells_synced file (Some t) f (Err e) tells = tells
 
-pub scanned_synced : (layout : Layout) (copies : Copies) (old new : Option Told) (result : Result Scanned (Rooms × OpenError)) → new ≡ after Sync old → IfOk result (λ s. s.copies ≡ copies)
-    → IfOk result (λ s. AreScanned layout copies.found.content.cluster new s.log.slots s.log.replies) → IfOk result (λ s. AreScanned layout s.copies.found.content.cluster old s.log.slots s.log.replies)
-scanned_synced layout copies old new (Err refused) barrier same scanned = same
-scanned_synced layout copies old new (Ok s) barrier same scanned =
-    synced layout s.copies.found.content.cluster old s.log.slots s.log.replies
-    (subst (λ (t : Option Told). AreScanned layout s.copies.found.content.cluster t s.log.slots s.log.replies) barrier (subst (λ (c : Copies). AreScanned layout c.found.content.cluster new s.log.slots s.log.replies) (sym same) scanned))
+behind_synced : (layout : Layout) (told : Option Told) (s : Scanned) → IsReadBehind layout (after Sync told) s → IsReadBehind layout told s
+behind_synced layout told s read = record {
+  file = read.file;
+  checkpoint = tells_synced s.file told s.copies.found.content (Ok (base_scanned s)) read.checkpoint;
+  sessions = read.sessions;
+  places = read.places;
+  idle = read.idle;
+  start = read.start;
+  tables = synced layout s.copies.found.content.cluster told s.log.slots s.log.replies read.tables;
+}
 
-pub base_synced : (copies : Copies) (old new : Option Told) (result : Result Scanned (Rooms × OpenError)) → new ≡ after Sync old → IfOk result (λ s. s.copies ≡ copies)
-    → IfOk result (λ s. TellsCheckpoint s.file new copies.found.content (Ok (base_scanned s))) → IfOk result (λ s. TellsCheckpoint s.file old s.copies.found.content (Ok (base_scanned s)))
-base_synced copies old new (Err refused) barrier same tells = same
-base_synced copies old new (Ok s) barrier same tells =
-    tells_synced s.file old s.copies.found.content (Ok (base_scanned s))
-    (subst (λ (t : Option Told). TellsCheckpoint s.file t s.copies.found.content (Ok (base_scanned s))) barrier (subst (λ (c : Copies). TellsCheckpoint s.file new c.found.content (Ok (base_scanned s))) (sym same) tells))
+pub scan_read : (layout : Layout) (copies : Copies) (old new : Option Told) (result : Result Scanned (Rooms × OpenError)) → new ≡ after Sync old → AreCopies old copies → IsServed layout copies.found.content
+    → IfOk result (λ s. s.copies ≡ copies) → IfOk result (IsReadBehind layout new) → IfOk result (IsScan layout old)
+scan_read layout copies old new (Err refused) barrier found served same read = same
+scan_read layout copies old new (Ok s) barrier found served same read = record {
+  copies = subst (AreCopies old) (sym same) found;
+  served = subst (λ (c : Copies). IsServed layout c.found.content) (sym same) served;
+  behind = behind_synced layout old s (subst (λ (t : Option Told). IsReadBehind layout t s) barrier read);
+}
 
 pub scan_answers : (layout : Layout) (copies : Copies) (old new : Option Told) (result : Result Scanned (Rooms × OpenError)) → new ≡ after Sync old → IsServed layout copies.found.content → TellsRead (λ (c : Copies). c.found) layout old (Ok copies)
     → IfOk result (λ s. s.copies ≡ copies) → IfErr result (λ refused. RefusesBase layout copies.found.content new refused.1) → TellsRead (λ (s : Scanned). s.copies.found) layout old (answer_of result)
@@ -67,23 +73,22 @@ scan_answers layout copies (Some t) new (Err refused) barrier served answer same
 
 -- ---- what was scanned is of its file
 
-pub scanned_of_file : (t : Told) (layout : Layout) (s : Scanned) → IsImage t.shown → IsFound t.shown s.copies.found → IsFileOf layout s.copies.found.content s.file → IsServed layout s.copies.found.content
-    → s.log.slots.start ≡ record { cluster = s.copies.found.content.cluster; op = s.copies.found.content.op } → AreScanned layout s.copies.found.content.cluster (Some t) s.log.slots s.log.replies
-    → TellsCheckpoint s.file (Some t) s.copies.found.content (Ok (base_scanned s)) → IsOfFile t s.file (read_of s) (base_scanned s)
-scanned_of_file t layout s whole found of served start scanned tells =
-    let cluster : s.log.slots.start.cluster ≡ s.copies.found.content.cluster = ap (λ (x : Start). x.cluster) start in
+pub scanned_of_file : (t : Told) (layout : Layout) (s : Scanned) → IsImage t.shown → IsFound t.shown s.copies.found → IsScan layout (Some t) s → IsOfFile t s.file (read_of s) (base_scanned s)
+scanned_of_file t layout s whole found scan =
+    let read = scan.behind in
+    let cluster : s.log.slots.start.cluster ≡ s.copies.found.content.cluster = ap (λ (x : Start). x.cluster) read.start in
     record {
       image = whole;
-      has = record { super = found.super; layout = subst (λ (l : Layout). IsLayoutOf l s.copies.found.content) (sym of.layout_is) served.layout_is; cluster = sym of.cluster_is };
+      has = record { super = found.super; layout = subst (λ (l : Layout). IsLayoutOf l s.copies.found.content) (sym read.file.layout_is) scan.served.layout_is; cluster = sym read.file.cluster_is };
       choice = found.choice;
       chosen_is = found.content;
       layout = refl;
-      cluster = cluster ∙ sym of.cluster_is;
-      op = ap (λ (x : Start). x.op) start;
+      cluster = cluster ∙ sym read.file.cluster_is;
+      op = ap (λ (x : Start). x.op) read.start;
       scanned = record {
-        slots = subst (λ (l : Layout). rings.IsScanned l (Some t) s.log.slots) (sym of.layout_is) scanned.rings;
-        replies = subst (λ (l : Layout). slots.IsScanned l s.log.slots.start.cluster (Some t) s.log.replies) (sym of.layout_is) (subst (λ (n : ℕ). slots.IsScanned layout n (Some t) s.log.replies) (sym cluster) scanned.replies_are);
+        slots = subst (λ (l : Layout). rings.IsScanned l (Some t) s.log.slots) (sym read.file.layout_is) read.tables.rings;
+        replies = subst (λ (l : Layout). slots.IsScanned l s.log.slots.start.cluster (Some t) s.log.replies) (sym read.file.layout_is) (subst (λ (n : ℕ). slots.IsScanned layout n (Some t) s.log.replies) (sym cluster) read.tables.replies_are);
       };
-      checkpoint = tells;
+      checkpoint = read.checkpoint;
       sessions = refl;
     }

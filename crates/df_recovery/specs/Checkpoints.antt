@@ -51,6 +51,16 @@ pub record HasCheckpoint (file : DataFile) (image : Units) (f : SuperFields) (ba
   pub sessions_are : parts.sessions ≡ sessions_of base.sessions
   pub blocks_are : base.blocks ≡ blocks_read (layout_of file.layout) parts chain
 
+-- the same before its waiting ops are tested: the trailer is shown and passes its tests of links, of the text and of its addresses, and this is kept of it
+pub record HasText (file : DataFile) (image : Units) (f : SuperFields) (base : Base) : Type 0 where
+  pub chain : List (ℕ × Block)
+  pub parts : Parts
+  pub trailer : IsTrailer (shape file) (content_in f) chain parts
+  pub shown : (a : ℕ) (b : Block) → InChain a b chain → image (BlockPlace a) ≡ Some (BlockUnit b)
+  pub root_is : base.root ≡ parts.root
+  pub sessions_are : parts.sessions ≡ sessions_of base.sessions
+  pub blocks_are : base.blocks ≡ blocks_read (layout_of file.layout) parts chain
+
 -- of any disk, the sessions make sense by themselves, none has a stored reply, and each op that waits has its session
 pub record AreOfCheckpoint (f : SuperFields) (sessions : List Session) : Type 0 where
   pub asked : AreAsked (sessions_of sessions)
@@ -77,6 +87,11 @@ abbrev pub TellsCheckpoint : DataFile → Option Told → SuperFields → Result
 TellsCheckpoint file None f result = Unit {0}
 TellsCheckpoint file (Some t) f (Ok base) = HasCheckpoint file (unit_at file.layout file.cluster t.shown) f base
 TellsCheckpoint file (Some t) f (Err e) = RefusesTrailer file t.shown f e
+
+-- and so it is of its text
+abbrev pub TellsText : DataFile → Option Told → SuperFields → Base → Type 0
+TellsText file None f base = Unit {0}
+TellsText file (Some t) f base = HasText file (unit_at file.layout file.cluster t.shown) f base
 
 -- the refusal of a trailer, as an open answers it
 abbrev pub error_of : TrailerFault → OpenError

@@ -1,5 +1,5 @@
 -- What an open reads of a file before it finds the state: the superblock, whether the rooms serve its file, the trailer, and what the rings and the reply slots show.
-use Rattle.std.specs.Prelude.{◌≡◌, ◌≢◌, ◌<◌, ◌≤◌, ℕ, List, [], Option, Some, None, Result, Ok, Err}
+use Rattle.std.specs.Prelude.{◌≡◌, ◌≢◌, ◌≤◌, ℕ, List, [], Option, Some, None, Result, Ok, Err}
 use Rattle.df_base.specs.Causes.{Rose}
 use Rattle.df_base.specs.Image.{Image, IsImage}
 use Rattle.df_disk.specs.Told.{Told}
@@ -19,10 +19,16 @@ use Rattle.df_recovery.specs.declared.superblock.Found.{Found}
 use Rattle.df_recovery.specs.declared.scanning.Copies.{Copies}
 use Rattle.df_recovery.specs.declared.scanned.Scanned.{Scanned}
 use Rattle.df_recovery.specs.declared.checkpoint.Checkpoint.{Checkpoint}
+use Rattle.df_recovery.specs.declared.checkpoint.Text.{Text}
 use Rattle.df_recovery.specs.declared.checkpoint.Unread.{Unread}
-use Rattle.df_recovery.specs.Checkpoints.{Base, TellsCheckpoint}
+use Rattle.df_recovery.specs.Checkpoints.{AreOfCheckpoint, Base, TellsCheckpoint, TellsText}
+use Rattle.df_superblock.specs.Calls.{ShowsCopies, ShowsSlots}
+use Rattle.df_trailer.specs.Sessions.{AreRead}
+use Rattle.df_grid.specs.Grid.{GridState}
 use Rattle.df_grid.specs.Table.{IsIdle, no_blocks}
 use Rattle.df_state.specs.declared.file.DataFile.{DataFile}
+use Rattle.df_state.specs.declared.grid_rooms.GridRooms.{GridRooms}
+use Rattle.df_state.specs.declared.trailer_rooms.TrailerRooms.{TrailerRooms}
 
 -- the rooms of a layout serve the file of a superblock: it is of their layout
 pub record IsServed (layout : Layout) (f : SuperFields) : Type 0 where
@@ -62,31 +68,78 @@ abbrev pub answer_of : {T R : Type 0} → Result T (R × OpenError) → Result T
 answer_of (Ok x) = Ok x
 answer_of (Err refused) = Err refused.1
 
+-- ---- the superblock
+
+-- four places were read, and the fields that passed their tests are those of the choice
+pub record AreCopies (told : Option Told) (copies : Copies) : Type 0 where
+  -- the choice has these fields
+  pub same_fields : copies.found.content ≡ copies.found.chosen.content
+  -- each slot is what its place shows
+  pub slots : ShowsSlots told copies.slots
+  -- a sound copy has the content that its place shows
+  pub shown : ShowsCopies told copies.slots
+
 -- ---- the checkpoint
 
--- what was read of a checkpoint, or the refusal, without the rooms
+-- what was read of a checkpoint, without the rooms
 abbrev pub base_in : Checkpoint → Base
 base_in c = record { root = c.root.items; sessions = c.sessions.sessions; blocks = c.grid.blocks }
-
-abbrev pub read_in : Result Checkpoint Unread → Result Base OpenError
-read_in (Ok c) = Ok (base_in c)
-read_in (Err unread) = Err unread.error
-
--- the checkpoint is in rooms of the file, and no other one runs
-pub record FitsFile (file : DataFile) (c : Checkpoint) : Type 0 where
-  pub layout_is : c.grid.layout ≡ file.layout
-  pub cluster_is : c.grid.cluster ≡ file.cluster
-  pub trailer_is : c.trailer.layout ≡ file.layout
-  pub places : c.sessions.max ≡ file.layout.clients
-  pub idle : IsIdle c.grid.blocks
 
 -- nothing is kept of it
 abbrev pub IsEmpty : Checkpoint → Type 0
 IsEmpty c = base_in c ≡ record { root = []; sessions = []; blocks = no_blocks }
 
--- the same of all that was read
+-- of a trailer's text
+abbrev pub base_of_text : Text → Base
+base_of_text x = record { root = x.root.items; sessions = x.sessions.items; blocks = x.grid.blocks }
+
+-- and of all that was read
 abbrev pub base_scanned : Scanned → Base
 base_scanned s = record { root = s.root.items; sessions = s.sessions.sessions; blocks = s.grid.blocks }
+
+-- the rooms for the grid and for the trailer serve the file
+pub record AreRoomsOf (file : DataFile) (grid : GridRooms) (trailer : TrailerRooms) : Type 0 where
+  pub grid_is : grid.layout ≡ file.layout
+  pub trailer_is : trailer.layout ≡ file.layout
+
+-- so do the rooms that a checkpoint was read into, and no other one runs
+pub record FitsFile (file : DataFile) (grid : GridState) (trailer : TrailerRooms) : Type 0 where
+  pub layout_is : grid.layout ≡ file.layout
+  pub cluster_is : grid.cluster ≡ file.cluster
+  pub trailer_is : trailer.layout ≡ file.layout
+  pub idle : IsIdle grid.blocks
+
+-- the text of the trailer that a superblock names was read
+pub record IsText (file : DataFile) (told : Option Told) (f : SuperFields) (x : Text) : Type 0 where
+  -- it is the one that the disk shows
+  pub tells : TellsText file told f (base_of_text x)
+  -- whatever the disk tells, the sessions are in their ranges, and no two are one
+  pub sessions : AreRead file.layout.clients f.op x.sessions.items
+  -- it is in rooms of the file
+  pub fits : FitsFile file x.grid x.trailer
+
+-- the checkpoint of a superblock was read
+pub record IsCheckpoint (file : DataFile) (told : Option Told) (f : SuperFields) (c : Checkpoint) : Type 0 where
+  -- it is the one that the disk shows
+  pub tells : TellsCheckpoint file told f (Ok (base_in c))
+  -- whatever the disk tells, the sessions make sense
+  pub sessions : AreOfCheckpoint f c.sessions.sessions
+  -- there are as many places for them as the file has clients
+  pub places : c.sessions.max ≡ file.layout.clients
+  -- it is in rooms of the file
+  pub fits : FitsFile file c.grid c.trailer
+
+-- it wasn't read: the disk failed, or the trailer is refused, and the rooms of the file come back
+pub record IsUnread (file : DataFile) (told : Option Told) (f : SuperFields) (u : Unread) : Type 0 where
+  pub tells : TellsCheckpoint file told f (Err u.error)
+  pub rooms : AreRoomsOf file u.grid u.trailer
+
+-- what was read, or the refusal without the rooms
+abbrev pub error_in : {T : Type 0} → Result T Unread → Result T OpenError
+error_in (Ok x) = Ok x
+error_in (Err unread) = Err unread.error
+
+-- ---- the whole file
 
 -- the file has the layout, and its superblock's cluster
 pub record IsFileOf (layout : Layout) (f : SuperFields) (file : DataFile) : Type 0 where
@@ -98,3 +151,29 @@ pub record RefusesBase (layout : Layout) (f : SuperFields) (told : Option Told) 
   pub file : DataFile
   pub of : IsFileOf layout f file
   pub tells : TellsCheckpoint file told f (Err e)
+
+-- what stands behind the superblock was read into rooms of a layout
+pub record IsReadBehind (layout : Layout) (told : Option Told) (s : Scanned) : Type 0 where
+  -- the file has that layout, and the superblock's cluster
+  pub file : IsFileOf layout s.copies.found.content s.file
+  -- the checkpoint is the one that the superblock names
+  pub checkpoint : TellsCheckpoint s.file told s.copies.found.content (Ok (base_scanned s))
+  -- whatever the disk tells, its sessions make sense
+  pub sessions : AreOfCheckpoint s.copies.found.content s.sessions.sessions
+  -- there are as many places for them as the layout has clients
+  pub places : s.sessions.max ≡ layout.clients
+  -- no checkpoint runs
+  pub idle : IsIdle s.grid.blocks
+  -- the scan started from the superblock's op
+  pub start : s.log.slots.start ≡ record { cluster = s.copies.found.content.cluster; op = s.copies.found.content.op }
+  -- the tables have what the rings and the reply slots show
+  pub tables : AreScanned layout s.copies.found.content.cluster told s.log.slots s.log.replies
+
+-- a file was read into rooms of a layout
+pub record IsScan (layout : Layout) (told : Option Told) (s : Scanned) : Type 0 where
+  -- the places of its superblock were read
+  pub copies : AreCopies told s.copies
+  -- the rooms are of its layout
+  pub served : IsServed layout s.copies.found.content
+  -- and so was what stands behind the superblock
+  pub behind : IsReadBehind layout told s

@@ -1,8 +1,8 @@
 // The checkpoint that a superblock names is read: its trailer's chain and text into the grid and the table of sessions.
 ghost use Rattle.std.specs.Prelude.{◌≡◌, ◌≢◌, ◌+◌, ◌/◌, IfErr, IfOk, vec_len};
 ghost use Rattle.df_units.specs.Superblocks.{AreFieldsOf};
-ghost use Rattle.df_recovery.specs.Checkpoints.{AreOfCheckpoint, TellsCheckpoint, error_of};
-ghost use Rattle.df_recovery.specs.Scanning.{FitsFile, IsEmpty, SurveysBy, read_in};
+ghost use Rattle.df_recovery.specs.Checkpoints.{error_of};
+ghost use Rattle.df_recovery.specs.Scanning.{AreRoomsOf, FitsFile, IsCheckpoint, IsEmpty, IsText, IsUnread, SurveysBy, error_in};
 
 use crate::OpenError;
 use arrayvec::ArrayVec;
@@ -12,7 +12,7 @@ use df_disk::Disk;
 use df_format::Super;
 use df_grid::Grid;
 use df_layout::{Field, Place, Zone};
-use df_sessions::SessionTable;
+use df_sessions::{Session, SessionTable};
 use df_state::{DataFile, GridRooms, TrailerRooms};
 use df_trailer::{Parts, Reader};
 
@@ -23,6 +23,15 @@ pub struct Checkpoint {
     pub trailer: TrailerRooms,
     pub root: ArrayVec<u8, 1024>,
     pub sessions: SessionTable,
+}
+
+/// What a trailer says, in the rooms that it was read into, before its waiting ops are tested.
+#[derive(Drop)]
+pub struct Text {
+    pub grid: Grid,
+    pub trailer: TrailerRooms,
+    pub root: ArrayVec<u8, 1024>,
+    pub sessions: ArrayVec<Session, 64>,
 }
 
 /// The rooms of a checkpoint that isn't read, and why it isn't.
@@ -88,9 +97,9 @@ fn give_back(grid: Grid, trailer: TrailerRooms, error: OpenError) -> Unread
 
 // The checkpoint of a superblock that names no trailer.
 fn no_trailer(file: &DataFile, grid: GridRooms, trailer: TrailerRooms) -> Checkpoint
-    requires grid { grid.layout ≡ file.now.layout }
-    requires trailer { trailer.layout ≡ file.now.layout }
-    ensures fits { FitsFile file.now result }
+    requires rooms { AreRoomsOf file.now grid trailer }
+    ensures fits { FitsFile file.now result.grid result.trailer }
+    ensures places { result.sessions.max ≡ file.now.layout.clients }
     ensures empty { IsEmpty result }
 {
     Checkpoint {
@@ -101,24 +110,21 @@ fn no_trailer(file: &DataFile, grid: GridRooms, trailer: TrailerRooms) -> Checkp
     }
 }
 
-// Reads the trailer that a superblock names.
-fn read_trailer<D: Disk>(
+// Reads the trailer that a superblock names, up to the ops that wait, and puts the rooms together again.
+fn read_text<D: Disk>(
     disk: &mut D,
     file: &DataFile,
     content: &Super,
     grid: GridRooms,
     rooms: TrailerRooms,
-) -> Result<Checkpoint, Unread>
-    requires grid { grid.layout ≡ file.now.layout }
-    requires rooms { rooms.layout ≡ file.now.layout }
+) -> Result<Text, Unread>
+    requires rooms { AreRoomsOf file.now grid rooms }
     requires file { AreFieldsOf file.now.layout file.now.cluster content.now }
     requires named { content.now.trailer_address ≢ 0 }
-    ensures answer { TellsCheckpoint file.now (D.told disk.old) content.now (read_in result) }
-    ensures sessions { IfOk result (λ c. AreOfCheckpoint content.now c.sessions.sessions) }
-    ensures fits { IfOk result (FitsFile file.now) }
-    ensures given_back { IfErr result (λ u. (u.grid.layout ≡ file.now.layout) × (u.trailer.layout ≡ file.now.layout)) }
+    ensures text { IfOk result (IsText file.now (D.told disk.old) content.now) }
+    ensures unread { IfErr result (IsUnread file.now (D.told disk.old) content.now) }
     ensures same { D.told disk.new ≡ D.told disk.old }
-    ensures cause { SurveysBy (D.faults disk.old) (D.faults disk.new) (read_in result) }
+    ensures cause { SurveysBy (D.faults disk.old) (D.faults disk.new) (error_in result) }
 {
     let mut grid = grid.into_grid(file.cluster);
     let TrailerRooms {
@@ -128,41 +134,75 @@ fn read_trailer<D: Disk>(
         piece,
         block,
     } = rooms;
-    let fields = content.fields();
-    let mut reader = Reader::new(layout, fields.op, empty_parts(bits, checks));
+    let mut reader = Reader::new(layout, content.fields().op, empty_parts(bits, checks));
     match read_chain(disk, content, &mut grid, &mut reader) {
-        Ok(()) => {}
-        Err(fault) => {
-            let (bits, checks) = reader.into_room();
-            let rooms = TrailerRooms {
+        Ok(()) => {
+            let Parts {
+                root,
+                sessions,
+                bits,
+                checks,
+            } = reader.into_parts();
+            let trailer = TrailerRooms {
                 layout,
                 bits,
                 checks,
                 piece,
                 block,
             };
-            return Err(give_back(grid, rooms, error_of(fault)));
+            Ok(Text {
+                grid,
+                trailer,
+                root,
+                sessions,
+            })
+        }
+        Err(fault) => {
+            let (bits, checks) = reader.into_room();
+            let trailer = TrailerRooms {
+                layout,
+                bits,
+                checks,
+                piece,
+                block,
+            };
+            Err(give_back(grid, trailer, error_of(fault)))
         }
     }
-    let Parts {
+}
+
+// Reads the trailer that a superblock names, and tests the ops that wait.
+fn read_trailer<D: Disk>(
+    disk: &mut D,
+    file: &DataFile,
+    content: &Super,
+    grid: GridRooms,
+    rooms: TrailerRooms,
+) -> Result<Checkpoint, Unread>
+    requires rooms { AreRoomsOf file.now grid rooms }
+    requires file { AreFieldsOf file.now.layout file.now.cluster content.now }
+    requires named { content.now.trailer_address ≢ 0 }
+    ensures read { IfOk result (IsCheckpoint file.now (D.told disk.old) content.now) }
+    ensures unread { IfErr result (IsUnread file.now (D.told disk.old) content.now) }
+    ensures same { D.told disk.new ≡ D.told disk.old }
+    ensures cause { SurveysBy (D.faults disk.old) (D.faults disk.new) (error_in result) }
+{
+    let Text {
+        grid,
+        trailer,
         root,
         sessions,
-        bits,
-        checks,
-    } = reader.into_parts();
-    let trailer = TrailerRooms {
-        layout,
-        bits,
-        checks,
-        piece,
-        block,
+    } = match read_text(disk, file, content, grid, rooms) {
+        Ok(text) => text,
+        Err(unread) => return Err(unread),
     };
+    let fields = content.fields();
     match pending(&sessions, fields.replies, fields.op) {
         None => Ok(Checkpoint {
             grid,
             trailer,
             root,
-            sessions: SessionTable::over(layout.clients, sessions),
+            sessions: SessionTable::over(file.layout.clients, sessions),
         }),
         Some(op) => Err(give_back(grid, trailer, pending_error(op))),
     }
@@ -179,15 +219,12 @@ pub(crate) fn read_checkpoint<D: Disk>(
     grid: GridRooms,
     trailer: TrailerRooms,
 ) -> Result<Checkpoint, Unread>
-    requires grid { grid.layout ≡ file.now.layout }
-    requires trailer { trailer.layout ≡ file.now.layout }
+    requires rooms { AreRoomsOf file.now grid trailer }
     requires file { AreFieldsOf file.now.layout file.now.cluster content.now }
-    ensures answer { TellsCheckpoint file.now (D.told disk.old) content.now (read_in result) }
-    ensures sessions { IfOk result (λ c. AreOfCheckpoint content.now c.sessions.sessions) }
-    ensures fits { IfOk result (FitsFile file.now) }
-    ensures given_back { IfErr result (λ u. (u.grid.layout ≡ file.now.layout) × (u.trailer.layout ≡ file.now.layout)) }
+    ensures read { IfOk result (IsCheckpoint file.now (D.told disk.old) content.now) }
+    ensures unread { IfErr result (IsUnread file.now (D.told disk.old) content.now) }
     ensures same { D.told disk.new ≡ D.told disk.old }
-    ensures cause { SurveysBy (D.faults disk.old) (D.faults disk.new) (read_in result) }
+    ensures cause { SurveysBy (D.faults disk.old) (D.faults disk.new) (error_in result) }
 {
     if content.fields().trailer_address == 0 {
         return Ok(no_trailer(file, grid, trailer));

@@ -1,10 +1,7 @@
 // What an open reads of a file: after the barrier the four copies of the superblock, the trailer, both rings and the reply slots.
 ghost use Rattle.std.specs.Prelude.{◌≡◌, IfOk, IfErr, Ok, OnOk};
 ghost use Rattle.df_recovery.specs.Found.{OpensBy, Syncs, TellsFound};
-ghost use Rattle.df_grid.specs.Table.{IsIdle};
-ghost use Rattle.df_recovery.specs.Checkpoints.{AreOfCheckpoint, TellsCheckpoint};
-ghost use Rattle.df_recovery.specs.Scanning.{AreScanned, FitsFile, IsFileOf, IsServed, IsUnserved, RefusesBase, SurveysBy, TellsRead, answer_of, base_in, base_scanned, found_in};
-ghost use Rattle.df_superblock.specs.Calls.{ShowsSlots, ShowsCopies};
+ghost use Rattle.df_recovery.specs.Scanning.{AreCopies, IsCheckpoint, IsFileOf, IsReadBehind, IsScan, IsServed, IsUnserved, RefusesBase, SurveysBy, TellsRead, answer_of, found_in};
 
 use crate::checkpoint::{Checkpoint, Unread, read_checkpoint};
 use crate::superblock::superblock_of;
@@ -28,9 +25,7 @@ pub struct Copies {
 
 // The superblock that the four places show, with what they show.
 fn read_copies<D: Disk>(disk: &mut D, room: &mut ProbeRoom) -> Result<Copies, OpenError>
-    ensures same_fields { IfOk result (λ copies. copies.found.content ≡ copies.found.chosen.content) }
-    ensures slots { IfOk result (λ copies. ShowsSlots (D.told disk.old) copies.slots) }
-    ensures shown { IfOk result (λ copies. ShowsCopies (D.told disk.old) copies.slots) }
+    ensures copies { IfOk result (AreCopies (D.told disk.old)) }
     ensures answer { TellsFound (D.told disk.old) (found_in result) }
     ensures same { D.told disk.new ≡ D.told disk.old }
     ensures cause { OpensBy (D.faults disk.old) (D.faults disk.new) result }
@@ -61,9 +56,7 @@ fn test_served(layout: &Layout, content: &Super) -> Result<(), OpenError>
 
 // Makes durable whatever an earlier call left loose, and then finds the superblock.
 fn find_copies<D: Disk>(disk: &mut D, room: &mut ProbeRoom) -> Result<Copies, OpenError>
-    ensures same_fields { IfOk result (λ copies. copies.found.content ≡ copies.found.chosen.content) }
-    ensures slots { IfOk result (λ copies. ShowsSlots (D.told disk.old) copies.slots) }
-    ensures shown { IfOk result (λ copies. ShowsCopies (D.told disk.old) copies.slots) }
+    ensures copies { IfOk result (AreCopies (D.told disk.old)) }
     ensures answer { TellsFound (D.told disk.old) (found_in result) }
     ensures barrier { Syncs (D.told disk.old) (D.told disk.new) result }
     ensures cause { OpensBy (D.faults disk.old) (D.faults disk.new) result }
@@ -80,10 +73,8 @@ fn find_served<D: Disk>(
     layout: &Layout,
     room: &mut ProbeRoom,
 ) -> Result<Copies, OpenError>
-    ensures same_fields { IfOk result (λ copies. copies.found.content ≡ copies.found.chosen.content) }
+    ensures copies { IfOk result (AreCopies (D.told disk.old)) }
     ensures served { IfOk result (λ copies. IsServed layout.now copies.found.content) }
-    ensures slots { IfOk result (λ copies. ShowsSlots (D.told disk.old) copies.slots) }
-    ensures shown { IfOk result (λ copies. ShowsCopies (D.told disk.old) copies.slots) }
     ensures answer { TellsRead (λ copies. copies.found) layout.now (D.told disk.old) result }
     ensures barrier { Syncs (D.told disk.old) (D.told disk.new) result }
     ensures cause { SurveysBy (D.faults disk.old) (D.faults disk.new) result }
@@ -108,14 +99,9 @@ fn scan_log<D: Disk>(
 ) -> Result<Scanned, (Rooms, OpenError)>
     requires file { IsFileOf log.layout copies.now.found.content file.now }
     requires scrub { scrub.layout ≡ log.layout }
-    requires base { FitsFile file.now base }
-    ensures scanned { IfOk result (λ s. AreScanned log.layout copies.now.found.content.cluster (D.told disk.old) s.log.slots s.log.replies) }
-    ensures start { IfOk result (λ s. s.log.slots.start ≡ record { cluster = copies.now.found.content.cluster; op = copies.now.found.content.op }) }
-    ensures file { IfOk result (λ s. s.file ≡ file.now) }
+    requires base { IsCheckpoint file.now (D.told disk.old) copies.now.found.content base }
+    ensures read { IfOk result (IsReadBehind log.layout (D.told disk.old)) }
     ensures copies { IfOk result (λ s. s.copies ≡ copies.now) }
-    ensures base { IfOk result (λ s. base_scanned s ≡ base_in base) }
-    ensures places { IfOk result (λ s. s.sessions.max ≡ file.now.layout.clients) }
-    ensures idle { IfOk result (λ s. IsIdle s.grid.blocks) }
     ensures given_back { IfErr result (λ refused. refused.0.layout ≡ log.layout) }
     ensures fault { IfErr result (λ refused. refused.1 ≡ OpenError.DiskFault) }
     ensures same { D.told disk.new ≡ D.told disk.old }
@@ -164,14 +150,8 @@ fn scan_served<D: Disk>(
     rooms: Rooms,
 ) -> Result<Scanned, (Rooms, OpenError)>
     requires served { IsServed rooms.layout copies.now.found.content }
-    ensures scanned { IfOk result (λ s. AreScanned rooms.layout copies.now.found.content.cluster (D.told disk.old) s.log.slots s.log.replies) }
-    ensures start { IfOk result (λ s. s.log.slots.start ≡ record { cluster = copies.now.found.content.cluster; op = copies.now.found.content.op }) }
-    ensures file { IfOk result (λ s. IsFileOf rooms.layout copies.now.found.content s.file) }
+    ensures read { IfOk result (IsReadBehind rooms.layout (D.told disk.old)) }
     ensures copies { IfOk result (λ s. s.copies ≡ copies.now) }
-    ensures checkpoint { IfOk result (λ s. TellsCheckpoint s.file (D.told disk.old) copies.now.found.content (Ok (base_scanned s))) }
-    ensures sessions { IfOk result (λ s. AreOfCheckpoint copies.now.found.content s.sessions.sessions) }
-    ensures places { IfOk result (λ s. s.sessions.max ≡ rooms.layout.clients) }
-    ensures idle { IfOk result (λ s. IsIdle s.grid.blocks) }
     ensures given_back { IfErr result (λ refused. refused.0.layout ≡ rooms.layout) }
     ensures refused { IfErr result (λ refused. RefusesBase rooms.layout copies.now.found.content (D.told disk.old) refused.1) }
     ensures same { D.told disk.new ≡ D.told disk.old }
@@ -208,18 +188,7 @@ fn scan_served<D: Disk>(
 /// the trailer twice, and each sector of the header ring, each slot of the ring of prepares and each reply slot once. The rooms
 /// come back with a refusal: one of the superblock, `LayoutDiffers`, or one of the trailer.
 pub fn scan_file<D: Disk>(disk: &mut D, rooms: Rooms) -> Result<Scanned, (Rooms, OpenError)>
-    ensures same_fields { IfOk result (λ s. s.copies.found.content ≡ s.copies.found.chosen.content) }
-    ensures file { IfOk result (λ s. IsFileOf rooms.layout s.copies.found.content s.file) }
-    ensures served { IfOk result (λ s. IsServed rooms.layout s.copies.found.content) }
-    ensures slots { IfOk result (λ s. ShowsSlots (D.told disk.old) s.copies.slots) }
-    ensures shown { IfOk result (λ s. ShowsCopies (D.told disk.old) s.copies.slots) }
-    ensures scanned { IfOk result (λ s. AreScanned rooms.layout s.copies.found.content.cluster (D.told disk.old) s.log.slots s.log.replies) }
-    ensures start { IfOk result (λ s. s.log.slots.start ≡ record { cluster = s.copies.found.content.cluster; op = s.copies.found.content.op }) }
-    ensures checkpoint { IfOk result (λ s. TellsCheckpoint s.file (D.told disk.old) s.copies.found.content (Ok (base_scanned s))) }
-    ensures sessions { IfOk result (λ s. AreOfCheckpoint s.copies.found.content s.sessions.sessions) }
-    ensures places { IfOk result (λ s. s.sessions.max ≡ rooms.layout.clients) }
-    ensures idle { IfOk result (λ s. IsIdle s.grid.blocks) }
-    ensures kept { IfOk result (λ s. s.file.layout ≡ rooms.layout) }
+    ensures scanned { IfOk result (IsScan rooms.layout (D.told disk.old)) }
     ensures given_back { IfErr result (λ refused. refused.0.layout ≡ rooms.layout) }
     ensures answer { TellsRead (λ s. s.copies.found) rooms.layout (D.told disk.old) (answer_of result) }
     ensures barrier { Syncs (D.told disk.old) (D.told disk.new) (answer_of result) }

@@ -15,16 +15,16 @@ use Rattle.df_journal.proofs.Laws.{class_shown, scanned_shown}
 use Rattle.df_quorum.specs.declared.slot.Slot.{Slot}
 use Rattle.df_superblock.specs.Calls.{ShowsSlots}
 use Rattle.df_units.specs.Bytes.{unit_at}
-use Rattle.df_recovery.specs.Checkpoints.{TellsCheckpoint}
 use Rattle.df_recovery.specs.Found.{IsChoiceOf}
 use Rattle.df_recovery.specs.Plan.{class_of_slot, copy_mend, copy_mends, needs_header, shown_class, slot_mend, slot_mends}
 use Rattle.df_replica.specs.Replica.{Survey}
-use Rattle.df_recovery.specs.Scanning.{AreScanned, IsFileOf, IsServed, TellsRead, base_scanned}
+use Rattle.df_recovery.specs.Scanning.{IsScan, TellsRead}
 use Rattle.df_recovery.specs.Surveys.{Surveys}
 use Rattle.df_recovery.specs.declared.scanned.Scanned.{Scanned}
-use Rattle.df_replica.specs.Mending.{IsSettledFrom}
-use Rattle.df_replica.specs.Surveying.{IsMendable, IsReadOf, ListsMends, TellsMends, TellsSurvey, copy_mend_at, mends_of}
+use Rattle.df_replica.specs.Mending.{ArePlannedFrom, IsSettledFrom}
+use Rattle.df_replica.specs.Surveying.{IsMendable, IsReadOf, TellsMends, TellsSurvey, copy_mend_at, mends_of}
 use Rattle.df_model.specs.declared.errors.OpenError.{OpenError}
+use Rattle.df_state.specs.declared.file.DataFile.{DataFile}
 use Rattle.df_state.specs.State.{State}
 use Rattle.df_recovery.proofs.Laws.{scanned_of_file}
 
@@ -62,29 +62,26 @@ module _ (t : Told) (x : Scanned) (is : IsReadOf t x) (shows : ShowsSlots (Some 
       ∙ listed (slot_mend (shown_class scan)) (slot_mend (λ s. class_at layout f.cluster t.shown (place_in WalHeaders s))) (needs_header layout f.op (unit_at layout f.cluster t.shown)) 0 layout.slots
       (λ k from to. ap (λ (class : Class). record { place = place_in WalHeaders k; class = class }) ((class_shown layout t scan k is.scanned.slots (omega (arith, to))).0 ∙ ap (λ (n : ℕ). class_at layout n t.shown (place_in WalHeaders k)) cluster))
 
-  pub mendable : (s : Survey) → IsSettledFrom x s → ListsMends layout scan x.copies.slots s → IsMendable layout t.shown s
-  mendable s settled lists =
+  pub mendable : (s : Survey) → IsSettledFrom x s → IsMendable layout t.shown s
+  mendable s settled =
+      let planned = subst (λ (file : DataFile). ArePlannedFrom file.layout file.cluster scan x.copies.slots s.chosen.members s.state.headers s.mends) settled.file_is settled.planned in
       let image = unit_at layout f.cluster t.shown in
       let tells = subst (λ (n : ℕ). Tells layout (unit_at layout n t.shown) scan) cluster (scanned_shown layout t scan is.scanned.slots) in
       let both = ap (λ (xs : List Mend). xs ++ slot_mends (needs_header layout scan.start.op image) (shown_class scan) layout.slots) (copies_listed s.chosen.members) ∙ ap (λ (xs : List Mend). map (copy_mend_at t.shown) (filter (λ n. not (get_or s.chosen.members n false)) (range_with_len 0 4)) ++ xs) slots_listed in
       record {
         choice = subst (IsChoiceOf t.shown) (sym settled.chosen_is) is.choice;
-        mends = lists image tells ∙ both ∙ ap (λ (g : SuperFields). mends_of layout t.shown g s.chosen.members) (sym settled.fields_are);
+        mends = planned.list image tells ∙ both ∙ ap (λ (g : SuperFields). mends_of layout t.shown g s.chosen.members) (sym settled.fields_are);
       }
 
 -- ---- what a disk tells
 
-module _ (x : Scanned) (layout : Layout) (file : IsFileOf layout x.copies.found.content x.file) (start : x.log.slots.start ≡ record { cluster = x.copies.found.content.cluster; op = x.copies.found.content.op }) (served : IsServed layout x.copies.found.content) where
-  pub told_mends : {R : Type 0} → (r : Result Survey R) (told : Option Told) → TellsRead (λ (y : Scanned). y.copies.found) layout told (Ok x) → TellsCheckpoint x.file told x.copies.found.content (Ok (base_scanned x))
-      → AreScanned layout x.copies.found.content.cluster told x.log.slots x.log.replies → ShowsSlots told x.copies.slots
-      → ((t : Told) → IsReadOf t x → ShowsSlots (Some t) x.copies.slots → IfOk r (IsMendable x.file.layout t.shown)) → IfOk r (TellsMends layout told)
-  told_mends (Err e) told reads checkpoint scanned shows law = tt
-  told_mends (Ok s) None reads checkpoint scanned shows law = tt
-  told_mends (Ok s) (Some t) reads checkpoint scanned shows law =
-      λ image. subst (λ (l : Layout). IsMendable l t.shown s) file.layout_is (law t (scanned_of_file t layout x image reads file served start scanned checkpoint) shows)
+module _ (x : Scanned) (layout : Layout) where
+  pub told_mends : {R : Type 0} → (r : Result Survey R) (told : Option Told) → TellsRead (λ (y : Scanned). y.copies.found) layout told (Ok x) → IsScan layout told x → IfOk r (IsSettledFrom x) → IfOk r (TellsMends layout told)
+  told_mends (Err e) told reads scan settled = tt
+  told_mends (Ok s) None reads scan settled = tt
+  told_mends (Ok s) (Some t) reads scan settled =
+      λ image. subst (λ (l : Layout). IsMendable l t.shown s) scan.behind.file.layout_is (mendable t x (scanned_of_file t layout x image reads scan) scan.copies.slots s settled)
 
-  pub told_answer : (r : Result State OpenError) (told : Option Told) → TellsRead (λ (y : Scanned). y.copies.found) layout told (Ok x) → TellsCheckpoint x.file told x.copies.found.content (Ok (base_scanned x))
-      → AreScanned layout x.copies.found.content.cluster told x.log.slots x.log.replies → ((t : Told) → IsReadOf t x → Surveys x.file.layout t.shown r) → TellsSurvey layout told r
-  told_answer r None reads checkpoint scanned law = tt
-  told_answer r (Some t) reads checkpoint scanned law =
-      λ image. subst (λ (l : Layout). Surveys l t.shown r) file.layout_is (law t (scanned_of_file t layout x image reads file served start scanned checkpoint))
+  pub told_answer : (r : Result State OpenError) (told : Option Told) → TellsRead (λ (y : Scanned). y.copies.found) layout told (Ok x) → IsScan layout told x → ((t : Told) → IsReadOf t x → Surveys x.file.layout t.shown r) → TellsSurvey layout told r
+  told_answer r None reads scan law = tt
+  told_answer r (Some t) reads scan law = λ image. subst (λ (l : Layout). Surveys l t.shown r) scan.behind.file.layout_is (law t (scanned_of_file t layout x image reads scan))

@@ -23,14 +23,19 @@ use Rattle.df_recovery.specs.declared.scanned.Scanned.{Scanned}
 use Rattle.df_recovery.proofs.Laws.{file_is_read, kept_is_answer, refused_is_answer}
 use Rattle.df_state.specs.declared.file.DataFile.{DataFile}
 use Rattle.df_state.specs.State.{State, shape}
-use Rattle.df_replica.specs.Surveying.{IsReadOf, IsSettled, PlansHeaders}
+use Rattle.df_replica.specs.Mending.{IsSettledFrom}
+use Rattle.df_replica.specs.Replica.{Survey}
+use Rattle.df_replica.specs.Surveying.{IsReadOf, IsSettled}
 
 module _ (t : Told) (x : Scanned) (is : IsReadOf t x) where
   pub refused : (e : OpenError) → IsRefused (read_of x) e → Surveys x.file.layout t.shown (Err e)
   refused e blames = refused_is_answer t x.file (read_of x) (base_scanned x) e is blames
 
-  module _ (traces : Traces) (after : List Session) (table : Table) (s : State) (answers : Answers (read_of x) (Ok traces) after) (unstored : AreUnstored after)
-      (stores : StoresTo traces.replies x.log.replies (length after) after table.sessions) (keeps : IsSettled x traces table s) (plans : PlansHeaders x.file.layout x.log.slots s.headers) where
+  module _ (traces : Traces) (after : List Session) (table : Table) (y : Survey) (answers : Answers (read_of x) (Ok traces) after) (unstored : AreUnstored after)
+      (stores : StoresTo traces.replies x.log.replies (length after) after table.sessions) (keeps : IsSettled x traces table y.state) (plan : IsSettledFrom x y) where
+    abbrev s : State
+    s = y.state
+
     base_is : base_with s x.sessions.sessions ≡ base_scanned x
     base_is = λ i. record { root = keeps.root_is i; sessions = x.sessions.sessions; blocks = keeps.blocks_are i }
 
@@ -50,7 +55,7 @@ module _ (t : Told) (x : Scanned) (is : IsReadOf t x) where
       head_checksum = keeps.head_checksum;
       replies = keeps.replies;
       unstored = unstored;
-      stored = subst (λ (y : Table). StoresTo traces.replies x.log.replies (length after) after y.sessions) (sym keeps.table_is) stores;
+      stored = subst (λ (t : Table). StoresTo traces.replies x.log.replies (length after) after t.sessions) (sym keeps.table_is) stores;
       count = keeps.count ∙ slots_are;
       waiting = keeps.waiting ∙ ap (λ (n : ℕ). waiting_in n x.log.slots s.headers s.replies s.head) slots_are;
       starts = keeps.starts;
@@ -61,16 +66,15 @@ module _ (t : Told) (x : Scanned) (is : IsReadOf t x) where
         let read = file_is_read t s.file (read_of x) (base_with s x.sessions.sessions) of in
         let base : Checkpoint = base_of x.copies.found.content of.checkpoint.chain of.checkpoint.parts in
         let content : v.checkpoint.content ≡ base.content = one_chosen_law image v.checkpoint.content base.content is_found.chosen read.readable.chosen in
-        let planned = subst (λ (file : DataFile). PlansHeaders file.layout x.log.slots s.headers) (sym keeps.file) plans in
         let tells = subst (λ (file : DataFile). Tells file.layout image x.log.slots) (sym keeps.file) read.tells in
-        let here = planned (shape s.file) image v (record {
+        let here = plan.planned.from (shape s.file) image v (record {
           version = refl;
           slots_are = refl;
           op = ap (λ (c : Content). c.op) content ∙ sym is.op;
           tells = tells;
           found = is_found;
         }) slot in
-        subst (λ (y : Units.Header). IsSlotHeader (shape s.file) image v slot y) (ap header_or_none at) here
+        subst (λ (u : Units.Header). IsSlotHeader (shape s.file) image v slot u) (ap header_or_none at) here
 
     pub opened : Surveys x.file.layout t.shown (Ok s)
     opened = subst (λ (file : DataFile). Surveys file.layout t.shown (Ok s)) keeps.file (kept_is_answer t (read_of x) traces after s of answers kept headers)

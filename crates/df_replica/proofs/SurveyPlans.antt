@@ -11,32 +11,42 @@ use Rattle.df_format.proofs.Laws.{some-eq}
 use Rattle.df_quorum.specs.declared.choice.Chosen.{Chosen}
 use Rattle.df_quorum.specs.Quorum.{AreMembers}
 use Rattle.df_units.specs.Bytes.{unit_at}
-use Rattle.df_journal.specs.Shows.{Tells}
+use Rattle.df_journal.specs.Shows.{IsTable as AreSlots, Tells}
 use Rattle.df_journal.specs.declared.table.Start.{Start}
 use Rattle.df_journal.proofs.Laws.{scanned_shown}
 use Rattle.df_recovery.specs.Found.{IsFound}
-use Rattle.df_recovery.specs.Scanning.{AreScanned, IsFileOf, TellsRead}
+use Rattle.df_recovery.specs.Scanning.{IsReadBehind, IsScan, TellsRead}
 use Rattle.df_recovery.specs.Surveys.{IsOpened}
 use Rattle.df_recovery.specs.declared.scanned.Scanned.{Scanned}
 use Rattle.df_state.specs.declared.file.DataFile.{DataFile}
 use Rattle.df_state.specs.State.{State}
 use Rattle.df_replica.specs.Mending.{IsPlanned, IsSettledFrom, live_state}
 use Rattle.df_replica.specs.Replica.{Survey}
-use Rattle.df_replica.specs.Surveying.{TellsSurvey}
+use Rattle.df_replica.specs.Surveying.{IsLawful, TellsSurvey}
 
 pub if_ok_more : {T E : Type 0} → (P Q : T → Type 0) (r : Result T E) → ((x : T) → P x → Q x) → IfOk r P → IfOk r Q
 if_ok_more P Q (Ok x) more is = more x is
 if_ok_more P Q (Err e) more is = tt
 
-module _ (x : Scanned) (s : Survey) (layout : Layout) (file : IsFileOf layout x.copies.found.content x.file) (start : x.log.slots.start ≡ record { cluster = x.copies.found.content.cluster; op = x.copies.found.content.op })
-    (settled : IsSettledFrom x s) where
-  shown_planned : (t : Told) → IsFound t.shown x.copies.found → AreScanned layout x.copies.found.content.cluster (Some t) x.log.slots x.log.replies
-      → IsPlanned s.state.file s.state.headers s.mends s.state.fields s.chosen.members (did Sync t)
-  shown_planned t is scanned =
+-- what was read makes sense by itself
+pub lawful : (layout : Layout) (told : Option Told) (x : Scanned) → IsReadBehind layout told x → IsLawful x
+lawful layout told x read =
+    let cluster : x.log.slots.start.cluster ≡ x.file.cluster = ap (λ (y : Start). y.cluster) read.start ∙ sym read.file.cluster_is in
+    record {
+      named = read.file.cluster_is;
+      start = read.start;
+      slots = subst (λ (l : Layout). AreSlots l x.file.cluster x.log.slots.slots) (sym read.file.layout_is) (subst (λ (n : ℕ). AreSlots layout n x.log.slots.slots) cluster read.tables.rings.is_table);
+      places = read.places ∙ ap (λ (l : Layout). l.clients) (sym read.file.layout_is);
+      idle = read.idle;
+    }
+
+module _ (x : Scanned) (s : Survey) (layout : Layout) (settled : IsSettledFrom x s) where
+  shown_planned : (t : Told) → IsFound t.shown x.copies.found → IsReadBehind layout (Some t) x → IsPlanned s.state.file s.state.headers s.mends s.state.fields s.chosen.members (did Sync t)
+  shown_planned t is read =
       let scan = x.log.slots in
-      let own : scan.start.cluster ≡ x.file.cluster = ap (λ (y : Start). y.cluster) start ∙ sym file.cluster_is in
-      let tells : Tells layout (unit_at layout scan.start.cluster t.shown) scan = scanned_shown layout t scan scanned.rings in
-      let of_file = subst (λ (c : ℕ). Tells x.file.layout (unit_at x.file.layout c t.shown) scan) own (subst (λ (l : Layout). Tells l (unit_at l scan.start.cluster t.shown) scan) (sym file.layout_is) tells) in
+      let own : scan.start.cluster ≡ x.file.cluster = ap (λ (y : Start). y.cluster) read.start ∙ sym read.file.cluster_is in
+      let tells : Tells layout (unit_at layout scan.start.cluster t.shown) scan = scanned_shown layout t scan read.tables.rings in
+      let of_file = subst (λ (c : ℕ). Tells x.file.layout (unit_at x.file.layout c t.shown) scan) own (subst (λ (l : Layout). Tells l (unit_at l scan.start.cluster t.shown) scan) (sym read.file.layout_is) tells) in
       record {
         scan = scan;
         copies = x.copies.slots;
@@ -47,17 +57,16 @@ module _ (x : Scanned) (s : Survey) (layout : Layout) (file : IsFileOf layout x.
           usable = ap fault_of settled.fields_are ∙ is.super.usable;
         };
         members_are = subst (λ (c : Chosen). AreMembers (content_at t.shown) is.choice.content c.members) (sym settled.chosen_is) is.choice.members;
-        op = ap (λ (y : Start). y.op) start ∙ ap (λ (f : SuperFields). f.op) (sym settled.fields_are);
+        op = ap (λ (y : Start). y.op) read.start ∙ ap (λ (f : SuperFields). f.op) (sym settled.fields_are);
         scanned = subst (λ (f : DataFile). Tells f.layout (unit_at f.layout f.cluster t.shown) scan) (sym settled.file_is) of_file;
         planned = settled.planned;
       }
 
-  pub survey_planned : (old new : Option Told) (t : Told) → new ≡ Some t → new ≡ after Sync old → TellsRead (λ (y : Scanned). y.copies.found) layout old (Ok x) → AreScanned layout x.copies.found.content.cluster old x.log.slots x.log.replies
-      → IsPlanned s.state.file s.state.headers s.mends s.state.fields s.chosen.members t
-  survey_planned None new t told barrier is scanned = let no : Some t ≡ None = sym told ∙ barrier in absurd (cc)
-  survey_planned (Some u) new t told barrier is scanned =
+  pub survey_planned : (old new : Option Told) (t : Told) → new ≡ Some t → new ≡ after Sync old → TellsRead (λ (y : Scanned). y.copies.found) layout old (Ok x) → IsScan layout old x → IsPlanned s.state.file s.state.headers s.mends s.state.fields s.chosen.members t
+  survey_planned None new t told barrier is scan = let no : Some t ≡ None = sym told ∙ barrier in absurd (cc)
+  survey_planned (Some u) new t told barrier is scan =
       let same : did Sync u ≡ t = some-eq (sym barrier ∙ told) in
-      subst (λ (v : Told). IsPlanned s.state.file s.state.headers s.mends s.state.fields s.chosen.members v) same (shown_planned u is scanned)
+      subst (λ (v : Told). IsPlanned s.state.file s.state.headers s.mends s.state.fields s.chosen.members v) same (shown_planned u is scan.behind)
 
 -- the state of the answer, live or not
 pub live_answers : (layout : Layout) (told : Option Told) (s r : State) → r ≡ live_state s → TellsSurvey layout told (Ok s) → TellsSurvey layout told (Ok r)

@@ -1,5 +1,5 @@
 -- What a survey answers, and what it keeps in memory of what it read.
-use Rattle.std.specs.Prelude.{◌≡◌, ℕ, Bool, false, not, List, ◌++◌, length, map, get_or, Option, Some, None, Result, Ok, Err}
+use Rattle.std.specs.Prelude.{◌≡◌, ◌≤◌, ◌+◌, ◌^◌, ℕ, Bool, false, not, List, ◌++◌, length, map, get_or, Option, Some, None, Result, Ok, Err}
 use Rattle.std.specs.List.{filter, range_with_len}
 use Rattle.df_base.specs.Image.{Image, IsImage}
 use Rattle.df_disk.specs.Told.{Told}
@@ -9,32 +9,70 @@ use Rattle.df_layout.specs.declared.places.Zone.TheVariants.{Superblock, WalHead
 use Rattle.df_format.specs.Own.{place_in}
 use Rattle.df_format.specs.Shown.{class_at}
 use Rattle.df_format.specs.declared.superblock.SuperFields.{SuperFields}
-use Rattle.df_format.specs.declared.header.Header.{Header}
-use Rattle.df_journal.specs.Scan.{Scan}
-use Rattle.df_journal.specs.Shows.{Tells}
+use Rattle.df_format.specs.Spelling.{IsCheck}
+use Rattle.df_journal.specs.Shows.{IsTable as AreSlots}
+use Rattle.df_journal.specs.Tail.{AreNumbered}
+use Rattle.df_grid.specs.Table.{IsIdle}
 use Rattle.df_model.specs.declared.errors.OpenError.{OpenError}
-use Rattle.df_quorum.specs.declared.slot.Slot.{Slot}
+use Rattle.df_sessions.specs.Requests.{sessions_of}
+use Rattle.df_sessions.specs.declared.session.Session.{Session}
 use Rattle.df_sessions.specs.Table.{Table}
 use Rattle.df_superblock.specs.Calls.{slot_at}
-use Rattle.df_theory.specs.MendLaws.{IsTable as IsSlotTable}
-use Rattle.df_theory.specs.Shape.{Shape}
-use Rattle.df_theory.specs.Units.{Units}
-use Rattle.df_theory.specs.View.{View}
+use Rattle.df_theory.specs.Sessions.{Tracks}
 use Rattle.df_units.specs.Bytes.{unit_at}
 use Rattle.df_recovery.specs.Finding.{IsOfFile, IsStarting, read_of}
 use Rattle.df_recovery.specs.Found.{IsChoiceOf}
-use Rattle.df_recovery.specs.Plan.{IsScanOf, class_of_slot, headers_in, mend_list, needs_header, slot_mends}
+use Rattle.df_recovery.specs.Plan.{class_of_slot, needs_header, slot_mends}
 use Rattle.df_recovery.specs.Scanning.{base_scanned}
 use Rattle.df_recovery.specs.Surveys.{Surveys}
 use Rattle.df_recovery.specs.Waiting.{waiting_in}
 use Rattle.df_recovery.specs.declared.finding.Traces.{Traces}
 use Rattle.df_recovery.specs.declared.scanned.Scanned.{Scanned}
 use Rattle.df_replica.specs.Replica.{Survey}
-use Rattle.df_state.specs.State.{State}
+use Rattle.df_state.specs.State.{AreAsked, State}
 
 -- what was read is of the file that a disk shows
 abbrev pub IsReadOf : Told → Scanned → Type 0
 IsReadOf t scanned = IsOfFile t scanned.file (read_of scanned) (base_scanned scanned)
+
+-- a scan that makes sense by itself, whatever the disk tells
+pub record IsLawful (s : Scanned) : Type 0 where
+  -- the file has the superblock's cluster
+  pub named : s.file.cluster ≡ s.copies.found.content.cluster
+  -- the scan started from the superblock's op
+  pub start : s.log.slots.start ≡ record { cluster = s.copies.found.content.cluster; op = s.copies.found.content.op }
+  -- each slot has units that may stand there
+  pub slots : AreSlots s.file.layout s.file.cluster s.log.slots.slots
+  -- there are as many places for sessions as the layout has clients
+  pub places : s.sessions.max ≡ s.file.layout.clients
+  -- no checkpoint runs
+  pub idle : IsIdle s.grid.blocks
+
+-- the end of the tail behind a superblock is in its ranges
+pub record EndsBehind (layout : Layout) (f : SuperFields) (traces : Traces) : Type 0 where
+  -- its checksum is one
+  pub checksum : IsCheck traces.tail.checksum
+  -- of an empty tail it is the checkpoint's
+  pub empty : traces.tail.op ≡ f.op → traces.tail.checksum ≡ f.op_checksum
+  -- the tail begins behind the checkpoint
+  pub from : f.op ≤ traces.tail.op
+  -- it has no more prepares than the ring has slots
+  pub within : traces.tail.op ≤ f.op + layout.slots
+  -- its op is at most the greatest one
+  pub most : traces.tail.op ≤ 2 ^ 62
+  -- no reply is stored of a later op
+  pub order : traces.replies ≤ traces.tail.op
+  -- at most eight prepares wait for their replies
+  pub few : traces.tail.op ≤ traces.replies + 8
+
+-- the sessions after the tail make sense by themselves
+pub record AreAfter (traces : Traces) (sessions : List Session) : Type 0 where
+  -- each session's request is within its limit
+  pub numbered : AreNumbered sessions
+  -- it is a client's first or a later one
+  pub asked : AreAsked (sessions_of sessions)
+  -- each op that waits has its session, and no two sessions have one op
+  pub tracks : Tracks traces.replies traces.tail.op (sessions_of sessions)
 
 -- the state keeps what was read and found, with these sessions
 pub record IsSettled (scanned : Scanned) (traces : Traces) (table : Table) (s : State) : Type 0 where
@@ -50,10 +88,6 @@ pub record IsSettled (scanned : Scanned) (traces : Traces) (table : Table) (s : 
   pub waiting : s.waiting ≡ waiting_in scanned.file.layout.slots scanned.log.slots s.headers s.replies s.head
   pub starts : IsStarting s
 
--- the header table says what each header is to be, whatever view is found in an image that the scan is of
-abbrev pub PlansHeaders : Layout → Scan → List Header → Type 0
-PlansHeaders layout scan headers = (sh : Shape) (image : Units) (v : View) → IsScanOf layout sh image v scan → IsSlotTable sh image v (headers_in headers)
-
 -- a copy with the class of what its place shows: a sound copy of its own place is a stale one
 abbrev pub copy_mend_at : Image → ℕ → Mend
 copy_mend_at image number = record { place = place_in Superblock number; class = class_of_slot (slot_at image number) }
@@ -63,10 +97,6 @@ abbrev pub mends_of : Layout → Image → SuperFields → List Bool → List Me
 mends_of layout image f members =
     map (copy_mend_at image) (filter (λ n. not (get_or members n false)) (range_with_len 0 4))
     ++ slot_mends (needs_header layout f.op (unit_at layout f.cluster image)) (λ s. class_at layout f.cluster image (place_in WalHeaders s)) layout.slots
-
--- the list is what a survey planned from what it read, whatever units the tables show
-abbrev pub ListsMends : Layout → Scan → List Slot → Survey → Type 0
-ListsMends layout scan copies s = (image : Units) → Tells layout image scan → s.mends ≡ mend_list layout scan image copies s.chosen.members
 
 -- the choice is the image's, and the list is what is to be mended of it
 pub record IsMendable (layout : Layout) (image : Image) (s : Survey) : Type 0 where

@@ -1,26 +1,16 @@
 // The survey of a file: what it shows is read, its state is found, and what is to be mended is listed. Nothing is written.
-ghost use Rattle.std.specs.Prelude.{◌≡◌, ◌≤◌, ◌+◌, ◌^◌, length, Some, IfOk, IfErr};
+ghost use Rattle.std.specs.Prelude.{◌≡◌, ◌≤◌, ◌+◌, length, Some, IfOk, IfErr};
 ghost use Rattle.df_disk.specs.Told.{Told};
-ghost use Rattle.df_format.specs.Spelling.{IsCheck};
-ghost use Rattle.df_headers.specs.Ring.{IsTable};
-ghost use Rattle.df_journal.specs.Tail.{AreNumbered};
-ghost use Rattle.df_journal.specs.Shows.{IsTable as AreSlots, Tells};
-ghost use Rattle.df_sessions.specs.Requests.{sessions_of};
-ghost use Rattle.df_superblock.specs.Calls.{ShowsSlots};
+ghost use Rattle.df_journal.specs.Shows.{IsTable as AreSlots};
 ghost use Rattle.df_damage.specs.Answers.{TellsHurt};
-ghost use Rattle.df_theory.specs.Sessions.{Tracks};
-ghost use Rattle.df_theory.specs.Units.{Units};
-ghost use Rattle.df_grid.specs.Table.{IsIdle};
 ghost use Rattle.df_recovery.specs.Checkpoints.{AreOfCheckpoint};
 ghost use Rattle.df_recovery.specs.Finding.{IsDamage};
 ghost use Rattle.df_recovery.specs.Found.{Syncs};
-ghost use Rattle.df_recovery.specs.Plan.{mend_list};
 ghost use Rattle.df_recovery.specs.Scanning.{SurveysBy};
 ghost use Rattle.df_recovery.specs.Surveys.{Surveys};
 ghost use Rattle.df_recovery.specs.Waiting.{waiting_in};
-ghost use Rattle.df_state.specs.State.{AreAsked};
 ghost use Rattle.df_replica.specs.Mending.{ArePlannedFrom, IsPlanned, IsSettledFrom};
-ghost use Rattle.df_replica.specs.Surveying.{IsMendable, IsReadOf, IsSettled, ListsMends, PlansHeaders, TellsMends, TellsSurvey, state_of};
+ghost use Rattle.df_replica.specs.Surveying.{AreAfter, EndsBehind, IsLawful, IsReadOf, IsSettled, TellsMends, TellsSurvey, state_of};
 
 use crate::replica::rooms_of;
 use crate::{DataFile, OpenError, Rooms, Surveyed};
@@ -38,9 +28,6 @@ fn plan_rooms(file: &DataFile, copies: &Copies, rooms: LogRooms) -> LogRooms
     requires cluster { rooms.slots.start.cluster ≡ file.now.cluster }
     requires slots { AreSlots file.now.layout file.now.cluster rooms.slots.slots }
     ensures planned { ArePlannedFrom file.now.layout file.now.cluster rooms.slots copies.now.slots copies.now.found.chosen.members result.headers result.mends.items }
-    ensures table { IsTable file.now.layout file.now.cluster result.headers }
-    ensures plans { PlansHeaders file.now.layout rooms.slots result.headers }
-    ensures lists { (image : Units) → Tells file.now.layout image rooms.slots → result.mends.items ≡ mend_list file.now.layout rooms.slots image copies.now.slots copies.now.found.chosen.members }
     ensures layout { result.layout ≡ file.now.layout }
     ensures slots { result.slots ≡ rooms.slots }
 {
@@ -111,26 +98,11 @@ fn root_fits(root: &ArrayVec<u8, 1024>)
 
 // The survey of a file whose state was found: of what was read, with the sessions after the tail.
 fn surveyed(traces: &Traces, scanned: Scanned) -> Surveyed
-    requires named { scanned.file.cluster ≡ scanned.copies.found.content.cluster }
-    requires cluster { scanned.log.slots.start.cluster ≡ scanned.file.cluster }
-    requires op { scanned.log.slots.start.op ≡ scanned.copies.found.content.op }
-    requires slots { AreSlots scanned.file.layout scanned.file.cluster scanned.log.slots.slots }
-    requires idle { IsIdle scanned.grid.blocks }
-    requires checksum { IsCheck traces.now.tail.checksum }
-    requires start { traces.now.tail.op ≡ scanned.copies.found.content.op → traces.now.tail.checksum ≡ scanned.copies.found.content.op_checksum }
-    requires from { scanned.copies.found.content.op ≤ traces.now.tail.op }
-    requires within { traces.now.tail.op ≤ scanned.copies.found.content.op + scanned.file.layout.slots }
-    requires most { traces.now.tail.op ≤ 2 ^ 62 }
-    requires order { traces.now.replies ≤ traces.now.tail.op }
-    requires few { traces.now.tail.op ≤ traces.now.replies + 8 }
-    requires places { scanned.sessions.max ≡ scanned.file.layout.clients }
-    requires numbered { AreNumbered scanned.sessions.sessions }
-    requires asked { AreAsked (sessions_of scanned.sessions.sessions) }
-    requires tracks { Tracks traces.now.replies traces.now.tail.op (sessions_of scanned.sessions.sessions) }
+    requires scanned { IsLawful scanned }
+    requires tail { EndsBehind scanned.file.layout scanned.copies.found.content traces.now }
+    requires sessions { AreAfter traces.now scanned.sessions.sessions }
     ensures planned { IsSettledFrom scanned result }
     ensures settled { IsSettled scanned traces.now scanned.sessions result.state }
-    ensures plans { PlansHeaders scanned.file.layout scanned.log.slots result.state.headers }
-    ensures lists { ListsMends scanned.file.layout scanned.log.slots scanned.copies.slots result }
 {
     let Scanned {
         file,
@@ -169,19 +141,12 @@ fn surveyed(traces: &Traces, scanned: Scanned) -> Surveyed
 
 // The survey of a file that was read: its state is found, and the mending planned.
 fn settle(scanned: Scanned) -> Result<Surveyed, (Rooms, OpenError)>
-    requires named { scanned.file.cluster ≡ scanned.copies.found.content.cluster }
-    requires cluster { scanned.log.slots.start.cluster ≡ scanned.file.cluster }
-    requires op { scanned.log.slots.start.op ≡ scanned.copies.found.content.op }
-    requires slots { AreSlots scanned.file.layout scanned.file.cluster scanned.log.slots.slots }
-    requires idle { IsIdle scanned.grid.blocks }
+    requires scanned { IsLawful scanned }
     requires sessions { AreOfCheckpoint scanned.copies.found.content scanned.sessions.sessions }
-    requires places { scanned.sessions.max ≡ scanned.file.layout.clients }
-    ensures kept { IfOk result (λ survey. survey.state.file.layout ≡ scanned.file.layout) }
-    ensures given_back { IfErr result (λ refused. refused.0.layout ≡ scanned.file.layout) }
     ensures planned { IfOk result (IsSettledFrom scanned) }
-    ensures place { IfErr result (λ refused. IsDamage refused.1) }
     ensures answer { (t : Told) → IsReadOf t scanned → Surveys scanned.file.layout t.shown (state_of result) }
-    ensures mends { (t : Told) → IsReadOf t scanned → ShowsSlots (Some t) scanned.copies.slots → IfOk result (IsMendable scanned.file.layout t.shown) }
+    ensures given_back { IfErr result (λ refused. refused.0.layout ≡ scanned.file.layout) }
+    ensures place { IfErr result (λ refused. IsDamage refused.1) }
 {
     let Scanned {
         file,

@@ -1,14 +1,11 @@
 -- The file was read after the barrier, which changes nothing of what is shown.
-use Rattle.df_recovery.proofs.Scans.{base_synced, scan_answers, scanned_synced}
+use Rattle.df_recovery.proofs.Scans.{scan_answers, scan_read}
 use Rattle.df_recovery.proofs.scanning.scan_file.Goals as goal
 
 pub returns-in-Ok-clause-scanned : goal.returns-in-Ok-clause-scanned
 returns-in-Ok-clause-scanned g c =
-    scanned_synced c.args.rooms.layout c.in-Ok.copies (g.D.Disk.told c.args.disk.now) (g.D.Disk.told c.find_served-found.new.disk) c.scan_served.result c.in-Ok.ensures.barrier c.scan_served.ensures.copies c.scan_served.ensures.scanned
-
-pub returns-in-Ok-clause-checkpoint : goal.returns-in-Ok-clause-checkpoint
-returns-in-Ok-clause-checkpoint g c =
-    base_synced c.in-Ok.copies (g.D.Disk.told c.args.disk.now) (g.D.Disk.told c.find_served-found.new.disk) c.scan_served.result c.in-Ok.ensures.barrier c.scan_served.ensures.copies c.scan_served.ensures.checkpoint
+    scan_read c.args.rooms.layout c.in-Ok.copies (g.D.Disk.told c.args.disk.now) (g.D.Disk.told c.find_served-found.new.disk) c.scan_served.result c.in-Ok.ensures.barrier c.in-Ok.ensures.copies c.in-Ok.ensures.served
+    c.scan_served.ensures.copies c.scan_served.ensures.read
 
 pub returns-in-Ok-clause-answer : goal.returns-in-Ok-clause-answer
 returns-in-Ok-clause-answer g c =

@@ -2,13 +2,9 @@
 use Rattle.std.proofs.Common.{subst}
 use Rattle.df_layout.specs.declared.layout.Layout.{Layout}
 use Rattle.df_replica.specs.Mending.{ArePlannedFrom}
-use Rattle.df_replica.specs.Surveying.{PlansHeaders}
 use Rattle.df_replica.proofs.surveying.plan_rooms.Goals as goal
 
 pub returns-clause-planned : goal.returns-clause-planned
 returns-clause-planned c =
     subst (λ (l : Layout). ArePlannedFrom l c.args.file.now.cluster c.args.rooms.slots c.args.copies.now.slots c.args.copies.now.found.chosen.members c.plan.new.headers c.plan.new.mends.items) c.requires.layout
     (record { is_table = c.plan.ensures.table; from = c.plan.ensures.tells; others = c.plan.ensures.whole; list = c.plan.ensures.lists })
-
-pub returns-clause-plans : goal.returns-clause-plans
-returns-clause-plans c = subst (λ (l : Layout). PlansHeaders l c.args.rooms.slots c.plan.new.headers) c.requires.layout c.plan.ensures.tells

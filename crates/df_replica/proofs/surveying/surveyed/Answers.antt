@@ -7,26 +7,26 @@ use Rattle.df_replica.proofs.surveying.surveyed.Goals as goal
 pub invariant_of-result : goal.invariant_of-result
 invariant_of-result c =
     let usable : IsUsable c.args.scanned.copies.found.content = c.fields.ensures.usable in
-    let cluster = subst (λ (n : ℕ). n < 2 ^ 128) (sym c.requires.named) usable.fits.cluster in
+    let cluster = subst (λ (n : ℕ). n < 2 ^ 128) (sym c.requires.scanned.named) usable.fits.cluster in
     let count : length c.waiting_in-waiting.result.items ≡ c.args.traces.now.tail.op - c.args.traces.now.replies =
     ap length c.waiting_in-waiting.ensures ∙ waiting_count c.args.scanned.file.layout.slots c.plan_rooms-rooms.result.slots c.plan_rooms-rooms.result.headers c.args.traces.now.replies c.args.traces.now.tail.op in (
       record {
         cluster = cluster;
-        parent = c.requires.checksum;
+        parent = c.requires.tail.checksum;
         sequence = usable.rules.sequence;
         root = c.root_fits.ensures;
-        order = c.requires.from;
-        room = c.requires.within;
-        head_to = c.requires.most;
-        waiting = omega (arith, count, c.requires.order);
-        few = omega (arith, count, c.requires.few);
-        places = c.requires.places;
-        first = λ zero_head. c.requires.start (omega (arith, c.requires.from, zero_head)) ∙ usable.rules.op_checksum (omega (arith, c.requires.from, zero_head));
-        requests = c.requires.numbered;
-        asked = c.requires.asked;
-        tracks = c.requires.tracks;
+        order = c.requires.tail.from;
+        room = c.requires.tail.within;
+        head_to = c.requires.tail.most;
+        waiting = omega (arith, count, c.requires.tail.order);
+        few = omega (arith, count, c.requires.tail.few);
+        places = c.requires.scanned.places;
+        first = λ zero_head. c.requires.tail.empty (omega (arith, c.requires.tail.from, zero_head)) ∙ usable.rules.op_checksum (omega (arith, c.requires.tail.from, zero_head));
+        requests = c.requires.sessions.numbered;
+        asked = c.requires.sessions.asked;
+        tracks = c.requires.sessions.tracks;
         ring = c.plan_rooms-rooms.ensures.planned.is_table;
-        course = c.requires.idle;
+        course = c.requires.scanned.idle;
       },
       c.plan_rooms-rooms.ensures.layout,
       c.args.scanned.grid_fits,
