@@ -1,15 +1,23 @@
 -- An append of a replica: what it makes, what it asks of the disk, and the state that it leads to. No state of the machine is in sight.
-use Rattle.std.specs.Prelude.{◌≡◌, ◌⊎◌, ◌<◌, ◌≤◌, ◌+◌, ◌/◌, ◌%◌, ◌^◌, ℕ, false, List, [], ◌∷◌, ◌++◌, length, Option, Some, None, Result, Ok, Err}
+use Rattle.std.specs.Prelude.{◌≡◌, ◌⊎◌, ◌<◌, ◌≤◌, ◌+◌, ◌/◌, ◌%◌, ◌^◌, ℕ, false, List, [], ◌∷◌, ◌++◌, length, Option, Some, None, IsSome, Result, Ok, Err, IfOk}
 use Rattle.df_base.specs.Causes.{Rose}
 use Rattle.df_base.specs.Log.{Event}
+use Rattle.df_base.specs.declared.Failed.{Failed}
 use Rattle.df_layout.specs.declared.layout.Layout.{Layout}
+use Rattle.df_layout.specs.declared.places.Place.{Place}
+use Rattle.df_layout.specs.declared.places.Zone.{Zone}
 use Rattle.df_disk.specs.Told.{Told}
 use Rattle.df_disk.specs.Adds.{AddsPart, after_all}
 use Rattle.df_format.specs.declared.header.Header.{Header}
+use Rattle.df_format.specs.declared.kind.Kind.{Kind}
 use Rattle.df_format.specs.declared.kind.Kind.TheVariants.{Prepare as AsPrepare}
 use Rattle.df_format.specs.Making.{for_body}
 use Rattle.df_format.specs.Message.{Message, sectors_of}
+use Rattle.df_format.specs.Own.{own_place}
+use Rattle.df_format.specs.Rules.{ObeysRules}
 use Rattle.df_format.specs.Spelling.{no_checksum, sealed}
+use Rattle.df_format.specs.Valid.{IsUnit}
+use Rattle.df_format.specs.Whole.{greatest_size}
 use Rattle.df_sessions.specs.Requests.{sessions_of}
 use Rattle.df_sessions.specs.Table.{IsKnown, with_request}
 use Rattle.df_theory.specs.Sessions.{MayAsk}
@@ -21,6 +29,32 @@ use Rattle.df_model.specs.declared.answers.Receipt.{Receipt}
 use Rattle.df_model.specs.declared.errors.AppendError.{AppendError}
 use Rattle.df_model.specs.declared.errors.AppendError.TheVariants as append
 use Rattle.df_state.specs.State.{State, memory}
+
+-- ---- a unit that a call makes and writes
+
+-- the unit of a header and a body
+abbrev pub unit_of : Header → List ℕ → Message
+unit_of h body = record { header = sealed (for_body h body); body = body }
+
+-- a unit of this kind may be made of a header and a body, to stand in a zone of the layout
+pub record MayBeMade (layout : Layout) (zone : Zone) (kind : Kind) (h : Header) (body : List ℕ) : Type 0 where
+  -- with what follows from the body, the header obeys the rules
+  pub rules : ObeysRules (for_body h body)
+  -- it is the kind's
+  pub of_kind : h.kind ≡ kind
+  -- it names a place that the layout has
+  pub own : IsSome (own_place layout zone h)
+  -- header and body are no longer than a place of the zone
+  pub fits : 256 + length body ≤ greatest_size layout zone
+
+-- what the call answers and what it wrote
+pub record IsMade (layout : Layout) (place : Place) (u : Message) (result : Result Header Failed) : Type 0 where
+  -- the answer is the unit's header
+  pub header : IfOk result (λ h. h ≡ u.header)
+  -- the unit is valid at its place
+  pub own : IsUnit layout u.header.cluster place u
+
+-- ---- a prepare
 
 -- what the maker of the next prepare says of it
 abbrev pub header_given : State → (client request : ℕ) → Header
@@ -39,10 +73,6 @@ header_given s client request = record {
   kind = AsPrepare;
   block_kind = 0;
 }
-
--- the unit of a header and a body
-abbrev pub unit_of : Header → List ℕ → Message
-unit_of h body = record { header = sealed (for_body h body); body = body }
 
 -- the next prepare
 abbrev pub next_unit : State → (client request : ℕ) → List ℕ → Message

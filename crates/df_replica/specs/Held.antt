@@ -1,7 +1,9 @@
 -- The rooms that a replica holds: a call takes them out while it works, and puts them back.
-use Rattle.std.specs.Prelude.{◌≡◌, List, [], Option, Some, None, IsSome}
+use Rattle.std.specs.Prelude.{◌≡◌, ℕ, List, [], Option, Some, None, IsSome}
+use Rattle.df_layout.specs.declared.layout.Layout.{Layout}
 use Rattle.df_format.specs.declared.header.Header.{Header}
 use Rattle.df_buffers.specs.Sounds.{Holding}
+use Rattle.df_headers.specs.Ring.{IsTable}
 use Rattle.df_state.specs.declared.file.DataFile.{DataFile}
 use Rattle.df_state.specs.declared.log_rooms.LogRooms.{LogRooms}
 
@@ -33,3 +35,19 @@ HoldsReply (Some rooms) = IsSome rooms.reply.held
 abbrev pub LendsReply : Option LogRooms → Holding → Type 0
 LendsReply None lent = ⊥
 LendsReply (Some rooms) lent = rooms.reply.held ≡ Some lent
+
+-- ---- while a call has them
+
+-- they are of this layout, and their table has headers of this cluster, each valid in its slot
+pub record AreRoomsOf (layout : Layout) (cluster : ℕ) (rooms : LogRooms) : Type 0 where
+  -- the layout that they were reserved for
+  pub layout_is : rooms.layout ≡ layout
+  -- the header ring, as it is or as it is to be
+  pub table : IsTable layout cluster rooms.headers
+
+-- a call gives them back with the layout and the table that they had
+pub record AreAsBefore (old new : LogRooms) : Type 0 where
+  -- the layout
+  pub layout : new.layout ≡ old.layout
+  -- the table of headers
+  pub headers : new.headers ≡ old.headers

@@ -6,19 +6,19 @@ ghost use Rattle.df_disk.specs.Adds.{Adds};
 ghost use Rattle.df_layout.specs.declared.places.Zone.TheVariants.{WalPrepares};
 ghost use Rattle.df_format.specs.declared.kind.Kind.TheVariants.{Prepare as AsPrepare};
 ghost use Rattle.df_format.specs.Making.{for_body};
-ghost use Rattle.df_format.specs.Own.{own_place};
+ghost use Rattle.df_format.specs.Own.{own_place, place_in};
 ghost use Rattle.df_format.specs.Rules.{ObeysRules};
 ghost use Rattle.df_format.specs.Spelling.{IsCheck};
 ghost use Rattle.df_journal.specs.Below.{IsInOwnSlot};
-ghost use Rattle.df_headers.specs.Ring.{IsTable};
 ghost use Rattle.df_journal.specs.Append.{with_header as table_with};
 ghost use Rattle.df_sessions.specs.Table.{IsTable as IsSessions};
 ghost use Rattle.df_model.specs.Commands.{Append};
 ghost use Rattle.df_model.specs.Refusals.{append_refusals, first_refusal};
 ghost use Rattle.df_replica.specs.Answering.{Serves, append_answer};
+ghost use Rattle.df_replica.specs.Held.{AreRoomsOf};
 ghost use Rattle.df_replica.specs.Refusing.{AreCounters};
 ghost use Rattle.df_state.specs.State.{IsState, memory};
-ghost use Rattle.df_replica.specs.Appending.{IsAppend, IsBlamed, MayNext, MayNote, append_events, appended, header_given, next_unit, noted, receipt_of, unit_events, unit_of, with_header};
+ghost use Rattle.df_replica.specs.Appending.{IsAppend, IsBlamed, IsMade, MayBeMade, MayNext, MayNote, append_events, appended, header_given, next_unit, noted, receipt_of, unit_events, unit_of, with_header};
 
 use crate::refusing::{Counters, append_refusal, session_of};
 use crate::{DataFile, Replica};
@@ -41,19 +41,12 @@ fn append_in<D: Disk>(
     body: &[u8],
     rooms: LogRooms,
 ) -> (LogRooms, Result<Header, Failed>)
-    requires layout { rooms.layout ≡ file.now.layout }
-    requires table { IsTable file.now.layout file.now.cluster rooms.headers }
-    requires cluster { header.cluster ≡ file.now.cluster }
-    requires rules { ObeysRules (for_body header body.now) }
-    requires kind { header.kind ≡ AsPrepare }
-    requires own { IsSome (own_place file.now.layout WalPrepares header) }
-    requires fits { 256 + length body.now ≤ file.now.layout.message_size }
+    requires rooms { AreRoomsOf file.now.layout header.cluster rooms }
+    requires may { MayBeMade file.now.layout WalPrepares AsPrepare header body.now }
     ensures events { Adds (unit_events file.now.layout (unit_of header body.now) rooms.headers) (D.told disk.old) (D.told disk.new) result.1 }
-    ensures own { IsInOwnSlot file.now.layout (unit_of header body.now) }
-    ensures header { IfOk result.1 (λ h. h ≡ (unit_of header body.now).header) }
+    ensures made { IsMade file.now.layout (place_in WalPrepares (unit_of header body.now).header.slot) (unit_of header body.now) result.1 }
     ensures table { OnOk result.1 (result.0.headers ≡ table_with (unit_of header body.now) rooms.headers) }
-    ensures valid { IsTable file.now.layout file.now.cluster result.0.headers }
-    ensures layout { result.0.layout ≡ rooms.layout }
+    ensures rooms { AreRoomsOf file.now.layout header.cluster result.0 }
     ensures cause { HasCause (D.faults disk.old) (D.faults disk.new) result.1 }
 {
     let LogRooms {
@@ -151,8 +144,7 @@ impl Replica {
     ) -> Result<Header, Failed>
         requires { MayNext self.old client request (length body.now) }
         ensures events { Adds (append_events self.old (next_unit self.old client request body.now)) (D.told disk.old) (D.told disk.new) result }
-        ensures own { IsInOwnSlot self.old.file.layout (next_unit self.old client request body.now) }
-        ensures header { IfOk result (λ h. h ≡ (next_unit self.old client request body.now).header) }
+        ensures made { IsMade self.old.file.layout (place_in WalPrepares (next_unit self.old client request body.now).header.slot) (next_unit self.old client request body.now) result }
         ensures state { OnOk result (self.new ≡ with_header self.old (next_unit self.old client request body.now)) }
         ensures kept { OnErr result (self.new ≡ record self.old { headers = self.new.headers }) }
         ensures cause { HasCause (D.faults disk.old) (D.faults disk.new) result }

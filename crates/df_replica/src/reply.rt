@@ -6,7 +6,7 @@ ghost use Rattle.df_disk.specs.Adds.{Adds};
 ghost use Rattle.df_layout.specs.declared.places.Zone.TheVariants.{ClientReplies};
 ghost use Rattle.df_format.specs.declared.kind.Kind.TheVariants.{Reply as AsReply};
 ghost use Rattle.df_format.specs.Making.{for_body};
-ghost use Rattle.df_format.specs.Own.{own_place};
+ghost use Rattle.df_format.specs.Own.{own_place, place_in};
 ghost use Rattle.df_format.specs.Rules.{ObeysRules};
 ghost use Rattle.df_format.specs.Spelling.{IsCheck};
 ghost use Rattle.df_replies.specs.Slots.{IsInOwnSlot};
@@ -16,7 +16,8 @@ ghost use Rattle.df_model.specs.Commands.{Reply as Replies};
 ghost use Rattle.df_model.specs.Making.{place_of_op};
 ghost use Rattle.df_model.specs.Refusals.{first_refusal, reply_refusals};
 ghost use Rattle.df_replica.specs.Answering.{Serves, reply_answer};
-ghost use Rattle.df_replica.specs.Appending.{unit_of};
+ghost use Rattle.df_replica.specs.Appending.{IsMade, MayBeMade, unit_of};
+ghost use Rattle.df_replica.specs.Held.{AreAsBefore};
 ghost use Rattle.df_replica.specs.Replying.{BlamesReply, IsReply, MayReplyNext, first_check, next_reply, replied, reply_calls, reply_events, reply_given};
 ghost use Rattle.df_state.specs.State.{IsState, memory};
 
@@ -85,15 +86,10 @@ fn reply_in<D: Disk>(
     body: &[u8],
     rooms: LogRooms,
 ) -> (LogRooms, Result<Header, Failed>)
-    requires rules { ObeysRules (for_body header body.now) }
-    requires kind { header.kind ≡ AsReply }
-    requires own { IsSome (own_place rooms.layout ClientReplies header) }
-    requires fits { 256 + length body.now ≤ rooms.layout.message_size }
+    requires may { MayBeMade rooms.layout ClientReplies AsReply header body.now }
     ensures events { Adds (reply_calls rooms.layout (unit_of header body.now)) (D.told disk.old) (D.told disk.new) result.1 }
-    ensures own { IsInOwnSlot rooms.layout (unit_of header body.now) }
-    ensures header { IfOk result.1 (λ h. h ≡ (unit_of header body.now).header) }
-    ensures headers { result.0.headers ≡ rooms.headers }
-    ensures layout { result.0.layout ≡ rooms.layout }
+    ensures made { IsMade rooms.layout (place_in ClientReplies (unit_of header body.now).header.slot) (unit_of header body.now) result.1 }
+    ensures rooms { AreAsBefore rooms result.0 }
     ensures cause { HasCause (D.faults disk.old) (D.faults disk.new) result.1 }
 {
     let LogRooms {
@@ -181,8 +177,7 @@ impl Replica {
     fn write_next_reply<D: Disk>(&mut self, disk: &mut D, body: &[u8]) -> Result<Header, Failed>
         requires { MayReplyNext self.old (length body.now) }
         ensures events { Adds (reply_events self.old (next_reply self.old body.now)) (D.told disk.old) (D.told disk.new) result }
-        ensures own { IsInOwnSlot self.old.file.layout (next_reply self.old body.now) }
-        ensures header { IfOk result (λ h. h ≡ (next_reply self.old body.now).header) }
+        ensures made { IsMade self.old.file.layout (place_in ClientReplies (next_reply self.old body.now).header.slot) (next_reply self.old body.now) result }
         ensures state { self.new ≡ self.old }
         ensures cause { HasCause (D.faults disk.old) (D.faults disk.new) result }
     {
