@@ -6,10 +6,13 @@ use Rattle.df_base.specs.Image.{IsImage}
 use Rattle.df_base.specs.Log.{now}
 use Rattle.df_disk.specs.Told.{Told}
 use Rattle.df_disk.specs.Adds.{AddsPart, after_all}
-use Rattle.df_format.proofs.Laws.{some-eq}
+use Rattle.df_layout.specs.declared.places.Zone.TheVariants.{Grid}
+use Rattle.df_format.proofs.Laws.{made_brings, some-eq}
 use Rattle.df_format.specs.Making.{for_body}
-use Rattle.df_format.specs.Message.{Message}
+use Rattle.df_format.specs.Message.{Message, sectors_of}
+use Rattle.df_format.specs.Own.{place_in}
 use Rattle.df_format.specs.Spelling.{spelling_rest}
+use Rattle.df_format.specs.Valid.{IsUnit}
 use Rattle.df_format.specs.declared.reference.Reference.{Reference}
 use Rattle.df_grid.specs.Writes.{block_steps}
 use Rattle.df_journal.specs.Append.{ShowsRing}
@@ -21,7 +24,7 @@ use Rattle.df_theory.proofs.Laws.{put_one_law}
 use Rattle.df_units.specs.Format.{format_of}
 use Rattle.df_units.specs.Meaning as meaning
 use Rattle.df_units.specs.Meaning.{number_of}
-use Rattle.df_units.proofs.Laws.{no_number}
+use Rattle.df_units.proofs.Laws.{block_put, no_number}
 use Rattle.df_model.specs.After.{outcome, with_live}
 use Rattle.df_model.specs.Blocks.{block_written, with_entry}
 use Rattle.df_model.specs.Changing.{unless_refused}
@@ -91,7 +94,10 @@ module _ (s : State) (kind : ℕ) (body : List ℕ) (given : Given) (live : s.li
 
   -- ---- a block that is written, and a fault
 
-  module _ (none : first_refusal (block_refusals (memory s) kind body) ≡ None) (wrote : AreSteps (format_of s.file.layout s.file.cluster) (block_events s u) (block_steps u)) where
+  module _ (none : first_refusal (block_refusals (memory s) kind body) ≡ None) (own : IsUnit s.file.layout s.file.cluster (place_in Grid u.header.op) u) where
+    wrote : AreSteps (format_of s.file.layout s.file.cluster) (block_events s u) (block_steps u)
+    wrote = (block_put s.file.layout s.file.cluster u.header.op u (sectors_of u) (made_brings s.file.layout s.file.cluster (place_in Grid u.header.op) u (λ same. cc) own), tt)
+
     module _ (w : Work) (rep : Represents s w) where
       address_is : next_address (memory_of (shape s.file) (spelling s.file) w) ≡ u.header.op
       address_is = ap next_address (sym rep)
@@ -192,13 +198,13 @@ module _ (s : State) (kind : ℕ) (body : List ℕ) (live : s.live ≡ true) whe
   refusal_serves (block.GridFull a) some old = λ given supplied. refused_call s kind body given live supplied (block.GridFull a) some old supplied
   refusal_serves block.DiskFault some old = absurd (no_fault (memory s) kind body some)
 
-  module _ (none : first_refusal (block_refusals (memory s) kind body) ≡ None) (wrote : AreSteps (format_of s.file.layout s.file.cluster) (block_events s (next_block s kind body)) (block_steps (next_block s kind body))) where
+  module _ (none : first_refusal (block_refusals (memory s) kind body) ≡ None) (own : IsUnit s.file.layout s.file.cluster (place_in Grid (next_block s kind body).header.op) (next_block s kind body)) where
     pub written_serves : (t : State) (r : Reference) (old new : Option Told) → r ≡ reference_of (next_block s kind body).header → t ≡ written s (next_block s kind body).header
         → new ≡ after_all (block_events s (next_block s kind body)) old → Serves (WriteBlock kind body) s t old new (write_block_answer (Ok r))
     written_serves t r old new same next_is all =
         subst (λ (x : State). Serves (WriteBlock kind body) s x old new (write_block_answer (Ok r))) (sym next_is)
         (subst (λ (x : Reference). Serves (WriteBlock kind body) s (written s (next_block s kind body).header) old new (write_block_answer (Ok x))) (sym same)
-        (λ given supplied. written_call s kind body given live supplied none wrote old new supplied all))
+        (λ given supplied. written_call s kind body given live supplied none own old new supplied all))
 
     pub fault_serves : (t : State) (old new : Option Told) → t.live ≡ false → AddsPart (block_events s (next_block s kind body)) old new → Serves (WriteBlock kind body) s t old new None
-    fault_serves t old new dead part = λ given supplied. fault_call s kind body given live supplied none wrote old new t supplied dead part
+    fault_serves t old new dead part = λ given supplied. fault_call s kind body given live supplied none own old new t supplied dead part

@@ -7,6 +7,7 @@ pub mod FirstSuper
 pub mod Blanks
 pub mod NewRing
 pub mod NewFile
+pub mod Formatted
 pub mod MendEvents
 pub mod MendSteps
 pub mod Mendable

@@ -7,6 +7,7 @@ use Rattle.df_base.specs.Log.{Sync}
 use Rattle.df_base.specs.Moments.{EachMoment}
 use Rattle.df_disk.specs.Told.{Told}
 use Rattle.df_disk.specs.Adds.{Adds, AddsPart}
+use Rattle.df_disk.proofs.Laws.{adds_part}
 use Rattle.df_layout.specs.declared.damage.Mend.{Mend}
 use Rattle.df_layout.specs.declared.layout.Layout.{Layout}
 use Rattle.df_format.specs.declared.header.Header.{Header}
@@ -193,8 +194,19 @@ mending_ends file table mends f members before after (Ok x) may is steps adds =
           ap (λ (u : Units.Units). u (HeaderPlace s)) (sym (now_units fmt after.log.start after.log.events)) ∙ ap (λ (l : UnitLog). now l (HeaderPlace s)) ends ∙ shown ∙ ap (λ (o : Option Header). Some (HeaderUnit (header_or_none o))) at;
     }
 
--- the same list may be mended
-pub may_mend_same : (file : DataFile) (table : List Header) (mends others : List Mend) (f : SuperFields) (members : List Bool) (t : Told) → mends ≡ others → (may : MayMendOn file table mends f members t)
-    → MayMend (shape file) (units_log (format file) t.log) may.view (headers_in table) (sector_puts table (sectors_of file.layout others)) (repaired f 0 members)
-may_mend_same file table mends others f members t same may =
-    subst (λ (list : List Mend). MayMend (shape file) (units_log (format file) t.log) may.view (headers_in table) (sector_puts table (sectors_of file.layout list)) (repaired f 0 members)) same may.may
+-- ---- of what the disk tells
+
+module _ (file : DataFile) (table : List Header) (mends : List Mend) (f : SuperFields) (members : List Bool) (old new : Option Told) (result : Result Unit Failed) where
+  pub told_moments : AreSteps (format file) (mending_events file.layout table mends f members) (mending_steps file.layout table mends f members) → Adds (mending_events file.layout table mends f members) old new result
+      → (before after : Told) → old ≡ Some before → new ≡ Some after → (may : MayMendOn file table mends f members before) → EachMoment before.log after.log (IsGoodFor may.grade (format file) (shape file) may.view may.view)
+  told_moments steps adds before after first last may =
+      let events = mending_events file.layout table mends f members in
+      mending_moments file table mends f members before after may steps
+      (subst (λ (o : Option Told). AddsPart events o (Some after)) first (subst (AddsPart events old) last (adds_part events old new result adds)))
+
+  pub told_ends : IsTable file.layout file.cluster table → AreSteps (format file) (mending_events file.layout table mends f members) (mending_steps file.layout table mends f members) → Adds (mending_events file.layout table mends f members) old new result
+      → (before after : Told) → old ≡ Some before → new ≡ Some after → (may : MayMendOn file table mends f members before) → OnOk result (IsMended may.grade file may.view table after)
+  told_ends is steps adds before after first last may =
+      let events = mending_events file.layout table mends f members in
+      mending_ends file table mends f members before after result may is steps
+      (subst (λ (o : Option Told). Adds events o (Some after) result) first (subst (λ (o : Option Told). Adds events old o result) last adds))

@@ -4,22 +4,24 @@ use Rattle.df_base.specs.Causes.{Rose}
 use Rattle.df_base.specs.Log.{Event}
 use Rattle.df_disk.specs.Told.{Told}
 use Rattle.df_disk.specs.Adds.{AddsPart, after_all}
+use Rattle.df_layout.specs.declared.layout.Layout.{Layout}
+use Rattle.df_layout.specs.declared.places.Zone.TheVariants.{Grid}
 use Rattle.df_format.specs.declared.header.Header.{Header}
 use Rattle.df_format.specs.declared.kind.Kind.TheVariants.{Block as AsBlock}
 use Rattle.df_format.specs.declared.reference.Reference.{Reference}
 use Rattle.df_format.specs.Message.{Message}
 use Rattle.df_format.specs.Spelling.{no_checksum}
 use Rattle.df_units.specs.Meaning.{number_of}
-use Rattle.df_grid.specs.Grid.{IsUnheld}
+use Rattle.df_grid.specs.Grid.{GridState, IsUnheld}
 use Rattle.df_grid.specs.Writes.{made_events}
-use Rattle.df_model.specs.Blocks.{Blocks, block_released, block_written}
+use Rattle.df_model.specs.Blocks.{Blocks, block_released, block_written, is_held_in}
 use Rattle.df_model.specs.Making.{next_address}
 use Rattle.df_model.specs.Refusals.{block_refusals, first_refusal, release_refusals}
 use Rattle.df_model.specs.declared.errors.BlockError.{BlockError}
 use Rattle.df_model.specs.declared.errors.BlockError.TheVariants as block
 use Rattle.df_model.specs.declared.errors.NotLive.{NotLive}
 use Rattle.df_state.specs.State.{State, grid_with, memory}
-use Rattle.df_replica.specs.Appending.{unit_of}
+use Rattle.df_replica.specs.Appending.{MayBeMade, unit_of}
 
 -- ---- a write
 
@@ -65,6 +67,17 @@ pub record MayWriteNext (s : State) (kind size : ℕ) : Type 0 where
   pub named : 0 < kind
   pub fits : 256 + size ≤ s.file.layout.block_size
   pub free : IsUnheld (grid_with s.file s.blocks) (next_address (memory s))
+
+-- a block may be made of a header and a body in a room, and written into the grid
+pub record MayPut (room : Layout) (g : GridState) (h : Header) (body : List ℕ) : Type 0 where
+  -- the room is of the grid's layout
+  pub room_is : room ≡ g.layout
+  -- the header is of its cluster
+  pub cluster : h.cluster ≡ g.cluster
+  -- a block may be made of it
+  pub may : MayBeMade g.layout Grid AsBlock h body
+  -- its address isn't held
+  pub free : is_held_in g.blocks h.op ≡ false
 
 -- the first refusal, or else the address
 abbrev pub address_or : Option BlockError → ℕ → Result ℕ BlockError

@@ -1,5 +1,5 @@
 -- The making of a whole file: its device calls, what they are in the words of the model, and on what disk a file may be made.
-use Rattle.std.specs.Prelude.{◌<◌, ◌+◌, ◌/◌, ℕ, zero, suc, List, [], ◌∷◌, ◌++◌, map, Result, OnOk}
+use Rattle.std.specs.Prelude.{◌≡◌, ◌<◌, ◌+◌, ◌/◌, ℕ, zero, suc, List, [], ◌∷◌, ◌++◌, map, Option, Some, Result, OnOk}
 use Rattle.std.specs.List.{range_with_len}
 use Rattle.df_base.specs.Log.{Event, IsLog, Sync}
 use Rattle.df_base.specs.Moments.{EachMoment}
@@ -11,7 +11,7 @@ use Rattle.df_format.specs.First.{first_content, first_super}
 use Rattle.df_format.specs.UnitLaws.{AreSixteen}
 use Rattle.df_superblock.specs.Events.{update_events}
 use Rattle.df_theory.specs.Runs.{Step}
-use Rattle.df_theory.specs.Device.{IsSafeDisk, units_log}
+use Rattle.df_theory.specs.Device.{AreSteps, IsSafeDisk, units_log}
 use Rattle.df_theory.specs.MakingLaws.{IsMaking, format_steps}
 use Rattle.df_units.specs.Format.{format_of}
 use Rattle.df_units.specs.Making.{IsMadeOnDisk, first_view, header_puts, header_writes}
@@ -19,8 +19,10 @@ use Rattle.df_units.specs.Meaning.{content_of}
 use Rattle.df_units.specs.Puts.{put_copies}
 use Rattle.df_units.specs.Sample.{reserved_header}
 use Rattle.df_headers.specs.Ring.{in_sector}
+use Rattle.df_model.specs.declared.errors.FormatError.{FormatError}
 use Rattle.df_state.specs.declared.file.DataFile.{DataFile}
 use Rattle.df_state.specs.State.{shape}
+use Rattle.df_replica.specs.Formatting.{AddsFormat, RefusesCluster, TellsBlank}
 
 -- n sectors of a table, from this one on
 abbrev pub sectors_of : ℕ → ℕ → List Header → List (List Header)
@@ -64,3 +66,16 @@ pub record MayMakeOn (layout : Layout) (cluster : ℕ) (t : Told) : Type 0 where
 pub record Makes {T E : Type 0} (layout : Layout) (cluster : ℕ) (before : Told) (may : MayMakeOn layout cluster before) (after : Told) (result : Result T E) : Type 0 where
   pub moments : EachMoment before.log after.log (IsSafeDisk (format_of layout cluster) (shape (file_of layout cluster may.named)))
   pub made : OnOk result (IsMadeOnDisk (format_of layout cluster) (shape (file_of layout cluster may.named)) before.log after.log (first_view layout cluster))
+
+-- what a making answers, on a disk that is blank where the copies stand and on one that isn't
+pub record Formats {T : Type 0} (layout : Layout) (cluster : ℕ) (old new : Option Told) (result : Result T FormatError) : Type 0 where
+  -- the cluster is refused exactly where it is 0
+  pub named : RefusesCluster cluster result
+  -- the disk is refused where a sector of the copies shows another byte than zero
+  pub blank : TellsBlank old result
+  -- the device calls that are made
+  pub events : AddsFormat (making_events layout cluster) old new result
+  -- these are the model's making
+  pub steps : AreSteps (format_of layout cluster) (making_events layout cluster) (making_steps layout cluster)
+  -- the disk is safe at each moment, and has the first view at the end
+  pub makes : (before after : Told) → old ≡ Some before → new ≡ Some after → (may : MayMakeOn layout cluster before) → Makes layout cluster before may after result

@@ -13,7 +13,9 @@ use Rattle.df_format.specs.Own.{place_in}
 use Rattle.df_format.specs.Valid.{IsUnit}
 use Rattle.df_buffers.specs.declared.identity.Identity.{Identity}
 use Rattle.df_buffers.specs.declared.identity.Wanted.TheVariants.{Checksum}
+use Rattle.df_buffers.specs.Sounds.{Holding}
 use Rattle.df_theory.specs.Units
+use Rattle.df_places.specs.Shelves.{HoldsFound, IsRead}
 use Rattle.df_units.specs.Bytes.{unit_at}
 use Rattle.df_units.specs.Meaning.{message_of, number_of}
 use Rattle.df_units.specs.Wanted.{class_at}
@@ -60,6 +62,13 @@ prepare_wanted file headers op = record {
   place = place_in WalPrepares (op % file.layout.slots);
   wanted = Checksum (check_in (slice_get headers (op % file.layout.slots)));
 }
+
+-- what a read of it into a room finds
+pub record IsLoaded (kind : Kind) (identity : Identity) (told : Option Told) (wrong : Option Class) (held : Option Holding) : Type 0 where
+  -- the room holds the unit that is wanted exactly where nothing is wrong
+  pub holds : HoldsFound kind identity wrong held
+  -- where the disk tells what it shows, the place shows that
+  pub read : IsRead kind identity told wrong held
 
 -- ---- a prepare
 

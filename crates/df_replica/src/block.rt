@@ -1,29 +1,26 @@
 // The calls that write a block and let one go. A block is made in its own room and written to the least address that isn't held,
 // without a sync: the next checkpoint makes it durable.
-ghost use Rattle.std.specs.Prelude.{◌≡◌, ◌+◌, ◌<◌, ◌≤◌, ℕ, List, Option, length, slice_get, false, true, Some, IfOk, IsSome, OnErr, OnOk};
+ghost use Rattle.std.specs.Prelude.{◌≡◌, ◌+◌, ◌<◌, ◌≤◌, ℕ, List, Option, length, slice_get, true, Some, IfOk, IsSome, OnErr, OnOk};
 ghost use Rattle.df_base.specs.Causes.{HasCause};
 ghost use Rattle.df_disk.specs.Adds.{Adds};
 ghost use Rattle.df_disk.specs.Told.{Told};
 ghost use Rattle.df_layout.specs.declared.places.Zone.TheVariants.{Grid as InGrid};
-ghost use Rattle.df_format.specs.declared.kind.Kind.TheVariants.{Block as AsBlock};
 ghost use Rattle.df_format.specs.Making.{for_body};
-ghost use Rattle.df_format.specs.Own.{own_place};
+ghost use Rattle.df_format.specs.Own.{own_place, place_in};
 ghost use Rattle.df_format.specs.Rules.{ObeysRules};
-ghost use Rattle.df_theory.specs.Device.{AreSteps};
-ghost use Rattle.df_units.specs.Format.{format_of};
 ghost use Rattle.df_units.specs.Meaning.{number_of};
 ghost use Rattle.df_trailer.specs.Rooms.{number_in};
 ghost use Rattle.df_grid.specs.Grid.{IsUnheld, with_blocks as grid_of};
-ghost use Rattle.df_grid.specs.Writes.{block_steps, made_events};
-ghost use Rattle.df_model.specs.Blocks.{block_written, is_held_in, sum_at};
+ghost use Rattle.df_grid.specs.Writes.{made_events};
+ghost use Rattle.df_model.specs.Blocks.{block_written, sum_at};
 ghost use Rattle.df_model.specs.Commands.{Release, WriteBlock};
 ghost use Rattle.df_model.specs.Making.{next_address};
 ghost use Rattle.df_model.specs.Memory.{Memory, block_room, free_of};
 ghost use Rattle.df_model.specs.Refusals.{block_refusals, first_refusal};
 ghost use Rattle.df_state.specs.State.{IsState, grid_with, memory};
 ghost use Rattle.df_replica.specs.Answering.{Serves, release_answer, write_block_answer};
-ghost use Rattle.df_replica.specs.Appending.{unit_of};
-ghost use Rattle.df_replica.specs.Blocks.{BlamesWriteBlock, IsRelease, IsWriteBlock, MayWriteNext, address_or, block_events, block_given, next_block, released, written};
+ghost use Rattle.df_replica.specs.Appending.{IsMade, unit_of};
+ghost use Rattle.df_replica.specs.Blocks.{BlamesWriteBlock, IsRelease, IsWriteBlock, MayPut, MayWriteNext, address_or, block_events, block_given, next_block, released, written};
 
 use crate::Replica;
 use df_base::{Check, Failed, HEADER};
@@ -68,27 +65,20 @@ fn put_block<D: Disk>(
     disk: &mut D,
     header: Header,
     body: &[u8],
-) -> Result<Check, Failed>
-    requires room { room.old.layout ≡ grid.old.layout }
-    requires rules { ObeysRules (for_body header body.now) }
-    requires kind { header.kind ≡ AsBlock }
-    requires own { IsSome (own_place grid.old.layout InGrid header) }
-    requires fits { 256 + length body.now ≤ grid.old.layout.block_size }
-    requires cluster { header.cluster ≡ grid.old.cluster }
-    requires free { is_held_in grid.old.blocks header.op ≡ false }
+) -> Result<Header, Failed>
+    requires may { MayPut room.old.layout grid.old header body.now }
     ensures room { room.new.layout ≡ room.old.layout }
     ensures events { Adds (made_events grid.old.layout (unit_of header body.now)) (D.told disk.old) (D.told disk.new) result }
-    ensures steps { AreSteps (format_of grid.old.layout grid.old.cluster) (made_events grid.old.layout (unit_of header body.now)) (block_steps (unit_of header body.now)) }
-    ensures checksum { IfOk result (λ checksum. checksum ≡ (unit_of header body.now).header.checksum) }
+    ensures made { IsMade grid.old.layout (place_in InGrid (unit_of header body.now).header.op) (unit_of header body.now) result }
     ensures live { OnOk result (grid.new ≡ grid_of grid.old (block_written grid.old.blocks header.op (number_of (unit_of header body.now).header.checksum))) }
     ensures failed { OnErr result (grid.new ≡ grid.old) }
     ensures cause { HasCause (D.faults disk.old) (D.faults disk.new) result }
 {
     room.make(header, body);
     let unit = room.unit();
-    let checksum = unit.header().checksum;
+    let made = *unit.header();
     match grid.write(disk, unit) {
-        Ok(()) => Ok(checksum),
+        Ok(()) => Ok(made),
         Err(failed) => Err(failed),
     }
 }
@@ -146,12 +136,11 @@ impl Replica {
         address: u64,
         kind: u8,
         body: &[u8],
-    ) -> Result<Check, Failed>
+    ) -> Result<Header, Failed>
         requires may { MayWriteNext self.old kind (length body.now) }
         requires address { address ≡ next_address (memory self.old) }
         ensures events { Adds (block_events self.old (next_block self.old kind body.now)) (D.told disk.old) (D.told disk.new) result }
-        ensures steps { AreSteps (format_of self.old.file.layout self.old.file.cluster) (block_events self.old (next_block self.old kind body.now)) (block_steps (next_block self.old kind body.now)) }
-        ensures checksum { IfOk result (λ checksum. checksum ≡ (next_block self.old kind body.now).header.checksum) }
+        ensures made { IsMade self.old.file.layout (place_in InGrid (next_block self.old kind body.now).header.op) (next_block self.old kind body.now) result }
         ensures live { OnOk result (self.new ≡ written self.old (next_block self.old kind body.now).header) }
         ensures failed { OnErr result (self.new ≡ self.old) }
         ensures cause { HasCause (D.faults disk.old) (D.faults disk.new) result }
@@ -180,7 +169,10 @@ impl Replica {
             Err(error) => return Err(error),
         };
         match self.write_next_block(disk, address, kind, body) {
-            Ok(checksum) => Ok(Reference { address, checksum }),
+            Ok(made) => {
+                let checksum = made.checksum;
+                Ok(Reference { address, checksum })
+            }
             Err(_) => {
                 self.live = false;
                 Err(BlockError::DiskFault)

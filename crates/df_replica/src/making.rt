@@ -12,7 +12,7 @@ ghost use Rattle.df_theory.specs.Device.{AreSteps};
 ghost use Rattle.df_units.specs.Format.{format_of};
 ghost use Rattle.df_units.specs.Making.{header_writes};
 ghost use Rattle.df_replica.specs.Formatting.{AddsFormat, FormatsBy, RefusesCluster, TellsBlank};
-ghost use Rattle.df_replica.specs.Making.{AreWritable, Makes, MayMakeOn, file_events, making_events, making_steps, sectors_in};
+ghost use Rattle.df_replica.specs.Making.{AreWritable, Formats, Makes, MayMakeOn, file_events, making_events, making_steps, sectors_in};
 
 use crate::first::first_superblock;
 use crate::{FormatError, Rooms};
@@ -124,8 +124,6 @@ fn make_file<D: Disk>(
     requires content { content.now ≡ first_super rooms.old.layout cluster }
     requires usable { IsUsable content.now }
     ensures events { Adds (making_events rooms.old.layout cluster) (D.told disk.old) (D.told disk.new) result }
-    ensures steps { AreSteps (format_of rooms.old.layout cluster) (making_events rooms.old.layout cluster) (making_steps rooms.old.layout cluster) }
-    ensures makes { (before after : Told) → D.told disk.old ≡ Some before → D.told disk.new ≡ Some after → (may : MayMakeOn rooms.old.layout cluster before) → Makes rooms.old.layout cluster before may after result }
     ensures layout { rooms.new.layout ≡ rooms.old.layout }
     ensures cause { HasCause (D.faults disk.old) (D.faults disk.new) result }
 {
@@ -150,11 +148,7 @@ fn make_on_blank<D: Disk>(
 ) -> Result<(), FormatError>
     requires named { 0 < cluster }
     requires content { content.now ≡ first_super rooms.old.layout cluster }
-    ensures cluster { RefusesCluster cluster result }
-    ensures blank { TellsBlank (D.told disk.old) result }
-    ensures events { AddsFormat (making_events rooms.old.layout cluster) (D.told disk.old) (D.told disk.new) result }
-    ensures steps { AreSteps (format_of rooms.old.layout cluster) (making_events rooms.old.layout cluster) (making_steps rooms.old.layout cluster) }
-    ensures makes { (before after : Told) → D.told disk.old ≡ Some before → D.told disk.new ≡ Some after → (may : MayMakeOn rooms.old.layout cluster before) → Makes rooms.old.layout cluster before may after result }
+    ensures formats { Formats rooms.old.layout cluster (D.told disk.old) (D.told disk.new) result }
     ensures cause { FormatsBy (D.faults disk.old) (D.faults disk.new) result }
     ensures layout { rooms.new.layout ≡ rooms.old.layout }
 {

@@ -1,15 +1,12 @@
 // The writes of a mending: header sectors, one sync, then the copies of the superblock that aren't members of the choice.
 // A header sector is durable before a copy is written.
-ghost use Rattle.std.specs.Prelude.{◌≡◌, ◌<◌, ◌/◌, ◌≤◌, IfOk, OnOk, Some, length};
+ghost use Rattle.std.specs.Prelude.{◌≡◌, ◌<◌, ◌/◌, ◌≤◌, IfOk, length};
 ghost use Rattle.df_base.specs.Causes.{HasCause};
-ghost use Rattle.df_base.specs.Moments.{EachMoment};
-ghost use Rattle.df_disk.specs.Told.{Told};
 ghost use Rattle.df_disk.specs.Adds.{Adds};
 ghost use Rattle.df_theory.specs.Device.{AreSteps};
 ghost use Rattle.df_headers.specs.Ring.{IsTable};
-ghost use Rattle.df_replica.specs.Mending.{IsMended, MayMendOn, header_events, lies_in, mending_events, mending_steps, needs_sector, sector_writes, sectors_of, some_of, wanted_writes};
-ghost use Rattle.df_replica.specs.Serving.{IsGoodFor, format};
-ghost use Rattle.df_state.specs.State.{shape};
+ghost use Rattle.df_replica.specs.Mending.{header_events, lies_in, mending_events, mending_steps, needs_sector, sector_writes, sectors_of, some_of, wanted_writes};
+ghost use Rattle.df_replica.specs.Serving.{format};
 
 use crate::DataFile;
 use df_base::Failed;
@@ -165,12 +162,6 @@ pub(crate) fn write_mends<D: Disk>(
     ensures events { Adds (mending_events file.now.layout headers.now mends.now content.now chosen.now.members) (D.told disk.old) (D.told disk.new) result }
     ensures steps { AreSteps (format file.now) (mending_events file.now.layout headers.now mends.now content.now chosen.now.members)
         (mending_steps file.now.layout headers.now mends.now content.now chosen.now.members) }
-    ensures moments { (before after : Told) → D.told disk.old ≡ Some before → D.told disk.new ≡ Some after
-        → (may : MayMendOn file.now headers.now mends.now content.now chosen.now.members before)
-        → EachMoment before.log after.log (IsGoodFor may.grade (format file.now) (shape file.now) may.view may.view) }
-    ensures mended { (before after : Told) → D.told disk.old ≡ Some before → D.told disk.new ≡ Some after
-        → (may : MayMendOn file.now headers.now mends.now content.now chosen.now.members before)
-        → OnOk result (IsMended may.grade file.now may.view headers.now after) }
     ensures room { sector.new.layout ≡ file.now.layout }
     ensures cause { HasCause (D.faults disk.old) (D.faults disk.new) result }
 {

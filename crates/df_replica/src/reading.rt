@@ -7,16 +7,14 @@ ghost use Rattle.df_layout.specs.declared.places.Zone.TheVariants.{WalPrepares};
 ghost use Rattle.df_format.specs.declared.kind.Kind.TheVariants.{Prepare as AsPrepare};
 ghost use Rattle.df_format.specs.Own.{place_in};
 ghost use Rattle.df_format.specs.Spelling.{IsCheck};
-ghost use Rattle.df_headers.specs.Ring.{IsTable};
 ghost use Rattle.df_model.specs.Commands.{ReadPrepare};
 ghost use Rattle.df_model.specs.Memory.{prepare_sum};
 ghost use Rattle.df_model.specs.Refusals.{first_refusal, prepare_refusals};
-ghost use Rattle.df_places.specs.Shelves.{HoldsFound, IsRead};
 ghost use Rattle.df_state.specs.State.{IsState, memory};
 ghost use Rattle.df_replica.specs.Answering.{ServesRead, read_prepare_answer};
-ghost use Rattle.df_replica.specs.Held.{HoldsPrepare, LendsPrepare};
+ghost use Rattle.df_replica.specs.Held.{AreAsBefore, AreRoomsOf, HoldsPrepare, LendsPrepare};
 ghost use Rattle.df_replica.specs.Lending.{LendsWrittenPrepare};
-ghost use Rattle.df_replica.specs.Reading.{IsKnownUnit, IsReadPrepare, PrepareBlames, check_in, in_words, prepare_found, prepare_leaves, prepare_wanted};
+ghost use Rattle.df_replica.specs.Reading.{IsKnownUnit, IsLoaded, IsReadPrepare, PrepareBlames, check_in, in_words, prepare_found, prepare_leaves, prepare_wanted};
 ghost use Rattle.df_replica.specs.contracts.replica.Replica.{the_row};
 
 use crate::refusing::prepare_refusal;
@@ -40,8 +38,7 @@ fn prepare_place(layout: &Layout, op: u64) -> Place
 
 // The prepare of an op that is kept, with the checksum of the header in its slot.
 fn prepare_wanted(file: &DataFile, rooms: &LogRooms, op: u64) -> Identity
-    requires layout { rooms.now.layout ≡ file.now.layout }
-    requires table { IsTable file.now.layout file.now.cluster rooms.now.headers }
+    requires rooms { AreRoomsOf file.now.layout file.now.cluster rooms.now }
     ensures identity { result ≡ prepare_wanted file.now rooms.now.headers op }
     ensures check { IsCheck (check_in (slice_get rooms.now.headers (op % file.now.layout.slots))) }
 {
@@ -62,13 +59,10 @@ fn load_prepare<D: Disk>(
     op: u64,
     rooms: LogRooms,
 ) -> (LogRooms, Result<Option<Class>, Failed>)
-    requires layout { rooms.layout ≡ file.now.layout }
-    requires table { IsTable file.now.layout file.now.cluster rooms.headers }
-    ensures layout { result.0.layout ≡ rooms.layout }
-    ensures headers { result.0.headers ≡ rooms.headers }
+    requires rooms { AreRoomsOf file.now.layout file.now.cluster rooms }
+    ensures rooms { AreAsBefore rooms result.0 }
     ensures check { IsCheck (check_in (slice_get rooms.headers (op % file.now.layout.slots))) }
-    ensures holds { IfOk result.1 (λ wrong. HoldsFound AsPrepare (prepare_wanted file.now rooms.headers op) wrong result.0.prepare.held) }
-    ensures read { IfOk result.1 (λ wrong. IsRead AsPrepare (prepare_wanted file.now rooms.headers op) (D.told disk.old) wrong result.0.prepare.held) }
+    ensures loaded { IfOk result.1 (λ wrong. IsLoaded AsPrepare (prepare_wanted file.now rooms.headers op) (D.told disk.old) wrong result.0.prepare.held) }
     ensures same { D.told disk.new ≡ D.told disk.old }
     ensures cause { HasCause (D.faults disk.old) (D.faults disk.new) result.1 }
 {

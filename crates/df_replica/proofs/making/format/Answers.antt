@@ -6,4 +6,4 @@ use Rattle.df_replica.proofs.making.format.Goals as goal
 
 pub returns-in-Some-clause-makes : goal.returns-in-Some-clause-makes
 returns-in-Some-clause-makes g c = λ before after first last may.
-    subst (λ (l : Layout). (on : MayMakeOn l c.args.cluster before) → Makes l c.args.cluster before on after c.make_on_blank.result) c.args.rooms.now.log_fits (c.make_on_blank.ensures.makes before after first last) may
+    subst (λ (l : Layout). (on : MayMakeOn l c.args.cluster before) → Makes l c.args.cluster before on after c.make_on_blank.result) c.args.rooms.now.log_fits (c.make_on_blank.ensures.formats.makes before after first last) may

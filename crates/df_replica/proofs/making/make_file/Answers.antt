@@ -1,13 +1,12 @@
--- The table that was cleared is that of reserved headers, and its writes with those of the copies are the model's making.
-use Rattle.std.proofs.Common.{List, Option, Some, ◌∙◌, subst}
-use Rattle.df_disk.specs.Told.{Told}
+-- The table that was cleared is that of reserved headers.
+use Rattle.std.proofs.Common.{List, ◌∙◌, subst}
 use Rattle.df_disk.specs.Adds.{Adds}
 use Rattle.df_format.specs.declared.header.Header.{Header}
 use Rattle.df_format.specs.declared.superblock.SuperFields.{SuperFields}
 use Rattle.df_format.specs.First.{first_super}
 use Rattle.df_format.specs.SuperRules.{IsUsable}
-use Rattle.df_replica.specs.Making.{file_events, making_events}
-use Rattle.df_replica.proofs.NewFile.{cleared, makes_call, named_of, small_of, steps_of_making, writable}
+use Rattle.df_replica.specs.Making.{file_events}
+use Rattle.df_replica.proofs.NewFile.{cleared, named_of, small_of, writable}
 use Rattle.df_replica.proofs.making.make_file.Goals as goal
 
 pub clear-requires-clause-cluster : goal.clear-requires-clause-cluster
@@ -23,12 +22,3 @@ returns-clause-events g c =
     let same = cleared c.args.rooms.now.layout c.args.cluster c.clear.new.self (c.clear.ensures.count ∙ c.args.rooms.now.headers_fit) c.clear.ensures.each in
     subst (λ (t : List Header). Adds (file_events c.args.rooms.now.layout t (first_super c.args.rooms.now.layout c.args.cluster)) (g.D.Disk.told c.args.disk.now) (g.D.Disk.told c.write_file.new.disk) c.write_file.result) same
     (subst (λ (f : SuperFields). Adds (file_events c.args.rooms.now.layout c.clear.new.self f) (g.D.Disk.told c.args.disk.now) (g.D.Disk.told c.write_file.new.disk) c.write_file.result) c.requires.content c.write_file.ensures.events)
-
-pub returns-clause-steps : goal.returns-clause-steps
-returns-clause-steps g c = steps_of_making c.args.rooms.now.layout c.args.cluster (subst IsUsable c.requires.content c.requires.usable)
-
-pub returns-clause-makes : goal.returns-clause-makes
-returns-clause-makes g c = λ before after first last may.
-    makes_call c.args.rooms.now.layout c.args.cluster (subst IsUsable c.requires.content c.requires.usable) before may after c.write_file.result
-    (subst (λ (o : Option Told). Adds (making_events c.args.rooms.now.layout c.args.cluster) o (Some after) c.write_file.result) first
-    (subst (λ (o : Option Told). Adds (making_events c.args.rooms.now.layout c.args.cluster) (g.D.Disk.told c.args.disk.now) o c.write_file.result) last (returns-clause-events g c)))

@@ -7,12 +7,11 @@ use Rattle.df_layout.specs.declared.damage.Class.{Class}
 use Rattle.df_format.specs.declared.header.Header.{Header}
 use Rattle.df_format.specs.declared.kind.Kind.TheVariants.{Prepare}
 use Rattle.df_buffers.specs.Sounds.{Holding}
-use Rattle.df_places.specs.Shelves.{HoldsFound, IsRead}
 use denote.Ref.{Bor}
 use Rattle.df_model.specs.Refusals.{first_refusal, prepare_refusals}
 use Rattle.df_state.specs.State.{State, memory}
 use Rattle.df_replica.specs.Held.{headers_of}
-use Rattle.df_replica.specs.Reading.{prepare_wanted}
+use Rattle.df_replica.specs.Reading.{IsLoaded, prepare_wanted}
 use Rattle.df_replica.specs.contracts.replica.Replica.{the_view}
 use Rattle.df_replica.proofs.Lent.{lends_written_prepare}
 use Rattle.df_replica.proofs.ReadCalls.{LendsAs, TellsOf, lends_as, prepare_stopped, refused_blames, refused_leaves, refused_reads, refused_serves, tells_of}
@@ -39,7 +38,7 @@ returns-in-Some g c =
 pub returns-in-Err : goal.returns-in-Err
 returns-in-Err g c =
     let told = g.D.Disk.told c.args.disk.now in
-    let headers = c.load_prepare-rooms.ensures.headers ∙ ap headers_of (sym c.in-Some-take.is ∙ c.take.ensures.value) in
+    let headers = c.load_prepare-rooms.ensures.rooms.headers ∙ ap headers_of (sym c.in-Some-take.is ∙ c.take.ensures.value) in
     let none = subst (λ (s : State). first_refusal (prepare_refusals (memory s) c.args.op) ≡ None) c.self.view_is (sym c.prepare_refusal.ensures.why ∙ c.in_default.is) in
     let cause : HasCause (g.D.Disk.faults c.args.disk.now) (g.D.Disk.faults c.load_prepare-rooms.new.disk) c.load_prepare-rooms.result.1 = c.load_prepare-rooms.ensures.cause in
     let blames = subst (λ (r : Result (Option Class) Failed). HasCause (g.D.Disk.faults c.args.disk.now) (g.D.Disk.faults c.load_prepare-rooms.new.disk) r) c.in-Err.is cause in (
@@ -57,11 +56,10 @@ returns-in-Some-wrong g c =
     let live = subst (λ (s : State). s.live ≡ true) (sym e) c.requires.live in
     let loaded = c.load_prepare-rooms.ensures in
     let held = c.load_prepare-rooms.result.0.prepare.held in
-    let read = subst (λ (r : Result (Option Class) Failed). IfOk r (λ wrong. IsRead Prepare (prepare_wanted v.file v.headers op) told wrong held)) c.in-Ok.is loaded.read in
-    let holds = subst (λ (r : Result (Option Class) Failed). IfOk r (λ wrong. HoldsFound Prepare (prepare_wanted v.file v.headers op) wrong held)) c.in-Ok.is loaded.holds in
-    let tells = subst (λ (s : State). TellsOf s op told c.prepare_place.result c.in-Some-wrong.class) e (tells_of v op live told none loaded.check c.in-Ok.wrong held holds read c.in-Some-wrong.class c.prepare_place.result c.in-Some-wrong.is c.prepare_place.ensures) in
+    let found = subst (λ (r : Result (Option Class) Failed). IfOk r (λ wrong. IsLoaded Prepare (prepare_wanted v.file v.headers op) told wrong held)) c.in-Ok.is loaded.loaded in
+    let tells = subst (λ (s : State). TellsOf s op told c.prepare_place.result c.in-Some-wrong.class) e (tells_of v op live told none loaded.check c.in-Ok.wrong held found.holds found.read c.in-Some-wrong.class c.prepare_place.result c.in-Some-wrong.is c.prepare_place.ensures) in
     let blames = subst (λ (r : Result (Option Class) Failed). HasCause (g.D.Disk.faults c.args.disk.now) (g.D.Disk.faults c.load_prepare-rooms.new.disk) r) c.in-Ok.is loaded.cause in (
-      (refl, (λ _. tt), ap (λ (hs : List Header). record (the_view c.self.inside) { headers = hs }) loaded.headers ∙ e),
+      (refl, (λ _. tt), ap (λ (hs : List Header). record (the_view c.self.inside) { headers = hs }) loaded.rooms.headers ∙ e),
       record { after = tt; exact = tells.exact; lent = tt; written = tt; call = tells.call; same = loaded.same; cause = blames.same },
     )
 
@@ -75,10 +73,9 @@ returns-in-None g c =
     let live = subst (λ (s : State). s.live ≡ true) (sym e) c.requires.live in
     let loaded = c.load_prepare-rooms.ensures in
     let held = c.load_prepare-rooms.result.0.prepare.held in
-    let read = subst (λ (r : Result (Option Class) Failed). IfOk r (λ wrong. IsRead Prepare (prepare_wanted v.file v.headers op) told wrong held)) c.in-Ok.is loaded.read in
-    let holds = subst (λ (r : Result (Option Class) Failed). IfOk r (λ wrong. HoldsFound Prepare (prepare_wanted v.file v.headers op) wrong held)) c.in-Ok.is loaded.holds in
-    let lends = subst (λ (s : State). LendsAs s op told c.prepare_in.result.now.unit) e (lends_as v op live told none loaded.check c.in-Ok.wrong held holds read c.prepare_in.result.now c.in-None.is c.prepare_in.ensures) in
+    let found = subst (λ (r : Result (Option Class) Failed). IfOk r (λ wrong. IsLoaded Prepare (prepare_wanted v.file v.headers op) told wrong held)) c.in-Ok.is loaded.loaded in
+    let lends = subst (λ (s : State). LendsAs s op told c.prepare_in.result.now.unit) e (lends_as v op live told none loaded.check c.in-Ok.wrong held found.holds found.read c.prepare_in.result.now c.in-None.is c.prepare_in.ensures) in
     let blames = subst (λ (r : Result (Option Class) Failed). HasCause (g.D.Disk.faults c.args.disk.now) (g.D.Disk.faults c.load_prepare-rooms.new.disk) r) c.in-Ok.is loaded.cause in (
-      (refl, (λ _. tt), ap (λ (hs : List Header). record (the_view c.self.inside) { headers = hs }) loaded.headers ∙ e),
+      (refl, (λ _. tt), ap (λ (hs : List Header). record (the_view c.self.inside) { headers = hs }) loaded.rooms.headers ∙ e),
       record { after = tt; exact = lends.exact; lent = lends.known; written = lends_written_prepare op c.args.self.now _ told lends.exact; call = lends.call; same = loaded.same; cause = blames.same },
     )
