@@ -1,12 +1,11 @@
 -- What a making answers, put together: on a disk that is blank where the copies stand it makes the file or a part of it, and on another one nothing.
-use Rattle.std.proofs.Common.{◌≡◌, ◌<◌, ℕ, List, Option, Some, None, sym, ◌∙◌, ap, subst, Result, Ok, Err}
+use Rattle.std.proofs.Common.{◌≡◌, ◌<◌, ℕ, List, Option, Some, None, sym, ◌∙◌, ap, subst, Ok, Err}
 use Rattle.df_base.specs.Log.{Event}
 use Rattle.df_disk.specs.Told.{Told}
 use Rattle.df_disk.specs.Adds.{AddsPart, after_all}
 use Rattle.df_layout.specs.declared.layout.Layout.{Layout}
 use Rattle.df_format.specs.First.{first_super}
 use Rattle.df_format.specs.SuperRules.{IsUsable}
-use Rattle.df_superblock.specs.Blank.{IsUnformatted}
 use Rattle.df_model.specs.declared.errors.FormatError.{FormatError}
 use Rattle.df_model.specs.declared.errors.FormatError.TheVariants.{ClusterZero, NotBlank, DiskFault}
 use Rattle.df_replica.specs.Formatting.{RefusesCluster, TellsBlank}

@@ -17,7 +17,7 @@ use Rattle.df_theory.specs.Units
 use Rattle.df_theory.specs.Units.{AnyUnit, HeaderPlace, HeaderUnit, Place, or_else}
 use Rattle.df_theory.specs.Device.{AreSteps, units_log}
 use Rattle.df_theory.specs.MakingLaws.{all_puts}
-use Rattle.df_theory.specs.MendLaws.{AllPutTable, MayMend, PutsTable, Reaches, copy_steps, header_steps, mend_steps}
+use Rattle.df_theory.specs.MendLaws.{AllPutTable, PutsTable, Reaches, copy_steps, header_steps, mend_steps}
 use Rattle.df_theory.specs.Runs.{Command, Puts, Step, Syncs, after_steps}
 use Rattle.df_theory.specs.TidyLaws.{IsTidy, KeepsStanding, LeadsTidily}
 use Rattle.df_theory.specs.Commands.{mend_command}

@@ -48,7 +48,7 @@ pub record MayBeMade (layout : Layout) (zone : Zone) (kind : Kind) (h : Header) 
   pub fits : 256 + length body ≤ greatest_size layout zone
 
 -- what the call answers and what it wrote
-pub record IsMade (layout : Layout) (place : Place) (u : Message) (result : Result Header Failed) : Type 0 where
+pub record IsMadeUnit (layout : Layout) (place : Place) (u : Message) (result : Result Header Failed) : Type 0 where
   -- the answer is the unit's header
   pub header : IfOk result (λ h. h ≡ u.header)
   -- the unit is valid at its place

@@ -18,7 +18,7 @@ ghost use Rattle.df_replica.specs.Answering.{Serves, append_answer};
 ghost use Rattle.df_replica.specs.Held.{AreRoomsOf};
 ghost use Rattle.df_replica.specs.Refusing.{AreCounters};
 ghost use Rattle.df_state.specs.State.{IsState, memory};
-ghost use Rattle.df_replica.specs.Appending.{IsAppend, IsBlamed, IsMade, MayBeMade, MayNext, MayNote, append_events, appended, header_given, next_unit, noted, receipt_of, unit_events, unit_of, with_header};
+ghost use Rattle.df_replica.specs.Appending.{IsAppend, IsBlamed, IsMadeUnit, MayBeMade, MayNext, MayNote, append_events, appended, header_given, next_unit, noted, receipt_of, unit_events, unit_of, with_header};
 
 use crate::refusing::{Counters, append_refusal, session_of};
 use crate::{DataFile, Replica};
@@ -44,7 +44,7 @@ fn append_in<D: Disk>(
     requires rooms { AreRoomsOf file.now.layout header.cluster rooms }
     requires may { MayBeMade file.now.layout WalPrepares AsPrepare header body.now }
     ensures events { Adds (unit_events file.now.layout (unit_of header body.now) rooms.headers) (D.told disk.old) (D.told disk.new) result.1 }
-    ensures made { IsMade file.now.layout (place_in WalPrepares (unit_of header body.now).header.slot) (unit_of header body.now) result.1 }
+    ensures made { IsMadeUnit file.now.layout (place_in WalPrepares (unit_of header body.now).header.slot) (unit_of header body.now) result.1 }
     ensures table { OnOk result.1 (result.0.headers ≡ table_with (unit_of header body.now) rooms.headers) }
     ensures rooms { AreRoomsOf file.now.layout header.cluster result.0 }
     ensures cause { HasCause (D.faults disk.old) (D.faults disk.new) result.1 }
@@ -144,7 +144,7 @@ impl Replica {
     ) -> Result<Header, Failed>
         requires { MayNext self.old client request (length body.now) }
         ensures events { Adds (append_events self.old (next_unit self.old client request body.now)) (D.told disk.old) (D.told disk.new) result }
-        ensures made { IsMade self.old.file.layout (place_in WalPrepares (next_unit self.old client request body.now).header.slot) (next_unit self.old client request body.now) result }
+        ensures made { IsMadeUnit self.old.file.layout (place_in WalPrepares (next_unit self.old client request body.now).header.slot) (next_unit self.old client request body.now) result }
         ensures state { OnOk result (self.new ≡ with_header self.old (next_unit self.old client request body.now)) }
         ensures kept { OnErr result (self.new ≡ record self.old { headers = self.new.headers }) }
         ensures cause { HasCause (D.faults disk.old) (D.faults disk.new) result }

@@ -19,7 +19,7 @@ ghost use Rattle.df_model.specs.Memory.{Memory, block_room, free_of};
 ghost use Rattle.df_model.specs.Refusals.{block_refusals, first_refusal};
 ghost use Rattle.df_state.specs.State.{IsState, grid_with, memory};
 ghost use Rattle.df_replica.specs.Answering.{Serves, release_answer, write_block_answer};
-ghost use Rattle.df_replica.specs.Appending.{IsMade, unit_of};
+ghost use Rattle.df_replica.specs.Appending.{IsMadeUnit, unit_of};
 ghost use Rattle.df_replica.specs.Blocks.{BlamesWriteBlock, IsRelease, IsWriteBlock, MayPut, MayWriteNext, address_or, block_events, block_given, next_block, released, written};
 
 use crate::Replica;
@@ -69,7 +69,7 @@ fn put_block<D: Disk>(
     requires may { MayPut room.old.layout grid.old header body.now }
     ensures room { room.new.layout ≡ room.old.layout }
     ensures events { Adds (made_events grid.old.layout (unit_of header body.now)) (D.told disk.old) (D.told disk.new) result }
-    ensures made { IsMade grid.old.layout (place_in InGrid (unit_of header body.now).header.op) (unit_of header body.now) result }
+    ensures made { IsMadeUnit grid.old.layout (place_in InGrid (unit_of header body.now).header.op) (unit_of header body.now) result }
     ensures live { OnOk result (grid.new ≡ grid_of grid.old (block_written grid.old.blocks header.op (number_of (unit_of header body.now).header.checksum))) }
     ensures failed { OnErr result (grid.new ≡ grid.old) }
     ensures cause { HasCause (D.faults disk.old) (D.faults disk.new) result }
@@ -140,7 +140,7 @@ impl Replica {
         requires may { MayWriteNext self.old kind (length body.now) }
         requires address { address ≡ next_address (memory self.old) }
         ensures events { Adds (block_events self.old (next_block self.old kind body.now)) (D.told disk.old) (D.told disk.new) result }
-        ensures made { IsMade self.old.file.layout (place_in InGrid (next_block self.old kind body.now).header.op) (next_block self.old kind body.now) result }
+        ensures made { IsMadeUnit self.old.file.layout (place_in InGrid (next_block self.old kind body.now).header.op) (next_block self.old kind body.now) result }
         ensures live { OnOk result (self.new ≡ written self.old (next_block self.old kind body.now).header) }
         ensures failed { OnErr result (self.new ≡ self.old) }
         ensures cause { HasCause (D.faults disk.old) (D.faults disk.new) result }

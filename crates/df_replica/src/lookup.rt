@@ -14,7 +14,7 @@ ghost use Rattle.df_model.specs.Memory.{reply_sum};
 ghost use Rattle.df_model.specs.Refusals.{first_refusal, lookup_refusals};
 ghost use Rattle.df_state.specs.State.{memory, reply_sum as known_sum};
 ghost use Rattle.df_replica.specs.Answering.{ServesRead, read_reply_answer};
-ghost use Rattle.df_replica.specs.Held.{HoldsReply, LendsReply};
+ghost use Rattle.df_replica.specs.Held.{AreAsBefore, HoldsReply, LendsReply};
 ghost use Rattle.df_replica.specs.Lending.{LendsWrittenReply};
 ghost use Rattle.df_replica.specs.Lookups.{HoldsKnown, IsReadReply, IsStoredFor, ReplyBlames, Tells, place_for, reply_found, reply_leaves, reply_shown};
 ghost use Rattle.df_replica.specs.Reading.{IsKnownUnit, in_words};
@@ -102,8 +102,7 @@ fn load_reply<D: Disk>(
 ) -> (LogRooms, Result<Option<Class>, Failed>)
     requires layout { rooms.layout ≡ file.now.layout }
     requires place { stored.now.place < file.now.layout.clients }
-    ensures layout { result.0.layout ≡ rooms.layout }
-    ensures headers { result.0.headers ≡ rooms.headers }
+    ensures rooms { AreAsBefore rooms result.0 }
     ensures known { IfOk result.1 (λ wrong. HoldsKnown AsReply file.now (place_in ClientReplies stored.now.place) (known_sum stored.now.reply) wrong result.0.reply.held) }
     ensures tells { IfOk result.1 (λ wrong. Tells (D.told disk.old) (reply_shown file.now stored.now.place stored.now.reply) wrong result.0.reply.held) }
     ensures same { D.told disk.new ≡ D.told disk.old }

@@ -16,7 +16,7 @@ ghost use Rattle.df_model.specs.Commands.{Reply as Replies};
 ghost use Rattle.df_model.specs.Making.{place_of_op};
 ghost use Rattle.df_model.specs.Refusals.{first_refusal, reply_refusals};
 ghost use Rattle.df_replica.specs.Answering.{Serves, reply_answer};
-ghost use Rattle.df_replica.specs.Appending.{IsMade, MayBeMade, unit_of};
+ghost use Rattle.df_replica.specs.Appending.{IsMadeUnit, MayBeMade, unit_of};
 ghost use Rattle.df_replica.specs.Held.{AreAsBefore};
 ghost use Rattle.df_replica.specs.Replying.{BlamesReply, IsReply, MayReplyNext, first_check, next_reply, replied, reply_calls, reply_events, reply_given};
 ghost use Rattle.df_state.specs.State.{IsState, memory};
@@ -88,7 +88,7 @@ fn reply_in<D: Disk>(
 ) -> (LogRooms, Result<Header, Failed>)
     requires may { MayBeMade rooms.layout ClientReplies AsReply header body.now }
     ensures events { Adds (reply_calls rooms.layout (unit_of header body.now)) (D.told disk.old) (D.told disk.new) result.1 }
-    ensures made { IsMade rooms.layout (place_in ClientReplies (unit_of header body.now).header.slot) (unit_of header body.now) result.1 }
+    ensures made { IsMadeUnit rooms.layout (place_in ClientReplies (unit_of header body.now).header.slot) (unit_of header body.now) result.1 }
     ensures rooms { AreAsBefore rooms result.0 }
     ensures cause { HasCause (D.faults disk.old) (D.faults disk.new) result.1 }
 {
@@ -177,7 +177,7 @@ impl Replica {
     fn write_next_reply<D: Disk>(&mut self, disk: &mut D, body: &[u8]) -> Result<Header, Failed>
         requires { MayReplyNext self.old (length body.now) }
         ensures events { Adds (reply_events self.old (next_reply self.old body.now)) (D.told disk.old) (D.told disk.new) result }
-        ensures made { IsMade self.old.file.layout (place_in ClientReplies (next_reply self.old body.now).header.slot) (next_reply self.old body.now) result }
+        ensures made { IsMadeUnit self.old.file.layout (place_in ClientReplies (next_reply self.old body.now).header.slot) (next_reply self.old body.now) result }
         ensures state { self.new ≡ self.old }
         ensures cause { HasCause (D.faults disk.old) (D.faults disk.new) result }
     {

@@ -1,5 +1,5 @@
 -- The block that is made is valid at its address.
-use Rattle.std.proofs.Common.{◌≡◌, ◌∙◌, ℕ, List, Option, Some, refl, sym, ap, subst}
+use Rattle.std.proofs.Common.{◌≡◌, ◌∙◌, ℕ, List, Option, Some, sym, ap, subst}
 use Rattle.df_layout.specs.declared.layout.Layout.{Layout}
 use Rattle.df_layout.specs.declared.places.Place.{Place}
 use Rattle.df_layout.specs.declared.places.Zone.{Zone}

@@ -40,7 +40,7 @@ returns-in-Err g c =
 pub returns-in-Err-loaded : goal.returns-in-Err-loaded
 returns-in-Err-loaded g c =
     let told = g.D.Disk.told c.args.disk.now in
-    let headers = c.load_reply-rooms.ensures.headers ∙ ap headers_of (sym c.in-Some.is ∙ c.take.ensures.value) in
+    let headers = c.load_reply-rooms.ensures.rooms.headers ∙ ap headers_of (sym c.in-Some.is ∙ c.take.ensures.value) in
     let for = subst (λ (s : State). IsStoredFor s c.args.client c.in-Ok.stored) c.self.view_is c.in-Ok.ensures.stored in
     let cause : HasCause (g.D.Disk.faults c.args.disk.now) (g.D.Disk.faults c.load_reply-rooms.new.disk) c.load_reply-rooms.result.1 = c.load_reply-rooms.ensures.cause in
     let blames = subst (λ (r : Result (Option Class) Failed). HasCause (g.D.Disk.faults c.args.disk.now) (g.D.Disk.faults c.load_reply-rooms.new.disk) r) c.in-Err-loaded.is cause in (
@@ -63,7 +63,7 @@ returns-in-Some-wrong g c =
     let known = subst (λ (r : Result (Option Class) Failed). IfOk r (λ wrong. HoldsKnown Reply v.file (place_in ClientReplies stored.place) (reply_sum stored.reply) wrong held)) c.in-Ok-loaded.is loaded.known in
     let answer = subst (λ (s : State). TellsOf s client told c.reply_place.result c.in-Some-wrong.class) e (tells_of v client live told stored for c.in-Ok-loaded.wrong held known tells c.in-Some-wrong.class c.reply_place.result c.in-Some-wrong.is c.reply_place.ensures) in
     let blames = subst (λ (r : Result (Option Class) Failed). HasCause (g.D.Disk.faults c.args.disk.now) (g.D.Disk.faults c.load_reply-rooms.new.disk) r) c.in-Ok-loaded.is loaded.cause in (
-      (refl, (λ _. tt), ap (λ (hs : List Header). record (the_view c.self.inside) { headers = hs }) loaded.headers ∙ e),
+      (refl, (λ _. tt), ap (λ (hs : List Header). record (the_view c.self.inside) { headers = hs }) loaded.rooms.headers ∙ e),
       record { after = tt; exact = answer.exact; lent = tt; written = tt; call = answer.call; same = loaded.same; cause = blames.same },
     )
 
@@ -82,6 +82,6 @@ returns-in-None g c =
     let known = subst (λ (r : Result (Option Class) Failed). IfOk r (λ wrong. HoldsKnown Reply v.file (place_in ClientReplies stored.place) (reply_sum stored.reply) wrong held)) c.in-Ok-loaded.is loaded.known in
     let answer = subst (λ (s : State). LendsAs s client told c.reply_in.result.now.unit) e (lends_as v client live told stored for c.in-Ok-loaded.wrong held known tells c.reply_in.result.now c.in-None.is c.reply_in.ensures) in
     let blames = subst (λ (r : Result (Option Class) Failed). HasCause (g.D.Disk.faults c.args.disk.now) (g.D.Disk.faults c.load_reply-rooms.new.disk) r) c.in-Ok-loaded.is loaded.cause in (
-      (refl, (λ _. tt), ap (λ (hs : List Header). record (the_view c.self.inside) { headers = hs }) loaded.headers ∙ e),
+      (refl, (λ _. tt), ap (λ (hs : List Header). record (the_view c.self.inside) { headers = hs }) loaded.rooms.headers ∙ e),
       record { after = tt; exact = answer.exact; lent = answer.known; written = lends_written_reply client c.args.self.now _ told answer.exact; call = answer.call; same = loaded.same; cause = blames.same },
     )
