@@ -1,64 +1,16 @@
 // What no clause says: that a table comes through a disk in memory, and that a failed write is answered.
-ghost use Rattle.std.specs.Prelude.{◌≡◌, None, IfOk};
-ghost use Rattle.df_base.specs.Causes.{HasCause};
+ghost use Rattle.std.specs.Prelude.{◌≡◌, ◌<◌, IfOk};
 ghost use Rattle.df_headers.specs.Ring.{IsTable};
 
-use df_base::{Failed, SECTOR};
+use crate::stored::Board;
+use df_base::Failed;
 use df_buffers::{HeaderSector, Identity, Raw, Wanted};
-use df_disk::Disk;
 use df_format::Header;
 use df_headers::{HeaderTable, read_sector, reserved_header};
 use df_layout::{Class, Layout, Place, Zone};
 use std::alloc::{AllocError, Global};
+use std::process::Abort;
 use std::test::Fail;
-
-// A disk of 8 sectors that tells nothing, and that fails while it is told to.
-#[derive(Drop)]
-struct Board {
-    bytes: Vec<u8>,
-    fails: bool,
-    faults: u64,
-}
-
-impl Board {
-    fn answer(&mut self) -> Result<(), Failed>
-        ensures { HasCause self.old.faults self.new.faults result }
-    {
-        if self.fails {
-            self.faults = self.faults.saturating_add(1);
-            return Err(Failed);
-        }
-        Ok(())
-    }
-}
-
-impl Disk for Board {
-    ghost told = { λ _. None };
-
-    ghost faults = { λ d. d.faults };
-
-    fn read(&mut self, at: u64, into: &mut [u8]) -> Result<(), Failed> {
-        self.answer()?;
-        let from = at as usize * SECTOR;
-        if from + into.len() <= self.bytes.len() {
-            into.copy_from_slice(&self.bytes[from..from + into.len()]);
-        }
-        Ok(())
-    }
-
-    fn write(&mut self, at: u64, bytes: &[u8]) -> Result<(), Failed> {
-        self.answer()?;
-        let from = at as usize * SECTOR;
-        if from + bytes.len() <= self.bytes.len() {
-            self.bytes[from..from + bytes.len()].copy_from_slice(bytes);
-        }
-        Ok(())
-    }
-
-    fn sync(&mut self) -> Result<(), Failed> {
-        self.answer()
-    }
-}
 
 // A table of reserved headers for a layout.
 fn reserved_table(alloc: Global, layout: &Layout) -> Result<HeaderTable, AllocError>
@@ -96,45 +48,58 @@ fn shown(layout: &Layout, slot: u32, room: &Raw<HeaderSector>) -> Result<Header,
     room.header_at(u64::from(slot % 16), &identity)
 }
 
+// Writes the second sector of a table of reserved headers of layout small.
+fn write_reserved(
+    rt: &impl Abort,
+    alloc: Global,
+    board: &mut Board,
+) -> Result<Result<(), Failed>, AllocError> {
+    let layout = Layout::small();
+    let table = reserved_table(alloc, &layout)?;
+    let mut room = Raw::reserve(alloc, &layout).expect(rt, "memory of a room");
+    let written = write_second(board, &layout, &table, &mut room);
+    assert!(rt; table.into_room().len() == 32);
+    Ok(written)
+}
+
+// A sector of headers of layout small, as it is read.
+fn read_back(
+    rt: &impl Abort,
+    alloc: Global,
+    board: &mut Board,
+    sector: u32,
+) -> Result<Raw<HeaderSector>, Failed>
+    requires { sector < 2 }
+{
+    let mut room = Raw::reserve(alloc, &Layout::small()).expect(rt, "memory of a room");
+    read_sector(board, &mut room, sector)?;
+    Ok(room)
+}
+
 #[test]
 fn a_sector_shows_its_own_sixteen_headers(rt: HostRuntime) -> Result<(), Fail> {
     let layout = Layout::small();
-    let mut board = Board {
-        bytes: vec![in rt.alloc(); 0u8; 8 * SECTOR]?,
-        fails: false,
-        faults: 0,
-    };
-    let mut room: Raw<HeaderSector> = Raw::reserve(rt.alloc(), &layout).expect(&rt, "a room");
-    let table = reserved_table(rt.alloc(), &layout)?;
-    write_second(&mut board, &layout, &table, &mut room)?;
+    let mut board = Board::blank(rt.alloc())?;
+    write_reserved(&rt, rt.alloc(), &mut board)??;
     for sector in 0..2u32 {
-        read_sector(&mut board, &mut room, sector)?;
+        let room = read_back(&rt, rt.alloc(), &mut board, sector)?;
         for slot in 16 * sector..16 * sector + 16 {
             let expected = if sector == 1 {
                 Ok(reserved_header(7, slot))
             } else {
                 Err(Class::Blank)
             };
-            assert_eq!(rt; shown(&layout, slot, &room), expected, "slot {slot}");
+            assert!(rt; shown(&layout, slot, &room) == expected, "slot {slot}");
         }
     }
-    assert_eq!(rt; table.into_room().len(), 32);
     Ok(())
 }
 
 #[test]
 fn a_failed_write_is_answered(rt: HostRuntime) -> Result<(), Fail> {
-    let layout = Layout::small();
-    let mut board = Board {
-        bytes: vec![in rt.alloc(); 0u8; 8 * SECTOR]?,
-        fails: true,
-        faults: 0,
-    };
-    let mut room: Raw<HeaderSector> = Raw::reserve(rt.alloc(), &layout).expect(&rt, "a room");
-    let table = reserved_table(rt.alloc(), &layout)?;
-    let written = write_second(&mut board, &layout, &table, &mut room);
-    assert_eq!(rt; written, Err(Failed));
-    let read = read_sector(&mut board, &mut room, 1);
-    assert_eq!(rt; (read, board.faults), (Err(Failed), 2));
+    let mut board = Board::failing(rt.alloc(), 1, u64::MAX)?;
+    assert!(rt; write_reserved(&rt, rt.alloc(), &mut board)? == Err(Failed));
+    assert!(rt; read_back(&rt, rt.alloc(), &mut board, 1).err() == Some(Failed));
+    assert!(rt; board.faults == 2);
     Ok(())
 }

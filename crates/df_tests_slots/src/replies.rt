@@ -3,15 +3,15 @@
 ghost use Rattle.std.specs.Prelude.{◌≡◌};
 ghost use Rattle.df_layout.specs.declared.places.Zone.{Zone as AnyZone};
 
-use crate::stored::{Board, Stored, ask, put};
-use df_buffers::{Identity, Raw, Wanted};
+use crate::stored::{Board, Stored, ask, new_table, put, room_for, scan};
+use df_buffers::{Identity, Raw, Reply, Wanted};
 use df_disk::Disk;
 use df_layout::{Class, Layout, Place, Zone};
-use df_replies::{
-    Lacking, ReplyTable, read_reply_slot, scanned_replies_are_shown, stored_replies_are_found,
-};
+use df_replies::{Lacking, read_reply_slot, scanned_replies_are_shown, stored_replies_are_found};
 use df_sessions::SessionTable;
 use df_stamps::Counters;
+use std::alloc::Global;
+use std::process::Abort;
 use std::test::Fail;
 
 // The sessions of four clients, each after its second request.
@@ -42,35 +42,33 @@ fn turn_of(turn: u8) -> Stored {
 fn the_second_reply_of_the_third_of_four_clients_is_torn(rt: HostRuntime) -> Result<(), Fail> {
     scanned_replies_are_shown();
     stored_replies_are_found();
-    let layout = Layout::small();
-    let mut board = Board::blank(rt.alloc(), 0)?;
+    let mut board = Board::blank(rt.alloc())?;
     let mut before = [0u8; 4096];
     for turn in 0..8u8 {
-        let room = Raw::reserve(rt.alloc(), &layout).expect(&rt, "memory of a room");
-        let (_, written) = put(&mut board, &layout, room, &turn_of(turn), &[turn; 5000]);
-        written?;
+        put(&rt, rt.alloc(), &mut board, &turn_of(turn), &[turn; 5000])?;
         if turn == 3 {
             board.read(75, &mut before)?;
         }
     }
     let sessions = four_sessions();
-    let room = Raw::reserve(rt.alloc(), &layout).expect(&rt, "memory of a room");
-    let mut table = ReplyTable::reserve(rt.alloc(), &layout).expect(&rt, "memory of a table");
-    let (room, scanned) = table.scan(&mut board, &layout, 7, room);
-    scanned?;
-    assert_eq!(rt; table.replies(4, 3), 8);
-    assert_eq!(rt; table.first_lacking(&sessions, 8), None);
+    let mut table = new_table(&rt, rt.alloc());
+    scan(&rt, rt.alloc(), &mut board, &mut table)?;
+    assert!(rt; table.replies(4, 3) == 8);
+    assert!(rt; table.first_lacking(&sessions, 8) == None);
     board.write(75, &before)?;
-    let (_, scanned) = table.scan(&mut board, &layout, 7, room);
-    scanned?;
-    assert_eq!(rt; table.get(2).err(), Some(Class::Garbled));
-    assert_eq!(rt; table.replies(4, 3), 8);
+    scan(&rt, rt.alloc(), &mut board, &mut table)?;
+    assert!(rt; table.get(2).err() == Some(Class::Garbled));
+    assert!(rt; table.replies(4, 3) == 8);
     let lacking = Lacking {
         place: 2,
         class: Class::Garbled,
     };
-    assert_eq!(rt; table.first_lacking(&sessions, 8), Some(lacking));
-    assert_eq!(rt; table.first_lacking(&sessions, 6), None);
+    for (stored, wanted) in [(8, Some(lacking)), (6, None)] {
+        assert!(rt;
+            table.first_lacking(&sessions, stored) == wanted,
+            "{stored}"
+        );
+    }
     Ok(())
 }
 
@@ -100,7 +98,7 @@ const FIRST_LACKS: Option<Lacking> = Some(Lacking {
 
 // What is found where one more reply is written: the greatest op or mark, the greatest checkpoint, the number of replies, and
 // whose reply is missing.
-#[derive(Clone, Copy)]
+#[derive(Clone, Copy, Debug, PartialEq)]
 struct Finding {
     top: u64,
     checkpoint: u64,
@@ -164,55 +162,51 @@ fn cases() -> [(&'static str, Stored, Finding); 7] {
     ]
 }
 
+// What is found of two sessions where these replies were written in turn.
+fn found_behind(rt: &impl Abort, alloc: Global, replies: [Stored; 3]) -> Result<Finding, Fail> {
+    let mut board = Board::blank(alloc)?;
+    for reply in replies {
+        put(rt, alloc, &mut board, &reply, &[])?;
+    }
+    let mut sessions = SessionTable::new(4);
+    ask(&mut sessions, &FIRST);
+    ask(&mut sessions, &SECOND);
+    let mut table = new_table(rt, alloc);
+    scan(rt, alloc, &mut board, &mut table)?;
+    let seen = table.count(&Counters::default());
+    assert!(rt; seen.ring_op == 0);
+    Ok(Finding {
+        top: seen.reply_top,
+        checkpoint: seen.checkpoint,
+        replies: table.replies(0, 0),
+        lacking: table.first_lacking(&sessions, 6),
+    })
+}
+
 #[test]
 fn other_replies_in_a_slot_are_told_apart(rt: HostRuntime) -> Result<(), Fail> {
-    let layout = Layout::small();
     for (name, stored, finding) in cases() {
-        let mut board = Board::blank(rt.alloc(), 0)?;
-        for reply in [FIRST, SECOND, stored] {
-            let room = Raw::reserve(rt.alloc(), &layout).expect(&rt, "memory of a room");
-            let (_, written) = put(&mut board, &layout, room, &reply, &[]);
-            written?;
-        }
-        let mut sessions = SessionTable::new(4);
-        ask(&mut sessions, &FIRST);
-        ask(&mut sessions, &SECOND);
-        let room = Raw::reserve(rt.alloc(), &layout).expect(&rt, "memory of a room");
-        let mut table = ReplyTable::reserve(rt.alloc(), &layout).expect(&rt, "memory of a table");
-        let (_, scanned) = table.scan(&mut board, &layout, 7, room);
-        scanned?;
-        let seen = table.count(&Counters::default());
-        assert_eq!(rt; seen.ring_op, 0, "{name}");
-        assert_eq!(rt; seen.reply_top, finding.top, "{name}");
-        assert_eq!(rt; seen.checkpoint, finding.checkpoint, "{name}");
-        assert_eq!(rt; table.replies(0, 0), finding.replies, "{name}");
-        assert_eq!(rt;
-            table.first_lacking(&sessions, 6),
-            finding.lacking,
-            "{name}"
-        );
+        let found = found_behind(&rt, rt.alloc(), [FIRST, SECOND, stored])?;
+        assert!(rt; found == finding, "{name}: {found:?}");
     }
     Ok(())
 }
 
 #[test]
 fn each_slot_is_read_once_and_a_failed_call_is_answered_once(rt: HostRuntime) -> Result<(), Fail> {
-    let layout = Layout::small();
     for failing in 1..7u64 {
-        let mut board = Board::blank(rt.alloc(), failing)?;
-        let room = Raw::reserve(rt.alloc(), &layout).expect(&rt, "memory of a room");
-        let mut table = ReplyTable::reserve(rt.alloc(), &layout).expect(&rt, "memory of a table");
-        let (room, written) = put(&mut board, &layout, room, &FIRST, &[]);
-        assert_eq!(rt; written.is_err(), failing <= 2, "call {failing}");
+        let mut board = Board::failing(rt.alloc(), failing, failing)?;
+        let written = put(&rt, rt.alloc(), &mut board, &FIRST, &[]);
+        assert!(rt; written.is_err() == (failing <= 2), "call {failing}");
         let made = board.calls;
-        let (room, scanned) = table.scan(&mut board, &layout, 7, room);
-        assert_eq!(rt; scanned.is_err(), 2 < failing, "call {failing}");
+        let mut table = new_table(&rt, rt.alloc());
+        let scanned = scan(&rt, rt.alloc(), &mut board, &mut table);
+        assert!(rt; scanned.is_err() == (2 < failing), "call {failing}");
         if failing <= 2 {
-            assert_eq!(rt; board.calls.saturating_sub(made), 4);
+            assert!(rt; board.calls.saturating_sub(made) == 4, "call {failing}");
         }
-        let (_, again) = table.scan(&mut board, &layout, 7, room);
-        again?;
-        assert_eq!(rt; table.get(0).is_ok(), failing != 1, "call {failing}");
+        scan(&rt, rt.alloc(), &mut board, &mut table)?;
+        assert!(rt; table.get(0).is_ok() == (failing != 1), "call {failing}");
     }
     Ok(())
 }
@@ -237,27 +231,30 @@ fn wanted(layout: &Layout, request: u64) -> Identity
     }
 }
 
+// The length of the body of the reply to this request, and the room again.
+fn length_of(layout: &Layout, room: Raw<Reply>, request: u64) -> (Raw<Reply>, Result<usize, Class>)
+    requires { room.layout ≡ layout.now }
+    ensures { result.0.layout ≡ layout.now }
+{
+    match room.prove(&wanted(layout, request)) {
+        Ok(unit) => {
+            let length = unit.body().len();
+            (unit.loosen(), Ok(length))
+        }
+        Err((room, class)) => (room, Err(class)),
+    }
+}
+
 #[test]
 fn a_reply_is_read_by_its_request(rt: HostRuntime) -> Result<(), Fail> {
     let layout = Layout::small();
-    let mut board = Board::blank(rt.alloc(), 0)?;
-    let room = Raw::reserve(rt.alloc(), &layout).expect(&rt, "memory of a room");
-    let (mut room, written) = put(&mut board, &layout, room, &SECOND, &[9; 300]);
-    written?;
+    let mut board = Board::blank(rt.alloc())?;
+    put(&rt, rt.alloc(), &mut board, &SECOND, &[9; 300])?;
+    let mut room = room_for(&rt, rt.alloc(), &layout);
     read_reply_slot(&mut board, &layout, 1, &mut room)?;
-    let room = match room.prove(&wanted(&layout, 2)) {
-        Ok(unit) => {
-            assert!(rt; false);
-            unit.loosen()
-        }
-        Err((room, class)) => {
-            assert_eq!(rt; class, Class::Stale);
-            room
-        }
-    };
-    match room.prove(&wanted(&layout, 1)) {
-        Ok(unit) => assert_eq!(rt; unit.body().len(), 300),
-        Err((_room, _class)) => assert!(rt; false),
-    }
+    let (room, second) = length_of(&layout, room, 2);
+    assert!(rt; second == Err(Class::Stale));
+    let (_room, first) = length_of(&layout, room, 1);
+    assert!(rt; first == Ok(300));
     Ok(())
 }

@@ -11,25 +11,33 @@ use df_buffers::{Raw, Reply};
 use df_disk::Disk;
 use df_format::{Header, Kind};
 use df_layout::{Layout, Zone};
-use df_replies::write_reply;
+use df_replies::{ReplyTable, write_reply};
 use df_sessions::SessionTable;
 use std::alloc::{AllocError, Global};
+use std::process::Abort;
 
-// A disk of 80 sectors that tells nothing, counts its calls, and whose call number `failing` fails.
+// A disk of 80 sectors that tells nothing, counts its calls, and whose calls of some numbers fail, from 1 on.
 #[derive(Drop)]
 pub(crate) struct Board {
     bytes: Vec<u8>,
     pub(crate) calls: u64,
-    failing: u64,
-    faults: u64,
+    first: u64,
+    last: u64,
+    pub(crate) faults: u64,
 }
 
 impl Board {
-    pub(crate) fn blank(alloc: Global, failing: u64) -> Result<Board, AllocError> {
+    pub(crate) fn blank(alloc: Global) -> Result<Board, AllocError> {
+        Board::failing(alloc, 0, 0)
+    }
+
+    // One whose calls fail from the first of these numbers to the last.
+    pub(crate) fn failing(alloc: Global, first: u64, last: u64) -> Result<Board, AllocError> {
         Ok(Board {
             bytes: vec![in alloc; 0u8; 80 * SECTOR]?,
             calls: 0,
-            failing,
+            first,
+            last,
             faults: 0,
         })
     }
@@ -38,7 +46,7 @@ impl Board {
         ensures { HasCause self.old.faults self.new.faults result }
     {
         self.calls = self.calls.saturating_add(1);
-        if self.calls == self.failing {
+        if self.first <= self.calls && self.calls <= self.last {
             self.faults = self.faults.saturating_add(1);
             return Err(Failed);
         }
@@ -111,24 +119,49 @@ fn header_of(stored: &Stored, body: &[u8]) -> Header
     }
 }
 
-// Writes a reply with this body into its slot.
+// Memory of a room for a reply.
+pub(crate) fn room_for(rt: &impl Abort, alloc: Global, layout: &Layout) -> Raw<Reply>
+    ensures { result.layout ≡ layout.now }
+{
+    Raw::reserve(alloc, layout).expect(rt, "memory of a room")
+}
+
+// Writes a reply with this body into its slot of layout small.
 pub(crate) fn put(
+    rt: &impl Abort,
+    alloc: Global,
     board: &mut Board,
-    layout: &Layout,
-    room: Raw<Reply>,
     stored: &Stored,
     body: &[u8],
-) -> (Raw<Reply>, Result<(), Failed>)
-    requires clients { layout.now.clients ≡ 4 }
-    requires size { layout.now.message_size ≡ 8192 }
-    requires body { length body.now ≤ 7936 }
-    requires room { room.layout ≡ layout.now }
-    ensures room { result.0.layout ≡ layout.now }
+) -> Result<(), Failed>
+    requires { length body.now ≤ 7936 }
 {
+    let layout = Layout::small();
     let header = header_of(stored, body);
-    let unit = room.make(header, body);
-    let written = write_reply(board, layout, &unit);
-    (unit.loosen(), written)
+    let unit = room_for(rt, alloc, &layout).make(header, body);
+    write_reply(board, &layout, &unit)
+}
+
+// An empty table of layout small.
+pub(crate) fn new_table(rt: &impl Abort, alloc: Global) -> ReplyTable
+    ensures { length result ≡ 4 }
+{
+    ReplyTable::reserve(alloc, &Layout::small()).expect(rt, "memory of a table")
+}
+
+// Reads each slot of layout small into the table.
+pub(crate) fn scan(
+    rt: &impl Abort,
+    alloc: Global,
+    board: &mut Board,
+    table: &mut ReplyTable,
+) -> Result<(), Failed>
+    requires { length table.old ≡ 4 }
+    ensures { length table.new ≡ 4 }
+{
+    let layout = Layout::small();
+    let (_room, scanned) = table.scan(board, &layout, 7, room_for(rt, alloc, &layout));
+    scanned
 }
 
 // Notes a client's request, where the table has room for it.
