@@ -86,8 +86,8 @@ fn checksums_are_those_of_the_standard(rt: HostRuntime) {
         0xba, 0x78, 0x16, 0xbf, 0x8f, 0x01, 0xcf, 0xea, 0x41, 0x41, 0x40, 0xde, 0x5d, 0xae, 0x22,
         0x23,
     ];
-    assert_eq!(rt; check(b""), of_nothing);
-    assert_eq!(rt; check(b"abc"), of_abc);
+    assert!(rt; check(b"") == of_nothing);
+    assert!(rt; check(b"abc") == of_abc);
 }
 
 #[test]
@@ -101,15 +101,20 @@ fn fields_stand_with_their_lowest_byte_first(rt: HostRuntime) {
         0xff, 2, 1, 6, 5, 4, 3, 14, 13, 12, 11, 10, 9, 8, 7, 30, 29, 28, 27, 26, 25, 24, 23, 22,
         21, 20, 19, 18, 17, 16, 15, 0xff,
     ];
-    assert_eq!(rt; bytes, wanted);
-    assert_eq!(rt; u16_at(&bytes, 1), 0x0102);
-    assert_eq!(rt; u32_at(&bytes, 3), 0x0304_0506);
-    assert_eq!(rt; u64_at(&bytes, 7), 0x0708_090a_0b0c_0d0e);
-    assert_eq!(rt;
-        u128_at(&bytes, 15),
-        0x0f10_1112_1314_1516_1718_191a_1b1c_1d1e
-    );
+    assert!(rt; bytes == wanted);
+    assert!(rt; u16_at(&bytes, 1) == 0x0102);
+    assert!(rt; u32_at(&bytes, 3) == 0x0304_0506);
+    assert!(rt; u64_at(&bytes, 7) == 0x0708_090a_0b0c_0d0e);
+    assert!(rt; u128_at(&bytes, 15) == 0x0f10_1112_1314_1516_1718_191a_1b1c_1d1e);
     fields_are_spelled();
+}
+
+// How many of two bytes were read; they are written where the sink takes them.
+fn carried(source: &mut MemorySource, sink: &mut MemorySink) -> Result<usize, Failed> {
+    let mut piece = [0u8; 2];
+    let count = source.read(&mut piece)?;
+    let _ = sink.write(&piece[..count]);
+    Ok(count)
 }
 
 #[test]
@@ -117,16 +122,14 @@ fn listed_calls_in_memory_fail(rt: HostRuntime) -> Result<(), Fail> {
     let text = Vec::from_slice(rt.alloc(), b"abcde")?;
     let mut source = MemorySource::new(text, Vec::from_slice(rt.alloc(), &[2])?);
     let mut sink = MemorySink::new(rt.alloc(), Vec::from_slice(rt.alloc(), &[1, 4])?);
-    let mut piece = [0u8; 2];
-    for wanted in [Ok(2), Err(Failed), Ok(2), Ok(1), Ok(0)] {
-        let count = source.read(&mut piece);
-        assert_eq!(rt; count, wanted);
-        if let Ok(count) = count {
-            let _ = sink.write(&piece[..count]);
-        }
+    for (i, wanted) in [Ok(2), Err(Failed), Ok(2), Ok(1), Ok(0)]
+        .into_iter()
+        .enumerate()
+    {
+        assert!(rt; carried(&mut source, &mut sink) == wanted, "read {i}");
     }
-    assert_eq!(rt; sink.bytes(), b"cde".as_slice());
-    assert_eq!(rt; sink.refused(), 0);
+    assert!(rt; sink.bytes() == b"cde".as_slice());
+    assert!(rt; sink.refused() == 0);
     Ok(())
 }
 
@@ -141,11 +144,16 @@ fn a_reader_is_read_past_interruptions_and_not_past_errors(rt: HostRuntime) {
     ];
     let mut source = FromRead::new(Scripted::new(rt.alloc(), &turns));
     let mut into = [0u8; 4];
-    assert_eq!(rt; source.read(&mut into), Ok(2));
-    assert_eq!(rt; into, [1, 1, 0, 0]);
-    assert_eq!(rt; source.read(&mut into), Err(Failed));
-    assert_eq!(rt; source.read(&mut into), Ok(4));
-    assert_eq!(rt; source.read(&mut into), Ok(0));
+    let rows = [
+        (Ok(2), [1, 1, 0, 0]),
+        (Err(Failed), [1, 1, 0, 0]),
+        (Ok(4), [2; 4]),
+        (Ok(0), [2; 4]),
+    ];
+    for (i, (count, bytes)) in rows.into_iter().enumerate() {
+        assert!(rt; source.read(&mut into) == count, "read {i}");
+        assert!(rt; into == bytes, "read {i}");
+    }
 }
 
 #[test]
@@ -161,13 +169,14 @@ fn a_writer_gets_the_whole_piece_and_a_flush(rt: HostRuntime) {
     ];
     let mut writer = Scripted::new(rt.alloc(), &turns);
     let mut sink = ToWrite::new(&mut writer);
-    assert_eq!(rt; sink.write(b"abcd"), Ok(()));
-    assert_eq!(rt;
-        sink.write(b"ef"),
-        Err(Failed),
-        "a writer that takes nothing"
-    );
-    assert_eq!(rt; sink.write(b"gh"), Err(Failed), "a writer that breaks");
-    assert_eq!(rt; writer.taken.as_slice(), b"abcdeg".as_slice());
-    assert_eq!(rt; writer.flushes, 1);
+    let rows = [
+        ("abcd", Ok(()), "a piece in three turns"),
+        ("ef", Err(Failed), "a writer that takes nothing"),
+        ("gh", Err(Failed), "a writer that breaks"),
+    ];
+    for (piece, answer, name) in rows {
+        assert!(rt; sink.write(piece.as_bytes()) == answer, "{name}");
+    }
+    assert!(rt; writer.taken.as_slice() == b"abcdeg".as_slice());
+    assert!(rt; writer.flushes == 1);
 }

@@ -12,4 +12,6 @@ mod guarded;
 #[cfg(test)]
 mod memory;
 #[cfg(test)]
+mod rows;
+#[cfg(test)]
 mod streams;

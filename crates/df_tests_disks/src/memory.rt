@@ -1,4 +1,5 @@
 // Each call once, on rows whose outcome is known beforehand.
+use crate::rows::{Call, assert_answers, assert_holds, assert_shows};
 use df_base::{Failed, SECTOR};
 use df_disk::Disk;
 use df_memdisk::{Change, MemoryDisk, StopError, Strike};
@@ -6,63 +7,76 @@ use std::alloc::Global;
 use std::process::Abort;
 use std::test::Fail;
 
-fn change(alloc: Global, sector: u64, byte: u8) -> Result<Vec<Change>, Fail> {
+fn blank(alloc: Global) -> MemoryDisk {
+    MemoryDisk::new(alloc, Vec::new(alloc))
+}
+
+// A choice of one sector at a stop for each byte, the last of which stays.
+fn choice_of(alloc: Global, sector: u64, bytes: &[u8]) -> Result<Vec<Change>, Fail> {
     let mut choice = Vec::new(alloc);
-    choice.push(Change {
-        sector,
-        bytes: [byte; SECTOR],
-    })?;
+    for byte in bytes.iter().copied() {
+        choice.push(Change {
+            sector,
+            bytes: [byte; SECTOR],
+        })?;
+    }
     Ok(choice)
 }
 
-// The sector holds this byte 4096 times.
-fn assert_holds(rt: &impl Abort, disk: &mut MemoryDisk, sector: u16, byte: u8) {
-    let mut shown = [!byte; SECTOR];
-    assert_eq!(rt; disk.read(u64::from(sector), &mut shown), Ok(()));
-    assert_eq!(rt; shown, [byte; SECTOR], "sector {sector}");
+// The disk behind a stop that is taken, with the changes of one sector.
+fn stopped(alloc: Global, disk: MemoryDisk, sector: u64, bytes: &[u8]) -> Result<MemoryDisk, Fail> {
+    match disk.stop(choice_of(alloc, sector, bytes)?) {
+        Ok(disk) => Ok(disk),
+        Err(_) => Err("a stop of loose sectors was refused".into()),
+    }
+}
+
+// A stop that changes this sector is refused, for it isn't loose; the disk as it was.
+fn refused(
+    rt: &impl Abort,
+    alloc: Global,
+    disk: MemoryDisk,
+    sector: u64,
+) -> Result<MemoryDisk, Fail> {
+    match disk.stop(choice_of(alloc, sector, &[0xa5])?) {
+        Ok(_) => Err("a sector that isn't loose was changed".into()),
+        Err((disk, error)) => {
+            assert!(rt; error == StopError::NotLoose { sector });
+            Ok(disk)
+        }
+    }
 }
 
 #[test]
 fn sectors_show_what_was_written_last_and_zeros_before(rt: HostRuntime) {
-    let mut disk = MemoryDisk::new(rt.alloc(), Vec::new(rt.alloc()));
+    let mut disk = blank(rt.alloc());
     let mut two = [1u8; 2 * SECTOR];
     two[SECTOR..].fill(2);
-    assert_eq!(rt; disk.write(3, &two), Ok(()));
-    assert_eq!(rt; disk.sync(), Ok(()));
-    assert_eq!(rt; disk.write(4, &[9u8; SECTOR]), Ok(()));
-    let mut shown = [7u8; 4 * SECTOR];
-    assert_eq!(rt; disk.read(2, &mut shown), Ok(()));
-    let mut wanted = [0u8; 4 * SECTOR];
-    wanted[SECTOR..2 * SECTOR].fill(1);
-    wanted[2 * SECTOR..3 * SECTOR].fill(9);
-    assert_eq!(rt; shown, wanted);
-    assert_eq!(rt; disk.events(), 3);
+    assert!(rt; disk.write(3, &two).is_ok());
+    assert_answers(
+        &rt,
+        &mut disk,
+        &[(Call::Sync, Ok(())), (Call::Fill(4, 9), Ok(()))],
+    );
+    assert_shows(&rt, &mut disk, 2, [0, 1, 9, 0]);
+    assert!(rt; disk.events() == 3);
 }
 
 #[test]
 fn a_stop_tears_loose_sectors_alone(rt: HostRuntime) -> Result<(), Fail> {
-    let mut disk = MemoryDisk::new(rt.alloc(), Vec::new(rt.alloc()));
-    assert_eq!(rt; disk.write(5, &[5u8; SECTOR]), Ok(()));
-    assert_eq!(rt; disk.sync(), Ok(()));
-    assert_eq!(rt; disk.write(6, &[6u8; SECTOR]), Ok(()));
-    let Err((disk, error)) = disk.stop(change(rt.alloc(), 5, 0xa5)?) else {
-        return Err("a firm sector was changed".into());
-    };
-    assert_eq!(rt; error, StopError::NotLoose { sector: 5 });
-    assert_eq!(rt; disk.events(), 3);
-    let mut choice = change(rt.alloc(), 6, 0xa5)?;
-    choice.push(Change {
-        sector: 6,
-        bytes: [0x5a; SECTOR],
-    })?;
-    let Ok(mut disk) = disk.stop(choice) else {
-        return Err("a loose sector was refused".into());
-    };
-    assert_eq!(rt; disk.events(), 4);
-    assert_holds(&rt, &mut disk, 5, 5);
-    assert_holds(&rt, &mut disk, 6, 0x5a);
-    let again = disk.stop(change(rt.alloc(), 6, 0)?);
-    assert!(rt; again.is_err(), "nothing is loose behind a stop");
+    let mut disk = blank(rt.alloc());
+    let rows = [
+        (Call::Fill(5, 5), Ok(())),
+        (Call::Sync, Ok(())),
+        (Call::Fill(6, 6), Ok(())),
+    ];
+    assert_answers(&rt, &mut disk, &rows);
+    let disk = refused(&rt, rt.alloc(), disk, 5)?;
+    assert!(rt; disk.events() == 3);
+    let mut disk = stopped(rt.alloc(), disk, 6, &[0xa5, 0x5a])?;
+    assert!(rt; disk.events() == 4);
+    assert_shows(&rt, &mut disk, 4, [0, 5, 0x5a, 0]);
+    let _disk = refused(&rt, rt.alloc(), disk, 6)?;
     Ok(())
 }
 
@@ -70,32 +84,30 @@ fn a_stop_tears_loose_sectors_alone(rt: HostRuntime) -> Result<(), Fail> {
 fn listed_calls_fail_and_a_listed_write_is_in_the_log(rt: HostRuntime) -> Result<(), Fail> {
     let mut disk = MemoryDisk::new(rt.alloc(), Vec::from_slice(rt.alloc(), &[2, 4, 5])?);
     let table = [
-        (disk.write(1, &[1u8; SECTOR]), Ok(()), disk.events(), 1),
-        (disk.write(1, &[2u8; SECTOR]), Err(Failed), disk.events(), 2),
-        (disk.sync(), Ok(()), disk.events(), 3),
-        (disk.sync(), Err(Failed), disk.events(), 3),
-        (
-            disk.read(1, &mut [0u8; SECTOR]),
-            Err(Failed),
-            disk.events(),
-            3,
-        ),
+        (Call::Fill(1, 1), Ok(()), 1),
+        (Call::Fill(1, 2), Err(Failed), 2),
+        (Call::Sync, Ok(()), 3),
+        (Call::Sync, Err(Failed), 3),
+        (Call::Read(1), Err(Failed), 3),
     ];
-    for (call, (answer, wanted, events, wanted_events)) in table.into_iter().enumerate() {
-        assert_eq!(rt; answer, wanted, "call {call}");
-        assert_eq!(rt; events, wanted_events, "call {call}");
+    for (call, wanted, events) in table {
+        assert_answers(&rt, &mut disk, &[(call, wanted)]);
+        assert!(rt; disk.events() == events, "event {events}");
     }
     assert_holds(&rt, &mut disk, 1, 2);
-    assert_eq!(rt; disk.refused(), 0);
+    assert!(rt; disk.refused() == 0);
     Ok(())
 }
 
 #[test]
 fn a_strike_shows_its_bytes_in_one_sector_and_adds_no_event(rt: HostRuntime) {
-    let mut disk = MemoryDisk::new(rt.alloc(), Vec::new(rt.alloc()));
-    assert_eq!(rt; disk.write(3, &[1u8; SECTOR]), Ok(()));
-    assert_eq!(rt; disk.sync(), Ok(()));
-    assert_eq!(rt; disk.write(3, &[2u8; SECTOR]), Ok(()));
+    let mut disk = blank(rt.alloc());
+    let rows = [
+        (Call::Fill(3, 1), Ok(())),
+        (Call::Sync, Ok(())),
+        (Call::Fill(3, 2), Ok(())),
+    ];
+    assert_answers(&rt, &mut disk, &rows);
     let table: [(u16, Strike, u8); 8] = [
         (3, Strike::Fill { byte: 0xa5 }, 0xa5),
         (3, Strike::Earlier { events: 0 }, 0),
@@ -107,52 +119,42 @@ fn a_strike_shows_its_bytes_in_one_sector_and_adds_no_event(rt: HostRuntime) {
         (5, Strike::Like { sector: 5 }, 0x5a),
     ];
     for (sector, strike, byte) in table {
-        assert_eq!(rt;
-            disk.strike(u64::from(sector), strike),
-            Ok(()),
+        assert!(rt;
+            disk.strike(u64::from(sector), strike).is_ok(),
             "{strike:?}"
         );
         assert_holds(&rt, &mut disk, sector, byte);
         assert_holds(&rt, &mut disk, 4, 0);
-        assert_eq!(rt; disk.events(), 3);
+        assert!(rt; disk.events() == 3, "{strike:?}");
     }
-    assert_eq!(rt; disk.refused(), 0);
+    assert!(rt; disk.refused() == 0);
 }
 
 #[test]
 fn a_struck_sector_is_shown_so_until_it_is_written_or_stopped(rt: HostRuntime) -> Result<(), Fail> {
-    let mut disk = MemoryDisk::new(rt.alloc(), Vec::new(rt.alloc()));
-    assert_eq!(rt; disk.write(0, &[1u8; 3 * SECTOR]), Ok(()));
+    let mut disk = blank(rt.alloc());
+    assert!(rt; disk.write(0, &[1u8; 3 * SECTOR]).is_ok());
     for sector in 0..4 {
-        assert_eq!(rt; disk.strike(sector, Strike::Fill { byte: 0xa5 }), Ok(()));
+        assert!(rt; disk.strike(sector, Strike::Fill { byte: 0xa5 }).is_ok());
     }
-    assert_eq!(rt; disk.write(2, &[2u8; SECTOR]), Ok(()));
-    let Err((disk, error)) = disk.stop(change(rt.alloc(), 3, 9)?) else {
-        return Err("a sector that was struck and never written was changed".into());
-    };
-    assert_eq!(rt; error, StopError::NotLoose { sector: 3 });
-    let Ok(mut disk) = disk.stop(change(rt.alloc(), 0, 9)?) else {
-        return Err("a loose sector was refused".into());
-    };
-    for (sector, byte) in [(0, 9), (1, 0xa5), (2, 2), (3, 0xa5)] {
-        assert_holds(&rt, &mut disk, sector, byte);
-    }
-    assert_eq!(rt; disk.events(), 3);
+    assert_answers(&rt, &mut disk, &[(Call::Fill(2, 2), Ok(()))]);
+    let disk = refused(&rt, rt.alloc(), disk, 3)?;
+    let mut disk = stopped(rt.alloc(), disk, 0, &[9])?;
+    assert_shows(&rt, &mut disk, 0, [9, 0xa5, 2, 0xa5]);
+    assert!(rt; disk.events() == 3);
     Ok(())
 }
 
 #[test]
 fn a_synced_sector_is_not_loose_and_an_empty_stop_is_taken(rt: HostRuntime) -> Result<(), Fail> {
-    let mut disk = MemoryDisk::new(rt.alloc(), Vec::new(rt.alloc()));
-    assert_eq!(rt; disk.write(0, &[1u8; SECTOR]), Ok(()));
-    assert_eq!(rt; disk.sync(), Ok(()));
-    let Err((disk, error)) = disk.stop(change(rt.alloc(), 0, 0xa5)?) else {
-        return Err("a synced sector was changed".into());
-    };
-    assert_eq!(rt; error, StopError::NotLoose { sector: 0 });
-    let Ok(mut disk) = disk.stop(Vec::new(rt.alloc())) else {
-        return Err("a stop that changes nothing was refused".into());
-    };
+    let mut disk = blank(rt.alloc());
+    assert_answers(
+        &rt,
+        &mut disk,
+        &[(Call::Fill(0, 1), Ok(())), (Call::Sync, Ok(()))],
+    );
+    let disk = refused(&rt, rt.alloc(), disk, 0)?;
+    let mut disk = stopped(rt.alloc(), disk, 0, &[])?;
     assert_holds(&rt, &mut disk, 0, 1);
     Ok(())
 }
