@@ -34,11 +34,22 @@ const TWIN: SuperFields = SuperFields {
     ..EARLY
 };
 
-const BLANK: Slot = Slot::Bad(Class::Blank);
+// What stands at the place of a copy.
+#[derive(Clone, Copy)]
+enum Shown {
+    // A sound copy that says it has this number, of the early content.
+    Early(u8),
+    Later(u8),
+    Twin(u8),
+    // Of the early content too, but for its checksum, which is this byte sixteen times.
+    Summed(u8, u8),
+    Bad(Class),
+}
 
-const GARBLED: Slot = Slot::Bad(Class::Garbled);
+const BLANK: Shown = Shown::Bad(Class::Blank);
 
-// A sound copy that says it has this number.
+const GARBLED: Shown = Shown::Bad(Class::Garbled);
+
 fn sound(number: u8, checksum: u8, fields: SuperFields) -> Slot {
     Slot::Sound(SuperCopy {
         number,
@@ -47,67 +58,122 @@ fn sound(number: u8, checksum: u8, fields: SuperFields) -> Slot {
     })
 }
 
-fn early(number: u8) -> Slot {
-    sound(number, 5, EARLY)
+fn slot_of(shown: Shown) -> Slot {
+    match shown {
+        Shown::Early(number) => sound(number, 5, EARLY),
+        Shown::Later(number) => sound(number, 6, LATER),
+        Shown::Twin(number) => sound(number, 7, TWIN),
+        Shown::Summed(number, checksum) => sound(number, checksum, EARLY),
+        Shown::Bad(class) => Slot::Bad(class),
+    }
 }
 
-fn later(number: u8) -> Slot {
-    sound(number, 6, LATER)
+fn chosen(copies: [Shown; 4]) -> Result<Chosen, [Class; 4]> {
+    let [first, second, third, last] = copies;
+    choose(&[
+        slot_of(first),
+        slot_of(second),
+        slot_of(third),
+        slot_of(last),
+    ])
 }
 
-fn twin(number: u8) -> Slot {
-    sound(number, 7, TWIN)
-}
+const YES: bool = true;
 
-fn elsewhere(index: u64) -> Class {
-    Class::Elsewhere(Place {
-        zone: Zone::Superblock,
-        index,
-    })
-}
+const NO: bool = false;
+
+// What stands at the four places, the content that is chosen, and which of the copies are its own.
+const CHOSEN: [(&'static str, [Shown; 4], SuperFields, [bool; 4]); 9] = [
+    (
+        "four equal copies",
+        [
+            Shown::Early(0),
+            Shown::Early(1),
+            Shown::Early(2),
+            Shown::Early(3),
+        ],
+        EARLY,
+        [YES, YES, YES, YES],
+    ),
+    (
+        "the first two of a later sequence",
+        [
+            Shown::Later(0),
+            Shown::Later(1),
+            Shown::Early(2),
+            Shown::Early(3),
+        ],
+        LATER,
+        [YES, YES, NO, NO],
+    ),
+    (
+        "the last two of a later sequence",
+        [
+            Shown::Early(0),
+            Shown::Early(1),
+            Shown::Later(2),
+            Shown::Later(3),
+        ],
+        LATER,
+        [NO, NO, YES, YES],
+    ),
+    (
+        "a single one of a later sequence",
+        [Shown::Later(0), Shown::Early(1), Shown::Early(2), BLANK],
+        EARLY,
+        [NO, YES, YES, NO],
+    ),
+    (
+        "two contents of one sequence",
+        [
+            Shown::Early(0),
+            Shown::Twin(1),
+            Shown::Early(2),
+            Shown::Twin(3),
+        ],
+        EARLY,
+        [YES, NO, YES, NO],
+    ),
+    (
+        "the same, the other way round",
+        [
+            Shown::Twin(0),
+            Shown::Early(1),
+            Shown::Early(2),
+            Shown::Twin(3),
+        ],
+        TWIN,
+        [YES, NO, NO, YES],
+    ),
+    (
+        "two damaged copies",
+        [GARBLED, Shown::Early(1), BLANK, Shown::Early(3)],
+        EARLY,
+        [NO, YES, NO, YES],
+    ),
+    (
+        "a damaged copy",
+        [Shown::Early(0), GARBLED, Shown::Early(2), Shown::Early(3)],
+        EARLY,
+        [YES, NO, YES, YES],
+    ),
+    (
+        "copies that stand at each other's place",
+        [
+            Shown::Later(1),
+            Shown::Later(0),
+            Shown::Early(2),
+            Shown::Early(3),
+        ],
+        EARLY,
+        [NO, NO, YES, YES],
+    ),
+];
 
 #[test]
 fn the_greatest_content_of_two_copies_is_chosen(rt: HostRuntime) {
-    let (y, n) = (true, false);
-    let rows = [
-        // Four equal copies.
-        (
-            [early(0), early(1), early(2), early(3)],
-            EARLY,
-            [y, y, y, y],
-        ),
-        // Two of a later sequence.
-        (
-            [later(0), later(1), early(2), early(3)],
-            LATER,
-            [y, y, n, n],
-        ),
-        (
-            [early(0), early(1), later(2), later(3)],
-            LATER,
-            [n, n, y, y],
-        ),
-        // A single one of a later sequence.
-        ([later(0), early(1), early(2), BLANK], EARLY, [n, y, y, n]),
-        // Two contents of one sequence.
-        ([early(0), twin(1), early(2), twin(3)], EARLY, [y, n, y, n]),
-        ([twin(0), early(1), early(2), twin(3)], TWIN, [y, n, n, y]),
-        // Damage.
-        ([GARBLED, early(1), BLANK, early(3)], EARLY, [n, y, n, y]),
-        ([early(0), GARBLED, early(2), early(3)], EARLY, [y, n, y, y]),
-        // Copies that stand at each other's place.
-        (
-            [later(1), later(0), early(2), early(3)],
-            EARLY,
-            [n, n, y, y],
-        ),
-    ];
-    for (copies, content, members) in rows {
-        assert_eq!(rt;
-            choose(&copies),
-            Ok(Chosen { content, members }),
-            "{copies:?}"
-        );
+    for (name, copies, content, members) in CHOSEN {
+        assert!(rt; chosen(copies) == Ok(Chosen { content, members }), "{name}");
     }
 }
 
@@ -116,29 +182,39 @@ fn copies_that_do_not_agree_give_their_classes(rt: HostRuntime) {
     let garbled = Class::Garbled;
     let blank = Class::Blank;
     let stale = Class::Stale;
-    let other = elsewhere(2);
+    let other = Class::Elsewhere(Place {
+        zone: Zone::Superblock,
+        index: 2,
+    });
     let rows = [
-        // Three contents, and one that is early too, but for its checksum.
         (
-            [early(0), later(1), twin(2), sound(3, 8, EARLY)],
+            "three contents, and one that is early too, but for its checksum",
+            [
+                Shown::Early(0),
+                Shown::Later(1),
+                Shown::Twin(2),
+                Shown::Summed(3, 8),
+            ],
             [stale; 4],
         ),
-        // Equal checksums with different fields.
         (
-            [BLANK, sound(1, 6, EARLY), BLANK, later(3)],
+            "equal checksums with different fields",
+            [BLANK, Shown::Summed(1, 6), BLANK, Shown::Later(3)],
             [blank, stale, blank, stale],
         ),
-        // Three damaged copies.
         (
-            [GARBLED, Slot::Bad(other), early(2), BLANK],
+            "three damaged copies",
+            [GARBLED, Shown::Bad(other), Shown::Early(2), BLANK],
             [garbled, other, stale, blank],
         ),
-        // A new file.
-        ([BLANK; 4], [blank; 4]),
-        // One copy four times: it is at its own place once.
-        ([early(2); 4], [other, other, stale, other]),
+        ("a new file", [BLANK; 4], [blank; 4]),
+        (
+            "one copy four times: it is at its own place once",
+            [Shown::Early(2); 4],
+            [other, other, stale, other],
+        ),
     ];
-    for (copies, classes) in rows {
-        assert_eq!(rt; choose(&copies), Err(classes), "{copies:?}");
+    for (name, copies, classes) in rows {
+        assert!(rt; chosen(copies) == Err(classes), "{name}");
     }
 }

@@ -51,10 +51,6 @@ fn shown(cluster: u128, zone: Zone, index: u64, front: &[u8; 256]) -> Result<Hea
     }
 }
 
-fn elsewhere(zone: Zone, index: u64) -> Option<Class> {
-    Some(Class::Elsewhere(Place { zone, index }))
-}
-
 #[test]
 fn shows_the_unit_of_each_place(rt: HostRuntime) {
     let cases = [
@@ -68,48 +64,38 @@ fn shows_the_unit_of_each_place(rt: HostRuntime) {
     ];
     for (zone, index, front) in cases {
         let bytes = spelled(&front);
-        assert_eq!(rt; shown(7, zone, index, &bytes).ok(), decode_header(&bytes));
-        assert_eq!(rt; shown(8, zone, index, &bytes), Err(Class::Garbled));
+        assert!(rt;
+            shown(7, zone, index, &bytes).ok() == decode_header(&bytes),
+            "{zone:?} {index}"
+        );
+        assert!(rt;
+            shown(8, zone, index, &bytes) == Err(Class::Garbled),
+            "{zone:?} {index}"
+        );
     }
 }
 
 #[test]
 fn tells_units_of_other_places(rt: HostRuntime) {
     let cases = [
-        (
-            Zone::WalHeaders,
-            4,
-            RESERVED,
-            elsewhere(Zone::WalHeaders, 3),
-        ),
-        (Zone::WalHeaders, 2, PREPARE, elsewhere(Zone::WalHeaders, 1)),
-        (
-            Zone::WalPrepares,
-            2,
-            PREPARE,
-            elsewhere(Zone::WalPrepares, 1),
-        ),
-        (
-            Zone::ClientReplies,
-            1,
-            PREPARE,
-            elsewhere(Zone::WalPrepares, 1),
-        ),
-        (Zone::Grid, 1, PREPARE, elsewhere(Zone::WalPrepares, 1)),
-        (
-            Zone::WalPrepares,
-            2,
-            REPLY,
-            elsewhere(Zone::ClientReplies, 2),
-        ),
-        (Zone::WalPrepares, 9, BLOCK, elsewhere(Zone::Grid, 9)),
-        (Zone::Grid, 8, BLOCK, elsewhere(Zone::Grid, 9)),
-        (Zone::WalPrepares, 3, RESERVED, Some(Class::Garbled)),
-        (Zone::WalHeaders, 2, REPLY, Some(Class::Garbled)),
-        (Zone::WalHeaders, 9, BLOCK, Some(Class::Garbled)),
+        (Zone::WalHeaders, 4, RESERVED, Zone::WalHeaders, 3),
+        (Zone::WalHeaders, 2, PREPARE, Zone::WalHeaders, 1),
+        (Zone::WalPrepares, 2, PREPARE, Zone::WalPrepares, 1),
+        (Zone::ClientReplies, 1, PREPARE, Zone::WalPrepares, 1),
+        (Zone::Grid, 1, PREPARE, Zone::WalPrepares, 1),
+        (Zone::WalPrepares, 2, REPLY, Zone::ClientReplies, 2),
+        (Zone::WalPrepares, 9, BLOCK, Zone::Grid, 9),
+        (Zone::Grid, 8, BLOCK, Zone::Grid, 9),
     ];
-    for (zone, index, front, class) in cases {
-        assert_eq!(rt; shown(7, zone, index, &spelled(&front)).err(), class);
+    for (i, (at, place, front, zone, index)) in cases.iter().enumerate() {
+        let elsewhere = Class::Elsewhere(Place {
+            zone: *zone,
+            index: *index,
+        });
+        assert!(rt;
+            shown(7, *at, *place, &spelled(front)) == Err(elsewhere),
+            "case {i}"
+        );
     }
 }
 
@@ -117,30 +103,32 @@ fn tells_units_of_other_places(rt: HostRuntime) {
 fn tells_what_is_no_whole_unit(rt: HostRuntime) {
     let cases = [
         // a prepare's slot that isn't its op's, and slots, places and addresses that the layout lacks
-        (Zone::WalPrepares, 1, changed(&PREPARE, 116, 2)),
-        (Zone::WalHeaders, 1, changed(&PREPARE, 116, 2)),
-        (Zone::WalHeaders, 3, changed(&RESERVED, 116, 32)),
-        (Zone::ClientReplies, 3, changed(&REPLY, 116, 4)),
-        (Zone::Grid, 64, changed(&BLOCK, 80, 65)),
+        (Zone::WalPrepares, 1, PREPARE, 116, 2),
+        (Zone::WalHeaders, 1, PREPARE, 116, 2),
+        (Zone::WalHeaders, 3, RESERVED, 116, 32),
+        (Zone::ClientReplies, 3, REPLY, 116, 4),
+        (Zone::Grid, 64, BLOCK, 80, 65),
         // a body that isn't there, and sizes above the greatest of the place
-        (Zone::WalPrepares, 1, changed(&PREPARE, 112, 1)),
-        (Zone::WalPrepares, 1, changed(&BLOCK, 113, 0x21)),
-        (Zone::WalHeaders, 1, changed(&PREPARE, 113, 0x21)),
-        (Zone::Grid, 9, changed(&BLOCK, 113, 0x41)),
-        // a byte that the checksum doesn't cover rightly
-        (
-            Zone::WalPrepares,
-            1,
-            {
-                let mut bytes = spelled(&PREPARE);
-                bytes[80] = 2;
-                bytes
-            },
-        ),
+        (Zone::WalPrepares, 1, PREPARE, 112, 1),
+        (Zone::WalPrepares, 1, BLOCK, 113, 0x21),
+        (Zone::WalHeaders, 1, PREPARE, 113, 0x21),
+        (Zone::Grid, 9, BLOCK, 113, 0x41),
+        // units as they are, of a kind that doesn't stand in the ring
+        (Zone::WalPrepares, 3, RESERVED, 255, 0),
+        (Zone::WalHeaders, 2, REPLY, 255, 0),
+        (Zone::WalHeaders, 9, BLOCK, 255, 0),
     ];
-    for (zone, index, front) in cases {
-        assert_eq!(rt; shown(7, zone, index, &front), Err(Class::Garbled));
+    for (i, (zone, index, front, at, byte)) in cases.iter().enumerate() {
+        let bytes = changed(front, *at, *byte);
+        assert!(rt;
+            shown(7, *zone, *index, &bytes) == Err(Class::Garbled),
+            "case {i}"
+        );
     }
+    // a byte that the checksum doesn't cover rightly
+    let mut bytes = spelled(&PREPARE);
+    bytes[80] = 2;
+    assert!(rt; shown(7, Zone::WalPrepares, 1, &bytes) == Err(Class::Garbled));
     let header = shown(7, Zone::WalHeaders, 1, &changed(&PREPARE, 113, 0x20));
     assert!(rt; header.is_ok());
 }
@@ -148,14 +136,6 @@ fn tells_what_is_no_whole_unit(rt: HostRuntime) {
 #[test]
 fn looks_at_a_header_alone_for_blank(rt: HostRuntime) {
     let mut one = [0; 256];
-    for zone in [
-        Zone::WalHeaders,
-        Zone::WalPrepares,
-        Zone::ClientReplies,
-        Zone::Grid,
-    ] {
-        assert_eq!(rt; shown(7, zone, 1, &[0; 256]), Err(Class::Blank));
-    }
     one[255] = 1;
     for zone in [
         Zone::WalHeaders,
@@ -163,6 +143,10 @@ fn looks_at_a_header_alone_for_blank(rt: HostRuntime) {
         Zone::ClientReplies,
         Zone::Grid,
     ] {
-        assert_eq!(rt; shown(7, zone, 1, &one), Err(Class::Garbled));
+        assert!(rt;
+            shown(7, zone, 1, &[0; 256]) == Err(Class::Blank),
+            "{zone:?}"
+        );
+        assert!(rt; shown(7, zone, 1, &one) == Err(Class::Garbled), "{zone:?}");
     }
 }

@@ -102,8 +102,8 @@ fn reads_the_fields_of_each_kind(rt: HostRuntime) {
         (BLOCK, block()),
         (TRAILER, trailer()),
     ];
-    for (front, header) in cases {
-        assert_eq!(rt; decode_header(&spelled(&front)), Some(header));
+    for (i, (front, header)) in cases.iter().enumerate() {
+        assert!(rt; decode_header(&spelled(front)) == Some(*header), "case {i}");
     }
 }
 
@@ -111,7 +111,8 @@ fn reads_the_fields_of_each_kind(rt: HostRuntime) {
 fn writes_each_kind_as_it_was_read(rt: HostRuntime) {
     for front in [RESERVED, PREPARE, REPLY, BLOCK, FIRST_TRAILER, TRAILER] {
         let bytes = spelled(&front);
-        assert_eq!(rt; rewritten(&bytes), Some(bytes));
+        let kind = bytes[120];
+        assert!(rt; rewritten(&bytes) == Some(bytes), "kind {kind}");
     }
 }
 
@@ -131,11 +132,8 @@ fn tests_what_all_kinds_have(rt: HostRuntime) {
     ];
     for front in [RESERVED, PREPARE, REPLY, BLOCK, FIRST_TRAILER, TRAILER] {
         for (at, byte, is) in cases {
-            assert_eq!(rt;
-                decode_header(&changed(&front, at, byte)).is_some(),
-                is,
-                "at {at}"
-            );
+            let decoded = decode_header(&changed(&front, at, byte));
+            assert!(rt; decoded.is_some() == is, "{byte} at {at}");
         }
     }
 }
@@ -212,9 +210,15 @@ fn first_wrong(front: &[u8; 124], changes: &[(usize, u8, bool)]) -> Option<usize
 
 #[test]
 fn tests_the_rules_of_each_kind(rt: HostRuntime) {
-    assert_eq!(rt; first_wrong(&RESERVED, &OF_RESERVED), None);
-    assert_eq!(rt; first_wrong(&REPLY, &OF_REPLIES), None);
-    assert_eq!(rt; first_wrong(&BLOCK, &OF_BLOCKS), None);
-    assert_eq!(rt; first_wrong(&FIRST_TRAILER, &OF_FIRST_TRAILERS), None);
-    assert_eq!(rt; first_wrong(&TRAILER, &OF_TRAILERS), None);
+    let tables: [(&[u8; 124], &[(usize, u8, bool)]); 5] = [
+        (&RESERVED, &OF_RESERVED),
+        (&REPLY, &OF_REPLIES),
+        (&BLOCK, &OF_BLOCKS),
+        (&FIRST_TRAILER, &OF_FIRST_TRAILERS),
+        (&TRAILER, &OF_TRAILERS),
+    ];
+    for (i, (front, changes)) in tables.iter().enumerate() {
+        let wrong = first_wrong(front, changes);
+        assert!(rt; wrong.is_none(), "table {i}: {wrong:?}");
+    }
 }

@@ -42,7 +42,6 @@ fn room_with<K: RoomKind>(
 // What a room of the kind answers at a place of its zone; None where memory was refused.
 fn proved<K: UnitKind>(
     alloc: Global,
-    cluster: u128,
     index: u64,
     wanted: Wanted,
     front: &[u8; 256],
@@ -53,7 +52,7 @@ fn proved<K: UnitKind>(
     };
     let identity = Identity {
         layout,
-        cluster,
+        cluster: 7,
         place: Place {
             zone: K::ZONE,
             index,
@@ -71,10 +70,7 @@ fn elsewhere(zone: Zone, index: u64) -> Option<Result<Header, Class>> {
 }
 
 fn read(fields: Fields) -> Option<Result<Header, Class>> {
-    match decode_header(&spelled(fields)) {
-        Some(header) => Some(Ok(header)),
-        None => None,
-    }
+    decode_header(&spelled(fields)).map(|header| Ok(header))
 }
 
 const STALE: Option<Result<Header, Class>> = Some(Err(Class::Stale));
@@ -84,56 +80,56 @@ const GARBLED: Option<Result<Header, Class>> = Some(Err(Class::Garbled));
 #[test]
 fn proves_a_unit_of_each_kind(rt: HostRuntime) {
     let alloc = rt.alloc();
-    let prepare = proved::<Prepare>(alloc, 7, 1, Wanted::Any, &spelled(PREPARE));
-    assert_eq!(rt; prepare, read(PREPARE));
-    let reply = proved::<Reply>(alloc, 7, 2, Wanted::Any, &spelled(REPLY));
-    assert_eq!(rt; reply, read(REPLY));
-    let block = proved::<Block>(alloc, 7, 9, Wanted::Any, &spelled(BLOCK));
-    assert_eq!(rt; block, read(BLOCK));
-    let trailer = proved::<Trailer>(alloc, 7, 9, Wanted::Any, &spelled(TRAILER));
-    assert_eq!(rt; trailer, read(TRAILER));
+    let prepare = proved::<Prepare>(alloc, 1, Wanted::Any, &spelled(PREPARE));
+    assert!(rt; prepare == read(PREPARE));
+    let reply = proved::<Reply>(alloc, 2, Wanted::Any, &spelled(REPLY));
+    assert!(rt; reply == read(REPLY));
+    let block = proved::<Block>(alloc, 9, Wanted::Any, &spelled(BLOCK));
+    assert!(rt; block == read(BLOCK));
+    let trailer = proved::<Trailer>(alloc, 9, Wanted::Any, &spelled(TRAILER));
+    assert!(rt; trailer == read(TRAILER));
 }
 
 #[test]
 fn tells_the_class_of_a_prepare_slot(rt: HostRuntime) {
-    let mut almost_blank = [0; 256];
-    almost_blank[255] = 1;
-    let cases = [
-        ([0; 256], Some(Err(Class::Blank))),
-        (almost_blank, GARBLED),
-        // a body that isn't the one of the checksum
-        (changed(PREPARE, 112, 1), GARBLED),
-        (changed(PREPARE, 16, 1), GARBLED),
-        // another cluster, and a slot that isn't the op's
-        (changed(PREPARE, 32, 8), GARBLED),
-        (changed(PREPARE, 80, 2), GARBLED),
-        // a block that is too large for the slot, and a header of the header ring
-        (changed(BLOCK, 113, 0x21), GARBLED),
-        (spelled(RESERVED), GARBLED),
-        // units of other zones
-        (spelled(REPLY), elsewhere(Zone::ClientReplies, 2)),
-        (spelled(BLOCK), elsewhere(Zone::Grid, 9)),
-        (spelled(TRAILER), elsewhere(Zone::Grid, 9)),
-    ];
-    for (front, answer) in cases {
-        assert_eq!(rt;
-            proved::<Prepare>(rt.alloc(), 7, 1, Wanted::Any, &front),
-            answer
-        );
+    for (last, class) in [(0, Class::Blank), (1, Class::Garbled)] {
+        let mut front = [0; 256];
+        front[255] = last;
+        let answer = proved::<Prepare>(rt.alloc(), 1, Wanted::Any, &front);
+        assert!(rt; answer == Some(Err(class)), "last byte {last}");
     }
-    let other_slot = proved::<Prepare>(rt.alloc(), 7, 2, Wanted::Any, &spelled(PREPARE));
-    assert_eq!(rt; other_slot, elsewhere(Zone::WalPrepares, 1));
-    let in_the_grid = proved::<Block>(rt.alloc(), 7, 1, Wanted::Any, &spelled(PREPARE));
-    assert_eq!(rt; in_the_grid, elsewhere(Zone::WalPrepares, 1));
+    let cases = [
+        // a body that isn't the one of the checksum
+        (PREPARE, 112, 1, GARBLED),
+        (PREPARE, 16, 1, GARBLED),
+        // another cluster, and a slot that isn't the op's
+        (PREPARE, 32, 8, GARBLED),
+        (PREPARE, 80, 2, GARBLED),
+        // a block that is too large for the slot, and a header of the header ring
+        (BLOCK, 113, 0x21, GARBLED),
+        (RESERVED, 122, 1, GARBLED),
+        // units of other zones
+        (REPLY, 122, 1, elsewhere(Zone::ClientReplies, 2)),
+        (BLOCK, 122, 1, elsewhere(Zone::Grid, 9)),
+        (TRAILER, 122, 1, elsewhere(Zone::Grid, 9)),
+    ];
+    for (i, (fields, at, byte, wanted)) in cases.iter().enumerate() {
+        let answer = proved::<Prepare>(rt.alloc(), 1, Wanted::Any, &changed(*fields, *at, *byte));
+        assert!(rt; answer == *wanted, "case {i}");
+    }
+    let other_slot = proved::<Prepare>(rt.alloc(), 2, Wanted::Any, &spelled(PREPARE));
+    assert!(rt; other_slot == elsewhere(Zone::WalPrepares, 1));
+    let in_the_grid = proved::<Block>(rt.alloc(), 1, Wanted::Any, &spelled(PREPARE));
+    assert!(rt; in_the_grid == elsewhere(Zone::WalPrepares, 1));
 }
 
 #[test]
 fn wants_a_unit_of_its_kind(rt: HostRuntime) {
     let alloc = rt.alloc();
-    let block = proved::<Trailer>(alloc, 7, 9, Wanted::Any, &spelled(BLOCK));
-    assert_eq!(rt; block, STALE);
-    let trailer = proved::<Block>(alloc, 7, 9, Wanted::Any, &spelled(TRAILER));
-    assert_eq!(rt; trailer, STALE);
+    let block = proved::<Trailer>(alloc, 9, Wanted::Any, &spelled(BLOCK));
+    assert!(rt; block == STALE);
+    let trailer = proved::<Block>(alloc, 9, Wanted::Any, &spelled(TRAILER));
+    assert!(rt; trailer == STALE);
 }
 
 fn answer(client: u128, request: u64, op: u64) -> Wanted {
@@ -157,11 +153,9 @@ fn wants_what_it_was_asked_for(rt: HostRuntime) {
         (Wanted::Checksum(prepare.checksum_body), STALE),
         (answer(5, 1, 1), STALE),
     ];
-    for (wanted, what) in cases {
-        assert_eq!(rt;
-            proved::<Prepare>(rt.alloc(), 7, 1, wanted, &spelled(PREPARE)),
-            what
-        );
+    for (i, (wanted, what)) in cases.iter().enumerate() {
+        let given = proved::<Prepare>(rt.alloc(), 1, *wanted, &spelled(PREPARE));
+        assert!(rt; given == *what, "prepare {i}");
     }
     let cases = [
         (answer(5, 1, 1), read(REPLY)),
@@ -170,11 +164,9 @@ fn wants_what_it_was_asked_for(rt: HostRuntime) {
         (answer(5, 1, 2), STALE),
         (Wanted::Op(1), STALE),
     ];
-    for (wanted, what) in cases {
-        assert_eq!(rt;
-            proved::<Reply>(rt.alloc(), 7, 2, wanted, &spelled(REPLY)),
-            what
-        );
+    for (i, (wanted, what)) in cases.iter().enumerate() {
+        let given = proved::<Reply>(rt.alloc(), 2, *wanted, &spelled(REPLY));
+        assert!(rt; given == *what, "reply {i}");
     }
 }
 
@@ -207,25 +199,17 @@ fn first_header(
 #[test]
 fn reads_headers_of_a_sector(rt: HostRuntime) {
     let cases = [
-        (3, Wanted::Any, spelled(RESERVED), read(RESERVED)),
-        (
-            4,
-            Wanted::Any,
-            spelled(RESERVED),
-            elsewhere(Zone::WalHeaders, 3),
-        ),
-        (1, Wanted::Op(1), spelled(PREPARE), read(PREPARE)),
-        (1, Wanted::Op(33), spelled(PREPARE), STALE),
-        (
-            2,
-            Wanted::Any,
-            spelled(PREPARE),
-            elsewhere(Zone::WalHeaders, 1),
-        ),
-        (2, Wanted::Any, spelled(REPLY), GARBLED),
-        (1, Wanted::Any, [0; 256], Some(Err(Class::Blank))),
+        (3, Wanted::Any, RESERVED, read(RESERVED)),
+        (4, Wanted::Any, RESERVED, elsewhere(Zone::WalHeaders, 3)),
+        (1, Wanted::Op(1), PREPARE, read(PREPARE)),
+        (1, Wanted::Op(33), PREPARE, STALE),
+        (2, Wanted::Any, PREPARE, elsewhere(Zone::WalHeaders, 1)),
+        (2, Wanted::Any, REPLY, GARBLED),
     ];
-    for (index, wanted, front, what) in cases {
-        assert_eq!(rt; first_header(rt.alloc(), index, wanted, &front), what);
+    for (i, (index, wanted, fields, what)) in cases.iter().enumerate() {
+        let given = first_header(rt.alloc(), *index, *wanted, &spelled(*fields));
+        assert!(rt; given == *what, "case {i}");
     }
+    let blank = first_header(rt.alloc(), 1, Wanted::Any, &[0; 256]);
+    assert!(rt; blank == Some(Err(Class::Blank)));
 }

@@ -64,7 +64,7 @@ fn makes_and_proves_units_of_each_kind(rt: HostRuntime) {
     let layout = Layout::small();
     let alloc = rt.alloc();
     let rooms = Rooms::reserve(alloc, &layout).expect(&rt, "memory of rooms");
-    assert_eq!(rt; rooms.layout(), layout);
+    assert!(rt; rooms.layout() == layout);
     let Rooms { prepare: room, .. } = rooms;
     assert!(rt; is_made_at(room, layout, prepare(b"abc"), b"abc", 1));
     let room = Raw::<Reply>::reserve(alloc, &layout).expect(&rt, "memory of a reply");

@@ -57,13 +57,13 @@ fn tests_each_field_without_a_checkpoint(rt: HostRuntime) {
     ];
     for (at, width, value, field) in cases {
         let answer = tested(&FIRST, &[(at, width, value)]);
-        assert_eq!(rt; answer, Some(Err(bad(field, value))));
+        assert!(rt; answer == Some(Err(bad(field, value))), "{value} at {at}");
     }
     for at in [160, 4095] {
         let answer = tested(&FIRST, &[(at, 1, 1)]);
-        assert_eq!(rt; answer, Some(Err(bad(Field::Zero, at as u64))));
+        assert!(rt; answer == Some(Err(bad(Field::Zero, at as u64))), "at {at}");
     }
-    assert_eq!(rt; tested(&FIRST, &[]), Some(Ok(())));
+    assert!(rt; tested(&FIRST, &[]) == Some(Ok(())));
 }
 
 #[test]
@@ -83,7 +83,7 @@ fn tests_each_field_with_a_checkpoint(rt: HostRuntime) {
     ];
     for (at, value, field) in cases {
         let answer = tested(&LATER, &[(at, 8, value)]);
-        assert_eq!(rt; answer, Some(Err(bad(field, value))));
+        assert!(rt; answer == Some(Err(bad(field, value))), "{value} at {at}");
     }
     let usable = [
         [(88, 8, 132), (96, 8, 124), (48, 8, 7)],
@@ -92,8 +92,8 @@ fn tests_each_field_with_a_checkpoint(rt: HostRuntime) {
         [(80, 8, 1 << 62), (88, 8, 1 << 62), (96, 8, (1 << 62) - 8)],
         [(48, 8, 0), (56, 8, u64::MAX), (72, 8, 1)],
     ];
-    for numbers in usable {
-        assert_eq!(rt; tested(&LATER, &numbers), Some(Ok(())));
+    for (i, numbers) in usable.iter().enumerate() {
+        assert!(rt; tested(&LATER, numbers) == Some(Ok(())), "usable {i}");
     }
 }
 
@@ -119,7 +119,10 @@ fn tests_the_version_first_and_then_in_order(rt: HostRuntime) {
     ];
     for (i, fault) in faults.iter().enumerate() {
         if i < broken.len() {
-            assert_eq!(rt; tested(&LATER, &broken[i..]), Some(Err(*fault)));
+            assert!(rt;
+                tested(&LATER, &broken[i..]) == Some(Err(*fault)),
+                "fault {i}"
+            );
         }
     }
 }
@@ -137,7 +140,7 @@ fn uses_the_largest_superblock(rt: HostRuntime) {
         ..LATER
     };
     let layout = test_fields(&fields).map(|content| content.layout());
-    assert_eq!(rt; layout, Ok(large));
+    assert!(rt; layout == Ok(large));
     let answer = tested(&fields, &[(144, 8, 267_273)]);
-    assert_eq!(rt; answer, Some(Err(bad(Field::TrailerSize, 267_273))));
+    assert!(rt; answer == Some(Err(bad(Field::TrailerSize, 267_273))));
 }

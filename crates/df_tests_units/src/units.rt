@@ -57,10 +57,10 @@ fn shown(cluster: u128, index: u64, slot: &[u8; 8192]) -> Result<Header, Class> 
 fn makes_and_reads_the_example(rt: HostRuntime) {
     let mut slot = [9u8; 8192];
     let made = make_unit(given(&[]), &[], &mut slot);
-    assert_eq!(rt; made.length, 4096);
+    assert!(rt; made.length == 4096);
     assert!(rt; is_example_before_nines(&slot));
-    assert_eq!(rt; decode_header(&example()), Some(made.header));
-    assert_eq!(rt; shown(7, 1, &slot), Ok(made.header));
+    assert!(rt; decode_header(&example()) == Some(made.header));
+    assert!(rt; shown(7, 1, &slot) == Ok(made.header));
 }
 
 #[test]
@@ -89,15 +89,12 @@ fn tests_each_field_that_needs_no_layout(rt: HostRuntime) {
         (255, 1, false),
     ];
     for (at, byte, is) in cases {
-        assert_eq!(rt;
-            decode_header(&changed(&PREPARE, at, byte)).is_some(),
-            is,
-            "at {at}"
-        );
+        let decoded = decode_header(&changed(&PREPARE, at, byte));
+        assert!(rt; decoded.is_some() == is, "{byte} at {at}");
     }
     let mut bytes = example();
     bytes[80] = 2;
-    assert_eq!(rt; decode_header(&bytes), None);
+    assert!(rt; decode_header(&bytes).is_none());
 }
 
 #[test]
@@ -105,7 +102,7 @@ fn tests_the_body_and_not_what_follows_it(rt: HostRuntime) {
     let mut slot = [0u8; 8192];
     let made = make_unit(given(b"abc"), b"abc", &mut slot);
     slot[259] = 1;
-    assert_eq!(rt; shown(7, 1, &slot), Ok(made.header));
+    assert!(rt; shown(7, 1, &slot) == Ok(made.header));
     slot[258] = b'd';
-    assert_eq!(rt; shown(7, 1, &slot), Err(Class::Garbled));
+    assert!(rt; shown(7, 1, &slot) == Err(Class::Garbled));
 }
