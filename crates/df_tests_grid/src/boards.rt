@@ -8,13 +8,14 @@ ghost use Rattle.df_format.specs.Making.{for_body};
 ghost use Rattle.df_grid.specs.Table.{IsIdle, IsReady};
 
 use df_base::{Failed, SECTOR, check};
-use df_buffers::{Block, Raw, Trailer};
+use df_buffers::{Block, Raw};
 use df_disk::Disk;
 use df_format::{Header, Kind};
 use df_freeset::FreeSet;
 use df_grid::Grid;
 use df_layout::{Layout, Zone};
 use std::alloc::{AllocError, Global};
+use std::process::Abort;
 
 // A disk of 336 sectors that tells nothing, with zeros behind them, and whose call number `failing` fails.
 #[derive(Drop)]
@@ -84,20 +85,15 @@ impl Disk for Board {
     }
 }
 
-// A grid with all of 64 addresses free.
-pub(crate) fn new_grid(
-    alloc: Global,
-    layout: Layout,
-    block: Raw<Block>,
-    trailer: Raw<Trailer>,
-) -> Result<Grid, AllocError>
-    requires blocks { layout.blocks ≡ 64 }
-    requires block { block.layout ≡ layout }
-    requires trailer { trailer.layout ≡ layout }
-    ensures layout { IfOk result (λ grid. grid.layout ≡ layout) }
+// A grid of layout small, all of whose 64 addresses are free.
+pub(crate) fn new_grid(rt: &impl Abort, alloc: Global) -> Result<Grid, AllocError>
     ensures cluster { IfOk result (λ grid. grid.cluster ≡ 7) }
+    ensures blocks { IfOk result (λ grid. grid.layout.blocks ≡ 64) }
     ensures idle { IfOk result (λ grid. IsIdle grid.blocks) }
 {
+    let layout = Layout::small();
+    let block = Raw::reserve(alloc, &layout).expect(rt, "memory of a room");
+    let trailer = Raw::reserve(alloc, &layout).expect(rt, "memory of a room");
     let words = vec![in alloc; 0u64; 1]?;
     let summary = vec![in alloc; 0u64; 1]?;
     let free = FreeSet::over(words, summary, 64);
@@ -136,31 +132,46 @@ fn block_header(address: u64, body: &[u8]) -> Header
 
 // Writes a block of one byte to the next address, and answers that, None where there is none.
 pub(crate) fn put_next(
+    rt: &impl Abort,
+    alloc: Global,
     grid: &mut Grid,
     board: &mut Board,
-    room: Raw<Block>,
     byte: u8,
-) -> (Raw<Block>, Result<Option<u64>, Failed>)
-    requires room { room.layout ≡ grid.old.layout }
-    requires cluster { grid.old.cluster ≡ 7 }
-    ensures room { result.0.layout ≡ grid.new.layout }
+) -> Result<Option<u64>, Failed>
+    requires { grid.old.cluster ≡ 7 }
     ensures layout { grid.new.layout ≡ grid.old.layout }
     ensures cluster { grid.new.cluster ≡ 7 }
     ensures idle { IsIdle grid.old.blocks → IsIdle grid.new.blocks }
     ensures ready { IsReady grid.old.blocks → IsReady grid.new.blocks }
 {
     let Some(address) = grid.next() else {
-        return (room, Ok(None));
+        return Ok(None);
     };
+    let room: Raw<Block> = Raw::reserve(alloc, &grid.layout()).expect(rt, "memory of a room");
     let body = [byte];
     let header = block_header(address, &body);
     let unit = room.make(header, &body);
-    let written = grid.write(board, &unit);
-    let room = unit.loosen();
-    match written {
-        Ok(()) => (room, Ok(Some(address))),
-        Err(failed) => (room, Err(failed)),
+    grid.write(board, &unit)?;
+    Ok(Some(address))
+}
+
+// Writes blocks of these bytes to the next addresses.
+pub(crate) fn put_all(
+    rt: &impl Abort,
+    alloc: Global,
+    grid: &mut Grid,
+    board: &mut Board,
+    bytes: &[u8],
+) -> Result<(), Failed>
+    requires cluster { grid.old.cluster ≡ 7 }
+    requires idle { IsIdle grid.old.blocks }
+    ensures cluster { grid.new.cluster ≡ 7 }
+    ensures idle { IsIdle grid.new.blocks }
+{
+    for byte in bytes {
+        put_next(rt, alloc, grid, board, *byte)?;
     }
+    Ok(())
 }
 
 // Begins a checkpoint whose trailer has one block; fails where no address is free.

@@ -5,25 +5,25 @@ use std::test::Fail;
 #[test]
 fn addresses_are_given_out_lowest_first(rt: HostRuntime) -> Result<(), Fail> {
     let words = [0u64; 2].to_vec(rt.alloc())?;
-    assert_eq!(rt; words.len(), 2);
+    assert!(rt; words.len() == 2);
     let summary = [0u64; 1].to_vec(rt.alloc())?;
-    assert_eq!(rt; summary.len(), 1);
+    assert!(rt; summary.len() == 1);
     let mut set = FreeSet::over(words, summary, 70);
     for address in 1..=70 {
-        assert_eq!(rt; set.least_free(), Some(address));
+        assert!(rt; set.least_free() == Some(address));
         set.take(address);
     }
-    assert_eq!(rt; set.least_free(), None);
-    assert_eq!(rt; set.free(), 0);
+    assert!(rt; set.least_free() == None);
+    assert!(rt; set.free() == 0);
     set.give(66);
     set.give(7);
-    assert_eq!(rt; set.free(), 2);
-    assert_eq!(rt; set.least_free(), Some(7));
+    assert!(rt; set.free() == 2);
+    assert!(rt; set.least_free() == Some(7));
     set.take(7);
-    assert_eq!(rt; set.least_free(), Some(66));
+    assert!(rt; set.least_free() == Some(66));
     let (room, summary) = set.into_room();
-    assert_eq!(rt; room.len(), 2);
-    assert_eq!(rt; summary.len(), 1);
+    assert!(rt; room.len() == 2);
+    assert!(rt; summary.len() == 1);
     Ok(())
 }
 
@@ -35,11 +35,11 @@ fn last_of_a_large_grid_is_found_through_the_summary(rt: HostRuntime) -> Result<
     for address in 1..=16384 {
         set.take(address);
     }
-    assert_eq!(rt; set.least_free(), None);
+    assert!(rt; set.least_free() == None);
     set.give(16384);
-    assert_eq!(rt; set.least_free(), Some(16384));
+    assert!(rt; set.least_free() == Some(16384));
     set.give(8191);
-    assert_eq!(rt; set.least_free(), Some(8191));
-    assert_eq!(rt; set.free(), 2);
+    assert!(rt; set.least_free() == Some(8191));
+    assert!(rt; set.free() == 2);
     Ok(())
 }

@@ -3,13 +3,14 @@
 ghost use Rattle.std.specs.Prelude.{◌≡◌};
 ghost use Rattle.df_grid.specs.Table.{IsIdle};
 
-use crate::boards::{Board, begin, new_grid, put_next, write_and_end};
+use crate::boards::{Board, begin, new_grid, put_all, write_and_end};
 use df_base::Failed;
-use df_buffers::{Block, Raw};
 use df_format::Reference;
 use df_grid::Grid;
-use df_layout::{Class, Layout};
+use df_layout::Class;
 use df_scrub::{Finding, Scrubbed, Scrubber, Verdict};
+use std::alloc::Global;
+use std::process::Abort;
 use std::test::Fail;
 
 // Takes blocks that the disk doesn't show, at the least addresses.
@@ -25,76 +26,85 @@ fn adopt_lost(grid: &mut Grid, count: u64)
 }
 
 // Writes five blocks, and a checkpoint of them.
-fn write_five(grid: &mut Grid, board: &mut Board, room: Raw<Block>) -> Result<(), Failed>
-    requires room { room.layout ≡ grid.old.layout }
+fn write_five(
+    rt: &impl Abort,
+    alloc: Global,
+    grid: &mut Grid,
+    board: &mut Board,
+) -> Result<(), Failed>
     requires cluster { grid.old.cluster ≡ 7 }
     requires idle { IsIdle grid.old.blocks }
 {
-    let (room, _) = put_next(grid, board, room, 0);
-    let (room, _) = put_next(grid, board, room, 0);
-    let (room, _) = put_next(grid, board, room, 0);
-    let (room, _) = put_next(grid, board, room, 0);
-    let (_room, _) = put_next(grid, board, room, 0);
+    put_all(rt, alloc, grid, board, &[0; 5])?;
     begin(grid)?;
     write_and_end(grid, board, 2)
 }
 
+// What the steps of a tour over those answer, from 1 on, where blocks 2 and 4 were struck.
+fn answer_of(step: u64) -> Scrubbed {
+    if step == 7 {
+        return Scrubbed::TourEnd {
+            checked: 6,
+            failing: 2,
+        };
+    }
+    let verdict = if step == 2 || step == 4 {
+        Verdict::Failing(Class::Garbled)
+    } else {
+        Verdict::Sound
+    };
+    Scrubbed::Checked {
+        address: step,
+        verdict,
+    }
+}
+
+// The findings at these places are of these addresses.
+fn assert_recent(rt: &impl Abort, scrubber: &Scrubber, rows: &[(u64, Option<u64>)]) {
+    for (place, address) in rows {
+        assert!(rt;
+            scrubber.recent(*place).map(|f| f.address) == *address,
+            "{place}"
+        );
+    }
+}
+
 #[test]
 fn a_tour_finds_the_blocks_that_were_struck(rt: HostRuntime) -> Result<(), Fail> {
-    let layout = Layout::small();
-    let block = Raw::reserve(rt.alloc(), &layout).expect(&rt, "memory of a room");
-    let trailer = Raw::reserve(rt.alloc(), &layout).expect(&rt, "memory of a room");
-    let room = Raw::reserve(rt.alloc(), &layout).expect(&rt, "memory of a room");
     let mut board = Board::blank(rt.alloc(), 0)?;
-    let mut grid = new_grid(rt.alloc(), layout, block, trailer)?;
-    write_five(&mut grid, &mut board, room)?;
-    board.strike(84);
-    board.strike(92);
-    board.strike(104);
-    let mut scrubber = Scrubber::reserve(rt.alloc()).expect(&rt, "memory of a ring");
-    for address in 1..7u64 {
-        let verdict = if address == 2 || address == 4 {
-            Verdict::Failing(Class::Garbled)
-        } else {
-            Verdict::Sound
-        };
-        let scrubbed = scrubber.step(&mut board, &mut grid)?;
-        assert_eq!(rt; scrubbed, Scrubbed::Checked { address, verdict });
+    let mut grid = new_grid(&rt, rt.alloc())?;
+    write_five(&rt, rt.alloc(), &mut grid, &mut board)?;
+    for sector in [84, 92, 104] {
+        board.strike(sector);
     }
-    let end = Scrubbed::TourEnd {
-        checked: 6,
-        failing: 2,
-    };
-    assert_eq!(rt; scrubber.step(&mut board, &mut grid)?, end);
+    let mut scrubber = Scrubber::reserve(rt.alloc()).expect(&rt, "memory of a ring");
+    for step in 1..8u64 {
+        let scrubbed = scrubber.step(&mut board, &mut grid)?;
+        assert!(rt; scrubbed == answer_of(step), "step {step}");
+    }
     let first = Finding {
         address: 2,
         class: Class::Garbled,
     };
-    assert_eq!(rt; scrubber.recent(0), Some(first));
-    assert_eq!(rt; scrubber.recent(1).map(|f| f.address), Some(4));
-    assert_eq!(rt; scrubber.recent(2), None);
+    assert!(rt; scrubber.recent(0) == Some(first));
+    assert_recent(&rt, &scrubber, &[(1, Some(4)), (2, None)]);
     scrubber.clear();
-    assert_eq!(rt; scrubber.recent(0), None);
+    assert_recent(&rt, &scrubber, &[(0, None)]);
     Ok(())
 }
 
 #[test]
 fn the_newest_64_findings_stay(rt: HostRuntime) -> Result<(), Fail> {
-    let layout = Layout::small();
-    let block = Raw::reserve(rt.alloc(), &layout).expect(&rt, "memory of a room");
-    let trailer = Raw::reserve(rt.alloc(), &layout).expect(&rt, "memory of a room");
     let mut board = Board::blank(rt.alloc(), 3)?;
-    let mut grid = new_grid(rt.alloc(), layout, block, trailer)?;
+    let mut grid = new_grid(&rt, rt.alloc())?;
     adopt_lost(&mut grid, 63);
     let mut scrubber = Scrubber::reserve(rt.alloc()).expect(&rt, "memory of a ring");
     let mut report = Vec::with_capacity(rt.alloc(), 64)?;
     assert!(rt; scrubber.scrub(&mut board, &mut grid, &mut report).is_err());
-    assert_eq!(rt; report.len(), 2);
+    assert!(rt; report.len() == 2);
     scrubber.scrub(&mut board, &mut grid, &mut report)?;
-    assert_eq!(rt; report.len(), 63);
-    assert_eq!(rt; scrubber.recent(0).map(|f| f.address), Some(2));
-    assert_eq!(rt; scrubber.recent(1).map(|f| f.address), Some(1));
-    assert_eq!(rt; scrubber.recent(63).map(|f| f.address), Some(63));
-    assert_eq!(rt; scrubber.recent(64), None);
+    assert!(rt; report.len() == 63);
+    let rows = [(0, Some(2)), (1, Some(1)), (63, Some(63)), (64, None)];
+    assert_recent(&rt, &scrubber, &rows);
     Ok(())
 }

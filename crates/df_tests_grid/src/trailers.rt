@@ -12,6 +12,7 @@ use df_trailer::{
     sizes_are_exact, spelling_is_a_codec, text_has_one_parts,
 };
 use std::alloc::{AllocError, Global};
+use std::process::Abort;
 
 /// The lowest addresses are referenced, each with a checksum of its own number.
 #[derive(Drop)]
@@ -97,6 +98,20 @@ fn answer_of(mut reader: Reader, front: &[u8], back: &[u8]) -> Result<(), Fault>
     reader.end()
 }
 
+/// How many bytes a piece has of the text of 1,024 blocks, of which so many are referenced.
+fn size_of_piece(count: u64, index: u32) -> u64 {
+    let mut room = [0u8; 3840];
+    let lowest = Lowest { count };
+    piece(
+        &layout_of(1024),
+        &[],
+        &[],
+        &lowest,
+        u64::from(index),
+        &mut room,
+    )
+}
+
 #[test]
 fn a_trailer_is_cut_into_blocks(rt: HostRuntime) {
     parts_have_one_text();
@@ -105,26 +120,13 @@ fn a_trailer_is_cut_into_blocks(rt: HostRuntime) {
     refusals_stay();
     sizes_are_exact();
     let layout = layout_of(1024);
-    let mut room = [0u8; 3840];
-    assert_eq!(rt; blocks_needed(&layout, 0, 0, 231), 1);
-    assert_eq!(rt;
-        piece(&layout, &[], &[], &Lowest { count: 231 }, 0, &mut room),
-        3832
-    );
-    assert_eq!(rt;
-        piece(&layout, &[], &[], &Lowest { count: 231 }, 1, &mut room),
-        0
-    );
-    assert_eq!(rt; blocks_needed(&layout, 0, 0, 232), 2);
-    assert_eq!(rt;
-        piece(&layout, &[], &[], &Lowest { count: 232 }, 0, &mut room),
-        3840
-    );
-    assert_eq!(rt;
-        piece(&layout, &[], &[], &Lowest { count: 232 }, 1, &mut room),
-        8
-    );
-    assert_eq!(rt; blocks_needed(&layout_of(16_384), 1024, 64, 16_384), 70);
+    assert!(rt; blocks_needed(&layout, 0, 0, 231) == 1);
+    assert!(rt; blocks_needed(&layout, 0, 0, 232) == 2);
+    assert!(rt; blocks_needed(&layout_of(16_384), 1024, 64, 16_384) == 70);
+    let rows = [(231, 0, 3832), (231, 1, 0), (232, 0, 3840), (232, 1, 8)];
+    for (count, index, size) in rows {
+        assert!(rt; size_of_piece(count, index) == size, "{count} {index}");
+    }
 }
 
 /// The byte at an offset of the text of 1,024 blocks, of which so many are referenced, a multiple of eight: lengths, bits and checksums.
@@ -156,31 +158,29 @@ fn is_right(count: u64, index: u64) -> bool
 
 #[test]
 fn a_piece_is_begun_behind_the_groups_that_are_counted_before_it(rt: HostRuntime) {
-    for index in 0..6 {
-        assert!(rt; is_right(0, index), "{index}");
-        assert!(rt; is_right(256, index), "{index}");
-        assert!(rt; is_right(600, index), "{index}");
-        assert!(rt; is_right(1024, index), "{index}");
+    for count in [0, 256, 600, 1024] {
+        for index in 0..6 {
+            assert!(rt; count <= 1024 && is_right(count, index), "{count} {index}");
+        }
     }
 }
 
-#[test]
-fn forged_texts_are_refused(rt: HostRuntime) -> Result<(), AllocError> {
-    let alloc = rt.alloc();
-    let small = Layout::small();
-    let bad = |field, value| Err(Fault { field, value });
-    let reader = reader_of(alloc, small, 0)?;
-    let text = [1, 4, 0, 0];
-    assert_eq!(rt;
-        answer_of(reader, &text, &[]),
-        bad(Field::TrailerRoot, 1025)
-    );
-    let reader = reader_of(alloc, small, 0)?;
-    let text = [0, 0, 0, 0, 5, 0, 0, 0];
-    assert_eq!(rt;
-        answer_of(reader, &text, &[]),
-        bad(Field::TrailerSessions, 5)
-    );
+/// What a new reader answers to a text of at most 80 bytes in two pieces.
+fn answer_to(
+    rt: &impl Abort,
+    alloc: Global,
+    layout: Layout,
+    op: u64,
+    pieces: [&[u8]; 2],
+) -> Result<Result<(), Fault>, AllocError> {
+    let [front, back] = pieces;
+    assert!(rt; layout.blocks <= 64 && front.len() <= 80 && back.len() <= 80);
+    let reader = reader_of(alloc, layout, op)?;
+    Ok(answer_of(reader, front, back))
+}
+
+/// The text of two sessions of client 7, whose ops are 1 and 2.
+fn twice_the_client() -> [u8; 80] {
     let mut text = [0u8; 80];
     text[4] = 2;
     for place in 0..2usize {
@@ -188,94 +188,96 @@ fn forged_texts_are_refused(rt: HostRuntime) -> Result<(), AllocError> {
         text[24 + 32 * place] = 1;
         text[32 + 32 * place] = place as u8 + 1;
     }
-    let reader = reader_of(alloc, small, 2)?;
-    assert_eq!(rt;
-        answer_of(reader, &text, &[]),
-        bad(Field::TrailerSessions, 1)
-    );
-    let reader = reader_of(alloc, layout_of(12), 0)?;
-    let text = [0, 0, 0, 0, 0, 0, 0, 0, 0, 16];
-    assert_eq!(rt; answer_of(reader, &text, &[]), bad(Field::TrailerBits, 9));
-    let reader = reader_of(alloc, small, 0)?;
-    assert_eq!(rt;
-        answer_of(reader, &[0; 17], &[]),
-        bad(Field::TrailerEnd, 17)
-    );
+    text
+}
+
+#[test]
+fn forged_texts_are_refused(rt: HostRuntime) -> Result<(), AllocError> {
+    let small = Layout::small();
+    let twice = twice_the_client();
+    let rows: [(Layout, u64, &[u8], Field, u64); 5] = [
+        (small, 0, &[1, 4, 0, 0], Field::TrailerRoot, 1025),
+        (
+            small,
+            0,
+            &[0, 0, 0, 0, 5, 0, 0, 0],
+            Field::TrailerSessions,
+            5,
+        ),
+        (small, 2, &twice, Field::TrailerSessions, 1),
+        (
+            layout_of(12),
+            0,
+            &[0, 0, 0, 0, 0, 0, 0, 0, 0, 16],
+            Field::TrailerBits,
+            9,
+        ),
+        (small, 0, &[0; 17], Field::TrailerEnd, 17),
+    ];
+    for (layout, op, text, field, value) in rows {
+        let answer = answer_to(&rt, rt.alloc(), layout, op, [text, &[]])?;
+        assert!(rt; answer == Err(Fault { field, value }), "{field:?} {value}");
+    }
     Ok(())
+}
+
+const SESSION: Session = Session {
+    client: 7,
+    request: 2,
+    op: 9,
+    reply: None,
+};
+
+/// The text of a root of two bytes, one session and two references.
+fn spelled(rt: &impl Abort) -> [u8; 76] {
+    let mut room = [0u8; 3840];
+    let lowest = Lowest { count: 2 };
+    let size = piece(&layout_of(12), &[5, 6], &[SESSION], &lowest, 0, &mut room);
+    assert!(rt; size == 76);
+    let mut text = [0u8; 76];
+    text.copy_from_slice(&room[..76]);
+    text
+}
+
+/// What is answered to a text that ends at this byte of that one.
+fn answer_at(cut: u64) -> Result<(), Fault> {
+    let (field, value) = match cut {
+        0..=3 => (Field::TrailerRoot, cut),
+        4..=5 => (Field::TrailerRoot, 2),
+        6..=9 => (Field::TrailerSessions, cut),
+        10..=41 => (Field::TrailerSessions, 1),
+        42..=43 => (Field::TrailerBits, cut),
+        44..=75 => (Field::TrailerEnd, cut),
+        _ => return Ok(()),
+    };
+    Err(Fault { field, value })
 }
 
 #[test]
 fn a_text_may_be_cut_anywhere(rt: HostRuntime) -> Result<(), AllocError> {
-    let alloc = rt.alloc();
-    let layout = layout_of(12);
-    let session = Session {
-        client: 7,
-        request: 2,
-        op: 9,
-        reply: None,
-    };
-    let mut room = [0u8; 3840];
-    let size = piece(
-        &layout,
-        &[5, 6],
-        &[session],
-        &Lowest { count: 2 },
-        0,
-        &mut room,
-    );
-    assert_eq!(rt; size, 76);
+    let text = spelled(&rt);
     for cut in 0..=76u64 {
-        let ends = match cut {
-            0..=3 => Err((Field::TrailerRoot, cut)),
-            4..=5 => Err((Field::TrailerRoot, 2)),
-            6..=9 => Err((Field::TrailerSessions, cut)),
-            10..=41 => Err((Field::TrailerSessions, 1)),
-            42..=43 => Err((Field::TrailerBits, cut)),
-            44..=75 => Err((Field::TrailerEnd, cut)),
-            _ => Ok(()),
-        };
-        let wanted = ends.map_err(|(field, value)| Fault { field, value });
-        let front = &room[..cut as usize];
-        let reader = reader_of(alloc, layout, 9)?;
-        assert_eq!(rt; answer_of(reader, front, &[]), wanted, "{cut}");
-        let reader = reader_of(alloc, layout, 9)?;
-        assert_eq!(rt;
-            answer_of(reader, front, &room[cut as usize..76]),
-            Ok(()),
-            "{cut}"
-        );
+        let (front, back) = text.split_at(cut as usize);
+        for (pieces, wanted) in [([front, &[]], answer_at(cut)), ([front, back], Ok(()))] {
+            let answer = answer_to(&rt, rt.alloc(), layout_of(12), 9, pieces)?;
+            assert!(rt; answer == wanted, "{cut}");
+        }
     }
     Ok(())
 }
 
 #[test]
 fn a_reader_gives_what_was_written(rt: HostRuntime) -> Result<(), AllocError> {
-    let layout = layout_of(12);
-    let session = Session {
-        client: 7,
-        request: 2,
-        op: 9,
-        reply: None,
-    };
-    let mut room = [0u8; 3840];
-    let size = piece(
-        &layout,
-        &[5, 6],
-        &[session],
-        &Lowest { count: 2 },
-        0,
-        &mut room,
-    );
-    assert_eq!(rt; size, 76);
-    let mut reader = reader_of(rt.alloc(), layout, 9)?;
-    assert_eq!(rt; reader.feed(&room[..76]), Ok(()));
+    let text = spelled(&rt);
+    let mut reader = reader_of(rt.alloc(), layout_of(12), 9)?;
+    assert!(rt; reader.feed(&text) == Ok(()));
     let ended = reader.end();
     assert!(rt; ended.is_ok());
     let parts = reader.into_parts();
-    assert_eq!(rt; parts.root.as_slice(), [5, 6].as_slice());
-    assert_eq!(rt; parts.sessions.as_slice(), [session].as_slice());
-    assert_eq!(rt; parts.bits.first().copied(), Some(3));
-    assert_eq!(rt; parts.checks.get(1).copied(), Some([2; 16]));
-    assert_eq!(rt; parts.checks.get(2).copied(), Some([0; 16]));
+    assert!(rt; parts.root.as_slice() == [5, 6].as_slice());
+    assert!(rt; parts.sessions.as_slice() == [SESSION].as_slice());
+    assert!(rt; parts.bits.first().copied() == Some(3));
+    assert!(rt; parts.checks.get(1).copied() == Some([2; 16]));
+    assert!(rt; parts.checks.get(2).copied() == Some([0; 16]));
     Ok(())
 }

@@ -1,6 +1,6 @@
--- The room is one of the grid's layout, and the grid is of the same cluster.
+-- The grid is of the same cluster.
 use Rattle.std.proofs.Common.{◌≡◌}
 use Rattle.df_tests_grid.proofs.blocks.fill.Given as goal
 
 abbrev pub invariant-loop-done : goal.invariant-loop-done
-invariant-loop-done l = (l.room.layout ≡ l.grid.layout) × (l.grid.cluster ≡ 7)
+invariant-loop-done g l = l.grid.cluster ≡ 7
