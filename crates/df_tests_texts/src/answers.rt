@@ -1,5 +1,5 @@
 // The printed lines of the log's commands, as the tables of printed texts and of the worked sessions give them.
-use crate::printed::{elsewhere, header, new_sink};
+use crate::printed::{expect, header, new_sink};
 use df_base::{Failed, MemorySink, Sink};
 use df_format::Kind;
 use df_inspect::{
@@ -11,124 +11,181 @@ use df_layout::{Class, Place, Zone};
 use df_model::{AppendError, FormatError, LookupError, OpenError, PrepareError, ReplyError};
 use std::test::Fail;
 
+fn print_numbers(sink: &mut MemorySink) -> Result<(), Failed> {
+    for op in &[1, u64::MAX] {
+        print_appended(sink, *op)?;
+    }
+    print_replied(sink, 10)?;
+    for sectors in &[336, 2_375_808] {
+        print_formatted(sink, *sectors)?;
+    }
+    print_script(sink, 2)
+}
+
+const NUMBERS: &str = "appended 1\n\
+    appended 18446744073709551615\n\
+    replied 10\n\
+    formatted 336\n\
+    formatted 2375808\n\
+    script 2\n";
+
 #[test]
-fn answers_are_a_word_and_a_number(rt: HostRuntime) -> Result<(), Fail> {
+fn answers_are_a_word_and_a_number(rt: HostRuntime) {
     let mut sink = new_sink(rt.alloc());
-    print_appended(&mut sink, 1)?;
-    print_appended(&mut sink, u64::MAX)?;
-    print_replied(&mut sink, 10)?;
-    print_formatted(&mut sink, 336)?;
-    print_formatted(&mut sink, 2_375_808)?;
-    print_script(&mut sink, 2)?;
-    let text = "appended 1\n\
-        appended 18446744073709551615\n\
-        replied 10\n\
-        formatted 336\n\
-        formatted 2375808\n\
-        script 2\n";
-    assert_eq!(rt; sink.bytes(), text.as_bytes());
+    let done = print_numbers(&mut sink);
+    expect(&rt, done, &sink, NUMBERS);
+}
+
+const APPEND_ERRORS: [AppendError; 10] = [
+    AppendError::ClientZero,
+    AppendError::BodyTooLong { max: 7936 },
+    AppendError::ClientsFull { max: 4 },
+    AppendError::Repeated { op: 1 },
+    AppendError::ReplyPending { op: 2 },
+    AppendError::RequestOrder { expected: 2 },
+    AppendError::PipelineFull { waiting: 8 },
+    AppendError::WalFull {
+        op: 33,
+        checkpoint_op: 0,
+    },
+    AppendError::OpsSpent,
+    AppendError::DiskFault,
+];
+
+fn print_append_refusals(sink: &mut MemorySink, errors: &[AppendError]) -> Result<(), Failed> {
+    for error in errors {
+        print_append_refusal(sink, *error)?;
+    }
     Ok(())
 }
 
+const APPEND_REFUSALS: &str = "refused ClientZero\n\
+    refused BodyTooLong max 7936\n\
+    refused ClientsFull max 4\n\
+    refused Repeated op 1\n\
+    refused ReplyPending op 2\n\
+    refused RequestOrder expected 2\n\
+    refused PipelineFull waiting 8\n\
+    refused WalFull op 33 checkpoint_op 0\n\
+    refused OpsSpent\n";
+
 #[test]
-fn a_refused_append_says_why(rt: HostRuntime) -> Result<(), Fail> {
+fn a_refused_append_says_why(rt: HostRuntime) {
     let mut sink = new_sink(rt.alloc());
-    let rows = [
-        AppendError::ClientZero,
-        AppendError::BodyTooLong { max: 7936 },
-        AppendError::ClientsFull { max: 4 },
-        AppendError::Repeated { op: 1 },
-        AppendError::ReplyPending { op: 2 },
-        AppendError::RequestOrder { expected: 2 },
-        AppendError::PipelineFull { waiting: 8 },
-        AppendError::WalFull {
-            op: 33,
-            checkpoint_op: 0,
+    let done = print_append_refusals(&mut sink, &APPEND_ERRORS);
+    expect(&rt, done, &sink, APPEND_REFUSALS);
+}
+
+const REPLY_ERRORS: [ReplyError; 4] = [
+    ReplyError::NothingPending { head: 0 },
+    ReplyError::ReplyOrder { expected: 2 },
+    ReplyError::BodyTooLong { max: 7936 },
+    ReplyError::DiskFault,
+];
+
+fn print_reply_refusals(sink: &mut MemorySink, errors: &[ReplyError]) -> Result<(), Failed> {
+    for error in errors {
+        print_reply_refusal(sink, *error)?;
+    }
+    Ok(())
+}
+
+const REPLY_REFUSALS: &str = "refused NothingPending head 0\n\
+    refused ReplyOrder expected 2\n\
+    refused BodyTooLong max 7936\n";
+
+#[test]
+fn a_refused_reply_says_why(rt: HostRuntime) {
+    let mut sink = new_sink(rt.alloc());
+    let done = print_reply_refusals(&mut sink, &REPLY_ERRORS);
+    expect(&rt, done, &sink, REPLY_REFUSALS);
+}
+
+fn print_prepare_refusals(sink: &mut MemorySink, errors: &[PrepareError]) -> Result<(), Failed> {
+    for error in errors {
+        print_prepare_refusal(sink, *error)?;
+    }
+    Ok(())
+}
+
+fn print_lookup_refusals(sink: &mut MemorySink, errors: &[LookupError]) -> Result<(), Failed> {
+    for error in errors {
+        print_lookup_refusal(sink, *error)?;
+    }
+    Ok(())
+}
+
+const PREPARE_ERRORS: [PrepareError; 3] = [
+    PrepareError::NotKept { first: 1, last: 2 },
+    PrepareError::Damaged {
+        place: Place {
+            zone: Zone::WalPrepares,
+            index: 3,
         },
-        AppendError::OpsSpent,
-        AppendError::DiskFault,
+        class: Class::Elsewhere(Place {
+            zone: Zone::WalPrepares,
+            index: 4,
+        }),
+    },
+    PrepareError::DiskFault,
+];
+
+const LOOKUP_ERRORS: [LookupError; 4] = [
+    LookupError::NoClient,
+    LookupError::ReplyPending { op: 2 },
+    LookupError::Damaged {
+        place: Place {
+            zone: Zone::ClientReplies,
+            index: 0,
+        },
+        class: Class::Garbled,
+    },
+    LookupError::DiskFault,
+];
+
+fn print_reading_refusals(sink: &mut MemorySink) -> Result<(), Failed> {
+    print_prepare_refusals(sink, &PREPARE_ERRORS)?;
+    print_lookup_refusals(sink, &LOOKUP_ERRORS)
+}
+
+const READING_REFUSALS: &str = "refused NotKept first 1 last 2\n\
+    refused Damaged WalPrepares 3 Elsewhere WalPrepares 4\n\
+    refused NoClient\n\
+    refused ReplyPending op 2\n\
+    refused Damaged ClientReplies 0 Garbled\n";
+
+#[test]
+fn a_refused_reading_says_why(rt: HostRuntime) {
+    let mut sink = new_sink(rt.alloc());
+    let done = print_reading_refusals(&mut sink);
+    expect(&rt, done, &sink, READING_REFUSALS);
+}
+
+fn print_messages(sink: &mut MemorySink) -> Result<(), Failed> {
+    print_reply(sink, &header(Kind::Reply, 1, 5, 1, 1, 1), b"\xaa")?;
+    let prepares = [
+        (header(Kind::Prepare, 2, 5, 2, 1, 1), b"\x01\x02".as_slice()),
+        (
+            header(Kind::Prepare, u64::MAX, u128::MAX, u64::MAX, 0, u64::MAX),
+            b"",
+        ),
     ];
-    for error in rows {
-        print_append_refusal(&mut sink, error)?;
+    for (header, body) in &prepares {
+        print_prepare(sink, header, body)?;
     }
-    let text = "refused ClientZero\n\
-        refused BodyTooLong max 7936\n\
-        refused ClientsFull max 4\n\
-        refused Repeated op 1\n\
-        refused ReplyPending op 2\n\
-        refused RequestOrder expected 2\n\
-        refused PipelineFull waiting 8\n\
-        refused WalFull op 33 checkpoint_op 0\n\
-        refused OpsSpent\n";
-    assert_eq!(rt; sink.bytes(), text.as_bytes());
     Ok(())
 }
 
-#[test]
-fn a_refused_reply_says_why(rt: HostRuntime) -> Result<(), Fail> {
-    let mut sink = new_sink(rt.alloc());
-    let rows = [
-        ReplyError::NothingPending { head: 0 },
-        ReplyError::ReplyOrder { expected: 2 },
-        ReplyError::BodyTooLong { max: 7936 },
-        ReplyError::DiskFault,
-    ];
-    for error in rows {
-        print_reply_refusal(&mut sink, error)?;
-    }
-    let text = "refused NothingPending head 0\n\
-        refused ReplyOrder expected 2\n\
-        refused BodyTooLong max 7936\n";
-    assert_eq!(rt; sink.bytes(), text.as_bytes());
-    Ok(())
-}
+const MESSAGES: &str = "reply 1 client 5 request 1 mark 1 checkpoint 1 body aa\n\
+    prepare 2 client 5 request 2 mark 1 checkpoint 1 body 0102\n\
+    prepare 18446744073709551615 client 340282366920938463463374607431768211455 \
+    request 18446744073709551615 mark 0 checkpoint 18446744073709551615 body -\n";
 
 #[test]
-fn a_refused_reading_says_why(rt: HostRuntime) -> Result<(), Fail> {
+fn messages_are_shown_with_their_bodies(rt: HostRuntime) {
     let mut sink = new_sink(rt.alloc());
-    let place = Place {
-        zone: Zone::WalPrepares,
-        index: 3,
-    };
-    let class = elsewhere(Zone::WalPrepares, 4);
-    print_prepare_refusal(&mut sink, PrepareError::NotKept { first: 1, last: 2 })?;
-    print_prepare_refusal(&mut sink, PrepareError::Damaged { place, class })?;
-    print_prepare_refusal(&mut sink, PrepareError::DiskFault)?;
-    print_lookup_refusal(&mut sink, LookupError::NoClient)?;
-    print_lookup_refusal(&mut sink, LookupError::ReplyPending { op: 2 })?;
-    let place = Place {
-        zone: Zone::ClientReplies,
-        index: 0,
-    };
-    let class = Class::Garbled;
-    print_lookup_refusal(&mut sink, LookupError::Damaged { place, class })?;
-    print_lookup_refusal(&mut sink, LookupError::DiskFault)?;
-    let text = "refused NotKept first 1 last 2\n\
-        refused Damaged WalPrepares 3 Elsewhere WalPrepares 4\n\
-        refused NoClient\n\
-        refused ReplyPending op 2\n\
-        refused Damaged ClientReplies 0 Garbled\n";
-    assert_eq!(rt; sink.bytes(), text.as_bytes());
-    Ok(())
-}
-
-#[test]
-fn messages_are_shown_with_their_bodies(rt: HostRuntime) -> Result<(), Fail> {
-    let mut sink = new_sink(rt.alloc());
-    print_reply(&mut sink, &header(Kind::Reply, 1, 5, 1, 1, 1), b"\xaa")?;
-    print_prepare(
-        &mut sink,
-        &header(Kind::Prepare, 2, 5, 2, 1, 1),
-        b"\x01\x02",
-    )?;
-    let last = header(Kind::Prepare, u64::MAX, u128::MAX, u64::MAX, 0, u64::MAX);
-    print_prepare(&mut sink, &last, b"")?;
-    let text = "reply 1 client 5 request 1 mark 1 checkpoint 1 body aa\n\
-        prepare 2 client 5 request 2 mark 1 checkpoint 1 body 0102\n\
-        prepare 18446744073709551615 client 340282366920938463463374607431768211455 \
-        request 18446744073709551615 mark 0 checkpoint 18446744073709551615 body -\n";
-    assert_eq!(rt; sink.bytes(), text.as_bytes());
-    Ok(())
+    let done = print_messages(&mut sink);
+    expect(&rt, done, &sink, MESSAGES);
 }
 
 #[test]
@@ -148,33 +205,41 @@ fn a_long_body_is_shown_in_pieces(rt: HostRuntime) -> Result<(), Fail> {
     Ok(())
 }
 
+// The call of the sink that fails, and what it was given before.
+const FRONTS: [(u64, &str); 3] = [
+    (1, ""),
+    (2, "reply 1 client 5 request 1 mark 1 checkpoint 1 body "),
+    (3, "reply 1 client 5 request 1 mark 1 checkpoint 1 body aa"),
+];
+
 #[test]
 fn a_failing_sink_has_a_front_of_the_line(rt: HostRuntime) -> Result<(), Fail> {
     let alloc = rt.alloc();
-    let fronts = [
-        b"".as_slice(),
-        b"reply 1 client 5 request 1 mark 1 checkpoint 1 body ".as_slice(),
-        b"reply 1 client 5 request 1 mark 1 checkpoint 1 body aa".as_slice(),
-    ];
-    for (call, front) in (1u64..4).zip(fronts) {
-        let mut sink = MemorySink::new(alloc, Vec::from_slice(alloc, &[call])?);
+    for (call, front) in &FRONTS {
+        let mut sink = MemorySink::new(alloc, Vec::from_slice(alloc, &[*call])?);
         let printed = print_reply(&mut sink, &header(Kind::Reply, 1, 5, 1, 1, 1), b"\xaa");
         assert_eq!(rt; printed, Err(Failed));
-        assert_eq!(rt; sink.bytes(), front);
+        assert_eq!(rt; sink.bytes(), front.as_bytes());
     }
     Ok(())
+}
+
+// Each refusal of the log that is the disk's failure.
+fn print_disk_faults(sink: &mut MemorySink) -> Result<(), Failed> {
+    print_append_refusals(sink, &[AppendError::DiskFault])?;
+    print_reply_refusals(sink, &[ReplyError::DiskFault])?;
+    print_prepare_refusals(sink, &[PrepareError::DiskFault])?;
+    print_lookup_refusals(sink, &[LookupError::DiskFault])?;
+    print_open_refusal(sink, &OpenError::DiskFault)?;
+    print_format_refusal(sink, FormatError::DiskFault)
 }
 
 #[test]
 fn a_failing_disk_asks_nothing_of_the_sink(rt: HostRuntime) -> Result<(), Fail> {
     let alloc = rt.alloc();
     let mut sink = MemorySink::new(alloc, Vec::from_slice(alloc, &[1])?);
-    print_append_refusal(&mut sink, AppendError::DiskFault)?;
-    print_reply_refusal(&mut sink, ReplyError::DiskFault)?;
-    print_prepare_refusal(&mut sink, PrepareError::DiskFault)?;
-    print_lookup_refusal(&mut sink, LookupError::DiskFault)?;
-    print_open_refusal(&mut sink, &OpenError::DiskFault)?;
-    print_format_refusal(&mut sink, FormatError::DiskFault)?;
+    let done = print_disk_faults(&mut sink);
+    expect(&rt, done, &sink, "");
     assert_eq!(rt; sink.write(b"now"), Err(Failed));
     Ok(())
 }

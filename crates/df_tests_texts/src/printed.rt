@@ -1,8 +1,9 @@
 // What the tests of printed lines print, and into what: a header, a class and a sink whose calls all succeed.
-use df_base::MemorySink;
+use df_base::{Failed, MemorySink};
 use df_format::{Header, Kind};
 use df_layout::{Class, Place, Zone};
 use std::alloc::Global;
+use std::process::Abort;
 
 pub(crate) fn elsewhere(zone: Zone, index: u64) -> Class {
     Class::Elsewhere(Place { zone, index })
@@ -36,4 +37,10 @@ pub(crate) fn header(
         kind,
         block_kind: 0,
     }
+}
+
+// All was printed, and the sink was given this text.
+pub(crate) fn expect(rt: &impl Abort, done: Result<(), Failed>, sink: &MemorySink, text: &str) {
+    assert_eq!(rt; done, Ok(()));
+    assert_eq!(rt; sink.bytes(), text.as_bytes());
 }

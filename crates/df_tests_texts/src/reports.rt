@@ -1,5 +1,5 @@
 // The printed reports, as the worked sessions give them.
-use crate::printed::new_sink;
+use crate::printed::{expect, new_sink};
 use df_base::{Failed, MemorySink};
 use df_inspect::{
     Workload, print_failing, print_inspection, print_recent, print_summary, print_tour,
@@ -40,37 +40,32 @@ fn mend(zone: Zone, index: u64, class: Class) -> Mend {
     }
 }
 
-fn findings() -> [Finding; 2] {
-    let class = Class::Garbled;
-    [Finding { address: 2, class }, Finding { address: 4, class }]
-}
+const LONG_SESSION: &str = "cluster 7\n\
+    layout 32 8192 4 16384 64\n\
+    sequence 11\n\
+    checkpoint 200\n\
+    head 200\n\
+    replies 200\n\
+    sessions 4\n\
+    references 0\n\
+    root -\n\
+    session 0 client 1 request 50 op 197 stored\n\
+    session 1 client 2 request 50 op 198 stored\n\
+    session 2 client 3 request 50 op 199 stored\n\
+    session 3 client 4 request 50 op 200 stored\n\
+    findings 0\n";
 
 #[test]
-fn a_long_session_is_inspected(rt: HostRuntime) -> Result<(), Fail> {
-    let mut sink = new_sink(rt.alloc());
+fn a_long_session_is_inspected(rt: HostRuntime) {
     let sessions = [
         session(1, 50, 197, true),
         session(2, 50, 198, true),
         session(3, 50, 199, true),
         session(4, 50, 200, true),
     ];
-    print_inspection(&mut sink, &summary(11, 200, 4), b"", &sessions, &[])?;
-    let text = "cluster 7\n\
-        layout 32 8192 4 16384 64\n\
-        sequence 11\n\
-        checkpoint 200\n\
-        head 200\n\
-        replies 200\n\
-        sessions 4\n\
-        references 0\n\
-        root -\n\
-        session 0 client 1 request 50 op 197 stored\n\
-        session 1 client 2 request 50 op 198 stored\n\
-        session 2 client 3 request 50 op 199 stored\n\
-        session 3 client 4 request 50 op 200 stored\n\
-        findings 0\n";
-    assert_eq!(rt; sink.bytes(), text.as_bytes());
-    Ok(())
+    let mut sink = new_sink(rt.alloc());
+    let done = print_inspection(&mut sink, &summary(11, 200, 4), b"", &sessions, &[]);
+    expect(&rt, done, &sink, LONG_SESSION);
 }
 
 // What is inspected of a file with a session whose reply isn't stored, and two places to be mended.
@@ -98,11 +93,10 @@ const HURT_FILE: &str = "cluster 7\n\
     findings 2\n";
 
 #[test]
-fn what_is_to_be_mended_is_listed(rt: HostRuntime) -> Result<(), Fail> {
+fn what_is_to_be_mended_is_listed(rt: HostRuntime) {
     let mut sink = new_sink(rt.alloc());
-    print_hurt_file(&mut sink)?;
-    assert_eq!(rt; sink.bytes(), HURT_FILE.as_bytes());
-    Ok(())
+    let done = print_hurt_file(&mut sink);
+    expect(&rt, done, &sink, HURT_FILE);
 }
 
 #[test]
@@ -117,29 +111,62 @@ fn a_failing_sink_has_a_front_of_the_report(rt: HostRuntime) -> Result<(), Fail>
     Ok(())
 }
 
-#[test]
-fn the_ring_and_a_tour_are_shown(rt: HostRuntime) -> Result<(), Fail> {
-    let mut sink = new_sink(rt.alloc());
-    print_recent(&mut sink, &[])?;
-    print_recent(&mut sink, &findings())?;
-    for finding in &findings() {
-        print_failing(&mut sink, *finding)?;
-    }
-    print_tour(&mut sink, 6, 2)?;
-    print_tour(&mut sink, 6, 0)?;
-    let text = "recent 0\n\
-        recent 2 2 Garbled 4 Garbled\n\
-        failing 2 Garbled\n\
-        failing 4 Garbled\n\
-        tour 6 2\n\
-        tour 6 0\n";
-    assert_eq!(rt; sink.bytes(), text.as_bytes());
-    Ok(())
+const FINDINGS: [Finding; 2] = [
+    Finding {
+        address: 2,
+        class: Class::Garbled,
+    },
+    Finding {
+        address: 4,
+        class: Class::Garbled,
+    },
+];
+
+fn print_ring(sink: &mut MemorySink) -> Result<(), Failed> {
+    print_recent(sink, &[])?;
+    print_recent(sink, &FINDINGS)
 }
 
+fn print_tours(sink: &mut MemorySink) -> Result<(), Failed> {
+    for finding in &FINDINGS {
+        print_failing(sink, *finding)?;
+    }
+    print_tour(sink, 6, 2)?;
+    print_tour(sink, 6, 0)
+}
+
+fn print_ring_and_tours(sink: &mut MemorySink) -> Result<(), Failed> {
+    print_ring(sink)?;
+    print_tours(sink)
+}
+
+const RING_AND_TOUR: &str = "recent 0\n\
+    recent 2 2 Garbled 4 Garbled\n\
+    failing 2 Garbled\n\
+    failing 4 Garbled\n\
+    tour 6 2\n\
+    tour 6 0\n";
+
 #[test]
-fn a_generated_run_is_counted(rt: HostRuntime) -> Result<(), Fail> {
+fn the_ring_and_a_tour_are_shown(rt: HostRuntime) {
     let mut sink = new_sink(rt.alloc());
+    let done = print_ring_and_tours(&mut sink);
+    expect(&rt, done, &sink, RING_AND_TOUR);
+}
+
+const GENERATED_RUN: &str = "appended 3\n\
+    replied 3\n\
+    wrote 0\n\
+    released 0\n\
+    checkpoints 0\n\
+    refused 0\n\
+    bytes 2231\n\
+    head 3\n\
+    replies 3\n\
+    sequence 1\n";
+
+#[test]
+fn a_generated_run_is_counted(rt: HostRuntime) {
     let workload = Workload {
         appended: 3,
         replied: 3,
@@ -152,36 +179,26 @@ fn a_generated_run_is_counted(rt: HostRuntime) -> Result<(), Fail> {
         replies: 3,
         sequence: 1,
     };
-    print_workload(&mut sink, &workload)?;
-    let text = "appended 3\n\
-        replied 3\n\
-        wrote 0\n\
-        released 0\n\
-        checkpoints 0\n\
-        refused 0\n\
-        bytes 2231\n\
-        head 3\n\
-        replies 3\n\
-        sequence 1\n";
-    assert_eq!(rt; sink.bytes(), text.as_bytes());
-    Ok(())
+    let mut sink = new_sink(rt.alloc());
+    let done = print_workload(&mut sink, &workload);
+    expect(&rt, done, &sink, GENERATED_RUN);
 }
 
+const GREATEST: &str = "cluster 340282366920938463463374607431768211455\n\
+    layout 32 8192 4 16384 64\n\
+    sequence 18446744073709551615\n\
+    checkpoint 18446744073709551615\n\
+    head 18446744073709551615\n\
+    replies 18446744073709551615\n\
+    sessions 18446744073709551615\n\
+    references 18446744073709551615\n";
+
 #[test]
-fn the_greatest_numbers_fit(rt: HostRuntime) -> Result<(), Fail> {
-    let mut sink = new_sink(rt.alloc());
+fn the_greatest_numbers_fit(rt: HostRuntime) {
     let mut greatest = summary(u64::MAX, u64::MAX, u64::MAX);
     greatest.cluster = u128::MAX;
     greatest.references = u64::MAX;
-    print_summary(&mut sink, &greatest)?;
-    let text = "cluster 340282366920938463463374607431768211455\n\
-        layout 32 8192 4 16384 64\n\
-        sequence 18446744073709551615\n\
-        checkpoint 18446744073709551615\n\
-        head 18446744073709551615\n\
-        replies 18446744073709551615\n\
-        sessions 18446744073709551615\n\
-        references 18446744073709551615\n";
-    assert_eq!(rt; sink.bytes(), text.as_bytes());
-    Ok(())
+    let mut sink = new_sink(rt.alloc());
+    let done = print_summary(&mut sink, &greatest);
+    expect(&rt, done, &sink, GREATEST);
 }

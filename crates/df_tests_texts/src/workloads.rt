@@ -9,44 +9,47 @@ fn accept(generator: &mut Generator) {
     }
 }
 
+// The length of a body, and one of its bytes with its place.
+const BODIES: [(usize, usize, u8); 3] = [(649, 0, 27), (649, 648, 184), (933, 932, 145)];
+
 #[test]
 fn the_first_bodies_of_seed_42_are_those_of_its_draws(rt: HostRuntime) {
     let mut generator = Generator::new(42, 3, 4);
-    assert_eq!(rt; generator.body().len(), 649);
-    assert_eq!(rt; generator.body()[0], 27);
-    accept(&mut generator);
-    assert_eq!(rt; generator.body().len(), 649);
-    assert_eq!(rt; generator.body()[648], 184);
-    accept(&mut generator);
-    assert_eq!(rt; generator.body().len(), 933);
-    assert_eq!(rt; generator.body()[932], 145);
-    accept(&mut generator);
-    assert_eq!(rt; generator.counts().appended, 3);
-    assert_eq!(rt; generator.counts().bytes, 2231);
+    for (length, place, byte) in &BODIES {
+        let body = generator.body();
+        assert!(rt;
+            body.len() == *length && body.get(*place) == Some(byte),
+            "byte {byte}"
+        );
+        accept(&mut generator);
+    }
+    let counts = generator.counts();
+    assert_eq!(rt; (counts.appended, counts.bytes), (3, 2231));
 }
+
+const WANTED: [Asked; 6] = [
+    Asked::Append {
+        client: 1,
+        request: 1,
+    },
+    Asked::Append {
+        client: 2,
+        request: 1,
+    },
+    Asked::Reply { op: 1 },
+    Asked::Reply { op: 2 },
+    Asked::Append {
+        client: 1,
+        request: 2,
+    },
+    Asked::Reply { op: 3 },
+];
 
 #[test]
 fn three_rounds_of_two_clients_are_replied_to_in_order(rt: HostRuntime) {
     let mut generator = Generator::new(42, 3, 2);
-    let wanted = [
-        Asked::Append {
-            client: 1,
-            request: 1,
-        },
-        Asked::Append {
-            client: 2,
-            request: 1,
-        },
-        Asked::Reply { op: 1 },
-        Asked::Reply { op: 2 },
-        Asked::Append {
-            client: 1,
-            request: 2,
-        },
-        Asked::Reply { op: 3 },
-    ];
-    for asked in wanted {
-        assert_eq!(rt; generator.asks(), Some(asked));
+    for asked in &WANTED {
+        assert_eq!(rt; generator.asks(), Some(*asked));
         accept(&mut generator);
     }
     assert_eq!(rt; generator.asks(), None);
