@@ -1,11 +1,12 @@
 // Files from the command line: how they are made, which ones are refused, and how a run mends their copies.
+use crate::shown::{expect_script, expect_words, strike};
 use df_base::SECTOR;
 use df_disk::Disk;
 use df_memdisk::Strike;
-use df_runs::{
-    Status, blank, copy, printed, run_script, run_words, small_file, words_have_one_meaning,
-};
+use df_runs::{Status, blank, copy, small_file, words_have_one_meaning};
 use std::test::Fail;
+
+const FILLED: Strike = Strike::Fill { byte: 0xa5 };
 
 // Words over one disk after the other, what they print, and how they end.
 const MAKINGS: [(&[&str], &str, Status); 6] = [
@@ -33,27 +34,23 @@ const MAKINGS: [(&[&str], &str, Status); 6] = [
 fn a_file_is_made_once(rt: HostRuntime) -> Result<(), Fail> {
     words_have_one_meaning();
     let mut disk = blank(rt.alloc(), &[])?;
-    for (index, (words, text, status)) in MAKINGS.iter().enumerate() {
-        let ran = run_words(rt.alloc(), &mut disk, words)?;
-        assert_eq!(rt; ran.text.as_slice(), text.as_bytes(), "row {index}");
-        assert_eq!(rt; ran.status, *status, "row {index}");
+    for (words, text, status) in &MAKINGS {
+        expect_words(&rt, rt.alloc(), &mut disk, words, text, *status)?;
     }
-    let empty = run_script(rt.alloc(), &mut disk, b"")?;
-    assert!(rt; empty.status == Status::Done && printed(&empty, ""));
-    Ok(())
+    expect_script(&rt, rt.alloc(), &mut disk, b"", "", Status::Done)
 }
 
 #[test]
 fn two_damaged_copies_are_mended(rt: HostRuntime) -> Result<(), Fail> {
     let mut disk = small_file(rt.alloc(), &[])?;
-    let first = run_script(rt.alloc(), &mut disk, b"append 5 1 -\n")?;
-    assert!(rt; printed(&first, "appended 1\n"));
-    for number in [1u64, 3] {
-        disk.strike(number, Strike::Fill { byte: 0xa5 })?;
-    }
+    let script = b"append 5 1 -\n";
+    let text = "appended 1\n";
+    expect_script(&rt, rt.alloc(), &mut disk, script, text, Status::Done)?;
+    strike(&mut disk, &[(1, FILLED), (3, FILLED)])?;
     let events = disk.events();
-    let next = run_script(rt.alloc(), &mut disk, b"append 6 1 -\n")?;
-    assert!(rt; printed(&next, "appended 2\n"));
+    let script = b"append 6 1 -\n";
+    let text = "appended 2\n";
+    expect_script(&rt, rt.alloc(), &mut disk, script, text, Status::Done)?;
     // The barrier; two copies, and the prepare and its header of an append, each of these four with its sync.
     assert_eq!(rt; disk.events().checked_sub(events), Some(9));
     for number in 0..4u8 {
@@ -84,10 +81,9 @@ fn a_file_that_cannot_be_used_is_refused(rt: HostRuntime) -> Result<(), Fail> {
             disk.write(u64::from(number), &copy(number, changes))?;
         }
         let events = disk.events();
-        let ran = run_script(rt.alloc(), &mut disk, b"append 5 1 -\n")?;
-        assert_eq!(rt; ran.status, Status::Refused, "{line}");
-        assert!(rt; printed(&ran, line), "{line}");
-        assert_eq!(rt; disk.events(), events, "{line}");
+        let script = b"append 5 1 -\n";
+        expect_script(&rt, rt.alloc(), &mut disk, script, line, Status::Refused)?;
+        assert!(rt; disk.events() == events, "{line}");
     }
     Ok(())
 }

@@ -14,6 +14,8 @@ mod scrubs;
 #[cfg(test)]
 mod sessions;
 #[cfg(test)]
+mod shown;
+#[cfg(test)]
 mod statuses;
 #[cfg(test)]
 mod strikes;

@@ -1,20 +1,21 @@
 // The words that report a file: what `inspect` and `recover` print behind stops, strikes and a long session.
+use crate::shown::{expect_end, expect_script, expect_words, strike};
 use df_base::SECTOR;
 use df_memdisk::{Change, MemoryDisk, Strike};
-use df_runs::{FORMAT_CALLS, Ran, Status, ops_of_one, printed, run_script, run_words, small_file};
+use df_runs::{FORMAT_CALLS, Status, ops_of_one, run_script, run_words, small_file};
 use std::alloc::Global;
 use std::test::Fail;
 
 const FILLED: Strike = Strike::Fill { byte: 0xa5 };
 
 // What a session did, the device call that failed in it, counted from its last one back, and the sector that the stop left full
-// of a5; and the numbers of sequence, checkpoint, head, replies and sessions that `recover` prints.
+// of a5; and what `recover` prints.
 struct Stopped {
     ops: u64,
     behind: &'static str,
     back: u64,
     sector: u64,
-    numbers: [u64; 5],
+    text: &'static str,
 }
 
 // An append writes its prepare, syncs, writes its header sector, syncs. The last step of a checkpoint writes and syncs the four
@@ -25,28 +26,32 @@ const STOPS: [Stopped; 4] = [
         behind: "append 1 17 -\n",
         back: 0,
         sector: 5,
-        numbers: [1, 0, 17, 16, 1],
+        text: "cluster 7\nlayout 32 8192 4 16384 64\nsequence 1\ncheckpoint 0\n\
+            head 17\nreplies 16\nsessions 1\nreferences 0\n",
     },
     Stopped {
         ops: 32,
         behind: "checkpoint -\nstep\nstep\nappend 1 33 -\n",
         back: 2,
         sector: 8,
-        numbers: [2, 32, 32, 32, 1],
+        text: "cluster 7\nlayout 32 8192 4 16384 64\nsequence 2\ncheckpoint 32\n\
+            head 32\nreplies 32\nsessions 1\nreferences 0\n",
     },
     Stopped {
         ops: 0,
         behind: "append 1 1 -\ncheckpoint 01\nstep\nstep\n",
         back: 8,
         sector: 1,
-        numbers: [1, 0, 1, 0, 1],
+        text: "cluster 7\nlayout 32 8192 4 16384 64\nsequence 1\ncheckpoint 0\n\
+            head 1\nreplies 0\nsessions 1\nreferences 0\n",
     },
     Stopped {
         ops: 0,
         behind: "append 1 1 -\ncheckpoint 01\nstep\nstep\n",
         back: 6,
         sector: 2,
-        numbers: [2, 1, 1, 0, 1],
+        text: "cluster 7\nlayout 32 8192 4 16384 64\nsequence 2\ncheckpoint 1\n\
+            head 1\nreplies 0\nsessions 1\nreferences 0\n",
     },
 ];
 
@@ -71,32 +76,20 @@ fn left_by(alloc: Global, row: &Stopped) -> Result<MemoryDisk, Fail> {
     }
 }
 
-// The summary with the numbers of sequence, checkpoint, head, replies and sessions.
-fn summary(alloc: Global, numbers: &[u64; 5]) -> Result<String, Fail> {
-    let [sequence, checkpoint, head, replies, sessions] = *numbers;
-    let text = format!(in alloc;
-        "cluster 7\nlayout 32 8192 4 16384 64\nsequence {}\ncheckpoint {}\nhead {}\nreplies {}\nsessions {}\nreferences 0\n",
-        sequence, checkpoint, head, replies, sessions
-    )?;
-    Ok(text)
-}
-
-// Whether a run printed these lines and nothing behind them.
-fn ends(ran: &Ran, lines: &str) -> bool {
-    ran.text.as_slice().ends_with(lines.as_bytes())
-}
-
 #[test]
 fn recover_opens_a_stopped_file_and_prints_its_summary(rt: HostRuntime) -> Result<(), Fail> {
-    for (index, row) in STOPS.iter().enumerate() {
+    for row in &STOPS {
         let mut disk = left_by(rt.alloc(), row)?;
-        let text = summary(rt.alloc(), &row.numbers)?;
-        let ran = run_words(rt.alloc(), &mut disk, &["recover"])?;
-        assert_eq!(rt; ran.status, Status::Done, "row {index}");
-        assert!(rt; printed(&ran, text.as_str()), "row {index}");
+        expect_words(
+            &rt,
+            rt.alloc(),
+            &mut disk,
+            &["recover"],
+            row.text,
+            Status::Done,
+        )?;
         let ran = run_words(rt.alloc(), &mut disk, &["inspect"])?;
-        assert_eq!(rt; ran.status, Status::Done, "row {index}");
-        assert!(rt; ends(&ran, "findings 0\n"), "row {index}");
+        expect_end(&rt, &ran, "findings 0\n", Status::Done, row.text);
     }
     Ok(())
 }
@@ -135,9 +128,14 @@ fn inspect_lists_what_is_to_be_mended_and_mends_nothing(rt: HostRuntime) -> Resu
     let mut disk = left_by(rt.alloc(), &STOPS[0])?;
     let events = disk.events();
     for again in 1..3u64 {
-        let ran = run_words(rt.alloc(), &mut disk, &["inspect"])?;
-        assert_eq!(rt; ran.status, Status::Found);
-        assert!(rt; printed(&ran, GARBLED));
+        expect_words(
+            &rt,
+            rt.alloc(),
+            &mut disk,
+            &["inspect"],
+            GARBLED,
+            Status::Found,
+        )?;
         assert_eq!(rt; disk.events(), events + again);
     }
     Ok(())
@@ -162,31 +160,32 @@ findings 1
 fn a_copy_of_another_checkpoint_is_stale(rt: HostRuntime) -> Result<(), Fail> {
     let mut disk = left_by(rt.alloc(), &STOPS[2])?;
     let events = disk.events();
-    let ran = run_script(rt.alloc(), &mut disk, b"checkpoint 02\nstep\nstep\n")?;
-    assert!(rt; printed(&ran, "begun 1\nworking 1\ndone 2\n"));
+    let script = b"checkpoint 02\nstep\nstep\n";
+    let text = "begun 1\nworking 1\ndone 2\n";
+    expect_script(&rt, rt.alloc(), &mut disk, script, text, Status::Done)?;
     disk.strike(0, Strike::Earlier { events })?;
-    let ran = run_words(rt.alloc(), &mut disk, &["inspect"])?;
-    assert_eq!(rt; ran.status, Status::Found);
-    assert!(rt; printed(&ran, STALE));
-    Ok(())
+    expect_words(
+        &rt,
+        rt.alloc(),
+        &mut disk,
+        &["inspect"],
+        STALE,
+        Status::Found,
+    )
 }
 
 #[test]
 fn copies_that_are_garbled_are_listed_until_too_few_are_left(rt: HostRuntime) -> Result<(), Fail> {
     let mut disk = small_file(rt.alloc(), &[])?;
-    disk.strike(1, FILLED)?;
-    disk.strike(3, FILLED)?;
+    strike(&mut disk, &[(1, FILLED), (3, FILLED)])?;
     let ran = run_words(rt.alloc(), &mut disk, &["inspect"])?;
-    assert_eq!(rt; ran.status, Status::Found);
     let lines = "root -\nmend Superblock 1 Garbled\nmend Superblock 3 Garbled\nfindings 2\n";
-    assert!(rt; ends(&ran, lines));
-    disk.strike(0, FILLED)?;
-    disk.strike(3, Strike::Earlier { events: 100 })?;
-    disk.strike(2, FILLED)?;
-    for word in ["inspect", "recover", "scrub"] {
-        let ran = run_words(rt.alloc(), &mut disk, &[word])?;
-        assert_eq!(rt; ran.status, Status::Refused);
-        assert!(rt; printed(&ran, "refused NoQuorum Garbled Garbled Garbled Stale\n"));
+    expect_end(&rt, &ran, lines, Status::Found, "two copies");
+    let earlier = Strike::Earlier { events: 100 };
+    strike(&mut disk, &[(0, FILLED), (3, earlier), (2, FILLED)])?;
+    let text = "refused NoQuorum Garbled Garbled Garbled Stale\n";
+    for word in &["inspect", "recover", "scrub"] {
+        expect_words(&rt, rt.alloc(), &mut disk, &[*word], text, Status::Refused)?;
     }
     Ok(())
 }

@@ -1,4 +1,5 @@
 // Worked scripts over a new small file, with the text and the status that they end in.
+use crate::shown::expect;
 use df_runs::{Status, run_script, small_file};
 use std::test::Fail;
 
@@ -118,8 +119,7 @@ fn scripts_print_their_answers(rt: HostRuntime) -> Result<(), Fail> {
     for (script, text, status) in &ROWS {
         let mut disk = small_file(rt.alloc(), &[])?;
         let ran = run_script(rt.alloc(), &mut disk, script.as_bytes())?;
-        assert_eq!(rt; ran.text.as_slice(), text.as_bytes(), "{script}");
-        assert_eq!(rt; ran.status, *status, "{script}");
+        expect(&rt, &ran, text.as_bytes(), *status, script);
         assert_eq!(rt; (ran.refused, disk.refused()), (0, 0));
     }
     Ok(())

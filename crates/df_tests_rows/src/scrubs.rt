@@ -1,10 +1,11 @@
 // The lines and the word of the scrubber over a file whose blocks were struck.
+use crate::shown::{expect, expect_script, expect_words, strike};
 use df_memdisk::{MemoryDisk, Strike};
-use df_runs::{
-    FORMAT_CALLS, Status, printed, run_failing, run_script, run_words, small_file, word,
-};
+use df_runs::{FORMAT_CALLS, Status, run_failing, run_script, run_words, small_file, word};
 use std::alloc::Global;
 use std::test::Fail;
+
+const FILLED: Strike = Strike::Fill { byte: 0xa5 };
 
 const BLOCKS: &[u8] =
     b"block 1 00\nblock 1 00\nblock 1 00\nblock 1 00\nblock 1 00\ncheckpoint -\nstep\nstep\n";
@@ -40,21 +41,17 @@ fn file_of_five(alloc: Global, failing: &[u64]) -> Result<MemoryDisk, Fail> {
 // The same with blocks 2 and 4 struck, and a free one.
 fn struck_file(alloc: Global, failing: &[u64]) -> Result<MemoryDisk, Fail> {
     let mut disk = file_of_five(alloc, failing)?;
-    for sector in [84u64, 92, 104] {
-        disk.strike(sector, Strike::Fill { byte: 0xa5 })?;
-    }
+    strike(&mut disk, &[(84, FILLED), (92, FILLED), (104, FILLED)])?;
     Ok(disk)
 }
 
 #[test]
 fn a_tour_checks_each_referenced_block(rt: HostRuntime) -> Result<(), Fail> {
     let mut disk = struck_file(rt.alloc(), &[])?;
-    let ran = run_script(rt.alloc(), &mut disk, TOUR)?;
-    assert_eq!(rt; ran.status, Status::Done);
-    assert!(rt; printed(&ran, TOUR_TEXT));
     // The findings are a session's own.
-    let ran = run_script(rt.alloc(), &mut disk, b"recent\n")?;
-    assert!(rt; printed(&ran, "recent 0\n"));
+    for (script, text) in &[(TOUR, TOUR_TEXT), (b"recent\n", "recent 0\n")] {
+        expect_script(&rt, rt.alloc(), &mut disk, script, text, Status::Done)?;
+    }
     Ok(())
 }
 
@@ -62,9 +59,14 @@ fn a_tour_checks_each_referenced_block(rt: HostRuntime) -> Result<(), Fail> {
 fn scrub_prints_the_blocks_that_fail(rt: HostRuntime) -> Result<(), Fail> {
     let mut disk = struck_file(rt.alloc(), &[])?;
     for _again in 0..2 {
-        let ran = run_words(rt.alloc(), &mut disk, &["scrub"])?;
-        assert_eq!(rt; ran.status, Status::Found);
-        assert!(rt; printed(&ran, REPORT));
+        expect_words(
+            &rt,
+            rt.alloc(),
+            &mut disk,
+            &["scrub"],
+            REPORT,
+            Status::Found,
+        )?;
     }
     Ok(())
 }
@@ -76,26 +78,40 @@ fn a_file_that_is_cut_behind_its_blocks_is_sound(rt: HostRuntime) -> Result<(), 
     for sector in 300..336u64 {
         disk.strike(sector, Strike::Fill { byte: 0 })?;
     }
-    let ran = run_words(rt.alloc(), &mut disk, &["scrub"])?;
-    assert_eq!(rt; ran.status, Status::Done);
-    assert!(rt; printed(&ran, "tour 6 0\n"));
-    Ok(())
+    expect_words(
+        &rt,
+        rt.alloc(),
+        &mut disk,
+        &["scrub"],
+        "tour 6 0\n",
+        Status::Done,
+    )
 }
 
-// The sink fails in its second line, and then the disk in its read of block 3, the fourth call from the last one: what was found
-// before is there.
+// Which call of the sink fails, and whether the read of block 3 does, the fourth call from the last one; and how the run ends.
+const FAULTS: [(&[u64], bool, Status, &str); 3] = [
+    (&[2], false, Status::WriteFault, "failing 2 Garbled\n"),
+    (&[], false, Status::Found, REPORT),
+    (&[], true, Status::DiskFault, "failing 2 Garbled\n"),
+];
+
+// The number of that read, counted behind the format.
+fn third_read(alloc: Global) -> Result<u64, Fail> {
+    let mut disk = struck_file(alloc, &[])?;
+    run_words(alloc, &mut disk, &["scrub"])?;
+    Ok(disk.calls().saturating_sub(FORMAT_CALLS.saturating_add(3)))
+}
+
+// What was found before a sink or a disk fails is there.
 #[test]
 fn each_block_that_fails_is_printed_before_the_next_is_read(rt: HostRuntime) -> Result<(), Fail> {
     let words = word(rt.alloc(), "scrub")?;
-    let mut disk = struck_file(rt.alloc(), &[])?;
-    let ran = run_failing(rt.alloc(), &mut disk, &words, b"", &[], &[2])?;
-    assert!(rt; ran.status == Status::WriteFault && printed(&ran, "failing 2 Garbled\n"));
-    let mut disk = struck_file(rt.alloc(), &[])?;
-    let ran = run_words(rt.alloc(), &mut disk, &["scrub"])?;
-    assert_eq!(rt; ran.status, Status::Found);
-    let call = disk.calls().saturating_sub(FORMAT_CALLS.saturating_add(3));
-    let mut disk = struck_file(rt.alloc(), &[call])?;
-    let ran = run_words(rt.alloc(), &mut disk, &["scrub"])?;
-    assert!(rt; ran.status == Status::DiskFault && printed(&ran, "failing 2 Garbled\n"));
+    let read = [third_read(rt.alloc())?];
+    for (sink_fails, is_cut, status, text) in &FAULTS {
+        let failing = if *is_cut { read.as_slice() } else { &[] };
+        let mut disk = struck_file(rt.alloc(), failing)?;
+        let ran = run_failing(rt.alloc(), &mut disk, &words, b"", &[], sink_fails)?;
+        expect(&rt, &ran, text.as_bytes(), *status, text);
+    }
     Ok(())
 }

@@ -1,6 +1,7 @@
 // Runs over files whose sectors were damaged, lost or swapped: what was answered is there, or the file is refused with the
 // place and its class.
-use df_memdisk::{MemoryDisk, Strike};
+use crate::shown::{expect_script, strike};
+use df_memdisk::Strike;
 use df_runs::{Status, ops_of_one, run_script, small_file};
 use std::test::Fail;
 
@@ -108,24 +109,16 @@ const ROWS: [Struck; 9] = [
     },
 ];
 
-fn strike(disk: &mut MemoryDisk, strikes: &[(u64, Strike)]) -> Result<(), Fail> {
-    for (sector, strike) in strikes {
-        disk.strike(*sector, *strike)?;
-    }
-    Ok(())
-}
-
 #[test]
 fn a_struck_file_opens_with_what_was_answered_or_is_refused(rt: HostRuntime) -> Result<(), Fail> {
-    for (index, row) in ROWS.iter().enumerate() {
+    for row in &ROWS {
         let mut disk = small_file(rt.alloc(), &[])?;
         let script = ops_of_one(rt.alloc(), row.ops, row.behind)?;
         let made = run_script(rt.alloc(), &mut disk, &script)?;
-        assert_eq!(rt; made.status, Status::Done, "row {index}");
+        assert!(rt; made.status == Status::Done, "{}", row.text);
         strike(&mut disk, row.strikes)?;
-        let ran = run_script(rt.alloc(), &mut disk, row.script.as_bytes())?;
-        assert_eq!(rt; ran.text.as_slice(), row.text.as_bytes(), "row {index}");
-        assert_eq!(rt; ran.status, row.status, "row {index}");
+        let script = row.script.as_bytes();
+        expect_script(&rt, rt.alloc(), &mut disk, script, row.text, row.status)?;
     }
     Ok(())
 }
