@@ -1,5 +1,5 @@
 // The table of recovery cases on a real image, and the calls of a scan.
-ghost use Rattle.std.specs.Prelude.{◌≡◌, ◌≤◌, IfSome};
+ghost use Rattle.std.specs.Prelude.{◌≡◌, ◌≤◌};
 
 use crate::files::{blank, prepare_header, put_bytes, put_header, put_prepare, scanned, tried};
 use df_base::Failed;
@@ -8,11 +8,12 @@ use df_cases::Decision;
 use df_layout::{Class, Layout};
 use df_memdisk::MemoryDisk;
 use std::alloc::Global;
+use std::process::Abort;
 use std::test::Fail;
 
 // What a ring shows in a slot, behind a checkpoint with op 32: nothing, op 1 to 31, the slot's op above 32 in one of two
 // prepares, or an op above 64.
-#[derive(Clone, Copy, Debug, PartialEq, Eq)]
+#[derive(Clone, Copy)]
 enum Shown {
     Nothing,
     Old,
@@ -22,11 +23,7 @@ enum Shown {
 }
 
 // The op and the request of what is shown in a slot, if anything is.
-fn numbers(shown: Shown, slot: u32) -> Option<(u64, u64)>
-    requires { (1 ≤ slot) × (slot ≤ 31) }
-    ensures op { IfSome result (λ n. (1 ≤ n.0) × (n.0 ≤ 1000)) }
-    ensures request { IfSome result (λ n. (1 ≤ n.1) × (n.1 ≤ 1000)) }
-{
+fn numbers(shown: Shown, slot: u32) -> Option<(u64, u64)> {
     let slot = u64::from(slot);
     match shown {
         Shown::Nothing => None,
@@ -39,22 +36,24 @@ fn numbers(shown: Shown, slot: u32) -> Option<(u64, u64)>
 
 // Lets the two rings show this in a slot.
 fn show(
+    rt: &impl Abort,
+    alloc: Global,
     disk: &mut MemoryDisk,
     layout: &Layout,
-    alloc: Global,
     slot: u32,
-    header: Shown,
-    prepare: Shown,
+    shown: (Shown, Shown),
 ) -> Result<(), Fail>
     requires slots { layout.now.slots ≡ 32 }
-    requires slot { (1 ≤ slot) × (slot ≤ 31) }
+    requires slot { slot ≤ 31 }
 {
-    if let Some((op, request)) = numbers(header, slot) {
+    if let Some((op, request)) = numbers(shown.0, slot) {
+        assert!(rt; 1 <= op && op <= 1000 && 1 <= request && request <= 1000);
         put_header(disk, prepare_header(op, request, [1; 16]))?;
     } else {
         put_bytes(disk, slot, &[0xa5; 256])?;
     }
-    if let Some((op, request)) = numbers(prepare, slot) {
+    if let Some((op, request)) = numbers(shown.1, slot) {
+        assert!(rt; 1 <= op && op <= 1000 && 1 <= request && request <= 1000);
         let room: Raw<Prepare> = Raw::reserve(alloc, layout)?;
         put_prepare(disk, layout, room, prepare_header(op, request, [1; 16]))?;
     }
@@ -91,20 +90,23 @@ fn each_slot_is_decided_as_the_table_says(rt: HostRuntime) -> Result<(), Fail> {
     let layout = Layout::small();
     let mut disk = blank(rt.alloc());
     let mut slot = 1;
-    for (header, prepare, _) in ROWS {
+    for (header, prepare, _) in &ROWS {
         assert!(rt; 1 <= slot && slot < 18);
-        show(&mut disk, &layout, rt.alloc(), slot, header, prepare)?;
+        show(
+            &rt,
+            rt.alloc(),
+            &mut disk,
+            &layout,
+            slot,
+            (*header, *prepare),
+        )?;
         slot += 1;
     }
     let found = scanned(rt.alloc(), &mut disk, &layout, 32)?;
     let mut slot = 1;
-    for (header, prepare, decision) in ROWS {
+    for (_, _, decision) in &ROWS {
         assert!(rt; 1 <= slot && slot < 18);
-        assert_eq!(rt;
-            found.decision(slot),
-            decision,
-            "slot {slot}: {header:?} {prepare:?}"
-        );
+        assert_eq!(rt; found.decision(slot), *decision, "slot {slot}");
         slot += 1;
     }
     assert_eq!(rt;
@@ -152,10 +154,10 @@ fn a_scan_makes_two_and_thirty_two_calls(rt: HostRuntime) -> Result<(), Fail> {
 
 #[test]
 fn a_scan_ends_with_the_call_that_fails(rt: HostRuntime) -> Result<(), Fail> {
-    for listed in [1, 2, 17, 18, 19, 2 + 32] {
-        let failing = Vec::from_slice(rt.alloc(), &[listed])?;
+    for listed in &[1, 2, 17, 18, 19, 2 + 32] {
+        let failing = Vec::from_slice(rt.alloc(), &[*listed])?;
         let ends = scan_ends(rt.alloc(), failing)?;
-        assert_eq!(rt; ends, (Err(Failed), listed), "call {listed}");
+        assert_eq!(rt; ends, (Err(Failed), *listed), "call {listed}");
     }
     Ok(())
 }
