@@ -4,4 +4,6 @@
 #[cfg(test)]
 mod grammar;
 #[cfg(test)]
+mod refusals;
+#[cfg(test)]
 mod scripts;

@@ -42,29 +42,36 @@ fn push_long_line(text: &mut Vec<u8>, words: &[u8]) -> Result<(), AllocError> {
     Ok(())
 }
 
-/// Three lines. The second is as long as that reader takes, and the last has no byte 10.
-fn script(alloc: Global) -> Result<Vec<u8>, AllocError> {
+// A short line, a line of these words and that body, and what comes behind it.
+fn script_of(alloc: Global, words: &[u8], ending: &[u8]) -> Result<Vec<u8>, AllocError> {
     let mut text = b"append 4 1 -\n".to_vec(alloc)?;
-    push_long_line(&mut text, b"append 55 1 ")?;
-    text.extend_from_slice(b"\nappend 6 2 ff")?;
+    push_long_line(&mut text, words)?;
+    text.extend_from_slice(ending)?;
     Ok(text)
 }
+
+// Three lines. The second is as long as that reader takes, and the last has no byte 10.
+fn script(alloc: Global) -> Result<Vec<u8>, AllocError> {
+    script_of(alloc, b"append 55 1 ", b"\nappend 6 2 ff")
+}
+
+const PIECES: [usize; 6] = [1, 2, 7, 8256, 8257, 10_000];
 
 #[test]
 fn a_script_is_read_in_pieces_of_any_size(rt: HostRuntime) -> Result<(), Fail> {
     let body = long_body(rt.alloc())?;
-    for piece in [1, 2, 7, 8256, 8257, 10_000] {
+    for piece in &PIECES {
+        let text = script(rt.alloc())?;
         let mut source = Drip {
-            source: MemorySource::new(script(rt.alloc())?, Vec::new(rt.alloc())),
-            piece,
+            source: MemorySource::new(text, Vec::new(rt.alloc())),
+            piece: *piece,
             ended: 0,
         };
         let mut room = least_room(rt.alloc())?;
         expect_line(&rt, &mut room, &mut source, 4, 1, b"")?;
         expect_line(&rt, &mut room, &mut source, 55, 1, &body)?;
         expect_line(&rt, &mut room, &mut source, 6, 2, b"\xff")?;
-        assert_eq!(rt; room.next(&mut source), Ok(Next::End));
-        assert_eq!(rt; room.next(&mut source), Ok(Next::End));
+        expect_twice(&rt, &mut room, &mut source, Next::End);
         assert_eq!(rt; source.ended, 1);
     }
     Ok(())
@@ -84,36 +91,37 @@ fn a_failed_read_loses_nothing(rt: HostRuntime) -> Result<(), Fail> {
     Ok(())
 }
 
+const ENDINGS: [&[u8]; 3] = [b"", b"\n", b"\nappend 6 1 -\n"];
+
 #[test]
 fn a_line_past_the_bound_is_refused(rt: HostRuntime) -> Result<(), Fail> {
-    for ending in [
-        b"".as_slice(),
-        b"\n".as_slice(),
-        b"\nappend 6 1 -\n".as_slice(),
-    ] {
-        let mut text = b"append 4 1 -\n".to_vec(rt.alloc())?;
-        push_long_line(&mut text, b"append 555 1 ")?;
-        text.extend_from_slice(ending)?;
+    for ending in &ENDINGS {
+        let text = script_of(rt.alloc(), b"append 555 1 ", ending)?;
         let mut source = MemorySource::new(text, Vec::new(rt.alloc()));
         let mut room = least_room(rt.alloc())?;
         expect_line(&rt, &mut room, &mut source, 4, 1, b"")?;
-        assert_eq!(rt; room.next(&mut source), Ok(Next::Refused));
-        assert_eq!(rt; room.next(&mut source), Ok(Next::Refused));
+        expect_twice(&rt, &mut room, &mut source, Next::Refused);
     }
     Ok(())
 }
 
+const SHORTEST: [(&[u8], Next); 2] = [(b"", Next::End), (b"\n", Next::Refused)];
+
 #[test]
 fn an_empty_line_is_refused_and_an_empty_script_ends(rt: HostRuntime) -> Result<(), Fail> {
-    for (text, want) in [
-        (b"".as_slice(), Next::End),
-        (b"\n".as_slice(), Next::Refused),
-    ] {
+    for (text, want) in &SHORTEST {
         let mut source = MemorySource::new(text.to_vec(rt.alloc())?, Vec::new(rt.alloc()));
         let mut room = least_room(rt.alloc())?;
-        assert_eq!(rt; room.next(&mut source), Ok(want));
+        expect_twice(&rt, &mut room, &mut source, *want);
     }
     Ok(())
+}
+
+// The reader's answer, which stays the same.
+fn expect_twice<S: Source>(rt: &impl Abort, room: &mut LineRoom, source: &mut S, want: Next) {
+    for _ in 0..2 {
+        assert_eq!(rt; room.next(source), Ok(want));
+    }
 }
 
 fn expect_line<S: Source>(
@@ -162,26 +170,24 @@ impl Source for Drip {
     }
 }
 
-#[test]
-fn a_room_is_as_large_as_the_layout_asks(rt: HostRuntime) -> Result<(), Fail> {
-    let mut line = b"reply 1 ".to_vec(rt.alloc())?;
-    for _ in 0..16_412u32 {
+// A line with a body of so many bytes.
+fn reply_of(alloc: Global, size: u64) -> Result<Vec<u8>, AllocError> {
+    let mut line = b"reply 1 ".to_vec(alloc)?;
+    for _ in 0..size {
         line.extend_from_slice(b"ab")?;
     }
-    for (more, taken) in [(0u32, true), (1, false)] {
-        let mut text = line.as_slice().to_vec(rt.alloc())?;
-        for _ in 0..more {
-            text.extend_from_slice(b"ab")?;
-        }
+    Ok(line)
+}
+
+#[test]
+fn a_room_is_as_large_as_the_layout_asks(rt: HostRuntime) -> Result<(), Fail> {
+    let length = 16_412;
+    let line = Next::Line(Line::Reply { op: 1, length });
+    for (size, want) in &[(length, line), (16_413, Next::Refused)] {
+        let text = reply_of(rt.alloc(), *size)?;
         let mut source = MemorySource::new(text, Vec::new(rt.alloc()));
         let mut room = LineRoom::reserve(rt.alloc(), &Layout::small())?;
-        let next = room.next(&mut source)?;
-        let want = Line::Reply {
-            op: 1,
-            length: 16_412,
-        };
-        assert_eq!(rt; next == Next::Line(want), taken);
-        assert_eq!(rt; next == Next::Refused, !taken);
+        assert_eq!(rt; room.next(&mut source), Ok(*want));
     }
     Ok(())
 }
