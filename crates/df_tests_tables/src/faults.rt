@@ -8,6 +8,7 @@ use df_images::{Fate, stop_since};
 use df_memdisk::MemoryDisk;
 use df_runs::{Ran, Status, lines, run_failing, small_file, word};
 use std::alloc::Global;
+use std::process::Abort;
 use std::test::Fail;
 
 // More than the device calls of any work.
@@ -52,23 +53,27 @@ fn fail_at(
     Ok((ran.status, recovered))
 }
 
+// The last device call of a work whose failure is told: each up to there is a disk fault, and recovered from.
+fn last_fault(rt: &impl Abort, alloc: Global, work: Work) -> Result<u64, Fail> {
+    let views = views(alloc, work)?;
+    let mut faults = 0u64;
+    for call in 1..ENDED {
+        let (status, recovered) = fail_at(alloc, work, &views, call)?;
+        if status == Status::Done {
+            break;
+        }
+        faults = call;
+        assert!(rt; status == Status::DiskFault && recovered, "call {call}");
+    }
+    Ok(faults)
+}
+
 // An open takes 47 calls. The lines of the session take four for each append, two for the reply, one for each block and each first
 // step, and 13 for each last step: a sync, a write and a sync of each copy, and the four copies read back; and one for each of
 // three reads.
 #[test]
 fn each_failing_device_call_of_a_session_is_a_disk_fault(rt: HostRuntime) -> Result<(), Fail> {
-    let views = views(rt.alloc(), Work::Session)?;
-    let mut faults = 0u64;
-    for call in 1..ENDED {
-        let (status, recovered) = fail_at(rt.alloc(), Work::Session, &views, call)?;
-        if status == Status::Done {
-            break;
-        }
-        faults = call;
-        assert_eq!(rt; status, Status::DiskFault, "call {call}");
-        assert!(rt; recovered, "call {call}");
-    }
-    assert_eq!(rt; faults, 91);
+    assert_eq!(rt; last_fault(&rt, rt.alloc(), Work::Session)?, 91);
     Ok(())
 }
 
@@ -76,65 +81,66 @@ fn each_failing_device_call_of_a_session_is_a_disk_fault(rt: HostRuntime) -> Res
 // prepares and four replies. Behind it come the writes of two sectors of headers with one sync, and of two copies with a sync each.
 #[test]
 fn each_failing_device_call_of_a_mending_is_a_disk_fault(rt: HostRuntime) -> Result<(), Fail> {
-    let views = views(rt.alloc(), Work::Mending)?;
-    let mut faults = 0u64;
-    for call in 1..ENDED {
-        let (status, recovered) = fail_at(rt.alloc(), Work::Mending, &views, call)?;
-        if status == Status::Done {
-            break;
-        }
-        faults = call;
-        assert_eq!(rt; status, Status::DiskFault, "call {call}");
-        assert!(rt; recovered, "call {call}");
-    }
-    assert_eq!(rt; faults, 56);
+    assert_eq!(rt; last_fault(&rt, rt.alloc(), Work::Mending)?, 56);
     Ok(())
 }
 
-// A run of the session with one call of its source and one of its sink failing, and whether what it leaves is recovered.
+// What fails beside the device.
+#[derive(Clone, Copy)]
+enum Side {
+    Source,
+    Sink,
+}
+
+// A run of the session with one call of its source or of its sink failing, and whether what it leaves is recovered.
 fn fail_outside(
     alloc: Global,
     views: &[Vec<u8>],
-    source: u64,
-    sink: u64,
+    side: Side,
+    call: u64,
 ) -> Result<(Status, bool), Fail> {
     let mut disk = small_file(alloc, &[])?;
     let words = word(alloc, "run")?;
     let script = front(alloc, LINES)?;
+    let (source, sink) = match side {
+        Side::Source => (call, 0),
+        Side::Sink => (0, call),
+    };
     let ran = run_failing(alloc, &mut disk, &words, &script, &[source], &[sink])?;
     Ok((ran.status, is_recovered(alloc, disk, views, &ran)?))
 }
 
-#[test]
-fn each_failing_read_of_the_script_is_a_read_fault(rt: HostRuntime) -> Result<(), Fail> {
-    let views = views(rt.alloc(), Work::Session)?;
+// The last call of one side whose failure is told: each up to there ends so, and is recovered from, and so is the run behind them.
+fn last_fault_outside(
+    rt: &impl Abort,
+    alloc: Global,
+    side: Side,
+    fault: Status,
+) -> Result<u64, Fail> {
+    let views = views(alloc, Work::Session)?;
     let mut faults = 0u64;
     for call in 1..ENDED {
-        let (status, recovered) = fail_outside(rt.alloc(), &views, call, 0)?;
+        let (status, recovered) = fail_outside(alloc, &views, side, call)?;
         assert!(rt; recovered, "call {call}");
         if status == Status::Done {
             break;
         }
         faults = call;
-        assert_eq!(rt; status, Status::ReadFault, "call {call}");
+        assert!(rt; status == fault, "call {call}");
     }
+    Ok(faults)
+}
+
+#[test]
+fn each_failing_read_of_the_script_is_a_read_fault(rt: HostRuntime) -> Result<(), Fail> {
+    let faults = last_fault_outside(&rt, rt.alloc(), Side::Source, Status::ReadFault)?;
     assert!(rt; faults > 0 && faults < ENDED - 1, "{faults} reads");
     Ok(())
 }
 
 #[test]
 fn each_failing_write_of_an_answer_is_a_write_fault(rt: HostRuntime) -> Result<(), Fail> {
-    let views = views(rt.alloc(), Work::Session)?;
-    let mut faults = 0u64;
-    for call in 1..ENDED {
-        let (status, recovered) = fail_outside(rt.alloc(), &views, 0, call)?;
-        assert!(rt; recovered, "call {call}");
-        if status == Status::Done {
-            break;
-        }
-        faults = call;
-        assert_eq!(rt; status, Status::WriteFault, "call {call}");
-    }
+    let faults = last_fault_outside(&rt, rt.alloc(), Side::Sink, Status::WriteFault)?;
     assert!(rt;
         faults >= LINES as u64 && faults < ENDED - 1,
         "{faults} writes"

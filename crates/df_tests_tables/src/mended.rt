@@ -4,6 +4,7 @@ use crate::told::{is_before_or_after, told};
 use crate::work::{hurt_file, whole_file};
 use df_runs::{Ran, Status, lines, run_failing, run_script, word};
 use std::alloc::Global;
+use std::process::Abort;
 use std::test::Fail;
 
 // More than the calls of any source or sink here.
@@ -38,62 +39,103 @@ fn views(alloc: Global) -> Result<Vec<Vec<u8>>, Fail> {
     Ok(views)
 }
 
-// A word over the hurt file, with one call of its source and one of its sink failing: how it ends, and whether it printed a front of
-// this text and left the view of the answers so far, or of one more.
+// What runs over the hurt file, what it prints, and whether its source or its sink fails.
+struct Faulty {
+    word: &'static str,
+    text: &'static str,
+    is_source: bool,
+    fault: Status,
+}
+
+// Such a run with this call failing: how it ends, and whether it printed a front of its text and left the view of the answers so far,
+// or of one more.
 fn fail_outside(
     alloc: Global,
     views: &[Vec<u8>],
-    text: (&str, &str),
-    source: u64,
-    sink: u64,
+    faulty: &Faulty,
+    call: u64,
 ) -> Result<(Status, bool), Fail> {
     let mut disk = hurt_file(alloc, &[])?;
-    let words = word(alloc, text.0)?;
+    let words = word(alloc, faulty.word)?;
     let script = front(alloc, BEHIND.len())?;
+    let (source, sink) = if faulty.is_source {
+        (call, 0)
+    } else {
+        (0, call)
+    };
     let ran: Ran = run_failing(alloc, &mut disk, &words, &script, &[source], &[sink])?;
-    let is_front = text.1.as_bytes().starts_with(&ran.text);
-    let answers = if text.0 == "run" { lines(&ran.text) } else { 0 };
+    let is_front = faulty.text.as_bytes().starts_with(&ran.text);
+    let answers = if faulty.word == "run" {
+        lines(&ran.text)
+    } else {
+        0
+    };
     let recovered = is_before_or_after(alloc, &mut disk, views, answers)?;
     Ok((ran.status, is_front && recovered))
 }
+
+// The last call whose failure is told: each up to there ends so.
+fn last_fault(rt: &impl Abort, alloc: Global, faulty: &Faulty) -> Result<u64, Fail> {
+    let views = views(alloc)?;
+    let mut faults = 0u64;
+    for call in 1..ENDED {
+        let (status, kept) = fail_outside(alloc, &views, faulty, call)?;
+        assert!(rt; kept, "{}, call {call}", faulty.word);
+        if status == Status::Done {
+            break;
+        }
+        faults = call;
+        assert!(rt; status == faulty.fault, "{}, call {call}", faulty.word);
+    }
+    Ok(faults)
+}
+
+const READ: Faulty = Faulty {
+    word: "run",
+    text: ANSWERS,
+    is_source: true,
+    fault: Status::ReadFault,
+};
 
 #[test]
 fn each_failing_read_of_a_script_behind_a_mending_is_a_read_fault(
     rt: HostRuntime,
 ) -> Result<(), Fail> {
-    let views = views(rt.alloc())?;
-    let mut faults = 0u64;
-    for call in 1..ENDED {
-        let (status, kept) = fail_outside(rt.alloc(), &views, ("run", ANSWERS), call, 0)?;
-        assert!(rt; kept, "call {call}");
-        if status == Status::Done {
-            break;
-        }
-        faults = call;
-        assert_eq!(rt; status, Status::ReadFault, "call {call}");
-    }
+    let faults = last_fault(&rt, rt.alloc(), &READ)?;
     assert!(rt; faults > 0 && faults < ENDED - 1, "{faults} reads");
     Ok(())
 }
 
 // Each line's answer takes a write at least; a summary is one write.
+const WRITES: [(Faulty, u64); 2] = [
+    (
+        Faulty {
+            word: "run",
+            text: ANSWERS,
+            is_source: false,
+            fault: Status::WriteFault,
+        },
+        3,
+    ),
+    (
+        Faulty {
+            word: "recover",
+            text: SUMMARY,
+            is_source: false,
+            fault: Status::WriteFault,
+        },
+        1,
+    ),
+];
+
 #[test]
 fn each_failing_write_behind_a_mending_is_a_write_fault(rt: HostRuntime) -> Result<(), Fail> {
-    let views = views(rt.alloc())?;
-    for (word, text, least) in [("run", ANSWERS, 3), ("recover", SUMMARY, 1)] {
-        let mut faults = 0u64;
-        for call in 1..ENDED {
-            let (status, kept) = fail_outside(rt.alloc(), &views, (word, text), 0, call)?;
-            assert!(rt; kept, "{word}, call {call}");
-            if status == Status::Done {
-                break;
-            }
-            faults = call;
-            assert_eq!(rt; status, Status::WriteFault, "{word}, call {call}");
-        }
+    for (faulty, least) in &WRITES {
+        let faults = last_fault(&rt, rt.alloc(), faulty)?;
         assert!(rt;
-            faults >= least && faults < ENDED - 1,
-            "{word}, {faults} writes"
+            faults >= *least && faults < ENDED - 1,
+            "{}, {faults} writes",
+            faulty.word
         );
     }
     Ok(())

@@ -6,6 +6,7 @@ use crate::work::{Work, cut};
 use df_images::{Fate, stop_since};
 use df_runs::{Status, lines};
 use std::alloc::Global;
+use std::process::Abort;
 use std::test::Fail;
 
 // More than the device calls of any work.
@@ -81,25 +82,30 @@ fn is_left(
 
 // Whether each of a moment's images is.
 fn are_left(alloc: Global, work: Work, views: &[Vec<u8>], moment: &Moment) -> Result<bool, Fail> {
-    for fate in [Fate::AsWritten, Fate::AsBefore, Fate::Filled] {
-        if !is_left(alloc, work, views, moment, fate)? {
+    for fate in &[Fate::AsWritten, Fate::AsBefore, Fate::Filled] {
+        if !is_left(alloc, work, views, moment, *fate)? {
             return Ok(false);
         }
     }
     Ok(true)
 }
 
+// How many moments a work has: a stop at each leaves the view before or after the answer in flight.
+fn stops(rt: &impl Abort, alloc: Global, work: Work) -> Result<usize, Fail> {
+    let views = views(alloc, work)?;
+    let moments = moments(alloc, work)?;
+    for moment in &moments {
+        let left = are_left(alloc, work, &views, moment)?;
+        assert!(rt; left, "call {}", moment.call);
+    }
+    Ok(moments.len())
+}
+
 // Four moments of each append and two of the reply; of each checkpoint the writes of a block and of the trailer, the sync behind
 // them, and two of each copy; the write of the last block, and the read behind it.
 #[test]
 fn a_stop_at_each_write_leaves_the_view_before_or_after(rt: HostRuntime) -> Result<(), Fail> {
-    let views = views(rt.alloc(), Work::Session)?;
-    let moments = moments(rt.alloc(), Work::Session)?;
-    for moment in &moments {
-        let left = are_left(rt.alloc(), Work::Session, &views, moment)?;
-        assert!(rt; left, "call {}", moment.call);
-    }
-    assert_eq!(rt; moments.len(), 34);
+    assert_eq!(rt; stops(&rt, rt.alloc(), Work::Session)?, 34);
     Ok(())
 }
 
@@ -107,12 +113,6 @@ fn a_stop_at_each_write_leaves_the_view_before_or_after(rt: HostRuntime) -> Resu
 // sync behind both, and each of two copies up to its own.
 #[test]
 fn a_stop_at_each_write_of_a_mending_leaves_the_view(rt: HostRuntime) -> Result<(), Fail> {
-    let views = views(rt.alloc(), Work::Mending)?;
-    let moments = moments(rt.alloc(), Work::Mending)?;
-    for moment in &moments {
-        let left = are_left(rt.alloc(), Work::Mending, &views, moment)?;
-        assert!(rt; left, "call {}", moment.call);
-    }
-    assert_eq!(rt; moments.len(), 12);
+    assert_eq!(rt; stops(&rt, rt.alloc(), Work::Mending)?, 12);
     Ok(())
 }
