@@ -4,6 +4,7 @@ use df_images::{FATES, Fate, stop, strike};
 use df_memdisk::MemoryDisk;
 use df_runs::{Status, made_file, ops_of_one, printed, run_script};
 use std::alloc::Global;
+use std::process::Abort;
 use std::test::Fail;
 
 // Sectors of a file that show 0xa5, and the sectors that the next run mends, in order. All header sectors that are needed are written
@@ -30,17 +31,17 @@ fn hurt_file(alloc: Global, sectors: &[u64], failing: &[u64]) -> Result<MemoryDi
     Ok(disk)
 }
 
-// A sector that a run mends, whose write or sync is the device call of this number there.
+// A sector that a run mends, whose write or sync is the device call of this number.
 #[derive(Clone, Copy, Debug)]
 struct Cut {
     sector: u16,
     call: u64,
 }
 
-// The cuts of a mending. An open reads for 47 calls before it.
-fn cuts(alloc: Global, mended: &[u16]) -> Result<Vec<Cut>, Fail> {
+// The cuts of a mending behind so many calls. An open reads for 47 calls before it.
+fn cuts(alloc: Global, calls: u64, mended: &[u16]) -> Result<Vec<Cut>, Fail> {
     let mut cuts = Vec::new(alloc);
-    let mut call = OPEN_CALLS;
+    let mut call = calls.saturating_add(OPEN_CALLS);
     for sector in mended {
         for _ in 0..2u8 {
             call = call.saturating_add(1);
@@ -58,11 +59,10 @@ fn mended_later(
     alloc: Global,
     hurt: &[u64],
     before: &mut MemoryDisk,
-    calls: u64,
     cut: Cut,
     fate: Fate,
 ) -> Result<bool, Fail> {
-    let mut disk = hurt_file(alloc, hurt, &[calls.saturating_add(cut.call)])?;
+    let mut disk = hurt_file(alloc, hurt, &[cut.call])?;
     let ran = run_script(alloc, &mut disk, NEXT.as_bytes())?;
     if ran.status != Status::DiskFault || !printed(&ran, "") {
         return Err("the mending isn't stopped".into());
@@ -75,16 +75,27 @@ fn mended_later(
     Ok(printed(&next, NEXT_TEXT) && disk.events() == events.saturating_add(1))
 }
 
+// A mending that is cut off there, with each fate of its sector.
+fn expect_mended(
+    rt: &impl Abort,
+    alloc: Global,
+    hurt: &[u64],
+    before: &mut MemoryDisk,
+    cut: Cut,
+) -> Result<(), Fail> {
+    for fate in &FATES {
+        let done = mended_later(alloc, hurt, before, cut, *fate)?;
+        assert!(rt; done, "{hurt:?} {cut:?} {fate:?}");
+    }
+    Ok(())
+}
+
 #[test]
 fn a_stopped_mending_is_done_by_the_next_run(rt: HostRuntime) -> Result<(), Fail> {
-    for (hurt, mended) in MENDINGS {
+    for (hurt, mended) in &MENDINGS {
         let mut before = hurt_file(rt.alloc(), hurt, &[])?;
-        let calls = before.calls();
-        for cut in cuts(rt.alloc(), mended)? {
-            for fate in FATES {
-                let done = mended_later(rt.alloc(), hurt, &mut before, calls, cut, fate)?;
-                assert!(rt; done, "{hurt:?} {cut:?} {fate:?}");
-            }
+        for cut in &cuts(rt.alloc(), before.calls(), mended)? {
+            expect_mended(&rt, rt.alloc(), hurt, &mut before, *cut)?;
         }
     }
     Ok(())

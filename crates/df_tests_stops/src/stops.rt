@@ -7,6 +7,7 @@ use df_images::{Fate, stop_since};
 use df_memdisk::MemoryDisk;
 use df_runs::Status;
 use std::alloc::Global;
+use std::process::Abort;
 use std::test::Fail;
 
 // The fates of the two sectors of the last write, of one sector alone the first, and of all that were loose before it.
@@ -85,13 +86,20 @@ fn is_kept(alloc: Global, moment: &Moment, image: Image) -> Result<bool, Fail> {
     is_found(alloc, &mut disk, kept_lines(moment, image)?)
 }
 
+// A stop at this moment with each image.
+fn expect_kept(rt: &impl Abort, alloc: Global, moment: &Moment) -> Result<(), Fail> {
+    for image in &IMAGES {
+        let kept = is_kept(alloc, moment, *image)?;
+        assert!(rt; kept, "line {} call {} {image:?}", moment.line, moment.call);
+    }
+    Ok(())
+}
+
 #[test]
 fn a_stopped_session_is_found(rt: HostRuntime) -> Result<(), Fail> {
-    for moment in moments(rt.alloc())? {
-        for image in IMAGES {
-            let kept = is_kept(rt.alloc(), &moment, image)?;
-            assert!(rt; kept, "line {} call {} {image:?}", moment.line, moment.call);
-        }
+    let moments = moments(rt.alloc())?;
+    for moment in &moments {
+        expect_kept(&rt, rt.alloc(), moment)?;
     }
     Ok(())
 }
@@ -100,9 +108,10 @@ fn a_stopped_session_is_found(rt: HostRuntime) -> Result<(), Fail> {
 #[test]
 fn a_failing_device_call_of_a_line_is_a_disk_fault(rt: HostRuntime) -> Result<(), Fail> {
     let whole = (Fate::AsWritten, Fate::AsWritten, Fate::AsWritten);
-    for moment in moments(rt.alloc())? {
-        let mut disk = cut_off(rt.alloc(), &moment)?;
-        let kept = is_found(rt.alloc(), &mut disk, kept_lines(&moment, whole)?)?;
+    let moments = moments(rt.alloc())?;
+    for moment in &moments {
+        let mut disk = cut_off(rt.alloc(), moment)?;
+        let kept = is_found(rt.alloc(), &mut disk, kept_lines(moment, whole)?)?;
         assert!(rt; kept, "line {} call {}", moment.line, moment.call);
     }
     Ok(())
