@@ -25,7 +25,7 @@ fn decisions_are_those_of_the_table(rt: HostRuntime) {
         (Seen::Nothing, Seen::Old, Decision::Empty { mend: true }),
         (Seen::Nothing, Seen::Nothing, Decision::Empty { mend: true }),
     ];
-    for (i, (header, prepare, decision)) in rows.into_iter().enumerate() {
-        assert!(rt; case(header, prepare) == decision, "row {i}");
+    for (i, (header, prepare, decision)) in rows.iter().enumerate() {
+        assert!(rt; case(*header, *prepare) == *decision, "row {i}");
     }
 }

@@ -119,11 +119,13 @@ fn header_of(stored: &Stored, body: &[u8]) -> Header
     }
 }
 
-// Memory of a room for a reply.
+// A room for a reply, as one that was used before.
 pub(crate) fn room_for(rt: &impl Abort, alloc: Global, layout: &Layout) -> Raw<Reply>
     ensures { result.layout ≡ layout.now }
 {
-    Raw::reserve(alloc, layout).expect(rt, "memory of a room")
+    let mut room = Raw::reserve(alloc, layout).expect(rt, "memory of a room");
+    room.bytes_mut().fill(0xa5);
+    room
 }
 
 // Writes a reply with this body into its slot of layout small.
