@@ -1,7 +1,7 @@
 -- A boot update keeps a view sound.
 use Rattle.std.proofs.Common.{◌≡◌, ℕ, ◌+◌, ◌-◌, List, [], ◌∷◌, length, take, drop, slice_index, sym, ◌∙◌, ap, subst, arith}
-use Rattle.df_theory.specs.Units.{Block, Content}
-use Rattle.df_theory.specs.Tails.{Chain, last_checksum}
+use Rattle.df_theory.specs.Units.{Block, Content, Layout}
+use Rattle.df_theory.specs.Tails.{AreGroups, Chain, last_checksum}
 use Rattle.df_theory.specs.Shape.{Shape}
 use Rattle.df_theory.specs.Trailer.{IsCount, IsTrailer, Links, piece_size, Says}
 use Rattle.df_theory.specs.View.{View, head}
@@ -47,18 +47,25 @@ module _ (sh : Shape) (v : View) (d : Content) (sound : Sound sh v) (may : MayBo
         chain = subst (λ (o : ℕ). Chain sh.layout.clients (o + 1) d.op_checksum 0 v.checkpoint.parts.sessions v.tail) (sym same.op.0)
             (subst (λ (k : ℕ). Chain sh.layout.clients (v.checkpoint.content.op + 1) k 0 v.checkpoint.parts.sessions v.tail) (sym same.op.1) sound.chain);
         room = sound.room;
+        grouped = subst (λ (o : ℕ). AreGroups 0 o (o + 1) v.tail) (sym same.op.0) sound.grouped;
         groups = λ p at. omega (arith, sound.groups p at, top);
+        pin_ends = λ p at low. omega (arith, sound.groups p at, may.is.pin);
         checkpoint = record {
           tests = record {
             version = same.file.0 ∙ tests.version;
             cluster = same.file.1 ∙ tests.cluster;
             layout = same.file.2 ∙ tests.layout;
             sequence = (omega (arith, same.sequence, tests.sequence.0), omega (arith, same.sequence, tests.sequence.1));
+            boot = omega (arith, may.is.boot, may.unspent);
             op_checksum = λ zero_is. same.op.1 ∙ tests.op_checksum (omega (arith, same.op.0));
             head = (omega (arith, may.is.head, same.op.0), omega (arith, may.is.head, same.op.0, sound.room), omega (arith, may.is.head, sound.head_to));
             replies = (omega (arith, may.is.head, may.is.replies, sound.pipeline.0), omega (arith, may.is.head, may.is.replies, sound.pipeline.1));
             pin = (omega (arith, may.is.pin, same.op.0), omega (arith, may.is.pin, may.is.head));
+            pin_checksum = λ level.
+                let none : d.pin - d.op ≡ 0 = omega (arith, level) in
+                sym may.is.records.checksum ∙ ap (λ (k : ℕ). last_checksum d.op_checksum (take k (drop (d.op - v.checkpoint.content.op) v.tail))) none;
             answered = omega (arith, may.is.answered, may.is.replies);
+            spare = λ k low. may.is.records.spare k (omega (arith, low, ap (λ (l : Layout). l.clients) tests.layout));
             of = may.is.of;
             rest = λ i. ap (λ (l : List ℕ). slice_index l i) same.file.3 ∙ tests.rest i;
           };

@@ -9,12 +9,17 @@ pub use Rattle.df_theory.proofs.Runs.{commands_law}
 pub use Rattle.df_theory.proofs.Headline.{barrier_law, clean_start_law, headline_law}
 pub use Rattle.df_theory.proofs.Tidy.{tidy_append_law, tidy_block_law, tidy_finish_law, tidy_idle_law, tidy_mend_law, tidy_reply_law, tidy_sync_law}
 pub use Rattle.df_theory.proofs.TidyMakes.{tidy_format_law}
+pub use Rattle.df_theory.proofs.FlushLaws.{flush_law}
+pub use Rattle.df_theory.proofs.TidyGroups.{clear_law, tidy_boot_law, tidy_flush_law}
 pub use Rattle.df_theory.proofs.TidyRuns.{standing_run_law, tidy_run_law}
 -- ---- images, and what an open finds
 pub use Rattle.df_theory.proofs.OneFound.{found_law, one_chosen_law, one_found_law, one_view_law}
 pub use Rattle.df_theory.proofs.OneAnswer.{found_answer_law, one_answer_law}
 pub use Rattle.df_theory.proofs.Founds.{chain_at, found_sound, slot_law}
 pub use Rattle.df_theory.proofs.Decisions.{decision_law}
+pub use Rattle.df_theory.proofs.GroupWalks.{alone_law, clear_slot_law, lost_law, walk_law}
+pub use Rattle.df_theory.proofs.GroupRules.{group_rule_law}
+pub use Rattle.df_theory.proofs.Images.{short_clear, short_same}
 -- ---- histories and damage
 pub use Rattle.df_theory.proofs.Past.{one_prepare_law, stamp_law}
 pub use Rattle.df_theory.proofs.Had.{found_was_law, one_content_law, one_reply_law}

@@ -1,6 +1,7 @@
 -- Files that meet every premise: one is made and each kind of command done to it, one is stopped within an append, one within an update and mended, and one has a hurt place.
 use Rattle.std.specs.Prelude.{◌≡◌, ◌<◌, ◌+◌, ℕ, List, [], length, Some, None}
-use Rattle.df_theory.specs.Units.{Units, CopyPlace, CopyUnit, Header, Place, PreparePlace}
+use Rattle.df_theory.specs.Units.{Units, CopyPlace, CopyUnit, Header, Message, Place, PreparePlace, PrepareUnit}
+use Rattle.df_theory.specs.Tails.{In}
 use Rattle.df_theory.specs.Shape.{Shape}
 use Rattle.df_theory.specs.View.{View, head, sequence}
 use Rattle.df_theory.specs.Holds.{Holds}
@@ -67,3 +68,18 @@ pub record HurtSampleLaw : Type 0 where
   pub agreed : Agree shown view.checkpoint.content
   pub hurt : (place : Place) → (place ≡ PreparePlace 1 → ⊥) → shown place ≡ now log place
   pub refuses : Opens shape shown (Refused (Damaged (PreparePlace 1)))
+
+-- and a stop within a group of two: what it leaves shows the second one above the head and holds the view before the group; the boot is raised, and a group writes that op anew
+pub record SurvivorSampleLaw : Type 0 where
+  pub shape : Shape
+  pub log : UnitLog
+  pub view : View
+  pub image : Units
+  pub survivor : Message
+  pub safe : IsSafe shape log
+  pub left : IsLeftBy log image × NoChance log image × Holds shape image view
+  pub shows : (image (PreparePlace 2) ≡ Some (PrepareUnit survivor)) × (head view < survivor.header.op)
+  pub rests : RestsOn shape (add (Stopped image) log) view
+  pub commands : List Command
+  pub lead : LeadTidily shape (add (Stopped image) log) view commands
+  pub anew : (p : Message) × In p (view_after view commands).tail × (p.header.op ≡ survivor.header.op) × (survivor.header.boot < p.header.boot)

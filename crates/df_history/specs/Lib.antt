@@ -1,0 +1,5 @@
+pub mod Lives
+pub mod Laws
+pub mod Histories
+pub mod OpenLaws
+pub mod Sample
