@@ -8,3 +8,4 @@ pub mod Since
 pub mod Moments
 pub mod Mendings
 pub mod Samples
+pub mod Upgraded

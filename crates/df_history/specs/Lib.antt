@@ -3,3 +3,4 @@ pub mod Laws
 pub mod Histories
 pub mod OpenLaws
 pub mod Sample
+pub mod Upgraded

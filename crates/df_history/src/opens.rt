@@ -1,5 +1,6 @@
 // What an open gives behind damage before any number of opens, and that the history goes on.
 
+ghost use Rattle.df_history.specs.Upgraded.{StoppedUpgradeLaw, UpgradedLaw};
 ghost use Rattle.df_history.specs.OpenLaws.{AwakeLivedLaw, BeginsLaw, BootLivedLaw, FirstLivedLaw, FoundSinceLaw, MendLivedLaw, OpenLivedLaw, RestLivedLaw};
 
 /// What an open finds was had since the last log that raised its boot.
@@ -40,4 +41,14 @@ pub fn rest_stays_lived()
 /// A safe log from the empty image is a history, and stays so by a sync and by any stop.
 pub fn first_log_is_lived()
     ensures { FirstLivedLaw }
+{}
+
+/// A history begins at the image that an upgrade left.
+pub fn upgraded_file_begins()
+    ensures { UpgradedLaw }
+{}
+
+/// From a clean start it begins too where the upgrade was stopped.
+pub fn stopped_upgrade_begins()
+    ensures { StoppedUpgradeLaw }
 {}

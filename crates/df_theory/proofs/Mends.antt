@@ -79,7 +79,7 @@ miss_append place [] ts one two = two
 miss_append place ((Puts put) ∷ ss) ts one two = (one.0, miss_append place ss ts one.1 two)
 miss_append place (Syncs ∷ ss) ts one two = miss_append place ss ts one two
 
-no_copy : (table : ℕ → Header) (put : Units) → PutsTable table put → (n : ℕ) → put (CopyPlace n) ≡ None
+pub no_copy : (table : ℕ → Header) (put : Units) → PutsTable table put → (n : ℕ) → put (CopyPlace n) ≡ None
 no_copy table put puts n = go (put (CopyPlace n)) refl
   where
     go : (o : Option AnyUnit) → put (CopyPlace n) ≡ o → put (CopyPlace n) ≡ None
@@ -101,7 +101,7 @@ no_header c k put one s = go (put (HeaderPlace s)) refl
     go None none = none
     go (Some y) some = absurd (let at = (one.only (HeaderPlace s) y some).0 in cc)
 
-copies_miss : (c : Content) (m n : ℕ) (ks : List (ℕ × Units)) → AllPutCopy c m n ks → (s : ℕ) → AllMiss (HeaderPlace s) (copy_steps ks)
+pub copies_miss : (c : Content) (m n : ℕ) (ks : List (ℕ × Units)) → AllPutCopy c m n ks → (s : ℕ) → AllMiss (HeaderPlace s) (copy_steps ks)
 copies_miss c m n [] all s = tt
 copies_miss c m n (k ∷ ks) all s = (no_header c k.0 k.1 all.0 s, copies_miss c m n ks all.3 s)
 
@@ -159,7 +159,7 @@ headers_shown table (put ∷ puts) log all s (inl shown) = headers_shown table p
 headers_shown table (put ∷ puts) log all s (inr (inl here)) = headers_shown table puts (wrote put log) all.1 s (inl (shown_put table put (now log) all.0 s here.0 here.1))
 headers_shown table (put ∷ puts) log all s (inr (inr there)) = headers_shown table puts (wrote put log) all.1 s (inr there)
 
-steps_shown : (table : ℕ → Header) (puts : List Units) (log : UnitLog) → AllPutTable table puts → (s : ℕ) → (now log (HeaderPlace s) ≡ Some (HeaderUnit (table s))) ⊎ Reaches puts (HeaderPlace s) → now (after_steps (header_steps puts) log) (HeaderPlace s) ≡ Some (HeaderUnit (table s))
+pub steps_shown : (table : ℕ → Header) (puts : List Units) (log : UnitLog) → AllPutTable table puts → (s : ℕ) → (now log (HeaderPlace s) ≡ Some (HeaderUnit (table s))) ⊎ Reaches puts (HeaderPlace s) → now (after_steps (header_steps puts) log) (HeaderPlace s) ≡ Some (HeaderUnit (table s))
 steps_shown table [] log all s (inl shown) = shown
 steps_shown table [] log all s (inr none) = absurd none
 steps_shown table (put ∷ puts) log all s either =

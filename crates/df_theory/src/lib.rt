@@ -10,6 +10,7 @@ mod making;
 mod mending;
 mod sample_file;
 mod tidiness;
+mod upgrading;
 mod views;
 mod wholes;
 mod writers;
@@ -40,12 +41,16 @@ pub use making::{blank_is_safe, format_begins, second_copy_begins, sync_keeps_ma
 pub use mending::{mending_ends_whole, mending_keeps};
 pub use sample_file::{
     a_file_is_kept, a_hurt_slot_is_blamed, a_stop_is_survived, a_stopped_update_is_mended,
-    a_survivor_is_passed_over,
+    a_survivor_is_passed_over, an_unclean_file_is_upgraded,
 };
 pub use tidiness::{
     append_leads_tidily, block_leads_tidily, checkpoint_leads_tidily, format_ends_tidy,
     mending_leads_tidily, reading_leads_tidily, reply_leads_tidily, run_ends_tidy,
     sync_leads_tidily,
+};
+pub use upgrading::{
+    open_keeps_the_state, raising_ends_whole, raising_keeps_the_state, raising_stays_clean,
+    upgrade_keeps_the_state,
 };
 pub use views::{
     an_answer_is_given, decisions_say_what_is_shown, found_is_answered, held_is_found,
