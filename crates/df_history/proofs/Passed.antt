@@ -13,12 +13,7 @@ use Rattle.df_theory.specs.Rests.{IsGoodLog, IsQuiet, RestsOn}
 use Rattle.df_theory.specs.Runs.{AtEach, Puts, Step, after_steps}
 use Rattle.df_theory.specs.WriterLaws.{AreSame, Flushes, flush_steps}
 use Rattle.df_theory.specs.Found.{AreOfPlaces, IsFound, IsInRange}
-use Rattle.df_theory.proofs.Laws.{anew_law, each_weaker, flush_law, four, put_one_law, quiet_synced}
-use Rattle.df_theory.proofs.Founds.{holds_found}
-use Rattle.df_theory.proofs.Clear.{low_steps, low_update}
-use Rattle.df_theory.proofs.HurtSample.{without, without_else, without_shows}
-use Rattle.df_theory.proofs.AllOf.{All, now_all, pools_all}
-use Rattle.df_theory.proofs.Samples.{copies_of, reserved}
+use Rattle.df_theory.proofs.Laws.{anew_law, each_weaker, flush_law, four, put_one_law, quiet_synced, holds_found, low_steps, low_update, without, without_else, without_shows, All, now_all, pools_all, copies_of, reserved}
 use Rattle.df_history.specs.Histories.{InHistoryPools, IsLived, IsLivedMoment, MayStart}
 use Rattle.df_history.specs.Sample.{PassedSampleLaw}
 use Rattle.df_history.proofs.Mendings.{each_last, open_lived_law}

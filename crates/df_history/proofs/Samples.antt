@@ -17,11 +17,7 @@ use Rattle.df_theory.specs.MakingLaws.{blank_log, format_steps}
 use Rattle.df_theory.specs.WriterLaws.{Appends}
 use Rattle.df_theory.specs.TidyLaws.{IsTidy}
 use Rattle.df_theory.specs.Found.{AreOfPlaces, IsFound, IsInRange, IsOfPlace}
-use Rattle.df_theory.proofs.Laws.{anew_law, append_law, blank_law, each_weaker, four, put_one_law, quiet_synced, tidy_format_law}
-use Rattle.df_theory.proofs.Founds.{holds_found}
-use Rattle.df_theory.proofs.Clear.{low_steps, low_update}
-use Rattle.df_theory.proofs.AllOf.{All, Shows, all_wrote, now_all, pools_all}
-use Rattle.df_theory.proofs.Samples.{all_reserved, copies_of, layout, puts_reserved, reserved, sector}
+use Rattle.df_theory.proofs.Laws.{anew_law, append_law, blank_law, each_weaker, four, put_one_law, quiet_synced, tidy_format_law, holds_found, low_steps, low_update, All, Shows, all_wrote, now_all, pools_all, all_reserved, copies_of, layout, puts_reserved, reserved, sector}
 use Rattle.df_history.specs.Histories.{InHistoryPools, IsLived, IsLivedMoment, MayStart}
 use Rattle.df_history.specs.OpenLaws.{IsOpening}
 use Rattle.df_history.specs.Sample.{HistorySampleLaw}

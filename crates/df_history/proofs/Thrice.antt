@@ -17,13 +17,7 @@ use Rattle.df_theory.specs.Runs.{AtEach, Puts, Step, Syncs, after_steps}
 use Rattle.df_theory.specs.MendLaws.{IsSlotHeader, Reaches, mend_steps}
 use Rattle.df_theory.specs.WriterLaws.{Appends}
 use Rattle.df_theory.specs.Found.{AreOfPlaces, IsFound, IsInRange, IsOfPlace}
-use Rattle.df_theory.proofs.Laws.{anew_law, append_law, each_weaker, four, hurt_law, put_one_law, quiet_synced, rests_law, short_same}
-use Rattle.df_theory.proofs.Founds.{holds_found}
-use Rattle.df_theory.proofs.Clear.{low_steps, low_update}
-use Rattle.df_theory.proofs.Images.{IsOpen, bears_open, chosen_same}
-use Rattle.df_theory.proofs.Hurts.{pool_pools}
-use Rattle.df_theory.proofs.AllOf.{All, now_all, pools_all}
-use Rattle.df_theory.proofs.Samples.{copies_of, reserved, sector}
+use Rattle.df_theory.proofs.Laws.{anew_law, append_law, each_weaker, four, hurt_law, put_one_law, quiet_synced, rests_law, short_same, holds_found, low_steps, low_update, IsOpen, bears_open, chosen_same, pool_pools, All, now_all, pools_all, copies_of, reserved, sector}
 use Rattle.df_history.specs.Histories.{InHistoryPool, InHistoryPools, IsLived, IsLivedMoment, IsSettled, MayStart}
 use Rattle.df_history.specs.OpenLaws.{IsOpening}
 use Rattle.df_history.specs.Sample.{IsReopened, ThriceSampleLaw, opened}
