@@ -1,0 +1,198 @@
+"""The doctor's words: what a place holds, why a file is refused, and what to do next."""
+
+from doctor_case import copies_of, copy_fields, examine, looks, members_of
+from reader import class_of_copy, evidence_of, is_copy, later_of
+from reader_units import BLOCK, COPIES, HEADER, PREPARE, REPLY, RESERVED, SECTOR, bytes_at, fields_at, look, zones_of
+
+NAMES = {RESERVED: "reserved header", PREPARE: "prepare", REPLY: "reply", BLOCK: "block", 5: "trailer block"}
+# So many places are described one by one.
+FEW = 6
+FIELDS = {  # what a field of the superblock, or a part of its checkpoint's trailer, has to be
+    "Slots": "16 to 1024, a multiple of 16", "MessageSize": "4096 to 1048576, a multiple of 4096", "Clients": "1 to 64",
+    "BlockSize": "4096 to 524288, a multiple of 4096", "Blocks": "8 to 16384", "Cluster": "above 0", "Sequence": "1 to 2^62",
+    "Op": "at most 2^62", "OpChecksum": "0 where Op is 0", "Head": "Op to Op + Slots, and at most 2^62",
+    "Replies": "at most Head, and at most 8 below it", "TrailerAddress": "at most Blocks, and 0 only where Op is 0",
+    "TrailerChecksum": "0 where TrailerAddress is 0", "Boot": "0",
+    "TrailerSize": "0 where TrailerAddress is 0, else 1 up to the greatest trailer",
+    "Zero": "no such offset: bytes 160 to 4095 of the copy are zeros", "TrailerChain": "no such address: each block of the trailer has "
+    "its place in the chain, and none is referenced", "TrailerRoot": "the length of a root that the trailer has whole, at most 1024",
+    "TrailerSessions": "the number of sessions, each lawful, at most Clients", "TrailerBits": "no such offset in the trailer's text: "
+    "a bit for each block and none more", "TrailerEnd": "the length that its bits ask for",
+    "Pending": "no such op: each op that waits for its reply is the last one of a session",
+}
+COPY_AND_CHECK = "take the file from a copy, and check the device"
+NEXT = {
+    "NotFormatted": "name the right file; or, where it was never used, `format` it",
+    "NoQuorum": "a file that was never used: remove it and make it anew. Else " + COPY_AND_CHECK,
+    "Version": "use the program that made the file", "BadField": "use the program that made the file; if it is this one, " + COPY_AND_CHECK,
+    "Damaged": "what was acknowledged isn't all there: " + COPY_AND_CHECK,
+}
+
+
+def unit_text(h):
+    """What a header says, in words."""
+    text = {
+        RESERVED: f"slot {h['slot']}", BLOCK: f"kind {h['block_kind']} for address {h['op']}",
+        PREPARE: f"op {h['op']}, client {h['client']}, request {h['request']}, mark {h['mark']}, checkpoint {h['checkpoint']}",
+        REPLY: f"op {h['op']}, client {h['client']}, request {h['request']}, mark {h['mark']}, checkpoint {h['checkpoint']}",
+    }.get(h["kind"], f"index {h['mark']} of checkpoint {h['checkpoint']}, for address {h['op']}")
+    return f"a {NAMES[h['kind']]}: {text}, {h['size']} bytes, cluster {h['cluster']}"
+
+
+def copy_text(sector):
+    """What a copy says, in words."""
+    c = copy_fields(sector)
+    return (f"copy {sector[16]} of a superblock: version {c['Version']}, sequence {c['Sequence']}, cluster {c['Cluster']}, layout "
+            f"{layout_text(c)}, checkpoint {c['Op']}, head {c['Head']}, replies {c['Replies']}")
+
+
+def layout_text(f):
+    text = ",".join(str(f[name]) for name in ("Slots", "MessageSize", "Clients", "BlockSize", "Blocks"))
+    return {"32,8192,4,16384,64": "small", "1024,1048576,64,524288,16384": "large"}.get(text, text)
+
+
+def nature(data):
+    """What bytes are, where they are no unit."""
+    if len(set(data)) == 1:
+        return "zeros" if not data[0] else f"bytes {data[0]:02x} alone"
+    if all(byte in b"\t\n\r" or 32 <= byte < 127 for byte in data.rstrip(b"\0")):
+        return f"text, {bytes(data[:24]).decode('ascii')!r} .."
+    return "bytes of all sorts" if len(set(data)) > 128 else "a few kinds of bytes"
+
+
+def natures(file, first, end):
+    """What the sectors from a first one up to another hold, in runs."""
+    runs = []
+    for at in range(first, end):
+        name = nature(bytes_at(file, SECTOR * at, SECTOR))
+        if runs and runs[-1][2] == name:
+            runs[-1][1] = at + 1
+        else:
+            runs.append([at, at + 1, name])
+    shown = [f"{span(start, stop)}: {name}" for start, stop, name in runs[:FEW]]
+    return "; ".join(shown + ([f"and {len(runs) - FEW} runs more"] if len(runs) > FEW else []))
+
+
+def span(first, end):
+    return f"sector {first}" if end == first + 1 else f"sectors {first}..{end}"
+
+
+def place_lines(file, f, zone, index):
+    """Where a place is, and what it holds."""
+    one = zones_of(f)[zone]
+    at, first = one.at(index), one.at(index) // SECTOR
+    end = -(-(at + one.length) // SECTOR)
+    lines = [f"{zone} {index}: {span(first, end)}, bytes {at}..{at + one.length}"]
+    if zone == "Superblock":
+        sector = bytes_at(file, at, SECTOR)
+        return lines + ["there: " + (copy_text(sector) if is_copy(sector) else f"no copy. {natures(file, first, end)}")]
+    seen = look(file, f, zone, index)
+    if seen.header:
+        return lines + [f"there: {unit_text(seen.header)}" + (f"; {seen.why}" if seen.why else "")]
+    raw = bytes_at(file, at, HEADER)
+    h = fields_at(raw)
+    close = h["kind"] in NAMES and h["version"] == 1 and h["cluster"] == f["Cluster"]
+    return lines + [f"there: no unit, since {seen.why}" + (f". Its fields would be {unit_text(h)}" if close else "")
+                    + ". " + (nature(raw) if zone == "WalHeaders" else natures(file, first, end))]
+
+
+def told(state, head):
+    """Who tells of ops above the head."""
+    found = [f"{zone} {index} (op {op})" if zone != "the superblock" else f"the superblock (head {op})"
+             for op, zone, index in evidence_of(state) if op > head]
+    return ", ".join(found[:FEW]) + (f" and {len(found) - FEW} places more" if len(found) > FEW else "")
+
+
+def lost_lines(file, state):
+    """Why the prepare behind the tail is missed."""
+    f, head = state["fields"], state["head"]
+    op, slot = head + 1, (head + 1) % f["Slots"]
+    lines = [f"the file has the ops up to {head}; op {op} belongs into slot {slot}, and is told of by {told(state, head)}"]
+    one, header = state["prepares"][slot], state["headers"][slot]
+    if not isinstance(one, str) and one["op"] == op:
+        other = not isinstance(header, str) and header["op"] == op and header["checksum"] != one["checksum"]
+        lines.append("its prepare is there, but " + ("its header in the ring of headers is that of another prepare" if other else
+                     "doesn't fit those before it by its parent, its mark, or its client's request"))
+    return lines + place_lines(file, f, "WalPrepares", slot) + place_lines(file, f, "WalHeaders", slot)
+
+
+def damaged_lines(case, zone, index):
+    """Why a place refuses the file."""
+    file, state, f = case.file, case.state, case.fields
+    if zone == "WalPrepares":
+        return lost_lines(file, state)
+    if zone == "Superblock":
+        found = later_of(state)
+        lines = [f"{len(found)} places are of a later checkpoint than the superblock's, which has sequence {f['Sequence']} and op {f['Op']}"]
+        return lines + [line for each in found[:FEW] for line in place_lines(file, f, *each)] + copy_lines(file)
+    if zone == "ClientReplies":
+        client, last = list(state["sessions"].items())[index]
+        lines = [f"the reply to op {last['op']}, request {last['request']} of client {client}, was stored, and isn't shown at its place"]
+    else:
+        lines = [f"the trailer of the checkpoint, whose last block is at address {f['TrailerAddress']}, needs its block here"]
+    return lines + place_lines(file, f, zone, index)
+
+
+def copy_lines(file):
+    """What each of the four sectors of copies has."""
+    sectors = copies_of(file)
+    members = members_of(sectors)
+    return [f"Superblock {place}: {'chosen' if place in members else class_of_copy(sector, place)}, "
+            + (copy_text(sector) if is_copy(sector) else nature(sector)) for place, sector in enumerate(sectors)]
+
+
+class Under:
+    """A file as it would be were each of its copies the one in this sector."""
+
+    def __init__(self, file, sector):
+        self.file, self.copies = file, b"".join(sector[:16] + bytes([place]) + sector[17:] for place in range(COPIES))
+
+    def __getitem__(self, span):
+        if span.start >= len(self.copies):
+            return self.file[span]
+        return self.copies[span] + self.file[len(self.copies) : max(span.stop, len(self.copies))]
+
+
+def alone_lines(file):
+    """What an open would answer were one of the copies enough."""
+    lines = []
+    for place, sector in enumerate(copies_of(file)):
+        if is_copy(sector):
+            case = examine(Under(file, sector))
+            head = "" if case.refusal else f", head {case.state['head']}, replies {case.state['stored']}"
+            lines.append(f"were the copy in sector {place} enough: {case.verdict()}{head}")
+    return lines
+
+
+def refusal_lines(case, sectors):
+    """Why an open refuses the file; `sectors` are those that may hold something."""
+    words = case.refusal.split()
+    if words[0] == "Damaged":
+        return damaged_lines(case, words[1], int(words[2]))
+    if words[0] in ("NotFormatted", "NoQuorum"):
+        why = "the first four sectors are zeros" if words[0] == "NotFormatted" else "no two of the four copies agree"
+        return [why, *copy_lines(case.file), *alone_lines(case.file), *look_lines(case.file, sectors)]
+    if words[0] == "Version":
+        return [f"the superblock has version {words[2]}, and this page and this program know version 1 alone", *copy_lines(case.file)]
+    value = f"{words[1]} is {words[2]}, and should be {FIELDS[words[1]]}"
+    return [value, *copy_lines(case.file)]
+
+
+def look_lines(file, sectors):
+    """What the sectors look like, whatever the layout."""
+    runs = looks(file, sectors)
+    listed = [f"{span(first, end)}: {count} {name}" for first, end, name, count in runs[: 4 * FEW]]
+    return listed + ([f"and {len(runs) - 4 * FEW} runs more"] if len(runs) > 4 * FEW else [])
+
+
+def next_lines(case):
+    """What to do."""
+    if case.refusal:
+        return [NEXT[case.refusal.split()[0]]]
+    lines = ["`run`, `recover` or `scrub` mends that, with nothing to do by hand"] if case.mends else []
+    if case.failing:
+        lines.append("what the blocks that fail held is lost: release them, write them again from elsewhere, make a checkpoint, check the device")
+    if case.lost:
+        lines.append("compare what was acknowledged with `prepare` and `lookup` before a new line is given: an append or a reply that was "
+                     "taken back is accepted again. Keep a copy of the file first, since mending takes some of these traces away")
+    return lines or ["nothing"]
