@@ -9,6 +9,7 @@ The first line is the verdict: `sound`, `would be mended` or `opens`, each perha
 
 import argparse
 import os
+import signal
 import stat
 import sys
 
@@ -19,8 +20,9 @@ from doctor_picture import draw
 from doctor_words import layout_text, look_lines, next_lines, place_lines, refusal_lines
 from reader_units import SECTOR, zones_of
 
-KINDS = {stat.S_ISDIR: "a folder", stat.S_ISFIFO: "a pipe", stat.S_ISSOCK: "a socket", stat.S_ISCHR: "a device of characters",
-         stat.S_ISBLK: "a device of blocks"}
+FIVE = "each word of the program answers status 5"
+KINDS = {stat.S_ISDIR: f"a folder: {FIVE}", stat.S_ISFIFO: f"a pipe: {FIVE}", stat.S_ISSOCK: f"a socket: {FIVE}",
+         stat.S_ISCHR: "a device, no ordinary file", stat.S_ISBLK: "a device, no ordinary file"}
 # So many places that are to be mended are described one by one.
 FEW = 4
 
@@ -62,28 +64,33 @@ class Bytes:
 def opened(path):
     """The bytes of a path that is an ordinary file."""
     try:
+        os.fsencode(path).decode()
         mode = os.stat(path).st_mode
     except OSError as error:
         raise NoFile(missing(path, error)) from None
-    except ValueError:
-        raise NoFile("the path has a byte 0") from None
+    except UnicodeDecodeError:
+        raise NoFile("the path isn't UTF-8: the program prints its usage line, with status 2") from None
     for test, name in KINDS.items():
         if test(mode):
-            raise NoFile(f"{name}, which can't be a data file: each word of the program answers status 5")
+            raise NoFile(name)
     try:
         return Bytes(os.open(path, os.O_RDONLY | os.O_CLOEXEC))
     except OSError as error:
-        raise NoFile(f"it can't be read: {error.strerror}. To this user each word of the program answers status 5") from None
+        raise NoFile(f"it can't be read: {error.strerror}. To this user {FIVE}") from None
 
 
 def missing(path, error):
     """Why nothing is found at a path."""
     folder = os.path.dirname(os.path.realpath(path)) or "."
     if not path:
-        return "the path is empty: each word of the program answers status 5"
-    if not isinstance(error, FileNotFoundError) or not os.path.isdir(folder):
-        return f"{error.strerror}: each word of the program answers status 5"
+        return f"the path is empty: {FIVE}"
+    if not isinstance(error, FileNotFoundError):
+        return f"{error.strerror}: {FIVE}"
+    if not os.path.isdir(folder):
+        return f"the folder {folder} isn't there: {FIVE}"
     link = " (the path is a link to a file that isn't there)" if os.path.islink(path) else ""
+    if not os.access(folder, os.W_OK | os.X_OK):
+        return f"nothing is there{link}, and this user may make nothing in {folder}: {FIVE}"
     return (f"nothing is there{link}. `format` would make a file here; each other word would leave an empty file, and answer "
             "`refused NotFormatted`")
 
@@ -92,7 +99,7 @@ def head_lines(path, file):
     """What the file is for the operating system."""
     lines = [f"file {path}: {file.size} bytes"]
     if not os.access(path, os.W_OK):
-        lines.append("to this user the file can't be written: here each word of the program answers status 5")
+        lines.append(f"this user may not write it, so that {FIVE}")
     return lines
 
 
@@ -156,6 +163,9 @@ def words():
 
 
 def main():
+    # Who reads the first line alone ends the rest.
+    signal.signal(signal.SIGPIPE, signal.SIG_DFL)
+    sys.stdout.reconfigure(errors="backslashreplace")
     given = words()
     try:
         file = opened(given.file)
