@@ -140,12 +140,14 @@ def report(case, path):
         first = "no data file"
         why = [f"an open would answer `refused {case.refusal}`, and no part of a data file is in it",
                *(look_lines(file, file.sectors()) if file.size else ["it is empty"])]
-        return [first, *head_lines(path, file), *why, "next: name the right file; an empty one that a mistyped path left may be removed"], 2
+        what = "next: name the right file; an empty one that a mistyped path left may be removed"
+        return [first, *head_lines(path, file), *why, what], 2
     lines = [case.verdict(), *head_lines(path, file)]
     if f:
         end = zones_of(f)["Grid"].at(f["Blocks"] + 1)
         members = " ".join(map(str, members_of(copies_of(file))))
-        lines.append(f"layout {layout_text(f)}, {end} bytes; cluster {f['Cluster']}, version 1; the superblock stands in copies {members}")
+        lines.append(f"layout {layout_text(f)}, {end} bytes; cluster {f['Cluster']}, version 1; the superblock stands in copies "
+                     f"{members}")
     lines += refusal_lines(case, file.sectors()) if case.refusal else state_lines(case) + found_lines(case)
     return [*lines, *(f"next: {line}" for line in next_lines(case))], case.status()
 

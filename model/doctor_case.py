@@ -11,6 +11,8 @@ from reader_units import (
 
 # What a sector is that looks like no part of a data file.
 UNKNOWN = "sectors of something else"
+NO_SESSION = ("no session has this place, and yet something stands here: the append and the reply of a new client may have been "
+              "acknowledged and be lost")
 
 
 @dataclass
@@ -94,7 +96,8 @@ def mends_of(file, state):
     """What an open of a file that isn't refused writes again: copies, then slots of the ring of headers."""
     sectors = copies_of(file)
     members = members_of(sectors)
-    mends = [("Superblock", place, class_of_copy(sector, place)) for place, sector in enumerate(sectors) if place not in members]
+    others = [place for place in range(COPIES) if place not in members]
+    mends = [("Superblock", place, class_of_copy(sectors[place], place)) for place in others]
     for slot, header in enumerate(state["headers"]):
         _, in_headers, in_prepares = slot_case(state, slot)
         if in_headers == "nothing" or (in_headers == "old" and in_prepares == "now"):
@@ -122,7 +125,8 @@ def empty_slots(state):
 def lost_appends(state):
     """Slots behind the head in which neither header nor prepare is shown, and in which something stands."""
     return [
-        ("WalPrepares", slot, f"an append of op {op} may have been acknowledged and be lost: neither its prepare nor its header is shown")
+        ("WalPrepares", slot, f"an append of op {op} may have been acknowledged and be lost: neither its prepare nor its header is "
+                              "shown")
         for op, slot in empty_slots(state)
         if isinstance(state["headers"][slot], str) and spoilt(state["prepares"][slot])
     ]
@@ -146,15 +150,14 @@ def lost_replies(state):
         sessions = list(state["sessions"].items())
         if place >= len(sessions):
             if one != "Blank":
-                found.append(("ClientReplies", place, "no session has this place, and yet something stands here: the append and "
-                                                      "the reply of a new client may have been acknowledged and be lost"))
+                found.append(("ClientReplies", place, NO_SESSION))
             continue
         client, last = sessions[place]
         before = None if isinstance(one, str) else (one["client"], one["request"])
         usual = before == (client, last["request"] - 1) or (last["request"] == 1 and one == "Blank")
         if last["op"] > state["stored"] and not usual:
-            found.append(("ClientReplies", place, f"the reply to op {last['op']} (client {client}, request {last['request']}) may have "
-                                                  "been stored and be lost: the op waits, and its place doesn't show the reply before"))
+            what = f"the reply to op {last['op']} (client {client}, request {last['request']}) may have been stored and be lost: the "
+            found.append(("ClientReplies", place, what + "op waits, and its place doesn't show the reply before"))
     return found
 
 
@@ -169,7 +172,7 @@ def free_blocks(file, state):
 def begun_blocks(file, state):
     """The blocks of a trailer that no superblock names yet."""
     later = state["fields"]["Sequence"] + 1
-    return [("Grid", address, f"block {one['mark']} of the trailer of a checkpoint of sequence {later}, which was begun and isn't done")
+    return [("Grid", address, f"block {one['mark']} of the trailer of sequence {later}, of a checkpoint that was begun and isn't done")
             for address, one in free_blocks(file, state)
             if not isinstance(one, str) and one["kind"] == TRAILER and one["checkpoint"] == later]
 

@@ -16,9 +16,13 @@ COLOURS = {  # what a place may hold: its colour and its words in the legend
     "empty": ("#ffffff", "empty: zeros, or a reserved header"), "taken": ("#3b6fb6", "taken: in the state"),
     "waiting": ("#16365c", "taken, and waits for its reply"), "old": ("#c4c8cc", "old: a unit that nothing needs any more"),
     "beyond": ("#a6c6ee", "a prepare that the tail doesn't reach"), "torn": ("#f0a030", "torn: no unit is shown"),
-    "elsewhere": ("#9a6bc4", "elsewhere: the unit of another place"), "referenced": ("#58a868", "a block that the checkpoint references"),
+    "elsewhere": ("#9a6bc4", "elsewhere: the unit of another place"),
+    "referenced": ("#58a868", "a block that the checkpoint references"),
     "chain": ("#1d6b38", "a block of the checkpoint's trailer"), "begun": ("#a8dcb4", "of a trailer that was begun"),
     "free": ("#eef0f2", "free: nothing stands there"),
+}
+ZONES = {
+    "Superblock": "#3b6fb6", "WalHeaders": "#f0a030", "WalPrepares": "#8fb0d8", "ClientReplies": "#9a6bc4", "Grid": "#9ccfa8",
 }
 DARK = ("taken", "waiting", "chain", "elsewhere")
 
@@ -80,7 +84,8 @@ def ring_cells(state):
 
 
 def reply_cells(state):
-    cells = Cells("ClientReplies", "ClientReplies: one place for each client, with the op of the reply", row_of(state["fields"]["Clients"]))
+    title = "ClientReplies: one place for each client, with the op of the reply"
+    cells = Cells("ClientReplies", title, row_of(state["fields"]["Clients"]))
     last = [one["op"] for one in state.get("sessions", {}).values()]
     for place, one in enumerate(state["places"]):
         if isinstance(one, str):
@@ -92,8 +97,8 @@ def reply_cells(state):
 
 def grid_cells(file, state, failing):
     f = state["fields"]
-    cells = Cells("Grid", f"Grid: {f['Blocks']} blocks of {f['BlockSize']} bytes, with the address of each that something holds",
-                  row_of(f["Blocks"]))
+    title = f"Grid: {f['Blocks']} blocks of {f['BlockSize']} bytes, with the address where something stands"
+    cells = Cells("Grid", title, row_of(f["Blocks"]))
     chain, references = dict(state.get("chain", [])), state.get("references", {})
     there = dict(free_blocks(file, {"references": {}, "chain": [], **state}))
     begun = {address for _, address, _ in begun_blocks(file, {"references": {}, "chain": [], **state})}
@@ -132,11 +137,13 @@ def grouped(found):
             last[2] = index
         elif not last or words != last[3]:
             runs.append([(zone, front, name), index, index, words])
-    return [words if least == most else f"{front}{zone} {least} to {most}{name}" for (zone, front, name), least, most, words in runs]
+    return [words if least == most else f"{front}{zone} {least} to {most}{name}"
+            for (zone, front, name), least, most, words in runs]
 
 
 def rect(x, y, width, height, fill, stroke="#8c959f", thick=0.5):
-    return f'<rect x="{x:.2f}" y="{y:.2f}" width="{width:.2f}" height="{height:.2f}" fill="{fill}" stroke="{stroke}" stroke-width="{thick}"/>'
+    return (f'<rect x="{x:.2f}" y="{y:.2f}" width="{width:.2f}" height="{height:.2f}" fill="{fill}" stroke="{stroke}" '
+            f'stroke-width="{thick}"/>')
 
 
 def text(x, y, words, size=11, fill=INK, anchor="start"):
@@ -148,18 +155,17 @@ def strip(file, f, top):
     zones, out, row = zones_of(f), [], 0
     end = zones["Grid"].at(f["Blocks"] + 1)
     scale = (WIDTH - 2 * EDGE) / end
-    fills = {"Superblock": "#3b6fb6", "WalHeaders": "#f0a030", "WalPrepares": "#8fb0d8", "ClientReplies": "#9a6bc4", "Grid": "#9ccfa8"}
     out.append(rect(EDGE, top, WIDTH - 2 * EDGE, 26, "#ffffff"))
     for name, one in zones.items():
         x, width = EDGE + one.start * scale, max(1.0, one.length * one.count * scale)
-        out.append(rect(x, top, width, 26, fills[name], "none"))
+        out.append(rect(x, top, width, 26, ZONES[name], "none"))
         wide = width > 150
         out.append(text(x + 3, top + (17 if wide else 40 + 13 * row), f"{name}, from sector {one.start // SECTOR}", 10))
         row += not wide
     written = EDGE + min(file.size, end) * scale
-    out.append(f'<path d="M {written:.2f} {top - 5} V {top + 32}" stroke="{RED if file.size > end else INK}" stroke-width="1.5"/>')
-    anchor = "start" if written < WIDTH / 2 else "end"
-    out.append(text(written + (4 if anchor == "start" else -4), top - 3, f"the file ends here, at {file.size} bytes", 10, INK, anchor))
+    out.append(f'<path d="M {written:.2f} {top - 5} V {top + 32}" stroke="{INK}" stroke-width="1.5"/>')
+    anchor, aside = ("start", 4) if written < WIDTH / 2 else ("end", -4)
+    out.append(text(written + aside, top - 3, f"the file ends here, at {file.size} bytes", 10, INK, anchor))
     return out, top + 44 + 13 * row
 
 
@@ -192,14 +198,15 @@ def drawn(cells, top, marked):
 
 
 def chain_path(state, grid, grid_top, copy_top):
-    """An arrow from the superblock, along the right edge, to the last block of the trailer; and from each block to the one before."""
+    """An arrow from the superblock along the right edge to the last block of the trailer, and from each block to the one before."""
     cells = [box(grid, address - 1, grid_top + GAP) for address, _ in reversed(state.get("chain", []))]
     if not cells:
         return []
     tips = [(x + width / 2, y + height / 4) for x, y, width, height in cells]
     first, edge, above = tips[0], WIDTH - EDGE / 2, grid_top + 15
     paths = [f"M {EDGE + 322} {copy_top + GAP + 11} H {edge} V {above} H {first[0]:.2f} V {first[1]:.2f}"]
-    paths += [f"M {x0:.2f} {y0:.2f} Q {(x0 + x1) / 2:.2f} {min(y0, y1) - 14:.2f} {x1:.2f} {y1:.2f}" for (x0, y0), (x1, y1) in zip(tips, tips[1:])]
+    paths += [f"M {x0:.2f} {y0:.2f} Q {(x0 + x1) / 2:.2f} {min(y0, y1) - 14:.2f} {x1:.2f} {y1:.2f}"
+              for (x0, y0), (x1, y1) in zip(tips, tips[1:])]
     return [f'<path d="{path}" fill="none" stroke="#1d6b38" stroke-width="1.5" marker-end="url(#tip)"/>' for path in paths]
 
 
@@ -212,8 +219,8 @@ def legend(top, used):
         out += [rect(x, y, 18, 13, fill, stroke, 2.5 if stroke == RED else 0.5), text(x + 24, y + 11, words, 11)]
     y = top + 20 * (len(entries) // 3 + 1) + 4
     arrow = f'<path d="M {EDGE} {y + 6} h 18" stroke="#1d6b38" stroke-width="1.5" marker-end="url(#tip)"/>'
-    return [*out, arrow, text(EDGE + 24, y + 10, "from the superblock along the chain of the checkpoint's trailer, from the last block to "
-                              "the first")], y + 24
+    words = "from the superblock along the chain of the checkpoint's trailer, from the last block to the first"
+    return [*out, arrow, text(EDGE + 24, y + 10, words)], y + 24
 
 
 def picture(case, name):
@@ -245,8 +252,8 @@ def picture(case, name):
 
 def framed(out, height):
     head = (f'<svg xmlns="http://www.w3.org/2000/svg" width="{WIDTH}" height="{height:.0f}" viewBox="0 0 {WIDTH} {height:.0f}" '
-            'font-family="sans-serif">\n<defs><marker id="tip" viewBox="0 0 8 8" refX="7" refY="4" markerWidth="6" markerHeight="6" '
-            'orient="auto"><path d="M 0 0 L 8 4 L 0 8 z" fill="#1d6b38"/></marker></defs>')
+            'font-family="sans-serif">\n<defs><marker id="tip" viewBox="0 0 8 8" refX="7" refY="4" markerWidth="6" '
+            'markerHeight="6" orient="auto"><path d="M 0 0 L 8 4 L 0 8 z" fill="#1d6b38"/></marker></defs>')
     return "\n".join([head, rect(0, 0, WIDTH, height, "#ffffff", "none"), *out, "</svg>", ""])
 
 

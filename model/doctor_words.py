@@ -7,24 +7,29 @@ from reader_units import BLOCK, COPIES, HEADER, PREPARE, REPLY, RESERVED, SECTOR
 NAMES = {RESERVED: "reserved header", PREPARE: "prepare", REPLY: "reply", BLOCK: "block", 5: "trailer block"}
 # So many places are described one by one.
 FEW = 6
-FIELDS = {  # what a field of the superblock, or a part of its checkpoint's trailer, has to be
-    "Slots": "16 to 1024, a multiple of 16", "MessageSize": "4096 to 1048576, a multiple of 4096", "Clients": "1 to 64",
-    "BlockSize": "4096 to 524288, a multiple of 4096", "Blocks": "8 to 16384", "Cluster": "above 0", "Sequence": "1 to 2^62",
-    "Op": "at most 2^62", "OpChecksum": "0 where Op is 0", "Head": "Op to Op + Slots, and at most 2^62",
-    "Replies": "at most Head, and at most 8 below it", "TrailerAddress": "at most Blocks, and 0 only where Op is 0",
-    "TrailerChecksum": "0 where TrailerAddress is 0", "Boot": "0",
-    "TrailerSize": "0 where TrailerAddress is 0, else 1 up to the greatest trailer",
-    "Zero": "no such offset: bytes 160 to 4095 of the copy are zeros", "TrailerChain": "no such address: each block of the trailer has "
-    "its place in the chain, and none is referenced", "TrailerRoot": "the length of a root that the trailer has whole, at most 1024",
-    "TrailerSessions": "the number of sessions, each lawful, at most Clients", "TrailerBits": "no such offset in the trailer's text: "
-    "a bit for each block and none more", "TrailerEnd": "the length that its bits ask for",
-    "Pending": "no such op: each op that waits for its reply is the last one of a session",
+FIELDS = {  # what is asked of a field of the superblock, or of a part of its checkpoint's trailer
+    "Slots": "it has to be 16 to 1024, and a multiple of 16", "Clients": "it has to be 1 to 64",
+    "MessageSize": "it has to be 4096 to 1048576, and a multiple of 4096", "Blocks": "it has to be 8 to 16384",
+    "BlockSize": "it has to be 4096 to 524288, and a multiple of 4096", "Cluster": "it has to be above 0",
+    "Sequence": "it has to be 1 to 2^62", "Op": "it has to be at most 2^62", "OpChecksum": "it has to be zeros, as Op is 0",
+    "Head": "it has to be Op to Op + Slots, and at most 2^62", "Replies": "it has to be at most Head, and at most 8 below it",
+    "TrailerAddress": "it has to be at most Blocks, and 0 only where Op is 0", "Boot": "it has to be 0",
+    "TrailerChecksum": "it has to be zeros, as TrailerAddress is 0",
+    "TrailerSize": "it has to be 0 where TrailerAddress is 0, else from 1 to the greatest trailer",
+    "Zero": "the byte at this offset of the copy has to be zero",
+    "TrailerChain": "the block at this address is no link of the trailer's chain, or the trailer references it",
+    "TrailerRoot": "so long is the root, or the text that has no whole length of a root; it has to be at most 1024, and in the text",
+    "TrailerSessions": "so many sessions there are, or the session of this place breaks a rule, or the text ends here",
+    "TrailerBits": "at this offset of the trailer's text the bits end too early, or have one past the last block",
+    "TrailerEnd": "the text has so many bytes, and its references ask for another number",
+    "Pending": "this op waits for its reply, and is the last op of no session",
 }
 COPY_AND_CHECK = "take the file from a copy, and check the device"
 NEXT = {
     "NotFormatted": "name the right file; or, where it was never used, `format` it",
     "NoQuorum": "a file that was never used: remove it and make it anew. Else " + COPY_AND_CHECK,
-    "Version": "use the program that made the file", "BadField": "use the program that made the file; if it is this one, " + COPY_AND_CHECK,
+    "Version": "use the program that made the file",
+    "BadField": "use the program that made the file; if it is this one, " + COPY_AND_CHECK,
     "Damaged": "what was acknowledged isn't all there: " + COPY_AND_CHECK,
 }
 
@@ -42,8 +47,8 @@ def unit_text(h):
 def copy_text(sector):
     """What a copy says, in words."""
     c = copy_fields(sector)
-    return (f"copy {sector[16]} of a superblock: version {c['Version']}, sequence {c['Sequence']}, cluster {c['Cluster']}, layout "
-            f"{layout_text(c)}, checkpoint {c['Op']}, head {c['Head']}, replies {c['Replies']}")
+    return (f"copy {sector[16]} of a superblock: version {c['Version']}, sequence {c['Sequence']}, cluster {c['Cluster']}, "
+            f"layout {layout_text(c)}, checkpoint {c['Op']}, head {c['Head']}, replies {c['Replies']}")
 
 
 def layout_text(f):
@@ -111,8 +116,9 @@ def lost_lines(file, state):
     one, header = state["prepares"][slot], state["headers"][slot]
     if not isinstance(one, str) and one["op"] == op:
         other = not isinstance(header, str) and header["op"] == op and header["checksum"] != one["checksum"]
-        lines.append("its prepare is there, but " + ("its header in the ring of headers is that of another prepare" if other else
-                     "doesn't fit those before it by its parent, its mark, or its client's request"))
+        lines.append("a prepare of this op is there, but " + (
+            "its header in the ring of headers is that of another one" if other else
+            "doesn't fit those before it by its parent, its mark, or its client's request"))
     return lines + place_lines(file, f, "WalPrepares", slot) + place_lines(file, f, "WalHeaders", slot)
 
 
@@ -123,11 +129,11 @@ def damaged_lines(case, zone, index):
         return lost_lines(file, state)
     if zone == "Superblock":
         found = later_of(state)
-        lines = [f"{len(found)} places are of a later checkpoint than the superblock's, which has sequence {f['Sequence']} and op {f['Op']}"]
+        lines = [f"{len(found)} places are of a later checkpoint than the superblock's, of sequence {f['Sequence']} and op {f['Op']}"]
         return lines + [line for each in found[:FEW] for line in place_lines(file, f, *each)] + copy_lines(file)
     if zone == "ClientReplies":
         client, last = list(state["sessions"].items())[index]
-        lines = [f"the reply to op {last['op']}, request {last['request']} of client {client}, was stored, and isn't shown at its place"]
+        lines = [f"the reply to op {last['op']}, request {last['request']} of client {client}, was stored, and isn't shown here"]
     else:
         lines = [f"the trailer of the checkpoint, whose last block is at address {f['TrailerAddress']}, needs its block here"]
     return lines + place_lines(file, f, zone, index)
@@ -173,9 +179,8 @@ def refusal_lines(case, sectors):
         why = "the first four sectors are zeros" if words[0] == "NotFormatted" else "no two of the four copies agree"
         return [why, *copy_lines(case.file), *alone_lines(case.file), *look_lines(case.file, sectors)]
     if words[0] == "Version":
-        return [f"the superblock has version {words[2]}, and this page and this program know version 1 alone", *copy_lines(case.file)]
-    value = f"{words[1]} is {words[2]}, and should be {FIELDS[words[1]]}"
-    return [value, *copy_lines(case.file)]
+        return [f"the superblock has version {words[2]}; the program and this reader know version 1 alone", *copy_lines(case.file)]
+    return [f"{words[1]} {words[2]}: {FIELDS[words[1]]}", *copy_lines(case.file)]
 
 
 def look_lines(file, sectors):
@@ -189,10 +194,13 @@ def next_lines(case):
     """What to do."""
     if case.refusal:
         return [NEXT[case.refusal.split()[0]]]
-    lines = ["`run`, `recover` or `scrub` mends that, with nothing to do by hand"] if case.mends else []
-    if case.failing:
-        lines.append("what the blocks that fail held is lost: release them, write them again from elsewhere, make a checkpoint, check the device")
+    lines = []
     if case.lost:
-        lines.append("compare what was acknowledged with `prepare` and `lookup` before a new line is given: an append or a reply that was "
-                     "taken back is accepted again. Keep a copy of the file first, since mending takes some of these traces away")
+        lines.append("keep a copy of the file, since mending takes some of these traces away; then compare what was acknowledged, "
+                     "with `prepare` and `lookup`, before a new line is given: what was taken back is accepted again")
+    if case.mends:
+        lines.append("`run`, `recover` or `scrub` mends what is listed so, with nothing to do by hand")
+    if case.failing:
+        lines.append("what the blocks that fail held is lost: release them, write them again from elsewhere, make a checkpoint, "
+                     "and check the device")
     return lines or ["nothing"]

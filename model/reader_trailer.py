@@ -81,7 +81,7 @@ def references_of(text, at, f):
 
 
 def checkpoint_of(shown_at, f):
-    """What the superblock's checkpoint says: its root, sessions by client, references by address, and the chain of its trailer."""
+    """What the superblock's checkpoint says: its root, sessions by client, references by address, and its trailer's chain."""
     if f["TrailerAddress"] == 0:
         return {"root": b"", "known": {}, "references": {}, "chain": []}
     text, chain = chain_of(shown_at, f)

@@ -1,5 +1,5 @@
-"""Tries of `doctor.py`, which is the reader's: what it says of a file is what the program answers, and what an acknowledged line
-lost by damage is told where the damage leaves a trace."""
+"""Tries of `doctor.py`, which is built on the reader: what it says of a file is what the program answers, and where damage takes
+back what was acknowledged it says so."""
 
 import os
 import subprocess
@@ -80,8 +80,8 @@ def scrubbed(t: Try, lines: list, status: int, case) -> None:
 
 
 def taken_back(t: Try) -> None:
-    """Sectors of the newest prepares, headers and replies are hurt. Where the file opens in an earlier state, the doctor lists what
-    may be lost; and nothing of a file that is whole."""
+    """Sectors of the newest prepares, headers and replies are hurt. Where the file opens in an earlier state, the doctor lists
+    what may be lost; and nothing of a file that is whole."""
     random, home = t.random, generate.home(t.random)
     listed = generate.script_of(random, generate.machine_of(script.fresh(home)), random.choice((2, 5, 12)), 0, 1)
     data = script.run(script.fresh(home), generate.text_of(random, listed)).data
@@ -99,9 +99,9 @@ def taken_back(t: Try) -> None:
     t.binary.put(bytes(image))
     found, case = recovery.found(bytes(image)), asked(t)[2]
     earlier = not found.refusal and found.view != before
-    require(f"what may be lost is told: heads {before.head()} and {found.view and found.view.head()}", not earlier or bool(case.lost))
-    t.counts["newest units hurt: " + (" ".join(found.refusal.split()[:2]) if found.refusal else "taken back, and told" if earlier
-                                      else "as before")] += 1
+    require(f"what may be lost behind op {before.head()} is told", not earlier or bool(case.lost))
+    what = " ".join(found.refusal.split()[:2]) if found.refusal else "taken back, and told" if earlier else "as before"
+    t.counts[f"newest units hurt: {what}"] += 1
 
 
 def doctor_paths(t: Try) -> None:
@@ -110,7 +110,8 @@ def doctor_paths(t: Try) -> None:
     if not os.path.lexists(loop):
         os.symlink(loop, loop)
     absent = os.path.join(t.binary.folder, f"absent{t.random.randrange(10**9)}")
-    path = t.random.choice(("", "/", t.binary.folder, os.path.join(t.binary.folder, "no", "file"), loop, "/dev/null/x", "x" * 300, absent))
+    missing = os.path.join(t.binary.folder, "no", "file")
+    path = t.random.choice(("", "/", t.binary.folder, missing, loop, "/dev/null/x", "x" * 300, absent))
     done = subprocess.run([sys.executable, DOCTOR, path], capture_output=True, text=True, cwd=t.binary.folder)
     expect("the doctor of no file", ("no data file", 2, ""), (done.stdout.splitlines()[0], done.returncode, done.stderr))
     require("the doctor makes nothing", not os.path.exists(absent))
