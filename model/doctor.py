@@ -125,8 +125,8 @@ def found_lines(case):
     for word, listed in (("lost", case.lost), ("note", case.notes)):
         for zone, index, text in listed:
             lines += [f"{word} {zone} {index}: {text}", *indented(place_lines(file, f, zone, index))]
-    return [*lines, f"{len(case.mends)} places to mend, {len(case.failing)} of {case.checked} referenced blocks fail, "
-                    f"{len(case.lost)} things may be lost"]
+    return [*lines, f"to mend: {len(case.mends)}; failing, of {case.checked} referenced blocks: {len(case.failing)}; perhaps lost: "
+                    f"{len(case.lost)}"]
 
 
 def indented(lines):

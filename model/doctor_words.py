@@ -186,7 +186,7 @@ def refusal_lines(case, sectors):
 def look_lines(file, sectors):
     """What the sectors look like, whatever the layout."""
     runs = looks(file, sectors)
-    listed = [f"{span(first, end)}: {count} {name}" for first, end, name, count in runs[: 4 * FEW]]
+    listed = [f"{span(first, end)}: {name}, {count} of them" for first, end, name, count in runs[: 4 * FEW]]
     return listed + ([f"and {len(runs) - 4 * FEW} runs more"] if len(runs) > 4 * FEW else [])
 
 

@@ -10,7 +10,7 @@ import doctor as told
 from doctor_case import examine
 from doctor_picture import picture
 
-from . import form, generate, hurt, reading, recovery, reporting, script
+from . import form, generate, hurt, reading, recovery, reporting, rows, script
 from .binary import expect, require
 from .common import Try
 from .forge import put
@@ -18,10 +18,24 @@ from .form import SECTOR, Place
 from .knows import knows
 
 DOCTOR = os.path.abspath(told.__file__)
+
+
+def older(t: Try) -> bytes:
+    """A file whose copies are those of an earlier moment: something in it is of a later checkpoint, perhaps a reply alone."""
+    past = hurt.history(t)
+    copies = t.random.choice(past.earlier)[: SECTOR * form.COPIES]
+    return copies + past.data[SECTOR * form.COPIES :]
+
+
+def of_garbage(t: Try) -> bytes:
+    size = t.random.choice((0, 1, 4096, 16384, 30000))
+    return t.random.choice((t.random.randbytes(size), bytes(size), (b"append 1 1 -\n" * 2400)[:size]))
+
+
 MAKERS = {
     "tied": reading.tied, "struck": reading.struck, "forged": reading.forged, "rewritten": reading.rewritten,
     "reported": reporting.file_for, "hurt": lambda t: hurt.damage(t, hurt.history(t))[0],
-    "of garbage": lambda t: t.random.choice((t.random.randbytes, bytes))(t.random.choice((0, 1, 4096, 16384, 30000))),
+    "with older copies": older, "of a worked row": lambda t: t.random.choice(rows.listed())[0] or b"", "of garbage": of_garbage,
 }
 
 
