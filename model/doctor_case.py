@@ -65,6 +65,23 @@ def examine(file):
     return case
 
 
+class Under:
+    """A file as it would be were each of its copies the one in this sector."""
+
+    def __init__(self, file, sector):
+        self.file, self.copies = file, b"".join(sector[:16] + bytes([place]) + sector[17:] for place in range(COPIES))
+
+    def __getitem__(self, span):
+        if span.start >= len(self.copies):
+            return self.file[span]
+        return self.copies[span] + self.file[len(self.copies) : max(span.stop, len(self.copies))]
+
+
+def cases_by_copy(file):
+    """What the file would be were one of its copies enough, for each sector that is a copy."""
+    return [(place, examine(Under(file, sector))) for place, sector in enumerate(copies_of(file)) if is_copy(sector)]
+
+
 def copies_of(file):
     """The sectors of the four copies."""
     return [bytes_at(file, SECTOR * place, SECTOR) for place in range(COPIES)]

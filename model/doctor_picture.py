@@ -3,7 +3,7 @@
 import os
 from html import escape
 
-from doctor_case import begun_blocks, copies_of, free_blocks, members_of, slot_case
+from doctor_case import begun_blocks, cases_by_copy, copies_of, free_blocks, members_of, slot_case
 from reader import class_of_copy, rings_of
 from reader_trailer import class_at
 from reader_units import SECTOR, zones_of
@@ -49,7 +49,7 @@ def row_of(count):
     return next(row for row, most in ((32, 128), (64, 512), (128, 2048), (256, 2**62)) if count <= most)
 
 
-def superblock_cells(file, f):
+def superblock_cells(file):
     cells = Cells("Superblock", "Superblock: four copies", 4)
     sectors = copies_of(file)
     members = members_of(sectors)
@@ -131,9 +131,9 @@ def grouped(found):
     """The texts of the findings, those of neighbours in one."""
     runs = []
     for zone, index, words in found:
-        front, _, name = words.partition(f"{zone} {index}")
+        front, named, name = words.partition(f"{zone} {index}")
         last = runs[-1] if runs else None
-        if last and last[0] == (zone, front, name) and last[2] == index - 1:
+        if last and named and last[0] == (zone, front, name) and last[2] == index - 1:
             last[2] = index
         elif not last or words != last[3]:
             runs.append([(zone, front, name), index, index, words])
@@ -224,15 +224,16 @@ def legend(top, used):
 
 
 def picture(case, name):
-    """The text of the picture; None where no layout is known."""
-    file, state, f = case.file, dict(case.state), case.fields
-    if f is None:
+    """The text of the picture, by a copy of the superblock where no two agree; None where no layout is known."""
+    by = case if case.fields else next((one for _, one in cases_by_copy(case.file) if one.fields), None)
+    if by is None:
         return None
-    state = {**rings_of(file, f, bodies=False), **state}
-    found = findings_of(case)
-    marked, failing = {(zone, index) for zone, index, _ in found}, dict(case.failing)
+    file, f = case.file, by.fields
+    state = {**rings_of(file, f, bodies=False), **by.state}
+    found = findings_of(case) + [one for one in findings_of(by) if by is not case and one[0] != "Superblock"]
+    marked, failing = {(zone, index) for zone, index, _ in found}, dict(by.failing)
     out, top = strip(file, f, 82)
-    shown = [superblock_cells(file, f), *ring_cells(state), reply_cells(state), grid_cells(file, state, failing)]
+    shown = [superblock_cells(file), *ring_cells(state), reply_cells(state), grid_cells(file, state, failing)]
     tops = []
     for cells in shown:
         tops.append(top)
@@ -245,7 +246,8 @@ def picture(case, name):
     listed = listed[:8] + ([f"and {len(listed) - 8} findings more"] if len(listed) > 8 else [])
     out += [text(EDGE, top + 14 * number + 10, words, 11, RED) for number, words in enumerate(listed)]
     title = f"cluster {f['Cluster']}, sequence {f['Sequence']}, checkpoint {f['Op']}, " + (
-        f"head {state['head']}, replies {state['stored']}" if not case.refusal else "not opened")
+        f"head {state['head']}, replies {state['stored']}" if not by.refusal else "not opened")
+    title += "" if by is case else ", were a single copy enough"
     out += [text(EDGE, 26, f"{name}: {case.verdict()}", 16, RED if case.status() else INK), text(EDGE, 46, title, 12)]
     return framed(out, top + 14 * len(listed) + 20)
 

@@ -1,8 +1,8 @@
 """The doctor's words: what a place holds, why a file is refused, and what to do next."""
 
-from doctor_case import copies_of, copy_fields, examine, looks, members_of
+from doctor_case import cases_by_copy, copies_of, copy_fields, looks, members_of
 from reader import class_of_copy, evidence_of, is_copy, later_of
-from reader_units import BLOCK, COPIES, HEADER, PREPARE, REPLY, RESERVED, SECTOR, bytes_at, fields_at, look, zones_of
+from reader_units import BLOCK, HEADER, PREPARE, REPLY, RESERVED, SECTOR, bytes_at, fields_at, look, zones_of
 
 NAMES = {RESERVED: "reserved header", PREPARE: "prepare", REPLY: "reply", BLOCK: "block", 5: "trailer block"}
 # So many places are described one by one.
@@ -147,26 +147,12 @@ def copy_lines(file):
             + (copy_text(sector) if is_copy(sector) else nature(sector)) for place, sector in enumerate(sectors)]
 
 
-class Under:
-    """A file as it would be were each of its copies the one in this sector."""
-
-    def __init__(self, file, sector):
-        self.file, self.copies = file, b"".join(sector[:16] + bytes([place]) + sector[17:] for place in range(COPIES))
-
-    def __getitem__(self, span):
-        if span.start >= len(self.copies):
-            return self.file[span]
-        return self.copies[span] + self.file[len(self.copies) : max(span.stop, len(self.copies))]
-
-
 def alone_lines(file):
     """What an open would answer were one of the copies enough."""
     lines = []
-    for place, sector in enumerate(copies_of(file)):
-        if is_copy(sector):
-            case = examine(Under(file, sector))
-            head = "" if case.refusal else f", head {case.state['head']}, replies {case.state['stored']}"
-            lines.append(f"were the copy in sector {place} enough: {case.verdict()}{head}")
+    for place, case in cases_by_copy(file):
+        head = "" if case.refusal else f", head {case.state['head']}, replies {case.state['stored']}"
+        lines.append(f"were the copy in sector {place} enough: {case.verdict()}{head}")
     return lines
 
 
