@@ -165,7 +165,6 @@ def words():
 
 
 def main():
-    # Who reads the first line alone ends the rest.
     signal.signal(signal.SIGPIPE, signal.SIG_DFL)
     sys.stdout.reconfigure(errors="backslashreplace")
     given = words()
@@ -176,9 +175,9 @@ def main():
         return 2
     case = examine(file)
     lines, status = report(case, given.file)
-    print("\n".join(lines))
-    if given.picture:
-        print(draw(case, given.file, given.picture))
+    # The picture comes first, since who reads the first line alone ends the rest.
+    drawn = [draw(case, given.file, given.picture)] if given.picture else []
+    print("\n".join(lines + drawn))
     if os.fstat(file.fd).st_mtime_ns != file.changed:
         print("the file was written while it was read: another process uses it, and this may be true of no moment of it")
     return status
