@@ -36,6 +36,23 @@ pub all_are_part : (events : List Event) (old new : Option Told) → new ≡ aft
 all_are_part [] old new is = is
 all_are_part (e ∷ es) old new is = inr (all_are_part es (told.after e old) new is)
 
+-- a front of the events, told of any log
+pub record Front (events : List Event) (old new : Option Told) : Type 0 where
+  pub part : List Event
+  pub is : new ≡ after_all part old
+  pub again : (base : Option Told) → AddsPart events base (after_all part base)
+
+none_added : (events : List Event) (base : Option Told) → AddsPart events base base
+none_added [] base = refl
+none_added (e ∷ es) base = inl refl
+
+pub front_of : (events : List Event) (old new : Option Told) → AddsPart events old new → Front events old new
+front_of [] old new is = record { part = []; is = is; again = none_added [] }
+front_of (e ∷ es) old new (inl is) = record { part = []; is = is; again = none_added (e ∷ es) }
+front_of (e ∷ es) old new (inr more) =
+    let rest = front_of es (told.after e old) new more in
+    record { part = e ∷ rest.part; is = rest.is; again = λ base. inr (rest.again (told.after e base)) }
+
 -- a disk that tells goes on telling
 tells_on : (events : List Event) (t : Told) → AddsPart events (Some t) None → ⊥
 tells_on [] t part = cc
@@ -127,15 +144,19 @@ module _ (given : Given) (command : Command) (s : State) (events : List Event) (
 
   -- one that ended in a fault
   pub stopped_call : (t : State) (old new : Option Told) → IsSupplied s old command given → t.live ≡ false → AddsPart events old new → IsCall given command s t old new None
-  stopped_call t old new supplied dead part = record {
-    file = tt;
-    input = input;
-    supplied = supplied;
-    live = dead;
-    answers = λ g w k. tt;
-    keeps = λ g w k. (good_part old new part g w k, tt);
-    written = λ w k. tt;
-  }
+  stopped_call t old new supplied dead part =
+      let front = front_of events old new part in
+      record {
+        file = tt;
+        input = input;
+        supplied = supplied;
+        live = dead;
+        events = front.part;
+        told = front.is;
+        answers = λ g w k. tt;
+        keeps = λ g w base k. (good_part base (after_all front.part base) (front.again base) g w k, tt);
+        written = λ w k. tt;
+      }
 
   module _ (t : State) (answer : Answer) (call : Answered given command s t events answer) where
     sense_then : (w : Work) → IsWork (shape s.file) (spelling s.file) w → IsWork (shape t.file) (spelling t.file) (next s.file w given command).0
@@ -192,7 +213,9 @@ module _ (given : Given) (command : Command) (s : State) (events : List Event) (
       input = input;
       supplied = supplied;
       live = call.live;
+      events = events;
+      told = all;
       answers = λ g w k. alone g w k;
-      keeps = λ g w k. (good_part old new (all_are_part events old new all) g w k, goes_on old new all g w k);
+      keeps = λ g w base k. (good_part base (after_all events base) (all_are_part events base (after_all events base) refl) g w k, goes_on base (after_all events base) refl g w k);
       written = λ w k. writes_on old new all w k;
     }

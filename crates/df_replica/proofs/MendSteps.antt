@@ -194,19 +194,17 @@ mending_ends file table mends f members before after (Ok x) may is steps adds =
           ap (λ (u : Units.Units). u (HeaderPlace s)) (sym (now_units fmt after.log.start after.log.events)) ∙ ap (λ (l : UnitLog). now l (HeaderPlace s)) ends ∙ shown ∙ ap (λ (o : Option Header). Some (HeaderUnit (header_or_none o))) at;
     }
 
--- ---- of what the disk tells
+-- ---- all of it, by any log
 
-module _ (file : DataFile) (table : List Header) (mends : List Mend) (f : SuperFields) (members : List Bool) (old new : Option Told) (result : Result Unit Failed) where
-  pub told_moments : AreSteps (format file) (mending_events file.layout table mends f members) (mending_steps file.layout table mends f members) → Adds (mending_events file.layout table mends f members) old new result
-      → (before after : Told) → old ≡ Some before → new ≡ Some after → (may : MayMendOn file table mends f members before) → EachMoment before.log after.log (IsGoodFor may.grade (format file) (shape file) may.view may.view)
-  told_moments steps adds before after first last may =
-      let events = mending_events file.layout table mends f members in
-      mending_moments file table mends f members before after may steps
-      (subst (λ (o : Option Told). AddsPart events o (Some after)) first (subst (AddsPart events old) last (adds_part events old new result adds)))
+module _ (file : DataFile) (table : List Header) (mends : List Mend) (f : SuperFields) (members : List Bool) (base : Told) (may : MayMendOn file table mends f members base)
+    (steps : AreSteps (format file) (mending_events file.layout table mends f members) (mending_steps file.layout table mends f members)) where
+  all_told : Some (told_after (mending_events file.layout table mends f members) base) ≡ after_all (mending_events file.layout table mends f members) (Some base)
+  all_told = sym (added_is_told (mending_events file.layout table mends f members) base)
 
-  pub told_ends : IsTable file.layout file.cluster table → AreSteps (format file) (mending_events file.layout table mends f members) (mending_steps file.layout table mends f members) → Adds (mending_events file.layout table mends f members) old new result
-      → (before after : Told) → old ≡ Some before → new ≡ Some after → (may : MayMendOn file table mends f members before) → OnOk result (IsMended may.grade file may.view table after)
-  told_ends is steps adds before after first last may =
+  pub all_moments : EachMoment base.log (told_after (mending_events file.layout table mends f members) base).log (IsGoodFor may.grade (format file) (shape file) may.view may.view)
+  all_moments =
       let events = mending_events file.layout table mends f members in
-      mending_ends file table mends f members before after result may is steps
-      (subst (λ (o : Option Told). Adds events o (Some after) result) first (subst (λ (o : Option Told). Adds events old o result) last adds))
+      mending_moments file table mends f members base (told_after events base) may steps (all_are_part events (Some base) (Some (told_after events base)) all_told)
+
+  pub all_mended : IsTable file.layout file.cluster table → IsMended may.grade file may.view table (told_after (mending_events file.layout table mends f members) base)
+  all_mended is = mending_ends file table mends f members base (told_after (mending_events file.layout table mends f members) base) (Ok tt) may is steps all_told

@@ -7,9 +7,10 @@ use Rattle.df_base.specs.Log
 use Rattle.df_base.specs.Log.{Event, IsLog, Sync}
 use Rattle.df_base.specs.Moments.{EachMoment, Extends}
 use Rattle.df_base.proofs.Laws.{adds_extends, extends_self, now_is_image}
-use Rattle.df_disk.specs.Told as told
 use Rattle.df_disk.specs.Told.{Told, did}
 use Rattle.df_disk.specs.Adds.{AddsPart, after_all}
+use Rattle.df_damage.specs.Anew.{told_after}
+use Rattle.df_damage.proofs.Laws.{added_is_told}
 use Rattle.df_layout.specs.declared.damage.Mend.{Mend}
 use Rattle.df_format.specs.declared.header.Header.{Header}
 use Rattle.df_format.specs.declared.superblock.SuperFields.{SuperFields}
@@ -25,7 +26,7 @@ use Rattle.df_theory.specs.UnitLog.{Synced, UnitLog, add, now, wrote}
 use Rattle.df_theory.specs.View.{View, head}
 use Rattle.df_theory.proofs.Laws.{now_units, one_found_law}
 use Rattle.df_units.specs.Bytes.{unit_at}
-use Rattle.df_units.proofs.Laws.{all_added, call_ends, chosen_choice, of_places}
+use Rattle.df_units.proofs.Laws.{all_added, call_ends, chosen_choice, of_places, part_moments}
 use Rattle.df_model.specs.Codec.{IsCodec}
 use Rattle.df_model.specs.Laws.{IsKeptBy}
 use Rattle.df_model.specs.Work.{Work, checksum_of, checksum_of_op, first_tour, opened, waiting_checksum}
@@ -35,15 +36,14 @@ use Rattle.df_theory.specs.WholeLaws.{IsStanding}
 use Rattle.df_trailer.specs.Text.{parse_of}
 use Rattle.df_trailer.proofs.Laws.{codec}
 use Rattle.df_units.specs.Meaning.{layout_of}
-use Rattle.df_replica.proofs.Calls.{good_safe}
+use Rattle.df_replica.proofs.Calls.{Front, front_of, good_safe}
 use Rattle.df_superblock.specs.Steps.{repaired}
 use Rattle.df_state.specs.declared.file.DataFile.{DataFile}
 use Rattle.df_layout.specs.declared.layout.Layout.{Layout}
 use Rattle.df_replica.specs.Surveying.{TellsSurvey}
 use Rattle.df_replica.specs.Following.{MayOpen}
-use Rattle.df_replica.specs.Mending.{IsMended, live_state, mending_events, mending_steps, sector_puts, sectors_of}
+use Rattle.df_replica.specs.Mending.{IsMended, IsPlanned, live_state, mending_events, mending_steps, sector_puts, sectors_of}
 use Rattle.df_replica.specs.Serving.{Firm, Grade, IsGoodFor, IsKept, Keeps, KeptFor, StandingFor, Whole, format}
-use Rattle.df_replica.specs.Opened.{ToldBy}
 use Rattle.df_state.specs.State.{Represents, State, shape, spelling}
 use Rattle.df_recovery.specs.Surveys.{IsOpened}
 
@@ -140,12 +140,26 @@ open_keeps g s mends members view before after may is steps all moments mended =
       ring = mended.ring;
     }
 
--- the answer of the survey, of what an honest disk shows
-pub survey_opened : (layout : Layout) (told : Option Told) (before : Told) (s : State) → told ≡ Some before → (view : View) → MayOpen s.file view before → s.file.layout ≡ layout → TellsSurvey layout told (Ok s) → IsOpened s.file.layout before.shown s
-survey_opened layout told before s is view may same answer =
-    let shown : before.shown ≡ Log.now before.log = λ i sector. may.honest.shows sector i in
-    let whole : IsImage before.shown = subst IsImage (sym shown) (now_is_image before.log.start before.log.events may.safe.is_log.start may.safe.is_log.events) in
-    subst (λ (l : Layout). IsOpened l before.shown s) (sym same) ((subst (λ (o : Option Told). TellsSurvey layout o (Ok s)) is answer) whole)
+-- the answer of the survey, of what the disk shows, by a log that shows the same
+pub survey_opened : (layout : Layout) (t base : Told) (s : State) → base.shown ≡ t.shown → (view : View) → MayOpen s.file view base → s.file.layout ≡ layout → TellsSurvey layout (Some t) (Ok s) → IsOpened s.file.layout base.shown s
+survey_opened layout t base s same view may of answer =
+    let shown : base.shown ≡ Log.now base.log = λ i sector. may.honest.shows sector i in
+    let whole : IsImage t.shown = subst IsImage (sym shown ∙ same) (now_is_image base.log.start base.log.events may.safe.is_log.start may.safe.is_log.events) in
+    subst (λ (m : Image). IsOpened s.file.layout m s) (sym same) (subst (λ (l : Layout). IsOpened l t.shown s) (sym of) (answer whole))
+
+-- what is planned of what one log shows is planned of another one that shows the same
+pub planned_same : (file : DataFile) (table : List Header) (mends : List Mend) (f : SuperFields) (members : List Bool) (t base : Told) → base.shown ≡ t.shown → IsPlanned file table mends f members t → IsPlanned file table mends f members base
+planned_same file table mends f members t base same plan =
+    let there : IsPlanned file table mends f members (record { log = base.log; shown = t.shown }) = record {
+      scan = plan.scan;
+      copies = plan.copies;
+      super = plan.super;
+      members_are = plan.members_are;
+      op = plan.op;
+      scanned = plan.scanned;
+      planned = plan.planned;
+    } in
+    subst (λ (m : Image). IsPlanned file table mends f members (record { log = base.log; shown = m })) (sym same) there
 
 -- ---- what an open finds in an image, whatever was done to it
 
@@ -168,12 +182,12 @@ live_kept g s w log is = record { log_is = is.log_is; stands = is.stands; kept_b
 
 -- ---- where the disk failed
 
-part_told : (es : List Event) (old new : Option Told) → AddsPart es old new → ToldBy old new
-part_told [] old new is = ([], is)
-part_told (e ∷ es) old new (inl same) = ([], same)
-part_told (e ∷ es) old new (inr more) =
-    let rest = part_told es (told.after e old) new more in
-    (e ∷ rest.0, rest.1)
+-- a front of the mending was added
+pub mend_stops : (es : List Event) (old new : Option Told) (t : Told) → old ≡ Some t → AddsPart es old new → Front es (Some t) new
+mend_stops es old new t is part = front_of es (Some t) new (subst (λ (o : Option Told). AddsPart es o new) is part)
 
-pub mend_stops : (es : List Event) (old new : Option Told) (t : Told) → old ≡ Some t → AddsPart es old new → ToldBy (Some t) new
-mend_stops es old new t is part = part_told es (Some t) new (subst (λ (o : Option Told). AddsPart es o new) is part)
+-- and its moments are moments of the whole one
+pub front_moments : (es : List Event) (base : Told) (part : List Event) → ((b : Option Told) → AddsPart es b (after_all part b)) → (P : Log.Log → Type 0) → EachMoment base.log (told_after es base).log P → EachMoment base.log (told_after part base).log P
+front_moments es base part again P each =
+    part_moments es base (told_after part base) P (subst (AddsPart es (Some base)) (added_is_told part base) (again (Some base)))
+    (subst (λ (l : Log.Log). EachMoment base.log l P) (all_added es base (told_after es base) (sym (added_is_told es base))) each)

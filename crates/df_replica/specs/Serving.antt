@@ -1,8 +1,9 @@
 -- What is kept of a file from call to call, and what each call of a replica promises, whatever the state of the machine that it stands for.
 use Rattle.std.specs.Prelude.{◌≡◌, ℕ, true, false, List, Option, Some, None}
-use Rattle.df_base.specs.Log.{IsLog, Log, now}
+use Rattle.df_base.specs.Log.{Event, IsLog, Log, now}
 use Rattle.df_base.specs.Moments.{EachMoment, Extends}
 use Rattle.df_disk.specs.Told.{Told}
+use Rattle.df_disk.specs.Adds.{after_all}
 use Rattle.df_theory.specs.Units.{Parts, Units}
 use Rattle.df_theory.specs.Shape.{Shape}
 use Rattle.df_theory.specs.UnitLog.{UnitLog}
@@ -84,15 +85,17 @@ GoesOnTo g t new expected (Some answer) = (answer ≡ expected.1) × Keeps g t e
 abbrev pub next : DataFile → Work → Given → Command → Work × Answer
 next file w given command = after (shape file) (spelling file) w given command
 
--- every call, with what it was rightly supplied with, from each state of the machine that the replica stands for: it answers as the machine; and where the file was kept for
--- that state, each moment is good and what comes after is kept. Whatever the disk shows: where all was written that the state before has, all was
--- that the one behind the answer has
+-- Every call, with what it was rightly supplied with, from each state of the machine that the replica stands for: it answers as the machine, and adds these events to
+-- the log that is told. Over each log by which the file was kept for that state, the told one or one begun anew, each moment of them is good and what comes after is
+-- kept. Whatever the disk shows: where all was written that the state before has, all was that the one behind the answer has
 pub record IsCall (given : Given) (command : Command) (s t : State) (old new : Option Told) (answer : Option Answer) : Type 0 where
   pub file : OnSome answer (t.file ≡ s.file)
   pub live : StaysLive answer t
   pub input : IsInput given command
   pub supplied : IsSupplied s old command given
+  pub events : List Event
+  pub told : new ≡ after_all events old
   pub answers : (g : Grade) (w : Work) → Keeps g s w None → GoesOnTo g t None (next s.file w given command) answer
-  pub keeps : (g : Grade) (w : Work) → Keeps g s w old
-      → EachIsGood g s (kept w) (kept (next s.file w given command).0) old new × GoesOnTo g t new (next s.file w given command) answer
+  pub keeps : (g : Grade) (w : Work) (base : Option Told) → Keeps g s w base
+      → EachIsGood g s (kept w) (kept (next s.file w given command).0) base (after_all events base) × GoesOnTo g t (after_all events base) (next s.file w given command) answer
   pub written : (w : Work) → Keeps Firm s w None → OnSome answer (WritesOn s.file old new w (next s.file w given command).0)

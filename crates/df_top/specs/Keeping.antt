@@ -1,8 +1,9 @@
 -- What is kept of a file behind the barrier of an open, whatever is done with it.
 use Rattle.std.specs.Prelude.{◌≡◌, List, [], ◌∷◌, ◌++◌, Option, Some, None}
-use Rattle.df_base.specs.Log.{Sync}
+use Rattle.df_base.specs.Log.{Event, Sync}
 use Rattle.df_base.specs.Moments.{EachMoment, Extends}
 use Rattle.df_disk.specs.Told.{IsHonest, Told, did}
+use Rattle.df_replica.specs.Below.{told_after}
 use Rattle.df_theory.specs.Device.{units_log}
 use Rattle.df_theory.specs.TidyLaws.{IsTidy}
 use Rattle.df_model.specs.Commands.{Answer}
@@ -11,6 +12,10 @@ use Rattle.df_replica.specs.Below.{DataFile, shape}
 use Rattle.df_replica.specs.Serving.{Grade, format}
 use Rattle.df_replica.specs.Session.{Act, IsMidway, LeavesEither, LeavesView, answers_of, work_after}
 use Rattle.df_top.specs.Session.{list_of}
+
+-- what a base tells behind the barrier of an open and its mending, and behind what was done then
+abbrev pub over : (mending added : List Event) → (base : Told) → Option Told
+over mending added base = Some (told_after added (told_after mending (did Sync base)))
 
 -- whatever a stop leaves at the end has all the acts that were answered; one more only where the disk failed in it
 abbrev pub LeavesAll : DataFile → Grade → Work → List Act → Option Act → Told → Type 0
