@@ -16,6 +16,7 @@ pub mod Settled
 pub mod Barriers
 pub mod Listed
 pub mod Opens
+pub mod Leaves
 pub mod Makes
 pub mod WritesOn
 pub mod Calls

@@ -15,7 +15,7 @@ use Rattle.df_layout.specs.declared.damage.Mend.{Mend}
 use Rattle.df_format.specs.declared.header.Header.{Header}
 use Rattle.df_format.specs.declared.superblock.SuperFields.{SuperFields}
 use Rattle.df_theory.specs.Units
-use Rattle.df_theory.specs.Units.{AnyUnit, PreparePlace, or_else}
+use Rattle.df_theory.specs.Units.{AnyUnit, BlockPlace, PreparePlace, or_else}
 use Rattle.df_theory.specs.Device.{AreSteps, units_log}
 use Rattle.df_theory.specs.Found.{AreOfPlaces, IsFound}
 use Rattle.df_theory.specs.MakingLaws.{all_puts}
@@ -37,6 +37,8 @@ use Rattle.df_trailer.specs.Text.{parse_of}
 use Rattle.df_trailer.proofs.Laws.{codec}
 use Rattle.df_units.specs.Meaning.{layout_of}
 use Rattle.df_replica.proofs.Calls.{Front, front_of, good_safe}
+use Rattle.df_replica.proofs.Leaves.{stays_firm, unit_after, unwritten}
+use Rattle.df_replica.specs.Leaving.{AreSettled}
 use Rattle.df_superblock.specs.Steps.{repaired}
 use Rattle.df_state.specs.declared.file.DataFile.{DataFile}
 use Rattle.df_layout.specs.declared.layout.Layout.{Layout}
@@ -139,6 +141,45 @@ open_keeps g s mends members view before after may is steps all moments mended =
           (subst (λ (u : Units.Units). KeptFor g sh (spelling s.file) log (opened sh u view)) (sym image) kept);
       ring = mended.ring;
     }
+
+-- ---- no step of a mending puts a block
+
+steps_join : (ss ts : List Step) (place : Units.Place) (o : Option AnyUnit) → unit_after (ss ++ ts) place o ≡ unit_after ts place (unit_after ss place o)
+steps_join [] ts place o = refl
+steps_join ((Puts put) ∷ ss) ts place o = steps_join ss ts place (or_else (put place) o)
+steps_join (Syncs ∷ ss) ts place o = steps_join ss ts place o
+
+puts_aside : (a : ℕ) (table : List Header) (ks : List ℕ) → unit_after (all_puts (sector_puts table ks)) (BlockPlace a) None ≡ None
+puts_aside a table [] = refl
+puts_aside a table (k ∷ ks) = puts_aside a table ks
+
+headers_aside : (a : ℕ) (table : List Header) (ks : List ℕ) → unit_after (header_steps (sector_puts table ks)) (BlockPlace a) None ≡ None
+headers_aside a table [] = refl
+headers_aside a table (k ∷ ks) = steps_join (all_puts (sector_puts table (k ∷ ks))) (Syncs ∷ []) (BlockPlace a) None ∙ puts_aside a table (k ∷ ks)
+
+copies_aside : (a number : ℕ) (f : SuperFields) (members : List Bool) → unit_after (copy_steps (repaired f number members)) (BlockPlace a) None ≡ None
+copies_aside a number f [] = refl
+copies_aside a number f (true ∷ members) = copies_aside a (number + 1) f members
+copies_aside a number f (false ∷ members) = copies_aside a (number + 1) f members
+
+mending_aside : (file : DataFile) (table : List Header) (mends : List Mend) (f : SuperFields) (members : List Bool) (a : ℕ) → unit_after (mending_steps file.layout table mends f members) (BlockPlace a) None ≡ None
+mending_aside file table mends f members a =
+    let headers = header_steps (sector_puts table (sectors_of file.layout mends)) in
+    let copies = copy_steps (repaired f 0 members) in
+    steps_join headers copies (BlockPlace a) None ∙ ap (unit_after copies (BlockPlace a)) (headers_aside a table (sectors_of file.layout mends)) ∙ copies_aside a 0 f members
+
+-- so behind the barrier none is loose
+pub open_settles : (s : State) (mends : List Mend) (members : List Bool) (base : Told) (w : Work) → AreSteps (format s.file) (mending_events s.file.layout s.headers mends s.fields members) (mending_steps s.file.layout s.headers mends s.fields members)
+    → AreSettled s.file (told_after (mending_events s.file.layout s.headers mends s.fields members) (did Sync base)).log w
+open_settles s mends members base w steps =
+    let es = mending_events s.file.layout s.headers mends s.fields members in
+    let ss = mending_steps s.file.layout s.headers mends s.fields members in
+    let n : Told = told_after es (did Sync base) in
+    subst (λ (l : Log.Log). AreSettled s.file l w) (sym (all_added es (did Sync base) n (sym (added_is_told es (did Sync base)))))
+    (record {
+      firm = λ a sector durable here.
+          stays_firm es (did Sync base).log sector refl (unwritten s.file.layout s.file.cluster es ss steps (BlockPlace a) (mending_aside s.file s.headers mends s.fields members a) sector here);
+    })
 
 -- the answer of the survey, of what the disk shows, by a log that shows the same
 pub survey_opened : (layout : Layout) (t base : Told) (s : State) → base.shown ≡ t.shown → (view : View) → MayOpen s.file view base → s.file.layout ≡ layout → TellsSurvey layout (Some t) (Ok s) → IsOpened s.file.layout base.shown s

@@ -1,8 +1,8 @@
 -- Calls one after the other: nothing is served at first, one more call goes on, and a fault stops them.
 use Rattle.std.proofs.Common.{◌≡◌, ◌⊎◌, inl, inr, List, [], ◌∷◌, ◌++◌, Option, Some, None, Err, refl, sym, ◌∙◌, ap, subst, arith}
 use Rattle.df_base.specs.Image.{Image}
-use Rattle.df_base.specs.Log.{Event, IsLeft, Log}
-use Rattle.df_base.specs.Moments.{EachMoment, Extends}
+use Rattle.df_base.specs.Log.{Event, IsLeft, Log, add}
+use Rattle.df_base.specs.Moments.{EachMoment, Extends, adds}
 use Rattle.df_base.proofs.Laws.{extends_add, extends_self, more, weaker}
 use Rattle.df_disk.specs.Told.{Told}
 use Rattle.df_disk.specs.Adds.{after_all}
@@ -14,6 +14,7 @@ use Rattle.df_model.specs.declared.answers.Verdict.TheVariants.{Sound}
 use Rattle.df_model.specs.Work.{Work, kept}
 use Rattle.df_state.specs.declared.file.DataFile.{DataFile}
 use Rattle.df_state.specs.State.{State, shape}
+use Rattle.df_replica.specs.Leaving.{AreSettled}
 use Rattle.df_replica.specs.Serving.{EachIsGood, Firm, Grade, IsGoodFor, IsKept, Keeps, Whole, format, next}
 use Rattle.df_replica.specs.Session.{Act, AnsweredIsThere, EachIsMidway, FaultStopsThem, HasView, HoldsFor, HoldsSome, IsMidway, LeavesEither, LeavesView, NothingIsServed, OneMoreIsServed, answers_of, work_after}
 use Rattle.df_replica.specs.WrittenFor.{IsWrittenIn}
@@ -124,7 +125,7 @@ midway_now s (Some t) g w k = (
 )
 
 pub nothing_is_served : NothingIsServed
-nothing_is_served s told live = record { file = refl; live = live; told_is = refl; answered = λ g w k. (refl, k); kept_on = λ g w base k. (midway_now s base g w k, k); written = λ w k was. was }
+nothing_is_served s told live = record { file = refl; live = live; told_is = refl; answered = λ g w k. (refl, k); kept_on = λ g w base k. (midway_now s base g w k, k); settles = λ w log k settled. settled; written = λ w k was. was }
 
 -- what was kept goes on being kept where no log is told
 pub keeps_alone : (g : Grade) (s : State) (w : Work) (told : Option Told) → Keeps g s w told → Keeps g s w None
@@ -153,6 +154,10 @@ pub added_on : (es fs : List Event) (old : Option Told) → after_all (es ++ fs)
 added_on [] fs old = refl
 added_on (e ∷ es) fs old = added_on es fs _
 
+adds_on : (es fs : List Event) (log : Log) → adds (es ++ fs) log ≡ adds fs (adds es log)
+adds_on [] fs log = refl
+adds_on (e ∷ es) fs log = adds_on es fs (add e log)
+
 pub one_more_is_served : OneMoreIsServed
 one_more_is_served s0 s t told0 told new acts answers es act answer served call =
     let fs = call.events in
@@ -171,6 +176,14 @@ one_more_is_served s0 s t told0 told new acts answers es act answer served call 
             one_more_moments s0 s t base (after_all es base) (after_all fs (after_all es base)) acts answers act served.file g w before.0 on.0,
             subst (λ (x : Work). Keeps g t x (after_all fs (after_all es base))) (work_then s0 s t told0 told new acts answers act served.file w) on.1.1,
           );
+      settles = λ w log k was.
+          let before = served.settles w log k was in
+          let u = work_after s0.file w acts in
+          let on = call.settles u (adds es log) (served.answered Firm w k).1 in
+          let later : Work = (next s.file u act.given act.command).0 in
+          subst (λ (l : Log). AreSettled s0.file l (work_after s0.file w (acts ++ act ∷ []))) (sym (adds_on es fs log))
+          (subst (λ (x : Work). AreSettled s0.file (adds fs (adds es log)) x) (work_then s0 s t told0 told new acts answers act served.file w)
+          (subst (λ (file : DataFile). AreSettled file (adds es log) u → AreSettled file (adds fs (adds es log)) later) served.file on before));
       written = λ w k was.
           let on = call.written (work_after s0.file w acts) (served.answered Firm w k).1 in
           let later : Work = (next s.file (work_after s0.file w acts) act.given act.command).0 in

@@ -12,6 +12,7 @@ use Rattle.df_model.specs.Work.{opened as first_work}
 use Rattle.df_state.specs.State.{State, shape}
 use Rattle.df_recovery.specs.Surveys.{IsOpened}
 use Rattle.df_replica.specs.Following.{MayOpen}
+use Rattle.df_replica.specs.Leaving.{AreSettled}
 use Rattle.df_replica.specs.Mending.{IsMended}
 use Rattle.df_replica.specs.Serving.{Grade, IsGoodFor, IsKept, StandsFor, format}
 
@@ -20,11 +21,12 @@ abbrev pub ToldBy : (old new : Option Told) → Type 0
 ToldBy old new = (events : List Event) × (new ≡ after_all events old)
 
 -- What an open leaves of a base, behind the barrier and the mending: each moment since has the view that was found, and at the end the file is tidy and kept for the state
--- that the machine begins with.
+-- that the machine begins with, and no block of its checkpoint is loose.
 pub record OpensOver (g : Grade) (view : View) (s : State) (base n : Told) : Type 0 where
   pub moments : EachMoment (did Sync base).log n.log (IsGoodFor g (format s.file) (shape s.file) view view)
   pub mended : IsMended g s.file view s.headers n
   pub kept_for : IsKept g s (first_work (shape s.file) (unit_at s.file.layout s.file.cluster base.shown) view) n.log
+  pub settled : AreSettled s.file n.log (first_work (shape s.file) (unit_at s.file.layout s.file.cluster base.shown) view)
 
 -- The file was found and mended: so it is by each log that shows what the disk showed, and by which the file may be opened, the told one or one that is begun anew there.
 pub record MendsAll (t : Told) (s : State) (later : Option Told) : Type 0 where

@@ -2,7 +2,7 @@
 use Rattle.std.specs.Prelude.{◌≡◌, ◌⊎◌, true, List, [], ◌∷◌, ◌++◌, Option, Some, None}
 use Rattle.df_base.specs.Image.{Image}
 use Rattle.df_base.specs.Log.{Event, IsLeft, Log}
-use Rattle.df_base.specs.Moments.{EachMoment, Extends}
+use Rattle.df_base.specs.Moments.{EachMoment, Extends, adds}
 use Rattle.df_disk.specs.Told.{Told}
 use Rattle.df_disk.specs.Adds.{after_all}
 use Rattle.df_theory.specs.Units.{Units}
@@ -14,6 +14,7 @@ use Rattle.df_model.specs.Commands.{Answer, Command, Given}
 use Rattle.df_model.specs.Work.{Work, kept}
 use Rattle.df_state.specs.declared.file.DataFile.{DataFile}
 use Rattle.df_state.specs.State.{State, shape}
+use Rattle.df_replica.specs.Leaving.{AreSettled}
 use Rattle.df_replica.specs.Serving.{Firm, Grade, IsCall, Keeps, Whole, format, next}
 use Rattle.df_replica.specs.WrittenFor.{WritesOn}
 
@@ -68,13 +69,14 @@ LeavesEither file g w u (Some t) = (image : Image) → IsLeft t.log image → No
 
 -- From one state of a replica to another these acts were served, and added these events: from each state of the machine that the first stood for, the answers are the
 -- machine's and the second stands for the state after them; and over each log by which the file was kept, it is, and each moment since is midway. Whatever the disk
--- shows: where all was written that the first state of the machine has, all was that the last one has
+-- shows: where no block of the durable checkpoint was loose, none is, and where all was written that the first state of the machine has, all was that the last one has
 pub record IsServed (s0 s : State) (told0 told : Option Told) (acts : List Act) (answers : List Answer) (events : List Event) : Type 0 where
   pub file : s.file ≡ s0.file
   pub live : s.live ≡ true
   pub told_is : told ≡ after_all events told0
   pub answered : (g : Grade) (w : Work) → Keeps g s0 w None → (answers ≡ answers_of s0.file w acts) × Keeps g s (work_after s0.file w acts) None
   pub kept_on : (g : Grade) (w : Work) (base : Option Told) → Keeps g s0 w base → EachIsMidway s0.file g w acts base (after_all events base) × Keeps g s (work_after s0.file w acts) (after_all events base)
+  pub settles : (w : Work) (log : Log) → Keeps Firm s0 w None → AreSettled s0.file log w → AreSettled s0.file (adds events log) (work_after s0.file w acts)
   pub written : (w : Work) → Keeps Firm s0 w None → WritesOn s0.file told0 told w (work_after s0.file w acts)
 
 -- the call after them ended in a fault: each moment is midway in the acts and this one, and what a stop leaves now has the view after the acts or after one more, never less

@@ -16,7 +16,7 @@ use Rattle.df_replica.specs.Serving.{IsGoodFor, StandsFor, format}
 use Rattle.df_replica.specs.Surveying.{TellsSurvey}
 use Rattle.df_replica.proofs.Barriers.{barrier_rests}
 use Rattle.df_replica.proofs.Hurts.{tells_hurt}
-use Rattle.df_replica.proofs.Opens.{front_moments, live_kept, mend_stops, open_keeps, planned_same, survey_opened}
+use Rattle.df_replica.proofs.Opens.{front_moments, live_kept, mend_stops, open_keeps, open_settles, planned_same, survey_opened}
 use Rattle.df_replica.proofs.SurveyPlans.{live_answers}
 use Rattle.df_replica.proofs.replica.Replica.open.Goals as goal
 
@@ -52,6 +52,7 @@ returns-in-Ok-mend-clause-opened g c = λ t is.
                 live_kept grade s.state (opened (shape s.state.file) (unit_at s.state.file.layout s.state.file.cluster base.shown) view) n.log
                 (open_keeps grade s.state s.mends s.chosen.members view base n may (survey_opened c.args.rooms.layout t base s.state same view may c.in-Ok.ensures.kept answer) c.in-Ok-mend.ensures.steps
                 (sym (added_is_told es (did Sync base))) moments mended);
+            settled = open_settles s.state s.mends s.chosen.members base (opened (shape s.state.file) (unit_at s.state.file.layout s.state.file.cluster base.shown) view) c.in-Ok-mend.ensures.steps;
           };
     } in
     subst (λ (r : State). MendsAll t r (g.D.Disk.told c.mend.new.disk)) (sym c.in-Ok-mend.ensures.state) all
