@@ -17,7 +17,7 @@ use Rattle.df_journal.specs.Below.{IsInOwnSlot}
 use Rattle.df_journal.specs.Append.{EndsAppended, MayAppendOn, ShowsRing, journal_steps, new_sector, with_header}
 use Rattle.df_journal.proofs.Laws.{append_steps, ends_appended, next_sector}
 use Rattle.df_theory.specs.Units as theory
-use Rattle.df_theory.specs.Units.{AnyUnit, BlockPlace, HeaderPlace, HeaderUnit, Place, PreparePlace, PrepareUnit, ReplyPlace, or_else}
+use Rattle.df_theory.specs.Units.{AnyUnit, BlockPlace, CopyPlace, HeaderPlace, HeaderUnit, Place, PreparePlace, PrepareUnit, ReplyPlace, or_else}
 use Rattle.df_theory.specs.Next.{MayAppend}
 use Rattle.df_theory.specs.Shape.{Shape}
 use Rattle.df_theory.specs.UnitLog.{put_one}
@@ -144,6 +144,7 @@ module _ (s : State) (client request : ℕ) (body : List ℕ) (given : Given) (i
       prepare = λ k o. ap (λ (p : Option AnyUnit). or_else p o) (put_is (PreparePlace k));
       reply = λ k o. ap (λ (p : Option AnyUnit). or_else p o) (put_is (ReplyPlace k));
       block = λ k o. ap (λ (p : Option AnyUnit). or_else p o) (put_is (BlockPlace k));
+      copy = λ w work rep k o. ap (λ (p : Option AnyUnit). or_else p o) (put_is (CopyPlace k));
       last = λ no. absurd no;
     }
 

@@ -10,7 +10,7 @@ use Rattle.df_theory.specs.Runs.{Step}
 use Rattle.df_theory.specs.UnitLog.{put_one}
 use Rattle.df_theory.proofs.Laws.{put_one_law}
 use Rattle.df_theory.specs.Units as theory
-use Rattle.df_theory.specs.Units.{BlockPlace, BlockUnit, PreparePlace, ReplyPlace, or_else}
+use Rattle.df_theory.specs.Units.{BlockPlace, BlockUnit, CopyPlace, PreparePlace, ReplyPlace, or_else}
 use Rattle.df_units.specs.Format.{format_of}
 use Rattle.df_units.specs.Meaning.{block_of}
 use Rattle.df_grid.specs.Writes.{block_steps}
@@ -99,6 +99,7 @@ module _ (s : State) (r : Capture) (a : ℕ) (more : List ℕ) (given : Given) (
     prepare = λ k o. ap (λ (p : Option theory.AnyUnit). or_else p o) (put_is (PreparePlace k));
     reply = λ k o. ap (λ (p : Option theory.AnyUnit). or_else p o) (put_is (ReplyPlace k));
     block = λ k o. ap (λ (p : Option theory.AnyUnit). or_else p o) (put_is (BlockPlace k));
+    copy = λ w work rep k o. ap (λ (p : Option theory.AnyUnit). or_else p o) (put_is (CopyPlace k));
     last = λ whole.
         let none : s.blocks.left ≡ [] = subst IsWhole (ap (course_in s.file s.blocks) running) whole in
         let no : a ∷ more ≡ [] = sym left ∙ none in

@@ -28,7 +28,7 @@ use Rattle.df_replica.specs.Leaving.{writes_to}
 use Rattle.df_replica.specs.Serving.{EachIsGood, Firm, GoesOnTo, Grade, IsCall, IsGoodFor, IsKept, Keeps, KeptFor, Whole, format, next}
 use Rattle.df_replica.specs.Supply.{IsSupplied}
 use Rattle.df_replica.specs.WrittenFor.{IsWrittenFor, WritesOn}
-use Rattle.df_replica.proofs.Leaves.{Makes, leaves_shown, settles_on, spares_held}
+use Rattle.df_replica.proofs.Leaves.{Makes, leaves_copies, leaves_shown, settles_on, spares_held}
 use Rattle.df_replica.proofs.Makes.{HasEach, OfMade, after_has, made_weaker}
 use Rattle.df_replica.proofs.WritesOn.{StandsIn, brought_is_written, stays_written}
 
@@ -169,6 +169,7 @@ module _ (given : Given) (command : Command) (s : State) (events : List Event) (
         answers = λ g w k. tt;
         keeps = λ g w base k. (good_part base (after_all front.part base) (front.again base) g w k, tt);
         leaves = tt;
+        copies = λ w k. tt;
         spares = λ w k a held other sector here. front.dry sector (spares_held given command s events makes w k a held other sector here);
         settles = λ w log k settled. tt;
         written = λ w k. tt;
@@ -234,6 +235,7 @@ module _ (given : Given) (command : Command) (s : State) (events : List Event) (
       answers = λ g w k. alone g w k;
       keeps = λ g w base k. (good_part base (after_all events base) (all_are_part events base (after_all events base) refl) g w k, goes_on base (after_all events base) refl g w k);
       leaves = λ image whole. leaves_shown given command s events makes image whole;
+      copies = λ w k image whole. leaves_copies given command s events makes w k image whole;
       spares = λ w k. spares_held given command s events makes w k;
       settles = λ w log k settled. settles_on given command s events makes w log k settled;
       written = λ w k. writes_on old new all w k;

@@ -13,7 +13,7 @@ use Rattle.df_superblock.specs.Steps.{AreStepsOfCopies}
 use Rattle.df_theory.specs.CopyPuts.{PutsCopies, update_steps}
 use Rattle.df_theory.specs.Runs.{Step, Syncs}
 use Rattle.df_theory.specs.Units as theory
-use Rattle.df_theory.specs.Units.{BlockPlace, PreparePlace, ReplyPlace, or_else}
+use Rattle.df_theory.specs.Units.{BlockPlace, CopyPlace, CopyUnit, PreparePlace, ReplyPlace, or_else}
 use Rattle.df_theory.specs.View.{PassesTests, sequence}
 use Rattle.df_units.specs.Meaning.{content_of, number_of, offset_list, rest_of}
 use Rattle.df_units.specs.Puts.{put_copies}
@@ -34,7 +34,7 @@ use Rattle.df_replica.specs.Answering.{Serves, step_answer}
 use Rattle.df_replica.specs.Serving.{Grade, IsCall, IsKept, format, next}
 use Rattle.df_replica.specs.Stepping.{IsMade, OfRunning, finished, last_events, made_by, made_for, next_fields}
 use Rattle.df_replica.proofs.Calls.{AreCalls, all_are_part, firmly}
-use Rattle.df_replica.proofs.Leaves.{Makes}
+use Rattle.df_replica.proofs.Leaves.{Makes, copies_made, copies_over}
 use Rattle.df_replica.proofs.RingSpared.{ring_spared}
 use Rattle.df_replica.proofs.Makes.{OfStep}
 use Rattle.df_replica.proofs.StepAnswers.{does_step, fault_call, makes_step, next_is, runs, step_puts_are, stepped_call, sum_is}
@@ -123,6 +123,12 @@ module _ (s : State) (r : Capture) (given : Given) (is : IsState s) (course : Is
         prepare = λ k o. sym (ap (λ (p : Option theory.AnyUnit). or_else p o) (none (PreparePlace k)));
         reply = λ k o. sym (ap (λ (p : Option theory.AnyUnit). or_else p o) (none (ReplyPlace k)));
         block = λ k o. sym (ap (λ (p : Option theory.AnyUnit). or_else p o) (none (BlockPlace k)));
+        copy = λ w work rep k o.
+            let is : content_of (content_with f) ≡ making.content_of (memory s) (course_of s.file s.blocks r) given.checksum =
+            content_is w work rep ∙ ap (making.content_of (memory s) (course_of s.file s.blocks r)) (sym sum_here) in
+            ap (λ (c : theory.Content). copies_over (CopyUnit c) k o) is
+            ∙ copies_made (making.content_of (memory s) (course_of s.file s.blocks r) given.checksum) k o
+            ∙ sym (ap (λ (p : Option theory.AnyUnit). or_else p o) (none (CopyPlace k)));
         last = λ whole. tt;
       }
 

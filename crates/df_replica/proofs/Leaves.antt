@@ -1,14 +1,17 @@
 -- What the steps of a call leave shown, which blocks they spare, and which blocks are durable behind them.
-use Rattle.std.proofs.Common.{◌≡◌, ◌⊎◌, inl, inr, ℕ, ◌+◌, ◌<◌, ◌%◌, ◌==◌, ◌||◌, ◌&&◌, if◌then◌else◌, Bool, true, false, List, [], ◌∷◌, Option, Some, None, refl, sym, ◌∙◌, ap, subst, arith}
+use Rattle.std.proofs.Common.{◌≡◌, ◌⊎◌, inl, inr, ℕ, zero, suc, ◌+◌, ◌<◌, ◌%◌, ◌==◌, ◌||◌, ◌&&◌, if◌then◌else◌, Bool, true, false, List, [], ◌∷◌, Option, Some, None, refl, sym, ◌∙◌, ap, subst, arith}
 use Rattle.std.specs.Prelude.{nat_le, nat_lt}
 use Rattle.std.proofs.lemmas.Bool.{and_from, cond-false, eqb-true, le-leb, lt-ltb}
+use Rattle.std.proofs.lemmas.Bool.Decides.{nat_tests}
 use Rattle.df_base.specs.Image.{Image, IsImage, covers, written}
 use Rattle.df_base.specs.Log.{Event, Log, Stop, Sync, Write, add, loose}
 use Rattle.df_base.specs.Moments.{adds}
 use Rattle.df_base.proofs.Laws.{written_is_image}
+use Rattle.df_disk.specs.Told.{Told, did}
+use Rattle.df_damage.specs.Anew.{told_after}
 use Rattle.df_layout.specs.declared.layout.Layout.{Layout}
 use Rattle.df_format.proofs.Laws.{same_shown, some-eq}
-use Rattle.df_theory.specs.Units.{AnyUnit, Block, BlockPlace, BlockUnit, CopyPlace, HeaderPlace, Place, PreparePlace, PrepareUnit, ReplyPlace, ReplyUnit, Units, is_some, or_else}
+use Rattle.df_theory.specs.Units.{AnyUnit, Block, BlockPlace, BlockUnit, Content, CopyPlace, CopyUnit, HeaderPlace, Place, PreparePlace, PrepareUnit, ReplyPlace, ReplyUnit, Units, is_some, or_else}
 use Rattle.df_theory.specs.Device.{AreSteps}
 use Rattle.df_theory.specs.Runs.{Puts, Step, Syncs}
 use Rattle.df_theory.specs.Trailer.{InChain}
@@ -24,14 +27,14 @@ use Rattle.df_model.specs.Making.{block_of, needed_of, next_address, place_of_re
 use Rattle.df_model.specs.Memory.{Course, Memory, course, course_of, memory_of}
 use Rattle.df_model.specs.Refusals.{append_refusals, begin_refusals, block_refusals, first_refusal, release_refusals, reply_refusals}
 use Rattle.df_model.specs.Sense.{AtEachOf, IsClear, IsWork}
-use Rattle.df_model.specs.Supply.{puts_of, step_puts, trailer_puts, unless}
+use Rattle.df_model.specs.Supply.{copies_of, puts_of, step_puts, trailer_puts, unless}
 use Rattle.df_model.specs.Work.{Running, Work, is_captured, is_held, is_known, is_of}
 use Rattle.df_model.specs.declared.answers.Verdict.{Verdict}
 use Rattle.df_model.specs.declared.answers.Verdict.TheVariants.{Sound, Failing}
 use Rattle.df_model.proofs.Laws.{block_may_law}
 use Rattle.df_state.specs.declared.file.DataFile.{DataFile}
-use Rattle.df_state.specs.State.{State, memory, shape, spelling}
-use Rattle.df_replica.specs.Leaving.{AreSettled, IsReadPlace, LeavesShown, SparesHeld, WritesNext, image_after, is_durable, writes_to}
+use Rattle.df_state.specs.State.{Represents, State, memory, shape, spelling}
+use Rattle.df_replica.specs.Leaving.{AreSettled, IsReadPlace, LeavesCopies, LeavesShown, SparesHeld, WritesNext, image_after, is_durable, writes_to}
 use Rattle.df_replica.specs.Serving.{Firm, Keeps, format, next}
 
 -- ---- tests
@@ -86,6 +89,15 @@ has_inside layout place k there inside =
     let sector = (span_at layout place).first + k in
     and_from _ _ there (and_from _ _ (le-leb (span_at layout place).first sector (omega arith)) (lt-ltb sector ((span_at layout place).first + (span_at layout place).count) (omega arith)))
 
+-- what a disk that tells shows after events, and the log that it tells
+pub shown_after : (events : List Event) (t : Told) → (told_after events t).shown ≡ image_after events t.shown
+shown_after [] t = refl
+shown_after (e ∷ es) t = shown_after es (did e t)
+
+pub logged_after : (events : List Event) (t : Told) → (told_after events t).log ≡ adds events t.log
+logged_after [] t = refl
+logged_after (e ∷ es) t = logged_after es (did e t)
+
 -- what isn't loose stays so where nothing is written
 pub stays_firm : (events : List Event) (log : Log) (sector : ℕ) → loose log sector ≡ false → writes_to events sector ≡ false → loose (adds events log) sector ≡ false
 stays_firm [] log sector firm dry = firm
@@ -109,6 +121,18 @@ module _ (layout : Layout) (cluster : ℕ) where
   shown_by (Sync ∷ es) [] image are whole place = absurd are
   shown_by (Sync ∷ es) ((Puts put) ∷ ss) image are whole place = absurd are
   shown_by ((Stop cs) ∷ es) ss image are whole place = absurd are
+
+  -- and the image stays whole
+  stays_whole : (events : List Event) (steps : List Step) (image : Image) → AreSteps (format_of layout cluster) events steps → IsImage image → IsImage (image_after events image)
+  stays_whole [] [] image are whole = whole
+  stays_whole [] (p ∷ ss) image are whole = absurd are
+  stays_whole ((Write at bytes) ∷ es) ((Puts put) ∷ ss) image are whole = stays_whole es ss (written at bytes image) are.1 (written_is_image at bytes image are.0.piece whole)
+  stays_whole ((Write at bytes) ∷ es) [] image are whole = absurd are
+  stays_whole ((Write at bytes) ∷ es) (Syncs ∷ ss) image are whole = absurd are
+  stays_whole (Sync ∷ es) (Syncs ∷ ss) image are whole = stays_whole es ss image are whole
+  stays_whole (Sync ∷ es) [] image are whole = absurd are
+  stays_whole (Sync ∷ es) ((Puts put) ∷ ss) image are whole = absurd are
+  stays_whole ((Stop cs) ∷ es) ss image are whole = absurd are
 
   -- no sector is written of a place at which they put nothing
   pub unwritten : (events : List Event) (steps : List Step) → AreSteps (format_of layout cluster) events steps → (place : Place) → unit_after steps place None ≡ None → (sector : ℕ) → has layout place sector ≡ true
@@ -277,7 +301,7 @@ module _ (file : DataFile) (w : Work) (a : ℕ) where
   was_durable given (Recent place) is = inl is
 
 -- what is durable is held
-durable_held : (w : Work) (a : ℕ) → is_durable w a ≡ true → is_held w a ≡ true
+pub durable_held : (w : Work) (a : ℕ) → is_durable w a ≡ true → is_held w a ≡ true
 durable_held w a is = or_second (is_known (w.live a)) _ (or_second (is_captured a w.running) _ is)
 
 -- so is what the running checkpoint holds
@@ -352,6 +376,7 @@ pub record Makes (given : Given) (command : Command) (s : State) (events : List 
   pub prepare : (k : ℕ) (o : Option AnyUnit) → unit_after steps (PreparePlace k) o ≡ or_else (puts_of (memory s) given.checksum command (PreparePlace k)) o
   pub reply : (k : ℕ) (o : Option AnyUnit) → unit_after steps (ReplyPlace k) o ≡ or_else (puts_of (memory s) given.checksum command (ReplyPlace k)) o
   pub block : (k : ℕ) (o : Option AnyUnit) → unit_after steps (BlockPlace k) o ≡ or_else (puts_of (memory s) given.checksum command (BlockPlace k)) o
+  pub copy : (w : Work) → IsWork (shape s.file) (spelling s.file) w → Represents s w → (n : ℕ) (o : Option AnyUnit) → unit_after steps (CopyPlace n) o ≡ or_else (puts_of (memory s) given.checksum command (CopyPlace n)) o
   pub last : IsLast command (memory s) → StartSynced steps
 
 -- a command that makes nothing
@@ -362,8 +387,29 @@ makes_nothing given command s none other = record {
   prepare = λ k o. sym (ap (λ (p : Option AnyUnit). or_else p o) (none (PreparePlace k)));
   reply = λ k o. sym (ap (λ (p : Option AnyUnit). or_else p o) (none (ReplyPlace k)));
   block = λ k o. sym (ap (λ (p : Option AnyUnit). or_else p o) (none (BlockPlace k)));
+  copy = λ w work rep n o. sym (ap (λ (p : Option AnyUnit). or_else p o) (none (CopyPlace n)));
   last = λ is. absurd (other is);
 }
+
+-- the four copies, one after the other
+copy_passed : (n k : ℕ) (x : AnyUnit) (o : Option AnyUnit) → n < k → or_else (put_one (CopyPlace n) x (CopyPlace k)) o ≡ o
+copy_passed n k x o less = let other : (n == k) ≡ false = grind (arith, nat_tests) in ap (λ (b : Bool). or_else (if b then Some x else None) o) other
+
+-- the unit that they leave at a copy
+abbrev pub copies_over : AnyUnit → (k : ℕ) → Option AnyUnit → Option AnyUnit
+copies_over x k o = or_else (put_one (CopyPlace 3) x (CopyPlace k)) (or_else (put_one (CopyPlace 2) x (CopyPlace k)) (or_else (put_one (CopyPlace 1) x (CopyPlace k)) (or_else (put_one (CopyPlace 0) x (CopyPlace k)) o)))
+
+pub copies_made : (c : Content) (k : ℕ) (o : Option AnyUnit) → copies_over (CopyUnit c) k o ≡ or_else (copies_of c (CopyPlace k)) o
+copies_made c zero o = refl
+copies_made c (suc zero) o = refl
+copies_made c (suc (suc zero)) o = refl
+copies_made c (suc (suc (suc zero))) o = refl
+copies_made c (suc (suc (suc (suc k)))) o =
+    let n = suc (suc (suc (suc k))) in
+    let x = CopyUnit c in
+    let none : nat_lt n 4 ≡ false = grind (arith, nat_tests) in
+    copy_passed 3 n x _ (omega arith) ∙ copy_passed 2 n x _ (omega arith) ∙ copy_passed 1 n x _ (omega arith) ∙ copy_passed 0 n x o (omega arith)
+    ∙ sym (ap (λ (b : Bool). or_else (if b then Some x else None) o) none)
 
 module _ (given : Given) (command : Command) (s : State) (events : List Event) (makes : Makes given command s events) where
   abbrev layout : Layout
@@ -381,6 +427,7 @@ module _ (given : Given) (command : Command) (s : State) (events : List Event) (
 
   pub leaves_shown : (image : Image) → IsImage image → LeavesShown s.file (memory s) given.checksum command image (image_after events image)
   leaves_shown image whole = record {
+    whole = stays_whole layout cluster events makes.steps image makes.are whole;
     units = record {
       prepare = λ k. shown_by layout cluster events makes.steps image makes.are whole (PreparePlace k) ∙ makes.prepare k (unit_at layout cluster image (PreparePlace k));
       reply = λ k. shown_by layout cluster events makes.steps image makes.are whole (ReplyPlace k) ∙ makes.reply k (unit_at layout cluster image (ReplyPlace k));
@@ -389,6 +436,9 @@ module _ (given : Given) (command : Command) (s : State) (events : List Event) (
     classes = λ place read none. same_class layout cluster (image_after events image) image place read (λ sector here.
         same_sector layout cluster events makes.steps makes.are image sector (unwritten layout cluster events makes.steps makes.are place (none_put place read none) sector here));
   }
+
+  pub leaves_copies : (w : Work) → Keeps Firm s w None → (image : Image) → IsImage image → LeavesCopies s.file (memory s) given.checksum command image (image_after events image)
+  leaves_copies w k image whole n = shown_by layout cluster events makes.steps image makes.are whole (CopyPlace n) ∙ makes.copy w k.0 k.1 n (unit_at layout cluster image (CopyPlace n))
 
   pub spares_held : (w : Work) → Keeps Firm s w None → SparesHeld s.file command w events
   spares_held w k a held other sector here =

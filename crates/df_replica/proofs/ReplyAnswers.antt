@@ -16,7 +16,7 @@ use Rattle.df_journal.specs.Append.{ShowsRing}
 use Rattle.df_replies.specs.Slots.{IsInOwnSlot, write_steps}
 use Rattle.df_theory.specs.Device.{IsPut}
 use Rattle.df_theory.specs.Units as theory
-use Rattle.df_theory.specs.Units.{AnyUnit, BlockPlace, HeaderPlace, Place, PreparePlace, ReplyPlace, ReplyUnit, or_else}
+use Rattle.df_theory.specs.Units.{AnyUnit, BlockPlace, CopyPlace, HeaderPlace, Place, PreparePlace, ReplyPlace, ReplyUnit, or_else}
 use Rattle.df_theory.specs.UnitLog.{put_one}
 use Rattle.df_theory.proofs.Laws.{put_one_law}
 use Rattle.df_units.specs.Bytes.{first_at}
@@ -159,6 +159,7 @@ module _ (s : State) (op : ℕ) (body : List ℕ) (given : Given) (is : IsState 
       prepare = λ k o. ap (λ (p : Option AnyUnit). or_else p o) (put_is (PreparePlace k));
       reply = λ k o. ap (λ (p : Option AnyUnit). or_else p o) (put_is (ReplyPlace k));
       block = λ k o. ap (λ (p : Option AnyUnit). or_else p o) (put_is (BlockPlace k));
+      copy = λ w work rep k o. ap (λ (p : Option AnyUnit). or_else p o) (put_is (CopyPlace k));
       last = λ no. absurd no;
     }
 

@@ -1,9 +1,9 @@
 -- What the device calls of a command leave of the sectors of a file: what is shown then, which blocks are spared, and which blocks no stop may change.
 use Rattle.std.specs.Prelude.{◌≡◌, ◌||◌, ℕ, Bool, true, false, List, [], ◌∷◌, Option, Some, None}
-use Rattle.df_base.specs.Image.{Image, covers}
+use Rattle.df_base.specs.Image.{Image, IsImage, covers}
 use Rattle.df_base.specs.Log.{Event, Log, Stop, Sync, Write, after_event, loose}
 use Rattle.df_layout.specs.declared.layout.Layout.{Layout}
-use Rattle.df_theory.specs.Units.{BlockPlace, Place, PreparePlace, ReplyPlace, overlay}
+use Rattle.df_theory.specs.Units.{BlockPlace, CopyPlace, Place, PreparePlace, ReplyPlace, overlay}
 use Rattle.df_units.specs.Bytes.{has, has_place, unit_at}
 use Rattle.df_units.specs.Wanted.{class_at}
 use Rattle.df_model.specs.Commands.{Advance, Command}
@@ -29,8 +29,13 @@ IsReadPlace layout place = ⊥
 
 -- a command leaves shown what it makes of what is in memory, at each place that a call reads; every other such place has the unit and the class that it had
 pub record LeavesShown (file : DataFile) (m : Memory) (sum : ℕ) (command : Command) (before after : Image) : Type 0 where
+  pub whole : IsImage after
   pub units : AgreeReads (unit_at file.layout file.cluster after) (overlay (puts_of m sum command) (unit_at file.layout file.cluster before))
   pub classes : (place : Place) → IsReadPlace file.layout place → puts_of m sum command place ≡ None → class_at file.layout file.cluster after place ≡ class_at file.layout file.cluster before place
+
+-- and of the superblock's copies it leaves what it makes of them
+abbrev pub LeavesCopies : DataFile → Memory → (sum : ℕ) → Command → (before after : Image) → Type 0
+LeavesCopies file m sum command before after = (n : ℕ) → unit_at file.layout file.cluster after (CopyPlace n) ≡ overlay (puts_of m sum command) (unit_at file.layout file.cluster before) (CopyPlace n)
 
 -- ---- which sectors are written
 
