@@ -1,9 +1,11 @@
 mod Files
 mod Acts
 mod Orders
+mod Bases
 mod Lives
 mod Blank
 mod Next
 mod Done
 mod Found
+mod HurtSessions
 mod KeptReads

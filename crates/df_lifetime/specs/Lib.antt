@@ -3,3 +3,4 @@ pub mod There
 pub mod Acknowledged
 pub mod NewDisks
 pub mod Reads
+pub mod Hurt

@@ -6,8 +6,10 @@ use Rattle.df_base.specs.declared.Failed.{Failed}
 use Rattle.df_base.specs.Log.{Sync}
 use Rattle.df_base.specs.Moments.{EachMoment}
 use Rattle.df_disk.specs.Told.{Told}
-use Rattle.df_disk.specs.Adds.{Adds, AddsPart}
+use Rattle.df_disk.specs.Adds.{Adds, AddsPart, after_all}
 use Rattle.df_disk.proofs.Laws.{adds_part}
+use Rattle.df_damage.specs.Anew.{told_after}
+use Rattle.df_damage.proofs.Laws.{added_is_told}
 use Rattle.df_layout.specs.declared.damage.Mend.{Mend}
 use Rattle.df_layout.specs.declared.layout.Layout.{Layout}
 use Rattle.df_format.specs.declared.header.Header.{Header}
@@ -18,13 +20,15 @@ use Rattle.df_theory.specs.Units.{AnyUnit, HeaderPlace, HeaderUnit, Place, or_el
 use Rattle.df_theory.specs.Device.{AreSteps, units_log}
 use Rattle.df_theory.specs.MakingLaws.{all_puts}
 use Rattle.df_theory.specs.MendLaws.{AllPutTable, PutsTable, Reaches, copy_steps, header_steps, mend_steps}
+use Rattle.df_theory.specs.Grown.{IsClear}
+use Rattle.df_theory.specs.Rests.{RestsOn}
 use Rattle.df_theory.specs.Runs.{Command, Puts, Step, Syncs, after_steps}
 use Rattle.df_theory.specs.TidyLaws.{IsTidy, KeepsStanding, LeadsTidily}
 use Rattle.df_theory.specs.Commands.{mend_command}
 use Rattle.df_theory.specs.View.{View}
 use Rattle.df_theory.specs.WholeLaws.{IsStanding}
-use Rattle.df_theory.specs.UnitLog.{Synced, UnitLog, add, now, wrote}
-use Rattle.df_theory.proofs.Laws.{now_units, steps_join_law, tidy_mend_law}
+use Rattle.df_theory.specs.UnitLog.{Synced, UnitLog, add, now, settled, wrote}
+use Rattle.df_theory.proofs.Laws.{clear_law, now_units, steps_join_law, tidy_mend_law}
 use Rattle.df_units.specs.Format.{format_of}
 use Rattle.df_units.specs.Calls.{IsCall}
 use Rattle.df_units.proofs.Laws.{call_ends, call_good, call_whole, copy_put, headers_put, is_format}
@@ -37,6 +41,7 @@ use Rattle.df_recovery.specs.Plan.{header_or_none, headers_in, if_wanted}
 use Rattle.df_replica.specs.Mending.{IsMended, MayMendOn, header_events, mending_events, mending_steps, needs_sector, sector_puts, sector_writes, sectors_of, sectors_to}
 use Rattle.df_replica.specs.Serving.{Firm, Grade, IsGoodFor, StandingFor, Whole, format}
 use Rattle.df_state.specs.State.{shape}
+use Rattle.df_replica.proofs.Calls.{all_are_part}
 use Rattle.df_replica.proofs.MendEvents.{sectors_more}
 
 -- ---- the calls are steps
@@ -156,13 +161,17 @@ stands_then : (g : Grade) (file : DataFile) (table : List Header) (mends : List 
 stands_then Firm file table mends f members t v law standing = tt
 stands_then Whole file table mends f members t v law standing = (law.1 standing).standing
 
+-- in a file of version 1 nothing survives above the head
+clear : (file : DataFile) (log : UnitLog) (v : View) → RestsOn (shape file) log v → IsClear (settled log) v
+clear file log v rests = let tests = rests.holds.bears.sound.checkpoint.tests in clear_law (shape file) log v rests (tests.of.one tests.version).0
+
 pub mending_moments : (file : DataFile) (table : List Header) (mends : List Mend) (f : SuperFields) (members : List Bool) (before after : Told) (may : MayMendOn file table mends f members before)
     → AreSteps (format file) (mending_events file.layout table mends f members) (mending_steps file.layout table mends f members) → AddsPart (mending_events file.layout table mends f members) (Some before) (Some after)
     → EachMoment before.log after.log (IsGoodFor may.grade (format file) (shape file) may.view may.view)
 mending_moments file table mends f members before after may steps part = each may.grade may.standing
   where
     law : TidilyMends file table mends f members before may.view
-    law = tidy_mend_law (shape file) (units_log (format file) before.log) may.view (headers_in table) (sector_puts table (sectors_of file.layout mends)) (repaired f 0 members) may.may
+    law = tidy_mend_law (shape file) (units_log (format file) before.log) may.view (headers_in table) (sector_puts table (sectors_of file.layout mends)) (repaired f 0 members) may.may (clear file (units_log (format file) before.log) may.view may.may.rests)
 
     call : IsCall (format file) (mending_events file.layout table mends f members) (mending_steps file.layout table mends f members) before after
     call = record { log = may.is_log; steps = steps; adds = part }
@@ -183,7 +192,7 @@ mending_ends file table mends f members before after (Ok x) may is steps adds =
     let log = units_log fmt before.log in
     let puts = sector_puts table (sectors_of file.layout mends) in
     let ss = mending_steps file.layout table mends f members in
-    let law : TidilyMends file table mends f members before may.view = tidy_mend_law sh log may.view (headers_in table) puts (repaired f 0 members) may.may in
+    let law : TidilyMends file table mends f members before may.view = tidy_mend_law sh log may.view (headers_in table) puts (repaired f 0 members) may.may (clear file log may.view may.may.rests) in
     let ends : units_log fmt after.log ≡ after_steps ss log = call_ends fmt (mending_events file.layout table mends f members) ss before after may.is_log steps adds in
     record {
       tidy = subst (λ (l : UnitLog). IsTidy sh l may.view) (sym ends) law.0.tidy;

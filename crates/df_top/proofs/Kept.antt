@@ -3,7 +3,7 @@ use Rattle.std.proofs.Common.{◌≡◌, ◌⊎◌, inl, inr, ℕ, true, List, [
 use Rattle.std.proofs.lemmas.List.{append-nil}
 use Rattle.df_base.specs.Image.{Image, changed, written}
 use Rattle.df_base.specs.Log.{Event, Log, Stop, Sync, Write}
-use Rattle.df_base.specs.Moments.{EachMoment, Extends}
+use Rattle.df_base.specs.Moments.{EachMoment, Extends, adds}
 use Rattle.df_base.proofs.Laws.{extends_self, weaker}
 use Rattle.df_disk.specs.Adds.{after_all}
 use Rattle.df_disk.specs.Told.{IsHonest, Told, did}
@@ -18,12 +18,14 @@ use Rattle.df_model.specs.Commands.{Answer}
 use Rattle.df_model.specs.Work.{Work, kept, opened}
 use Rattle.df_replica.specs.Below.{DataFile, State as Replica, shape, spelling, told_after}
 use Rattle.df_replica.specs.Following.{MayOpen}
+use Rattle.df_replica.specs.Leaving.{AreSettled, SparesHeld}
 use Rattle.df_replica.specs.Opened.{MendsAll, ToldBy}
 use Rattle.df_replica.specs.Serving.{Firm, Grade, IsGoodFor, IsKept, Keeps, KeptFor, StandsFor, Whole, format}
 use Rattle.df_replica.specs.Session.{Act, EachIsMidway, HasView, HoldsSome, IsMidway, IsServed, LeavesEither, LeavesView, answers_of, work_after}
 use Rattle.df_replica.proofs.Laws.{added_is_told, added_on, answered_is_there, extends_on, fault_stops_them, good_left, good_safe, joined, keeps_alone, nothing_is_served, one_more_is_served}
 use Rattle.df_top.specs.Keeping.{KeepsFile}
-use Rattle.df_top.specs.Session.{AreCalls, EndsCalls, events_of, events_to}
+use Rattle.df_top.specs.Session.{AreCalls, Calls, EndsCalls, events_of, events_to}
+use Rattle.df_top.proofs.Untouched.{adds_on, settled_told, stay_settled}
 
 -- ---- what is told
 
@@ -121,12 +123,13 @@ tidy_for : (g : Grade) (sh : Shape) (spell : Parts → List ℕ) (log : UnitLog)
 tidy_for Firm sh spell log w by = by.tidy
 tidy_for Whole sh spell log w by = by.0.tidy
 
--- what an open leaves by a base: the file is kept, and each moment since the barrier was good
+-- what an open leaves by a base: the file is kept, each moment since the barrier was good, and no block of the checkpoint is loose
 pub record OpenedOver (g : Grade) (s : Replica) (w : Work) (base n : Told) : Type 0 where
   pub honest : IsHonest n
   pub grew : Extends n.log (did Sync base).log
   pub kept_for : IsKept g s w n.log
   pub moments : EachMoment (did Sync base).log n.log (IsGoodFor g (format s.file) (shape s.file) (kept w) (kept w))
+  pub settled : AreSettled s.file n.log w
 
 -- what an open leaves by each base that shows what the disk showed
 pub opened_over : (t : Told) (s : Replica) (mended : Option Told) (over : MendsAll t s mended) (g : Grade) (view : View) (base : Told) → base.shown ≡ t.shown → MayOpen s.file view base
@@ -140,6 +143,7 @@ opened_over t s mended over g view base same may stands =
       grew = goes.grew;
       kept_for = subst (λ (m : Image). IsKept g s (opened (shape s.file) (unit_at s.file.layout s.file.cluster m) view) n.log) same is.kept_for;
       moments = is.moments;
+      settled = subst (λ (m : Image). AreSettled s.file n.log (opened (shape s.file) (unit_at s.file.layout s.file.cluster m) view)) same is.settled;
     }
 
 module _ (g : Grade) (s : Replica) (w : Work) (base n0 : Told) (live : s.live ≡ true) (is_opened : OpenedOver g s w base n0) where
@@ -153,6 +157,21 @@ module _ (g : Grade) (s : Replica) (w : Work) (base n0 : Told) (live : s.live �
 
   tidy_of : (u : Replica) (v : Work) (log : Log) → u.file ≡ s.file → IsKept g u v log → IsTidy (shape s.file) (units_log (format s.file) log) (kept v)
   tidy_of u v log same k = subst (λ (f : DataFile). IsTidy (shape f) (units_log (format f) log) (kept v)) same (tidy_for g (shape u.file) (spelling u.file) (units_log (format u.file) log) v k.kept_by)
+
+  alone : Keeps Firm s w None
+  alone = keeps_alone g s w (Some n0) is_opened.kept_for
+
+  -- no block of the checkpoint is loose behind the calls that were answered, nor behind one that was not
+  settled_behind : (u : Replica) (old new : Option Told) (acts : List Act) (answers : List Answer) (events : List Event) → IsServed s u old new acts answers events → AreSettled s.file (adds events n0.log) (work_after s.file w acts)
+  settled_behind u old new acts answers events served = served.settles w n0.log alone is_opened.settled
+
+  settled_still : (u v : Replica) (old mid new : Option Told) (acts : List Act) (answers : List Answer) (events : List Event) (a : Act) → IsServed s u old mid acts answers events → (call : Calls a u v mid new None)
+      → AreSettled s.file (adds (events ++ call.call.events) n0.log) (work_after s.file w acts)
+  settled_still u v old mid new acts answers events a served call =
+      let then = (served.answered Firm w alone).1 in
+      let spares : SparesHeld s.file a.command (work_after s.file w acts) call.call.events = subst (λ (f : DataFile). SparesHeld f a.command (work_after s.file w acts) call.call.events) served.file (call.call.spares (work_after s.file w acts) then) in
+      subst (λ (l : Log). AreSettled s.file l (work_after s.file w acts)) (sym (adds_on events call.call.events n0.log))
+      (stay_settled (work_after s.file w acts) then.0.clear s.file a.command call.call.events (adds events n0.log) spares (settled_behind u old mid acts answers events served))
 
   -- every call was answered
   kept_answered : (u : Replica) (old new : Option Told) (acts : List Act) (answers : List Answer) (n : Told) (calls : AreCalls s old acts answers u new) → after_all (events_of s old acts answers u new calls) (Some n0) ≡ Some n → Goes n0 n
@@ -168,6 +187,7 @@ module _ (g : Grade) (s : Replica) (w : Work) (base n0 : Told) (live : s.live �
         moments = subst (λ (l : List Act). EachMoment (did Sync base).log n.log (IsMidway s.file g w l)) (sym (append-nil acts)) (all_moments acts n (subst (λ (o : Option Told). EachIsMidway s.file g w acts (Some n0) o) is on.0));
         left = subst (λ (o : Option Told). LeavesView s.file g (work_after s.file w acts) o) is (answered_is_there s u old new acts answers (events_of s old acts answers u new calls) served g w (Some n0) is_opened.kept_for);
         tidy = tidy_of u (work_after s.file w acts) n.log served.file (subst (λ (o : Option Told). Keeps g u (work_after s.file w acts) o) is on.1);
+        settled = settled_told s.file (work_after s.file w acts) (events_of s old acts answers u new calls) n0 n is (settled_behind u old new acts answers (events_of s old acts answers u new calls) served);
         answered = (served.answered g w (keeps_alone g s w (Some n0) is_opened.kept_for)).0;
       }
 
@@ -185,6 +205,9 @@ module _ (g : Grade) (s : Replica) (w : Work) (base n0 : Told) (live : s.live �
         moments = all_moments (acts ++ a ∷ []) n (subst (λ (o : Option Told). EachIsMidway s.file g w (acts ++ a ∷ []) (Some n0) o) is (stopped.moments g w (Some n0) is_opened.kept_for));
         left = subst (λ (o : Option Told). LeavesEither s.file g (work_after s.file w acts) (work_after s.file w (acts ++ a ∷ [])) o) is (stopped.left g w (Some n0) is_opened.kept_for);
         tidy = tt;
+        settled =
+            settled_told s.file (work_after s.file w acts) (events_to s u old new acts answers (Some a) calls) n0 n is
+            (settled_still calls.0 u old calls.1 new acts answers (events_of s old acts answers calls.0 calls.1 calls.2) a served calls.3);
         answered = (served.answered g w (keeps_alone g s w (Some n0) is_opened.kept_for)).0;
       }
 

@@ -13,8 +13,10 @@ mod CheckpointTurns
 mod ScrubTurns
 mod Checks
 mod Tours
+mod Untouched
 mod Kept
 mod Acknowledged
+mod Spared
 mod Served
 mod Reported
 mod OneReport

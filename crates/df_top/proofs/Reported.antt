@@ -102,7 +102,7 @@ machine_tour s image codec w work rep =
 
 module _ (layout : Layout) (t : Told) (old new : Outside) (status : Status) (s : Replica) (told : old.told ≡ Some t) (unread : new.left ≡ old.left) (live : s.live ≡ true) (is_opened : IsOpened layout t.shown s)
     (over : MendsAll t s new.told) where
-  synced : ToldBy (Some (did Sync t)) new.told
+  abbrev synced : ToldBy (Some (did Sync t)) new.told
   synced = (over.mending, over.told)
 
   keeps : (g : Grade) (view : View) (base : Told) → base.shown ≡ t.shown → MayOpen s.file view base → StandsFor g (unit_at s.file.layout s.file.cluster t.shown) view

@@ -28,6 +28,7 @@ use Rattle.df_top.specs.declared.status.Status.{Status}
 use Rattle.df_top.specs.declared.status.Status.TheVariants.{Refused}
 use Rattle.df_top.proofs.Acknowledged.{keeps_answered}
 use Rattle.df_top.proofs.Kept.{answers_alone, ends_add, ends_told, goes_told, keeps_over, opened_over}
+use Rattle.df_top.proofs.Spared.{spares_blocks}
 
 -- ---- a session that was just opened
 
@@ -68,7 +69,7 @@ module _ (layout : Layout) (t : Told) (old new : Outside) (status : Status) (s :
   last_told : last.outside.told ≡ new.told
   last_told = ap (λ (o : Outside). o.told) last_is
 
-  synced : ToldBy (Some (did Sync t)) mended
+  abbrev synced : ToldBy (Some (did Sync t)) mended
   synced = (over.mending, over.told)
 
   opened_here : IsOpened s.file.layout t.shown s
@@ -108,6 +109,7 @@ module _ (layout : Layout) (t : Told) (old new : Outside) (status : Status) (s :
     acknowledged = λ g view base same may stands.
         keeps_answered s.file g (opened (shape s.file) (unit_at s.file.layout s.file.cluster t.shown) view) (Some (told_after over.mending (did Sync base))) (script_calls ended) refl live
         (opened_over t s mended over g view base same may stands).kept_for;
+    spares = λ view found. spares_blocks (opened (shape s.file) (unit_at s.file.layout s.file.cluster t.shown) view) (script_calls ended) live (found_keeps s t.shown view whole opened_here found);
     undamaged = undamaged;
   }
 

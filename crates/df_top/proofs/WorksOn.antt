@@ -36,6 +36,7 @@ use Rattle.df_top.proofs.Causes.{calm_done, calm_refused, disk_blame, line_ends,
 use Rattle.df_top.proofs.Acknowledged.{keeps_answered}
 use Rattle.df_top.proofs.Kept.{answers_alone, ends_add, ends_told, goes_told, keeps_over, opened_over}
 use Rattle.df_top.proofs.Runs.{EndsRun}
+use Rattle.df_top.proofs.Spared.{spares_blocks}
 
 -- ---- what is printed
 
@@ -103,7 +104,7 @@ damaged_never run t told (Some a) old new u is writes = untold_is_none u (sym wr
 module _ (seed count : ℕ) (layout : Layout) (t : Told) (old new : Outside) (status : Status) (s : Replica) (mended : Option Told) (image : IsImage t.shown) (told : old.told ≡ Some t) (unread : new.left ≡ old.left) (live : s.live ≡ true)
     (of : s.file.layout ≡ layout) (is_opened : IsOpened layout t.shown s) (over : MendsAll t s mended)
     (run : Run) (last : Replica) (ended : EndsRun (start seed count layout.clients) s mended run last new.told old.written new.written status) where
-  synced : ToldBy (Some (did Sync t)) mended
+  abbrev synced : ToldBy (Some (did Sync t)) mended
   synced = (over.mending, over.told)
 
   opened_here : IsOpened s.file.layout t.shown s
@@ -144,5 +145,6 @@ module _ (seed count : ℕ) (layout : Layout) (t : Told) (old new : Outside) (st
     acknowledged = λ g view base same may stands.
         keeps_answered s.file g (opened (shape s.file) (unit_at s.file.layout s.file.cluster t.shown) view) (Some (told_after over.mending (did Sync base))) (run_calls ended.worked) refl live
         (opened_over t s mended over g view base same may stands).kept_for;
+    spares = λ view found. spares_blocks (opened (shape s.file) (unit_at s.file.layout s.file.cluster t.shown) view) (run_calls ended.worked) live (found_keeps s t.shown view image opened_here found);
     undamaged = undamaged;
   }

@@ -11,6 +11,7 @@ pub mod Opening
 pub mod Keeping
 pub mod Works
 pub mod Acknowledging
+pub mod Sparing
 pub mod Working
 pub mod Reporting
 pub mod Scrubs

@@ -23,6 +23,7 @@ use Rattle.df_top.specs.Opening.{FailsToOpen, IsSilent, PrintsRefusal, RefusesFi
 use Rattle.df_top.specs.Outside.{Outside}
 use Rattle.df_top.specs.Reporting.{FailsToSurvey, Inspects, Recovers}
 use Rattle.df_top.specs.Scrubs.{ScrubsFile}
+use Rattle.df_top.specs.Sparing.{SparesBlocks}
 use Rattle.df_top.specs.Working.{WorksThrough}
 use Rattle.df_top.specs.Lines.{all_acts, all_answers}
 use Rattle.df_top.specs.Session.{Ended, State, act_of}
@@ -48,8 +49,9 @@ start told old replica = record { outside = record { told = told; left = old.lef
 
 -- the file that the disk shows is opened, and the script is served: what is answered is what the machine answers from the state that is found, on whatever
 -- image; and by each log that shows what the disk showed, and by which the file may be opened, the told one or one that is begun anew there, all that was
--- answered is kept, at the end and at each moment from its answer on. No step finds the
--- superblock damaged that it wrote, since the disk tells what it shows. Between the barrier and the first call what the disk tells changed by events alone.
+-- answered is kept, at the end and at each moment from its answer on. On whatever image, no call writes a sector of a block that is held, but a step those of the
+-- running trailer's next. No step finds the superblock damaged that it wrote, since the disk tells what it shows. Between the barrier and the first call what the
+-- disk tells changed by events alone.
 pub record ServesScript (layout : Layout) (t : Told) (old new : Outside) (status : Status) : Type 0 where
   pub replica : Replica
   pub is_opened : IsOpened layout t.shown replica
@@ -67,6 +69,8 @@ pub record ServesScript (layout : Layout) (t : Told) (old new : Outside) (status
       → KeepsFile replica.file g (opened (shape replica.file) (unit_at replica.file.layout replica.file.cluster t.shown) view) base (all_acts session.turns) (all_answers session.turns) (act_of session.failing) (over barrier.0 (events_made (script_calls session)) base)
   pub acknowledged : (g : Grade) (view : View) (base : Told) → base.shown ≡ t.shown → MayOpen replica.file view base → StandsFor g (unit_at replica.file.layout replica.file.cluster t.shown) view
       → KeepsAnswered replica.file g (opened (shape replica.file) (unit_at replica.file.layout replica.file.cluster t.shown) view) (over barrier.0 [] base) (script_calls session)
+  pub spares : (view : View) → IsFound (shape replica.file) (unit_at replica.file.layout replica.file.cluster t.shown) view
+      → SparesBlocks replica.file (opened (shape replica.file) (unit_at replica.file.layout replica.file.cluster t.shown) view) (script_calls session)
   pub undamaged : status ≡ Refused → ⊥
 
 -- ---- any word

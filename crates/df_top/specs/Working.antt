@@ -18,14 +18,15 @@ use Rattle.df_workload.specs.declared.state.State.{State as Run}
 use Rattle.df_top.specs.Acknowledging.{KeepsAnswered, events_made, run_calls}
 use Rattle.df_top.specs.Keeping.{KeepsFile, over}
 use Rattle.df_top.specs.Outside.{Outside}
+use Rattle.df_top.specs.Sparing.{SparesBlocks}
 use Rattle.df_top.specs.Works.{Worked, Writes}
 use Rattle.df_top.specs.declared.status.Status.{Status}
 use Rattle.df_top.specs.declared.status.Status.TheVariants.{Refused}
 
 -- The file that the disk shows is opened, and the run is carried out: what is answered is what the machine answers from the state that is found, on whatever
 -- image; and by each log that shows what the disk showed, and by which the file may be opened, the told one or one that is begun anew there, all that was
--- answered is kept, at the end and at each moment from its answer on. No step finds the
--- superblock damaged that it wrote, since the disk tells what it shows.
+-- answered is kept, at the end and at each moment from its answer on. On whatever image, no call writes a sector of a block that is held, but a step those of the
+-- running trailer's next. No step finds the superblock damaged that it wrote, since the disk tells what it shows.
 pub record WorksThrough (seed count : ℕ) (layout : Layout) (t : Told) (old new : Outside) (status : Status) : Type 0 where
   pub replica : Replica
   pub is_opened : IsOpened layout t.shown replica
@@ -45,4 +46,6 @@ pub record WorksThrough (seed count : ℕ) (layout : Layout) (t : Told) (old new
       → KeepsFile replica.file g (opened (shape replica.file) (unit_at replica.file.layout replica.file.cluster t.shown) view) base worked.acts worked.answers worked.failed (over barrier.0 (events_made (run_calls worked)) base)
   pub acknowledged : (g : Grade) (view : View) (base : Told) → base.shown ≡ t.shown → MayOpen replica.file view base → StandsFor g (unit_at replica.file.layout replica.file.cluster t.shown) view
       → KeepsAnswered replica.file g (opened (shape replica.file) (unit_at replica.file.layout replica.file.cluster t.shown) view) (over barrier.0 [] base) (run_calls worked)
+  pub spares : (view : View) → IsFound (shape replica.file) (unit_at replica.file.layout replica.file.cluster t.shown) view
+      → SparesBlocks replica.file (opened (shape replica.file) (unit_at replica.file.layout replica.file.cluster t.shown) view) (run_calls worked)
   pub undamaged : status ≡ Refused → ⊥
