@@ -34,7 +34,7 @@ use Rattle.df_model.specs.declared.answers.Verdict.TheVariants.{Sound, Failing}
 use Rattle.df_model.proofs.Laws.{block_may_law}
 use Rattle.df_state.specs.declared.file.DataFile.{DataFile}
 use Rattle.df_state.specs.State.{Represents, State, memory, shape, spelling}
-use Rattle.df_replica.specs.Leaving.{AreSettled, IsReadPlace, LeavesCopies, LeavesShown, SparesHeld, WritesNext, image_after, is_durable, writes_to}
+use Rattle.df_replica.specs.Leaving.{AreSettled, IsReadPlace, LeavesCopies, LeavesShown, SparesHeld, SparesReads, WritesNext, image_after, is_durable, writes_to}
 use Rattle.df_replica.specs.Serving.{Firm, Keeps, format, next}
 
 -- ---- tests
@@ -193,6 +193,27 @@ module _ (layout : Layout) (cluster : ℕ) where
         (same_shown layout cluster (place_of (ReplyPlace n)) a b (λ k inside. same ((span_at layout (ReplyPlace n)).first + k) (has_inside layout (ReplyPlace n) k there inside))).class
     same_class (BlockPlace n) there same =
         (same_shown layout cluster (place_of (BlockPlace n)) a b (λ k inside. same ((span_at layout (BlockPlace n)).first + k) (has_inside layout (BlockPlace n) k there inside))).class
+
+-- steps that put nothing at a place that a call reads leave each of them as it was
+pub spared_by : (file : DataFile) (events : List Event) (steps : List Step) → AreSteps (format file) events steps → ((k : ℕ) (o : Option AnyUnit) → unit_after steps (PreparePlace k) o ≡ o) → ((k : ℕ) (o : Option AnyUnit) → unit_after steps (ReplyPlace k) o ≡ o)
+    → ((k : ℕ) (o : Option AnyUnit) → unit_after steps (BlockPlace k) o ≡ o) → (image : Image) → IsImage image → SparesReads file image (image_after events image)
+spared_by file events steps are prepare reply block image whole = record {
+  whole = stays_whole file.layout file.cluster events steps image are whole;
+  units = record {
+    prepare = λ k. shown_by file.layout file.cluster events steps image are whole (PreparePlace k) ∙ prepare k (unit_at file.layout file.cluster image (PreparePlace k));
+    reply = λ k. shown_by file.layout file.cluster events steps image are whole (ReplyPlace k) ∙ reply k (unit_at file.layout file.cluster image (ReplyPlace k));
+    block = λ k. shown_by file.layout file.cluster events steps image are whole (BlockPlace k) ∙ block k (unit_at file.layout file.cluster image (BlockPlace k));
+  };
+  classes = λ place read. same_class file.layout file.cluster (image_after events image) image place read (λ sector here.
+      same_sector file.layout file.cluster events steps are image sector (unwritten file.layout file.cluster events steps are place (none place read) sector here));
+}
+  where
+    none : (place : Place) → IsReadPlace file.layout place → unit_after steps place None ≡ None
+    none (CopyPlace k) read = absurd read
+    none (HeaderPlace k) read = absurd read
+    none (PreparePlace k) read = prepare k None
+    none (ReplyPlace k) read = reply k None
+    none (BlockPlace k) read = block k None
 
 -- ---- what a command puts at a block that is held
 

@@ -10,6 +10,7 @@ pub mod NewFile
 pub mod Formatted
 pub mod MendEvents
 pub mod MendSteps
+pub mod MendShows
 pub mod Mendable
 pub mod SurveyPlans
 pub mod Settled

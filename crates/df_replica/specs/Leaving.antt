@@ -37,6 +37,12 @@ pub record LeavesShown (file : DataFile) (m : Memory) (sum : ℕ) (command : Com
 abbrev pub LeavesCopies : DataFile → Memory → (sum : ℕ) → Command → (before after : Image) → Type 0
 LeavesCopies file m sum command before after = (n : ℕ) → unit_at file.layout file.cluster after (CopyPlace n) ≡ overlay (puts_of m sum command) (unit_at file.layout file.cluster before) (CopyPlace n)
 
+-- what leaves each place that a call reads as it was: with its unit, and with its class
+pub record SparesReads (file : DataFile) (before after : Image) : Type 0 where
+  pub whole : IsImage after
+  pub units : AgreeReads (unit_at file.layout file.cluster after) (unit_at file.layout file.cluster before)
+  pub classes : (place : Place) → IsReadPlace file.layout place → class_at file.layout file.cluster after place ≡ class_at file.layout file.cluster before place
+
 -- ---- which sectors are written
 
 -- one of the events is a write that reaches the sector

@@ -1,5 +1,6 @@
 -- What an open leaves of a file, and what it leaves where the disk failed in it.
 use Rattle.std.specs.Prelude.{◌≡◌, ◌⊎◌, List, Option, Some}
+use Rattle.df_base.specs.Image.{Image, IsImage}
 use Rattle.df_base.specs.Log.{Event, Sync}
 use Rattle.df_base.specs.Moments.{EachMoment}
 use Rattle.df_disk.specs.Told.{Told, did}
@@ -12,7 +13,7 @@ use Rattle.df_model.specs.Work.{opened as first_work}
 use Rattle.df_state.specs.State.{State, shape}
 use Rattle.df_recovery.specs.Surveys.{IsOpened}
 use Rattle.df_replica.specs.Following.{MayOpen}
-use Rattle.df_replica.specs.Leaving.{AreSettled}
+use Rattle.df_replica.specs.Leaving.{AreSettled, SparesReads, image_after}
 use Rattle.df_replica.specs.Mending.{IsMended}
 use Rattle.df_replica.specs.Serving.{Grade, IsGoodFor, IsKept, StandsFor, format}
 
@@ -29,9 +30,11 @@ pub record OpensOver (g : Grade) (view : View) (s : State) (base n : Told) : Typ
   pub settled : AreSettled s.file n.log (first_work (shape s.file) (unit_at s.file.layout s.file.cluster base.shown) view)
 
 -- The file was found and mended: so it is by each log that shows what the disk showed, and by which the file may be opened, the told one or one that is begun anew there.
+-- Whatever the disk shows, the mending leaves each place that a call reads as it was.
 pub record MendsAll (t : Told) (s : State) (later : Option Told) : Type 0 where
   pub mending : List Event
   pub told : later ≡ after_all mending (Some (did Sync t))
+  pub spares : (image : Image) → IsImage image → SparesReads s.file image (image_after mending image)
   pub over : (g : Grade) (view : View) (base : Told) → base.shown ≡ t.shown → MayOpen s.file view base → StandsFor g (unit_at s.file.layout s.file.cluster t.shown) view
       → OpensOver g view s base (told_after mending (did Sync base))
 

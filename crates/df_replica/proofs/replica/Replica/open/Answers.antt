@@ -16,6 +16,7 @@ use Rattle.df_replica.specs.Serving.{IsGoodFor, StandsFor, format}
 use Rattle.df_replica.specs.Surveying.{TellsSurvey}
 use Rattle.df_replica.proofs.Barriers.{barrier_rests}
 use Rattle.df_replica.proofs.Hurts.{tells_hurt}
+use Rattle.df_replica.proofs.MendShows.{mending_spares}
 use Rattle.df_replica.proofs.Opens.{front_moments, live_kept, mend_stops, open_keeps, open_settles, planned_same, survey_opened}
 use Rattle.df_replica.proofs.SurveyPlans.{live_answers}
 use Rattle.df_replica.proofs.replica.Replica.open.Goals as goal
@@ -39,6 +40,7 @@ returns-in-Ok-mend-clause-opened g c = λ t is.
     let all : MendsAll t (live_state s.state) (g.D.Disk.told c.mend.new.disk) = record {
       mending = es;
       told = c.in-Ok-mend.ensures.events ∙ ap (after_all es) synced;
+      spares = mending_spares s.state.file s.state.headers s.mends s.state.fields s.chosen.members c.in-Ok-mend.ensures.steps;
       over = λ grade view base same may stands.
           let n : Told = told_after es (did Sync base) in
           let planned = planned_same s.state.file s.state.headers s.mends s.state.fields s.chosen.members (did Sync t) (did Sync base) same plan in
