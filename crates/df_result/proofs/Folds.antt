@@ -1,5 +1,5 @@
 -- Commands one after the other don't tell two things apart that agree.
-use Rattle.std.proofs.Common.{◌≡◌, ℕ, List, [], ◌∷◌, Option, Some, None, refl, sym, ◌∙◌, ap, subst, arith}
+use Rattle.std.proofs.Common.{◌≡◌, ℕ, List, [], ◌∷◌, Option, Some, None, refl, ◌∙◌, ap, arith}
 use Rattle.df_base.proofs.Laws.{AreBytes-check_of, field_at-lt}
 use Rattle.df_format.specs.Making.{for_body}
 use Rattle.df_format.specs.Spelling.{spelling_rest}
@@ -7,7 +7,7 @@ use Rattle.df_format.specs.Super.{covered_bytes}
 use Rattle.df_format.specs.declared.header.Header.{Header}
 use Rattle.df_theory.specs.Units.{AnyUnit, BlockPlace, Place, PreparePlace, ReplyPlace, or_else}
 use Rattle.df_model.specs.Codec.{IsChecksum}
-use Rattle.df_model.specs.Commands.{Advance, Answer, Append, Begin, Command, IsInRange, ReadBlock, ReadPrepare, ReadReply, Recent, Release, Reply, Scrub, WriteBlock}
+use Rattle.df_model.specs.Commands.{Advance, Answer, Append, Begin, Command, ReadBlock, ReadPrepare, ReadReply, Recent, Release, Reply, Scrub, WriteBlock}
 use Rattle.df_model.specs.Making.{block_of, content_of, next_address, place_of_reply, prepare_of, reply_of, trailer_block}
 use Rattle.df_model.specs.Memory.{Course, Memory, memory_of}
 use Rattle.df_model.specs.Sense.{IsWork}
@@ -17,7 +17,7 @@ use Rattle.df_model.proofs.Laws.{sense_law}
 use Rattle.df_replica.specs.Below.{DataFile, shape, spelling}
 use Rattle.df_replica.specs.Leaving.{IsReadPlace}
 use Rattle.df_result.specs.Agreeing.{AgreeShown}
-use Rattle.df_result.specs.Calls.{AreInRange, ResultAgrees}
+use Rattle.df_result.specs.Calls.{ResultAgrees}
 use Rattle.df_result.specs.Codec.{block_header, codec, fields_of, prepare_header, reply_header, sum_of}
 use Rattle.df_result.proofs.Agreed.{next_agrees}
 
