@@ -105,7 +105,7 @@ module _ (g : Grade) (w : Work) (command : Command) (x : Answer) (is : IsRead g 
 
   -- no read makes a unit
   abbrev spells : Codec
-  spells = record { spell = spelling file; prepare = λ m. 0; reply = λ m. 0; block = λ b. 0; content = λ c. 0 }
+  spells = record { spell = spelling file; prepare = λ m. 0; reply = λ place m. 0; block = λ a b. 0; content = λ c. 0 }
 
   by : IsKeptBy (shape file) (spelling file) log w
   by = firm g (shape file) (spelling file) log w is.keeps.kept_by

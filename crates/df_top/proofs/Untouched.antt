@@ -21,8 +21,8 @@ neither true y is = absurd (cc)
 neither false y is = (refl, is)
 
 both_not : (x y : Bool) → x ≡ false → y ≡ false → (x || y) ≡ false
-both_not true y is no = absurd (cc)
-both_not false y is no = no
+both_not true y is dry = absurd (cc)
+both_not false y is dry = dry
 
 either : (x y : Bool) → (x || y) ≡ true → (x ≡ true) ⊎ (y ≡ true)
 either true y is = inl refl

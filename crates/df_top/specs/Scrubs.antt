@@ -1,8 +1,9 @@
 -- What the word `scrub` promises of a file.
 use Rattle.std.specs.Prelude.{◌≡◌, ◌⊎◌, ℕ, zero, suc, List, [], ◌++◌, length, None, Option, Some}
 use Rattle.df_base.specs.Image.{Image}
+use Rattle.df_base.specs.Log.{Sync}
 use Rattle.df_base.specs.Streams.{Appends}
-use Rattle.df_disk.specs.Told.{Told}
+use Rattle.df_disk.specs.Told.{Told, did}
 use Rattle.df_inspect.specs.Reports.{failing_texts}
 use Rattle.df_layout.specs.declared.damage.Finding.{Finding}
 use Rattle.df_layout.specs.declared.layout.Layout.{Layout}
