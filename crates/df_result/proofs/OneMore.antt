@@ -76,7 +76,7 @@ found_in s t given (Recent place) is = tt
 
 idle_sum : (s : State) (sum : ℕ) (o : Option Capture) → s.running ≡ o → sum ≡ made_by s o → (memory s).running ≡ None → sum ≡ 0
 idle_sum s sum None running is none = is
-idle_sum s sum (Some r) running is none = let no = sym (ap course_in running) ∙ none in absurd (cc)
+idle_sum s sum (Some r) running is none = let no = sym (ap (course_in s.file s.blocks) running) ∙ none in absurd (cc)
 
 no_sum : (s : State) (told : Option Told) (given : Given) (command : Command) → IsSupplied s told command given → NoSum (memory s) given.checksum command
 no_sum s told given (Append client request body) is = tt

@@ -1,11 +1,11 @@
 -- A call of a replica over a disk that tells what it shows: it answers, and leaves in memory and shown, what the machine does over what is shown, whatever that is.
-use Rattle.std.specs.Prelude.{◌≡◌, Option, Some, None}
+use Rattle.std.specs.Prelude.{◌≡◌, List, [], ◌∷◌, Option, Some, None}
 use Rattle.df_base.specs.Image.{IsImage}
 use Rattle.df_disk.specs.Told.{Told}
-use Rattle.df_model.specs.Commands.{Answer, Command, Given}
+use Rattle.df_model.specs.Commands.{Answer, Command, Given, IsInRange}
 use Rattle.df_model.specs.Memory.{memory_of}
 use Rattle.df_model.specs.Sense.{IsWork}
-use Rattle.df_model.specs.Supply.{Shown, next as over, shown_after}
+use Rattle.df_model.specs.Supply.{Shown, next as over, result, shown_after}
 use Rattle.df_model.specs.Work.{Work}
 use Rattle.df_state.specs.State.{Represents}
 use Rattle.df_replica.specs.Below.{DataFile, State, memory, shape, spelling, told_after}
@@ -19,6 +19,17 @@ use Rattle.df_result.specs.Codec.{codec}
 abbrev pub NextAgrees : Type 0
 NextAgrees =
     (file : DataFile) (one other : Shown) (w : Work) (command : Command) → AgreeShown file.layout one other → IsWork (shape file) (spelling file) w → over (shape file) (codec file) one w command ≡ over (shape file) (codec file) other w command
+
+-- the fields of each command are in the range of their types
+abbrev pub AreInRange : List Command → Type 0
+AreInRange [] = Unit {0}
+AreInRange (c ∷ cs) = IsInRange c × AreInRange cs
+
+-- nor do commands one after the other, each over what those before it left shown
+abbrev pub ResultAgrees : Type 0
+ResultAgrees =
+    (file : DataFile) (one other : Shown) (w : Work) (commands : List Command) → AgreeShown file.layout one other → IsWork (shape file) (spelling file) w → AreInRange commands
+    → result (shape file) (codec file) one w commands ≡ result (shape file) (codec file) other w commands
 
 -- a command that is rightly supplied over what a disk shows is the machine's over that
 abbrev pub SuppliedIsResult : Type 0

@@ -15,11 +15,13 @@ mod Checks
 mod Tours
 mod Untouched
 mod Kept
+mod Resulted
 mod Acknowledged
 mod Spared
 mod Served
 mod Reported
 mod OneReport
+mod Texted
 mod ReadTurns
 mod Causes
 mod RunCalls

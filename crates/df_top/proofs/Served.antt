@@ -28,6 +28,7 @@ use Rattle.df_top.specs.declared.status.Status.{Status}
 use Rattle.df_top.specs.declared.status.Status.TheVariants.{Refused}
 use Rattle.df_top.proofs.Acknowledged.{keeps_answered}
 use Rattle.df_top.proofs.Kept.{answers_alone, ends_add, ends_told, goes_told, keeps_over, opened_over}
+use Rattle.df_top.proofs.Resulted.{opened_prints}
 use Rattle.df_top.proofs.Spared.{spares_blocks}
 
 -- ---- a session that was just opened
@@ -101,6 +102,9 @@ module _ (layout : Layout) (t : Told) (old new : Outside) (status : Status) (s :
     answered = λ view found.
         answers_alone Firm (opened (shape s.file) (unit_at s.file.layout s.file.cluster t.shown) view) s last.replica mended last.outside.told (all_acts ended.turns) (all_answers ended.turns) (act_of ended.failing) live
         (found_keeps s t.shown view whole opened_here found) ended.calls;
+    result = λ view shown found agree.
+        opened_prints s t mended over whole (opened (shape s.file) (unit_at s.file.layout s.file.cluster t.shown) view) (found_keeps s t.shown view whole opened_here found) last.replica last.outside.told (act_of ended.failing) shown agree ended.turns
+        ended.are ended.calls;
     adds = sym last_told ∙ ends_add s last.replica mended last.outside.told (all_acts ended.turns) (all_answers ended.turns) (act_of ended.failing) ended.calls;
     kept = λ g view base same may stands. (opened_over t s mended over g view base same may stands).kept_for;
     keeps = λ g view base same may stands.

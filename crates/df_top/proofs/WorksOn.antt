@@ -36,6 +36,7 @@ use Rattle.df_top.proofs.Causes.{calm_done, calm_refused, disk_blame, line_ends,
 use Rattle.df_top.proofs.Acknowledged.{keeps_answered}
 use Rattle.df_top.proofs.Kept.{answers_alone, ends_add, ends_told, goes_told, keeps_over, opened_over}
 use Rattle.df_top.proofs.Runs.{EndsRun}
+use Rattle.df_top.proofs.Resulted.{opened_answers}
 use Rattle.df_top.proofs.Spared.{spares_blocks}
 
 -- ---- what is printed
@@ -137,6 +138,9 @@ module _ (seed count : ℕ) (layout : Layout) (t : Told) (old new : Outside) (st
         answers_alone Firm (opened (shape s.file) (unit_at s.file.layout s.file.cluster t.shown) view) s last mended new.told ended.worked.acts ended.worked.answers ended.worked.failed live
         (found_keeps s t.shown view image opened_here found) ended.worked.calls;
     barrier = synced;
+    result = λ view shown found agree.
+        opened_answers s t mended over image (opened (shape s.file) (unit_at s.file.layout s.file.cluster t.shown) view) (found_keeps s t.shown view image opened_here found) last new.told ended.worked.failed shown agree ended.worked.acts
+        ended.worked.answers ended.worked.calls;
     adds = ends_add s last mended new.told ended.worked.acts ended.worked.answers ended.worked.failed ended.worked.calls;
     kept = λ g view base same may stands. (opened_over t s mended over g view base same may stands).kept_for;
     keeps = λ g view base same may stands.

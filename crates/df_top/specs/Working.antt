@@ -7,17 +7,21 @@ use Rattle.df_layout.specs.declared.layout.Layout.{Layout}
 use Rattle.df_theory.specs.Found.{IsFound}
 use Rattle.df_theory.specs.View.{View}
 use Rattle.df_units.specs.Bytes.{unit_at}
+use Rattle.df_model.specs.Supply.{Shown}
 use Rattle.df_model.specs.Work.{opened}
 use Rattle.df_replica.specs.Below.{IsOpened, State as Replica, shape, told_after}
 use Rattle.df_replica.specs.Following.{MayOpen}
 use Rattle.df_replica.specs.Opened.{ToldBy}
+use Rattle.df_replica.specs.Reading.{shown_of}
 use Rattle.df_replica.specs.Serving.{Grade, IsKept, StandsFor}
 use Rattle.df_replica.specs.Session.{answers_of}
+use Rattle.df_result.specs.Agreeing.{AgreeShown}
 use Rattle.df_workload.specs.Rounds.{start}
 use Rattle.df_workload.specs.declared.state.State.{State as Run}
 use Rattle.df_top.specs.Acknowledging.{KeepsAnswered, events_made, run_calls}
 use Rattle.df_top.specs.Keeping.{KeepsFile, over}
 use Rattle.df_top.specs.Outside.{Outside}
+use Rattle.df_top.specs.Resulting.{AnswersResult}
 use Rattle.df_top.specs.Sparing.{SparesBlocks}
 use Rattle.df_top.specs.Works.{Worked, Writes}
 use Rattle.df_top.specs.declared.status.Status.{Status}
@@ -39,6 +43,8 @@ pub record WorksThrough (seed count : ℕ) (layout : Layout) (t : Told) (old new
   pub written : Writes run last new.told worked.failed old.written new.written status
   pub answered : (view : View) → IsFound (shape replica.file) (unit_at replica.file.layout replica.file.cluster t.shown) view
       → worked.answers ≡ answers_of replica.file (opened (shape replica.file) (unit_at replica.file.layout replica.file.cluster t.shown) view) worked.acts
+  pub result : (view : View) (shown : Shown) → IsFound (shape replica.file) (unit_at replica.file.layout replica.file.cluster t.shown) view → AgreeShown replica.file.layout (shown_of replica.file t.shown) shown
+      → AnswersResult replica.file shown (opened (shape replica.file) (unit_at replica.file.layout replica.file.cluster t.shown) view) worked.acts worked.answers
   pub adds : new.told ≡ after_all (events_made (run_calls worked)) mended
   pub kept : (g : Grade) (view : View) (base : Told) → base.shown ≡ t.shown → MayOpen replica.file view base → StandsFor g (unit_at replica.file.layout replica.file.cluster t.shown) view
       → IsKept g replica (opened (shape replica.file) (unit_at replica.file.layout replica.file.cluster t.shown) view) (told_after barrier.0 (did Sync base)).log
