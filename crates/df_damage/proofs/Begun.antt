@@ -1,10 +1,10 @@
 -- A log begun anew goes on as the whole one does.
-use Rattle.std.proofs.Common.{◌≡◌, ◌↔◌, inl, inr, ℕ, Bool, false, ◌||◌, List, [], ◌∷◌, Some, refl, sym, ◌∙◌, ap, subst}
+use Rattle.std.proofs.Common.{◌≡◌, inl, inr, ℕ, Bool, ◌||◌, List, [], ◌∷◌, Some, refl, sym, ◌∙◌, ap}
 use Rattle.df_base.specs.Image.{Image, changed, covers, written}
 use Rattle.df_base.specs.Log.{AreLoose, Event, IsLeft, Log, Stop, Sync, Write, add, after_event, loose, loose_of, now}
 use Rattle.df_disk.specs.Told.{IsHonest, Told, did}
-use Rattle.df_disk.specs.Adds.{AddsPart, after_all}
-use Rattle.df_damage.specs.Anew.{AddedIsTold, BarrierBegins, BegunIsHonest, HonestStays, IsStill, LeavesTheSame, Part, PartIsEvents, SameGoesOn, StopsAlike, begun, told_after}
+use Rattle.df_disk.specs.Adds.{AddsPart}
+use Rattle.df_damage.specs.Anew.{AddedIsTold, BarrierBegins, BegunIsHonest, HonestStays, LeavesTheSame, PartIsEvents, SameGoesOn, StopsAlike, begun, told_after}
 
 pub begun_is_honest : BegunIsHonest
 begun_is_honest t = record { shows = λ sector. refl }

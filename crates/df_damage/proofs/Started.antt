@@ -1,5 +1,5 @@
 -- An image on a hurt disk in which an open finds the file's own checkpoint begins a log.
-use Rattle.std.proofs.Common.{◌≡◌, inl, inr, ℕ, List, [], ◌∷◌, Some, sym, subst}
+use Rattle.std.proofs.Common.{◌≡◌, inl, inr, ℕ, sym, subst}
 use Rattle.df_base.specs.Log as logs
 use Rattle.df_base.specs.Log.{Sync}
 use Rattle.df_theory.specs.Units.{AnyUnit, Content, CopyPlace, CopyUnit, Place}

@@ -1,6 +1,6 @@
 -- What the steps of a call leave shown, which blocks they spare, and which blocks are durable behind them.
-use Rattle.std.proofs.Common.{◌≡◌, ◌⊎◌, inl, inr, ℕ, zero, suc, ◌+◌, ◌<◌, ◌%◌, ◌==◌, ◌||◌, ◌&&◌, if◌then◌else◌, Bool, true, false, List, [], ◌∷◌, Option, Some, None, refl, sym, ◌∙◌, ap, subst, arith}
-use Rattle.std.specs.Prelude.{nat_le, nat_lt}
+use Rattle.std.proofs.Common.{◌≡◌, ◌⊎◌, inl, inr, ℕ, zero, suc, ◌+◌, ◌<◌, ◌%◌, ◌==◌, ◌||◌, if◌then◌else◌, Bool, true, false, List, [], ◌∷◌, Option, Some, None, refl, sym, ◌∙◌, ap, subst, arith}
+use Rattle.std.specs.Prelude.{nat_lt}
 use Rattle.std.proofs.lemmas.Bool.{and_from, cond-false, eqb-true, le-leb, lt-ltb}
 use Rattle.std.proofs.lemmas.Bool.Decides.{nat_tests}
 use Rattle.df_base.specs.Image.{Image, IsImage, covers, written}
@@ -16,12 +16,12 @@ use Rattle.df_theory.specs.Device.{AreSteps}
 use Rattle.df_theory.specs.Runs.{Puts, Step, Syncs}
 use Rattle.df_theory.specs.Trailer.{InChain}
 use Rattle.df_theory.specs.UnitLog.{put_one}
-use Rattle.df_units.specs.Bytes.{has, has_place, has_sector, span_at, unit_at}
+use Rattle.df_units.specs.Bytes.{has, has_place, span_at, unit_at}
 use Rattle.df_units.specs.Format.{format_of}
 use Rattle.df_units.specs.Meaning.{place_of}
 use Rattle.df_units.specs.Wanted.{class_at}
 use Rattle.df_units.proofs.Laws.{is_format}
-use Rattle.df_model.specs.After.{after_check, after_running, after_step_of, begun, finished, outcome, to_check, with_live, with_prepare, with_reply, with_running}
+use Rattle.df_model.specs.After.{after_check, after_running, after_step_of, begun, outcome, to_check, with_live, with_prepare, with_reply, with_running}
 use Rattle.df_model.specs.Commands.{Advance, Append, Begin, Command, Given, ReadBlock, ReadPrepare, ReadReply, Recent, Release, Reply, Scrub, WriteBlock}
 use Rattle.df_model.specs.Making.{block_of, needed_of, next_address, place_of_reply, prepare_of, reply_of, trailer_block}
 use Rattle.df_model.specs.Memory.{Course, Memory, course, course_of, memory_of}

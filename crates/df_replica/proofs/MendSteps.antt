@@ -7,7 +7,6 @@ use Rattle.df_base.specs.Log.{Sync}
 use Rattle.df_base.specs.Moments.{EachMoment}
 use Rattle.df_disk.specs.Told.{Told}
 use Rattle.df_disk.specs.Adds.{Adds, AddsPart, after_all}
-use Rattle.df_disk.proofs.Laws.{adds_part}
 use Rattle.df_damage.specs.Anew.{told_after}
 use Rattle.df_damage.proofs.Laws.{added_is_told}
 use Rattle.df_layout.specs.declared.damage.Mend.{Mend}

@@ -1,5 +1,5 @@
 -- What the device calls of a command leave of the sectors of a file: what is shown then, which blocks are spared, and which blocks no stop may change.
-use Rattle.std.specs.Prelude.{◌≡◌, ◌||◌, ℕ, Bool, true, false, List, [], ◌∷◌, Option, Some, None}
+use Rattle.std.specs.Prelude.{◌≡◌, ◌||◌, ℕ, Bool, true, false, List, [], ◌∷◌, Some, None}
 use Rattle.df_base.specs.Image.{Image, IsImage, covers}
 use Rattle.df_base.specs.Log.{Event, Log, Stop, Sync, Write, after_event, loose}
 use Rattle.df_layout.specs.declared.layout.Layout.{Layout}
