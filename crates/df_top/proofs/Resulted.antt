@@ -20,7 +20,7 @@ use Rattle.df_model.specs.Work.{Running, Work}
 use Rattle.df_model.specs.declared.answers.Verdict.{Verdict}
 use Rattle.df_model.specs.declared.answers.Verdict.TheVariants.{Sound, Failing}
 use Rattle.df_replica.specs.Below.{DataFile, State as Replica, shape, told_after}
-use Rattle.df_replica.specs.Leaving.{IsReadPlace, SparesReads, image_after}
+use Rattle.df_replica.specs.Leaving.{IsReadPlace, SparesReads}
 use Rattle.df_replica.specs.Opened.{MendsAll}
 use Rattle.df_replica.specs.Reading.{shown_of}
 use Rattle.df_replica.specs.Serving.{Firm, IsCall, Keeps}

@@ -1,5 +1,5 @@
 -- A session's text and status follow from its script and from what the disk shows.
-use Rattle.std.proofs.Common.{◌≡◌, ◌⊎◌, inl, inr, ℕ, ◌+◌, ◌-◌, Bool, true, false, List, [], ◌∷◌, ◌++◌, length, map, Option, Some, None, refl, sym, ◌∙◌, ap, subst, arith, suc}
+use Rattle.std.proofs.Common.{◌≡◌, ◌⊎◌, inl, inr, ℕ, ◌+◌, ◌-◌, Bool, List, [], ◌∷◌, ◌++◌, length, map, Option, Some, None, refl, sym, ◌∙◌, ap, subst, arith, suc}
 use Rattle.std.proofs.lemmas.List.{append-nil}
 use Rattle.df_base.specs.Image.{Image}
 use Rattle.df_base.specs.Streams.{Appends}
@@ -23,15 +23,14 @@ use Rattle.df_model.specs.Supply.{Shown}
 use Rattle.df_model.specs.Work.{Work, opened}
 use Rattle.df_replica.specs.Below.{DataFile, IsOpened, State as Replica, shape}
 use Rattle.df_replica.specs.Reading.{shown_of}
-use Rattle.df_replica.specs.Session.{Act}
 use Rattle.df_replica.proofs.Laws.{one_super}
 use Rattle.df_result.specs.Agreeing.{AgreeShown}
 use Rattle.df_top.specs.Lines.{Turned, all_text, printed, said_in}
 use Rattle.df_top.specs.OneText.{IsThrough, OneText, ShowSame, TextIsResult, status_by, text_by}
 use Rattle.df_top.specs.Outside.{Outside}
-use Rattle.df_top.specs.Resulting.{script_text_of, text_over}
+use Rattle.df_top.specs.Resulting.{text_over}
 use Rattle.df_top.specs.Run.{ServesScript, script_budget, start}
-use Rattle.df_top.specs.Session.{Ended, EndsText, EndsWith, Failing, State, act_of, said_of}
+use Rattle.df_top.specs.Session.{EndsText, EndsWith, Failing, act_of, said_of}
 use Rattle.df_top.specs.declared.status.Status.{Status}
 use Rattle.df_top.specs.declared.status.Status.TheVariants.{Done, Script, Words, Refused, Memory, DiskFault, ReadFault, WriteFault, Found}
 use Rattle.df_top.proofs.OneReport.{same_file}
