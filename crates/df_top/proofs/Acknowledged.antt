@@ -1,10 +1,10 @@
 -- What was answered of a session is there from then on, by each log that is told of the disk.
-use Rattle.std.proofs.Common.{◌≡◌, ℕ, zero, suc, true, List, [], ◌∷◌, ◌++◌, append_assoc, Option, Some, None, refl, sym, ◌∙◌, ap, subst}
+use Rattle.std.proofs.Common.{◌≡◌, ℕ, zero, suc, true, List, [], ◌∷◌, ◌++◌, Option, Some, None, refl, sym, ◌∙◌, ap, subst}
 use Rattle.std.specs.Prelude.{take, drop}
 use Rattle.std.proofs.lemmas.List.{append-nil}
-use Rattle.df_base.specs.Log.{Event, Log, Sync}
+use Rattle.df_base.specs.Log.{Event, Log}
 use Rattle.df_base.specs.Moments.{Extends}
-use Rattle.df_disk.specs.Told.{Told, did}
+use Rattle.df_disk.specs.Told.{Told}
 use Rattle.df_disk.specs.Adds.{after_all}
 use Rattle.df_model.specs.Commands.{Answer}
 use Rattle.df_model.specs.Work.{Work}

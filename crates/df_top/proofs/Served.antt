@@ -22,7 +22,7 @@ use Rattle.df_top.specs.Refusing.{PrintsError}
 use Rattle.df_top.specs.Run.{ServesScript, start}
 use Rattle.df_replica.specs.Session.{Act}
 use Rattle.df_top.specs.Lines.{Turned, all_acts, all_answers}
-use Rattle.df_top.specs.Session.{Ended, EndsCalls, EndsWith, State, act_of, state}
+use Rattle.df_top.specs.Session.{Ended, EndsWith, State, act_of, state}
 use Rattle.df_top.specs.declared.session.Session.{Session}
 use Rattle.df_top.specs.declared.status.Status.{Status}
 use Rattle.df_top.specs.declared.status.Status.TheVariants.{Refused}

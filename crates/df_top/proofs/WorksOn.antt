@@ -3,8 +3,7 @@ use Rattle.std.proofs.Common.{◌≡◌, inl, inr, ℕ, true, List, Option, Some
 use Rattle.df_base.specs.Causes.{HasCause}
 use Rattle.df_base.specs.Image.{IsImage}
 use Rattle.df_base.specs.Log.{Sync}
-use Rattle.df_base.specs.Moments.{EachMoment}
-use Rattle.df_disk.specs.Told.{Told, after, did}
+use Rattle.df_disk.specs.Told.{Told, did}
 use Rattle.df_inspect.specs.Prints.{Prints}
 use Rattle.df_inspect.specs.Reports.{workload_text}
 use Rattle.df_inspect.specs.declared.counts.Workload.{Workload}
@@ -12,20 +11,17 @@ use Rattle.df_layout.specs.declared.damage.Class.{Class}
 use Rattle.df_layout.specs.declared.places.Place.{Place}
 use Rattle.df_script_model.specs.Texts.{damaged_text}
 use Rattle.df_layout.specs.declared.layout.Layout.{Layout}
-use Rattle.df_theory.specs.View.{View}
 use Rattle.df_units.specs.Bytes.{unit_at}
 use Rattle.df_model.specs.Work.{opened}
 use Rattle.df_replica.specs.Below.{IsOpened, State as Replica, shape, told_after}
-use Rattle.df_replica.specs.Following.{MayOpen}
 use Rattle.df_replica.specs.Opened.{MendsAll, ToldBy}
-use Rattle.df_replica.specs.Serving.{Firm, Grade, IsGoodFor, IsKept, Keeps, StandsFor, format}
+use Rattle.df_replica.specs.Serving.{Firm}
 use Rattle.df_replica.specs.Session.{Act}
 use Rattle.df_replica.proofs.Laws.{found_keeps}
 use Rattle.df_workload.specs.Rounds.{start}
 use Rattle.df_workload.specs.declared.state.State.{State as Run}
 use Rattle.df_top.specs.Acknowledging.{run_calls}
 use Rattle.df_top.specs.Outside.{Blames, HasCauses, Outside, PrintsLine}
-use Rattle.df_top.specs.Session.{EndsCalls}
 use Rattle.df_top.specs.Working.{WorksThrough}
 use Rattle.df_top.specs.Works.{BlamesFault, PrintsFault, PrintsRun, Writes, status_or, workload_of}
 use Rattle.df_top.specs.declared.works.Fault.{Fault}
