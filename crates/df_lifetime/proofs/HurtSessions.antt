@@ -19,7 +19,7 @@ use Rattle.df_units.specs.Bytes.{unit_at}
 use Rattle.df_model.specs.Commands.{Answer}
 use Rattle.df_model.specs.Sense.{IsWork}
 use Rattle.df_model.specs.Work.{Work, kept}
-use Rattle.df_replica.specs.Below.{DataFile, State as Replica, begun, shape, spelling, told_after}
+use Rattle.df_replica.specs.Below.{DataFile, begun, shape, spelling, told_after}
 use Rattle.df_replica.specs.Following.{MayOpen}
 use Rattle.df_replica.specs.HeldBlocks.{AreInputs}
 use Rattle.df_replica.specs.Serving.{Firm, Grade, StandsFor, Whole, format}
