@@ -7,8 +7,7 @@ use Rattle.df_theory.specs.Copies.{rank_of}
 use Rattle.df_theory.specs.View.{Checkpoint, View, boot_of, head, sequence}
 use Rattle.df_theory.specs.Chance.{InImages}
 use Rattle.df_theory.specs.Grown.{IsClear, IsLeft}
-use Rattle.df_theory.proofs.Past.{HasGap, IsNew, appended_clear, next_in, same_slot}
-use Rattle.df_theory.proofs.Settled.{append_here, reply_here, base_here}
+use Rattle.df_theory.proofs.Laws.{HasGap, IsNew, appended_clear, next_in, same_slot, append_here, reply_here, base_here}
 use Rattle.df_history.specs.Lives.{Asleep, Awake, Follows, Lived, Lives, Steps, Turn, first_of}
 use Rattle.df_history.proofs.Steps.{lived_self}
 

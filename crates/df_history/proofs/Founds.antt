@@ -12,16 +12,8 @@ use Rattle.df_theory.specs.View.{View, boot_of, head, sessions}
 use Rattle.df_theory.specs.Holds.{IsNamed, Sound}
 use Rattle.df_theory.specs.HistoryLaws.{AreDistinct, ShowsSettled}
 use Rattle.df_theory.specs.Found.{IsFound}
-use Rattle.df_theory.proofs.Agreeing.{take_boot}
-use Rattle.df_theory.proofs.Choices.{rank_low}
-use Rattle.df_theory.proofs.OneView.{same_parts as parts_same}
-use Rattle.df_theory.proofs.Once.{same_links, same_chains, last_of, no_mark}
-use Rattle.df_theory.proofs.Pinned.{same_named}
+use Rattle.df_theory.proofs.Laws.{chain_at, chain_ops, take_boot, rank_low, same_parts as parts_same, same_links, same_chains, last_of, no_mark, same_named, HasGap, group_from, group_holds, same_group, chain_last}
 use Rattle.df_theory.specs.Chance.{InImages}
-use Rattle.df_theory.proofs.Past.{HasGap}
-use Rattle.df_theory.proofs.Grouped.{group_from, group_holds, same_group}
-use Rattle.df_theory.proofs.Founds.{chain_at}
-use Rattle.df_theory.proofs.Tails.{chain_last, chain_ops}
 use Rattle.df_history.specs.Lives.{Awake, Lived, Lives, Turn, first_of}
 use Rattle.df_history.specs.Laws.{FoundLivedLaw, OneContentLaw, OnePrepareLaw, OneReplyLaw}
 use Rattle.df_history.proofs.Steps.{first_low, lived_base, lived_needs, lived_sound}

@@ -12,10 +12,7 @@ use Rattle.df_theory.specs.First.{AreMade}
 use Rattle.df_theory.specs.Grown.{AllInHistory, GoesOn, Grows}
 use Rattle.df_theory.specs.Past.{FromEmpty, Was}
 use Rattle.df_theory.specs.HistoryLaws.{ShowsSettled}
-use Rattle.df_theory.proofs.OneFound.{one_view}
-use Rattle.df_theory.proofs.Past.{no_made}
-use Rattle.df_theory.proofs.Settled.{made_content, made_reply}
-use Rattle.df_theory.proofs.Grew.{next_grew}
+use Rattle.df_theory.proofs.Laws.{one_view, no_made, made_content, made_reply, next_grew}
 use Rattle.df_history.specs.Lives.{Asleep, Awake, Lived, Lives, Starts, Turn, first_of}
 use Rattle.df_history.specs.Histories.{Among, GrowsOn, StaysBare}
 

@@ -8,4 +8,6 @@ pub mod Since
 pub mod Moments
 pub mod Mendings
 pub mod Samples
+pub mod Passed
+pub mod Thrice
 pub mod Upgraded

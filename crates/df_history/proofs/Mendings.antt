@@ -12,10 +12,7 @@ use Rattle.df_theory.specs.Rests.{IsDry, IsGoodLog, IsQuiet, RestsOn}
 use Rattle.df_theory.specs.Runs.{AtEach, Puts, Step, Syncs, after_steps}
 use Rattle.df_theory.specs.MakingLaws.{all_puts}
 use Rattle.df_theory.specs.MendLaws.{AllPutCopy, AllPutTable, IsTable, MayMend, copy_steps, header_steps, mend_steps}
-use Rattle.df_theory.proofs.OneFound.{one_view}
-use Rattle.df_theory.proofs.Writes.{copy_law, good_rests, header_law, put_else, quiet_synced}
-use Rattle.df_theory.proofs.Mends.{IsUnderWay, header_steps_miss, is_mend, mend_law, mends_whole_law, missed, synced_after, under_way_still}
-use Rattle.df_theory.proofs.Runs.{after_append, each_append, each_weaker}
+use Rattle.df_theory.proofs.Laws.{after_append, copy_law, each_append, each_weaker, good_rests, header_law, mend_law, mends_whole_law, put_else, quiet_synced, synced_after, one_view, IsUnderWay, header_steps_miss, is_mend, missed, under_way_still}
 use Rattle.df_history.specs.Histories.{GrowsOn, IsBegunAnew, IsLived, IsLivedMoment, all_settled}
 use Rattle.df_history.proofs.Joins.{on_holds}
 use Rattle.df_history.specs.OpenLaws.{MendLivedLaw, OpenLivedLaw}

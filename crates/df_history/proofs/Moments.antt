@@ -15,10 +15,7 @@ use Rattle.df_theory.specs.Rests.{IsGoodLog, IsPrepare, RestsOn}
 use Rattle.df_theory.specs.MakingLaws.{all_puts}
 use Rattle.df_theory.specs.MendLaws.{AllPutCopy, AllPutTable, copy_steps, header_steps, mend_steps}
 use Rattle.df_theory.specs.Runs.{AtEach, Puts, Step, Syncs}
-use Rattle.df_theory.proofs.OneFound.{one_view}
-use Rattle.df_theory.proofs.Writes.{boot_law, no_choice}
-use Rattle.df_theory.proofs.Steps.{rests_safe, rests_holds}
-use Rattle.df_theory.proofs.Headline.{clean_start_law}
+use Rattle.df_theory.proofs.Laws.{boot_law, clean_start_law, rests_holds, rests_safe, one_view, no_choice}
 use Rattle.df_history.specs.Lives.{Starts}
 use Rattle.df_history.specs.Histories.{Among, GrowsOn, IsBegunAnew, IsFirstLog, IsLived, IsLivedMoment, MayStart, StaysBare, all_settled}
 use Rattle.df_history.specs.OpenLaws.{AwakeLivedLaw, BeginsLaw, BootLivedLaw, FirstLivedLaw, RestLivedLaw}

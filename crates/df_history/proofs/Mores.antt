@@ -6,9 +6,7 @@ use Rattle.df_theory.specs.View.{View, boot_of}
 use Rattle.df_theory.specs.Next.{IsSameBare}
 use Rattle.df_theory.specs.Chance.{InImages}
 use Rattle.df_theory.specs.Grown.{AllInHistory, GoesOn, Grows, IsClear, IsSurvivor}
-use Rattle.df_theory.proofs.OneFound.{one_view}
-use Rattle.df_theory.proofs.Writes.{no_choice}
-use Rattle.df_theory.proofs.Grew.{next_grew}
+use Rattle.df_theory.proofs.Laws.{one_view, no_choice, next_grew}
 use Rattle.df_history.specs.Histories.{GrowsOn}
 use Rattle.df_history.proofs.Joins.{images_either, images_front, next_bare, on_holds}
 

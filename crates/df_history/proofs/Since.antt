@@ -12,11 +12,7 @@ use Rattle.df_theory.specs.First.{AreMade}
 use Rattle.df_theory.specs.Grown.{HasMade}
 use Rattle.df_theory.specs.HistoryLaws.{AreDistinct, FoundWasLaw, ShowsSettled}
 use Rattle.df_theory.specs.Found.{IsClean}
-use Rattle.df_theory.proofs.Choices.{one_chosen}
-use Rattle.df_theory.proofs.OneFound.{one_view}
-use Rattle.df_theory.proofs.Grew.{next_grew}
-use Rattle.df_theory.proofs.Hurts.{pool_pools}
-use Rattle.df_theory.proofs.Writes.{no_choice}
+use Rattle.df_theory.proofs.Laws.{one_chosen, one_view, next_grew, pool_pools, no_choice}
 use Rattle.df_history.specs.Lives.{Asleep, Awake, Lived, Lives, Turn}
 use Rattle.df_history.specs.Histories.{Among, GrowsOn, InHistoryPool, InHistoryPools, IsBegunAnew, IsFirstLog, IsLived, IsSettled, MayHurtCopies, MayStart, WasSince, all_settled}
 use Rattle.df_history.specs.OpenLaws.{FoundSinceLaw}

@@ -5,9 +5,7 @@ use Rattle.df_theory.specs.Shape.{Shape}
 use Rattle.df_theory.specs.Copies.{rank_of}
 use Rattle.df_theory.specs.View.{View, boot_of, head}
 use Rattle.df_theory.specs.Holds.{Sound}
-use Rattle.df_theory.proofs.Settled.{reply_here}
-use Rattle.df_theory.proofs.Once.{one_stored, stored_op}
-use Rattle.df_theory.proofs.Grew.{next_grew}
+use Rattle.df_theory.proofs.Laws.{reply_here, one_stored, stored_op, next_grew}
 use Rattle.df_history.specs.Lives.{Awake, Lived, Lives, Turn}
 use Rattle.df_history.proofs.Steps.{awake_low, lived_low, lived_self, lived_sound, lives_sound, step_same}
 

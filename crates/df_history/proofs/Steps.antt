@@ -8,9 +8,7 @@ use Rattle.df_theory.specs.Shows.{Needs}
 use Rattle.df_theory.specs.Holds.{Sound}
 use Rattle.df_theory.specs.Chance.{InImages}
 use Rattle.df_theory.specs.Grown.{GoesOn}
-use Rattle.df_theory.proofs.Choices.{boot_higher}
-use Rattle.df_theory.proofs.Agreeing.{prepare_agrees}
-use Rattle.df_theory.proofs.Grew.{next_grew}
+use Rattle.df_theory.proofs.Laws.{boot_higher, prepare_agrees, next_grew}
 use Rattle.df_history.specs.Lives.{Asleep, Awake, Follows, Lived, Lives, Steps, Turn, first_of}
 
 pub lives_sound : (sh : Shape) (images : List Units) (v : View) (t : Turn) → Lives sh images v t → Sound sh v

@@ -9,10 +9,7 @@ use Rattle.df_theory.specs.Next.{MayBoot, booted}
 use Rattle.df_theory.specs.Chance.{EachLeft}
 use Rattle.df_theory.specs.Rests.{RestsOn}
 use Rattle.df_theory.specs.Upgrades.{IsRaised, as_version, begun, of_version, raise_steps}
-use Rattle.df_theory.proofs.Runs.{each_weaker}
-use Rattle.df_theory.proofs.Steps.{rests_safe}
-use Rattle.df_theory.proofs.Writes.{anew_law}
-use Rattle.df_theory.proofs.Upgrades.{raise_anew_law, raise_ends_law}
+use Rattle.df_theory.proofs.Laws.{anew_law, each_weaker, rests_safe, raise_anew_law, raise_ends_law}
 use Rattle.df_history.specs.Lives.{Starts}
 use Rattle.df_history.specs.Histories.{IsLivedMoment}
 use Rattle.df_history.specs.Upgraded.{StoppedUpgradeLaw, UpgradedLaw}

@@ -1,13 +1,18 @@
 -- A history that meets every premise: a file is made and opened, a prepare is appended, its every trace is lost, and the file is opened again.
-use Rattle.std.specs.Prelude.{◌≡◌, ◌<◌, ◌+◌, [], ◌∷◌, Some}
-use Rattle.df_theory.specs.Units.{Message, PreparePlace, PrepareUnit, Units}
+use Rattle.std.specs.Prelude.{◌≡◌, ◌<◌, ◌+◌, ℕ, List, [], ◌∷◌, ◌++◌, Some, None}
+use Rattle.df_theory.specs.CopyPuts.{PutsCopies, update_steps}
+use Rattle.df_theory.specs.Units.{Content, CopyPlace, CopyUnit, Header, HeaderPlace, HeaderUnit, Message, PreparePlace, PrepareUnit, Units}
 use Rattle.df_theory.specs.Tails.{In}
 use Rattle.df_theory.specs.Shape.{Shape}
 use Rattle.df_theory.specs.View.{View, boot_of, head}
 use Rattle.df_theory.specs.UnitLog.{UnitLog, now}
+use Rattle.df_theory.specs.Grown.{IsSafe}
 use Rattle.df_theory.specs.Rests.{RestsOn}
-use Rattle.df_theory.specs.Found.{IsFound}
+use Rattle.df_theory.specs.Runs.{AtEach, Step, after_steps}
+use Rattle.df_theory.specs.MendLaws.{mend_steps}
+use Rattle.df_theory.specs.Found.{AreOfPlaces, IsFound}
 use Rattle.df_history.specs.Histories.{IsLived, MayStart, WasSince}
+use Rattle.df_history.specs.OpenLaws.{IsOpening}
 
 pub record HistorySampleLaw : Type 0 where
   pub shape : Shape
@@ -50,3 +55,58 @@ pub record PassedSampleLaw : Type 0 where
   pub shows : (shown (PreparePlace 2) ≡ Some (PrepareUnit survivor)) × (head found < survivor.header.op)
   pub next_finds : IsFound shape shown found
   pub had : WasSince shape (again ∷ stopped ∷ made ∷ []) found
+
+-- ---- and one that is damaged and opened three times
+
+-- the log that an open begins at this image, behind its mending and its boot update
+abbrev pub opened : (d : Content) → Units → List Units → List (ℕ × Units) → PutsCopies d → UnitLog
+opened d shown headers copies puts = after_steps (mend_steps headers copies ++ update_steps puts) (record { start = shown; events = [] })
+
+-- a damaged file is opened again, and goes on: the premises of the laws on opens are met, and so is what they say
+pub record IsReopened (sh : Shape) (logs : List UnitLog) (log : UnitLog) (shown : Units) (found : View) (next : UnitLog) (kept : View) : Type 0 where
+  pub start : MayStart log logs shown
+  pub places : AreOfPlaces sh shown
+  pub finds : IsFound sh shown found
+  pub had : WasSince sh (log ∷ logs) found
+  pub table : ℕ → Header
+  pub headers : List Units
+  pub copies : List (ℕ × Units)
+  pub content : Content
+  pub puts : PutsCopies content
+  pub opening : IsOpening sh shown found table headers copies content
+  pub steps : List Step
+  pub safe : AtEach (IsSafe sh) (opened content shown headers copies puts) steps
+  pub next_is : next ≡ after_steps steps (opened content shown headers copies puts)
+  pub lived : IsLived sh (next ∷ log ∷ logs)
+  pub rests : RestsOn sh next kept
+
+-- a file is made and opened, and a prepare appended. Its every trace is lost; the file is opened, and its op is appended anew. Two copies are lost and its header goes back to the one before; the file is opened, and mended.
+-- The same two copies go back to an older superblock, and the header to that of the prepare that was lost at first; the file is opened, and mended again
+pub record ThriceSampleLaw : Type 0 where
+  pub shape : Shape
+  pub made : UnitLog
+  pub second : UnitLog
+  pub third : UnitLog
+  pub fourth : UnitLog
+  pub fifth : UnitLog
+  pub appended : View
+  pub bare : View
+  pub kept : View
+  pub raised : View
+  pub last : View
+  pub lost : Units
+  pub hurt : Units
+  pub struck : Units
+  pub old : Message
+  pub anew : Message
+  pub lived : IsLived shape (second ∷ made ∷ [])
+  pub rests : RestsOn shape second appended
+  pub once : IsReopened shape (made ∷ []) second lost bare third kept
+  pub twice : IsReopened shape (second ∷ made ∷ []) third hurt kept fourth raised
+  pub thrice : IsReopened shape (third ∷ second ∷ made ∷ []) fourth struck raised fifth last
+  pub tails : (appended.tail ≡ old ∷ []) × (bare.tail ≡ []) × (kept.tail ≡ anew ∷ []) × (raised.tail ≡ anew ∷ []) × (last.tail ≡ anew ∷ [])
+  pub boots : (boot_of bare ≡ 1) × (boot_of kept ≡ 2) × (boot_of raised ≡ 3) × (boot_of last ≡ 4)
+  pub one_op : (old.header.op ≡ anew.header.op) × (old.header.boot < anew.header.boot)
+  pub hurt_copies : (hurt (CopyPlace 2) ≡ None) × (hurt (CopyPlace 3) ≡ None)
+  pub struck_copies : (c : Content) × (c.boot < boot_of raised) × (struck (CopyPlace 2) ≡ Some (CopyUnit c)) × (struck (CopyPlace 3) ≡ Some (CopyUnit c))
+  pub struck_header : struck (HeaderPlace 1) ≡ Some (HeaderUnit old.header)

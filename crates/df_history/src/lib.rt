@@ -5,8 +5,9 @@ mod histories;
 mod opens;
 
 pub use histories::{
-    a_history_is_lived, a_survivor_is_passed_over, found_was_lived, one_content_a_rank,
-    one_log_is_a_history, one_prepare_an_op_and_boot, one_reply_an_op_and_boot,
+    a_damaged_file_is_opened_three_times, a_history_is_lived, a_survivor_is_passed_over,
+    found_was_lived, one_content_a_rank, one_log_is_a_history, one_prepare_an_op_and_boot,
+    one_reply_an_op_and_boot,
 };
 pub use opens::{
     boot_stays_lived, commands_stay_lived, first_log_is_lived, found_since_the_last_boot,
