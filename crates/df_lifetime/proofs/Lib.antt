@@ -9,3 +9,6 @@ mod Done
 mod Found
 mod HurtSessions
 mod KeptReads
+mod Alike
+mod OneText
+mod Fronts

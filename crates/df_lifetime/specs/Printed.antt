@@ -1,0 +1,74 @@
+-- What is printed is a function of what the disk shows at first: here of `recover`, as `df_top` says it of a script and of `inspect`; and whatever fails in a session, what is
+-- written is a front of the text that its script has.
+use Rattle.std.specs.Prelude.{◌≡◌, ℕ, List, length, Some}
+use Rattle.df_base.specs.Streams.{Appends, AppendsPart}
+use Rattle.df_disk.specs.Told.{Told}
+use Rattle.df_layout.specs.declared.layout.Layout.{Layout}
+use Rattle.df_lines.specs.Grammar.{Said}
+use Rattle.df_lines.specs.Room.{line_bound}
+use Rattle.df_lines.specs.Script.{IsScript}
+use Rattle.df_theory.specs.Found.{IsFound}
+use Rattle.df_theory.specs.View.{View}
+use Rattle.df_units.specs.Bytes.{unit_at}
+use Rattle.df_replica.specs.Below.{shape}
+use Rattle.df_top.specs.OneText.{ShowSame, text_by}
+use Rattle.df_top.specs.Outside.{Outside}
+use Rattle.df_top.specs.Reporting.{Recovers}
+use Rattle.df_top.specs.Resulting.{script_text_of}
+use Rattle.df_top.specs.Run.{ServesScript, script_budget}
+use Rattle.df_top.specs.declared.status.Status.{Status}
+use Rattle.df_top.specs.declared.status.Status.TheVariants.{Done, Found}
+
+-- ---- a word that is carried out twice
+
+-- a word was carried out over a disk that tells what it shows
+pub record Carried (Word : Told → Outside → Outside → Status → Type 0) : Type 0 where
+  pub told : Told
+  pub old : Outside
+  pub new : Outside
+  pub status : Status
+  pub does : Word told old new status
+
+-- no call of the disk or of the sink failed
+abbrev pub HasEnded : Status → Type 0
+HasEnded Done = Unit {0}
+HasEnded Found = Unit {0}
+HasEnded status = ⊥
+
+-- it was carried out to its end over two disks that show the same
+pub record Twice (layout : Layout) (Word : Told → Outside → Outside → Status → Type 0) : Type 0 where
+  pub one : Carried Word
+  pub other : Carried Word
+  pub same : ShowSame layout one.told.shown other.told.shown
+  pub ended : HasEnded one.status × HasEnded other.status
+
+-- both times it ends with the same status and prints the same text
+pub record PrintsOne {Word : Told → Outside → Outside → Status → Type 0} (one other : Carried Word) : Type 0 where
+  pub status : one.status ≡ other.status
+  pub text : List ℕ
+  pub first : Appends one.old.written one.new.written text
+  pub second : Appends other.old.written other.new.written text
+
+-- so does `recover`
+abbrev pub RecoverHasOneText : Type 0
+RecoverHasOneText = (layout : Layout) (runs : Twice layout (Recovers layout)) → PrintsOne runs.one runs.other
+
+-- ---- a session that anything failed in
+
+-- a session of a script over a disk that tells what it shows, with the view that its open found and the lines that its text has
+pub record Scripted (layout : Layout) (t : Told) (old new : Outside) (status : Status) : Type 0 where
+  pub serves : ServesScript layout t old new status
+  pub view : View
+  pub found : IsFound (shape serves.replica.file) (unit_at serves.replica.file.layout serves.replica.file.cluster t.shown) view
+  pub text : List ℕ
+  pub left : old.left ≡ Some text
+  pub says : List Said
+  pub script : IsScript (line_bound layout) script_budget text says
+
+-- what it prints where nothing fails
+abbrev pub whole_text : {layout : Layout} {t : Told} {old new : Outside} {status : Status} → Scripted layout t old new status → List ℕ
+whole_text {t = t} s = text_by s.script.ends (length s.says) (script_text_of s.serves.replica.file s.view t.shown s.says)
+
+-- however the session ends, what is written is a front of that
+abbrev pub FrontIsWritten : Type 0
+FrontIsWritten = (layout : Layout) (t : Told) (old new : Outside) (status : Status) (s : Scripted layout t old new status) → AppendsPart old.written new.written (whole_text s)
