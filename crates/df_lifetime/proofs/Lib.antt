@@ -12,3 +12,4 @@ mod KeptReads
 mod Alike
 mod OneText
 mod Fronts
+mod OneRun

@@ -1,6 +1,7 @@
 -- What is printed is a function of what the disk shows at first: here of `recover`, as `df_top` says it of a script and of `inspect`; and whatever fails in a session, what is
 -- written is a front of the text that its script has.
 use Rattle.std.specs.Prelude.{◌≡◌, ℕ, List, length, Some}
+use Rattle.df_base.specs.Image.{IsImage}
 use Rattle.df_base.specs.Streams.{Appends, AppendsPart}
 use Rattle.df_disk.specs.Told.{Told}
 use Rattle.df_layout.specs.declared.layout.Layout.{Layout}
@@ -16,6 +17,7 @@ use Rattle.df_top.specs.Outside.{Outside}
 use Rattle.df_top.specs.Reporting.{Recovers}
 use Rattle.df_top.specs.Resulting.{script_text_of}
 use Rattle.df_top.specs.Run.{ServesScript, script_budget}
+use Rattle.df_top.specs.Working.{WorksThrough}
 use Rattle.df_top.specs.declared.status.Status.{Status}
 use Rattle.df_top.specs.declared.status.Status.TheVariants.{Done, Found}
 
@@ -52,6 +54,10 @@ pub record PrintsOne {Word : Told → Outside → Outside → Status → Type 0}
 -- so does `recover`
 abbrev pub RecoverHasOneText : Type 0
 RecoverHasOneText = (layout : Layout) (runs : Twice layout (Recovers layout)) → PrintsOne runs.one runs.other
+
+-- and so does a generated run of one seed and one number of rounds, over disks that show images
+abbrev pub WorkloadHasOneText : Type 0
+WorkloadHasOneText = (seed count : ℕ) (layout : Layout) (runs : Twice layout (WorksThrough seed count layout)) → IsImage runs.one.told.shown → IsImage runs.other.told.shown → PrintsOne runs.one runs.other
 
 -- ---- a session that anything failed in
 
