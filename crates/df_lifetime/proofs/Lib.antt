@@ -13,3 +13,4 @@ mod Alike
 mod OneText
 mod Fronts
 mod OneRun
+mod OneTour

@@ -12,11 +12,14 @@ use Rattle.df_theory.specs.Found.{IsFound}
 use Rattle.df_theory.specs.View.{View}
 use Rattle.df_units.specs.Bytes.{unit_at}
 use Rattle.df_replica.specs.Below.{shape}
+use Rattle.df_replica.specs.Reading.{shown_of}
+use Rattle.df_result.specs.Agreeing.{AgreeShown}
 use Rattle.df_top.specs.OneText.{ShowSame, text_by}
 use Rattle.df_top.specs.Outside.{Outside}
 use Rattle.df_top.specs.Reporting.{Recovers}
 use Rattle.df_top.specs.Resulting.{script_text_of}
 use Rattle.df_top.specs.Run.{ServesScript, script_budget}
+use Rattle.df_top.specs.Scrubs.{ScrubsFile}
 use Rattle.df_top.specs.Working.{WorksThrough}
 use Rattle.df_top.specs.declared.status.Status.{Status}
 use Rattle.df_top.specs.declared.status.Status.TheVariants.{Done, Found}
@@ -55,7 +58,12 @@ pub record PrintsOne {Word : Told → Outside → Outside → Status → Type 0}
 abbrev pub RecoverHasOneText : Type 0
 RecoverHasOneText = (layout : Layout) (runs : Twice layout (Recovers layout)) → PrintsOne runs.one runs.other
 
--- and so does a generated run of one seed and one number of rounds, over disks that show images
+-- So does `scrub`, where what is shown behind the mending agrees, too, at each place that a call reads: that is what its tour is made over.
+abbrev pub ScrubHasOneText : Type 0
+ScrubHasOneText =
+    (layout : Layout) (runs : Twice layout (ScrubsFile layout)) → AgreeShown layout (shown_of runs.one.does.replica.file runs.one.does.after.shown) (shown_of runs.one.does.replica.file runs.other.does.after.shown) → PrintsOne runs.one runs.other
+
+-- And so does a generated run of one seed and one number of rounds, over disks that show images.
 abbrev pub WorkloadHasOneText : Type 0
 WorkloadHasOneText = (seed count : ℕ) (layout : Layout) (runs : Twice layout (WorksThrough seed count layout)) → IsImage runs.one.told.shown → IsImage runs.other.told.shown → PrintsOne runs.one runs.other
 
