@@ -14,3 +14,4 @@ mod OneText
 mod Fronts
 mod OneRun
 mod OneTour
+mod RunTexts

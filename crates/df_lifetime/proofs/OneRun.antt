@@ -83,20 +83,20 @@ module _ (sh : Shape) (by : Codec) where
 -- ---- the numbers of a file
 
 -- its head, its replies and its sequence
-abbrev Numbers : Type 0
+abbrev pub Numbers : Type 0
 Numbers = ℕ × ℕ × ℕ
 
-abbrev numbers_in : Memory → Numbers
+abbrev pub numbers_in : Memory → Numbers
 numbers_in m = (m.head, m.replies, m.content.sequence)
 
 -- what an answer makes of them, and what answers do
-abbrev after_answer : Answer → Numbers → Numbers
+abbrev pub after_answer : Answer → Numbers → Numbers
 after_answer (ToAppend (Ok receipt)) n = (n.0 + 1, n.1, n.2)
 after_answer (ToReply (Ok sum)) n = (n.0, n.1 + 1, n.2)
 after_answer (ToAdvance (Ok (Ended sequence))) n = (n.0, n.1, n.2 + 1)
 after_answer x n = n
 
-abbrev after_answers : List Answer → Numbers → Numbers
+abbrev pub after_answers : List Answer → Numbers → Numbers
 after_answers [] n = n
 after_answers (x ∷ xs) n = after_answers xs (after_answer x n)
 
@@ -186,7 +186,7 @@ agree_there layout a b same file of =
       classes = λ place read none. here.classes file.cluster place read none;
     }
 
-agree_self : (layout : Layout) (shown : Shown) → AgreeShown layout shown shown
+pub agree_self : (layout : Layout) (shown : Shown) → AgreeShown layout shown shown
 agree_self layout shown = record { units = record { prepare = λ k. refl; reply = λ k. refl; block = λ k. refl }; classes = λ place read none. refl }
 
 module _ (seed count : ℕ) (layout : Layout) (t : Told) (old new : Outside) (status : Status) (works : WorksThrough seed count layout t old new status) (whole : IsImage t.shown) (ended : HasEnded status) where
@@ -199,7 +199,7 @@ module _ (seed count : ℕ) (layout : Layout) (t : Told) (old new : Outside) (st
   found : IsFound (shape works.replica.file) (unit_at works.replica.file.layout works.replica.file.cluster t.shown) works.is_opened.view
   found = found_here layout t.shown works.replica works.is_opened
 
-  opened_here : IsOpened works.replica.file.layout t.shown works.replica
+  pub opened_here : IsOpened works.replica.file.layout t.shown works.replica
   opened_here = subst (λ (l : Layout). IsOpened l t.shown works.replica) (sym works.is_opened.of) works.is_opened
 
   pub last_numbers : numbers_in (memory works.last) ≡ after_answers works.worked.answers (numbers_in (memory works.replica))

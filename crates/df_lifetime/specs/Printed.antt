@@ -1,19 +1,29 @@
 -- What is printed is a function of what the disk shows at first: here of `recover`, as `df_top` says it of a script and of `inspect`; and whatever fails in a session, what is
 -- written is a front of the text that its script has.
-use Rattle.std.specs.Prelude.{◌≡◌, ℕ, List, length, Some}
-use Rattle.df_base.specs.Image.{IsImage}
+use Rattle.std.specs.Prelude.{◌≡◌, ◌+◌, ℕ, List, length, None, Some}
+use Rattle.df_base.specs.Image.{Image, IsImage}
 use Rattle.df_base.specs.Streams.{Appends, AppendsPart}
 use Rattle.df_disk.specs.Told.{Told}
+use Rattle.df_inspect.specs.Reports.{workload_text}
+use Rattle.df_inspect.specs.declared.counts.Workload.{Workload}
 use Rattle.df_layout.specs.declared.layout.Layout.{Layout}
 use Rattle.df_lines.specs.Grammar.{Said}
 use Rattle.df_lines.specs.Room.{line_bound}
 use Rattle.df_lines.specs.Script.{IsScript}
 use Rattle.df_theory.specs.Found.{IsFound}
-use Rattle.df_theory.specs.View.{View}
+use Rattle.df_theory.specs.View.{View, head, sequence}
 use Rattle.df_units.specs.Bytes.{unit_at}
-use Rattle.df_replica.specs.Below.{shape}
+use Rattle.df_model.specs.Commands.{Command}
+use Rattle.df_model.specs.Supply.{result}
+use Rattle.df_model.specs.Work.{opened}
+use Rattle.df_replica.specs.Below.{DataFile, shape}
 use Rattle.df_replica.specs.Reading.{shown_of}
 use Rattle.df_result.specs.Agreeing.{AgreeShown}
+use Rattle.df_result.specs.Codec.{codec}
+use Rattle.df_workload.specs.Asking.{asks}
+use Rattle.df_workload.specs.Following.{Follows}
+use Rattle.df_workload.specs.Rounds.{start}
+use Rattle.df_workload.specs.declared.state.State.{State as Run}
 use Rattle.df_top.specs.OneText.{ShowSame, text_by}
 use Rattle.df_top.specs.Outside.{Outside}
 use Rattle.df_top.specs.Reporting.{Recovers}
@@ -66,6 +76,43 @@ ScrubHasOneText =
 -- And so does a generated run of one seed and one number of rounds, over disks that show images.
 abbrev pub WorkloadHasOneText : Type 0
 WorkloadHasOneText = (seed count : ℕ) (layout : Layout) (runs : Twice layout (WorksThrough seed count layout)) → IsImage runs.one.told.shown → IsImage runs.other.told.shown → PrintsOne runs.one runs.other
+
+-- ---- what a generated run prints
+
+-- a run of so many rounds over an image in which this view is found: it asks, the machine answers over what is shown, and at the end nothing more is asked for
+pub record IsRun (seed count : ℕ) (file : DataFile) (image : Image) (view : View) (run : Run) : Type 0 where
+  pub commands : List Command
+  pub follows : Follows (start seed count file.layout.clients) commands (result (shape file) (codec file) (shown_of file image) (opened (shape file) (unit_at file.layout file.cluster image) view) commands) run
+  pub ends : asks run ≡ None
+
+-- there is no other
+abbrev pub OneRun : Type 0
+OneRun = (seed count : ℕ) (file : DataFile) (image : Image) (view : View) (run other : Run) → IsRun seed count file image view run → IsRun seed count file image view other → run ≡ other
+
+-- what it counted, and the numbers of the file: head, replies and sequence went on by what was appended and replied, and by the checkpoints that were finished
+abbrev pub workload_by : View → Run → Workload
+workload_by view run = record {
+  appended = run.counts.appended;
+  replied = run.counts.replied;
+  wrote = run.counts.wrote;
+  released = run.counts.released;
+  checkpoints = run.counts.checkpoints;
+  refused = run.counts.refused;
+  bytes = run.counts.bytes;
+  head = head view + run.counts.appended;
+  replies = view.replies + run.counts.replied;
+  sequence = sequence view + run.counts.checkpoints;
+}
+
+abbrev pub run_text : View → Run → List ℕ
+run_text view run = workload_text (workload_by view run)
+
+-- a run that nothing failed in prints that, over the image that the disk shows at first
+abbrev pub RunTextIsResult : Type 0
+RunTextIsResult =
+    (seed count : ℕ) (layout : Layout) (t : Told) (old new : Outside) (status : Status) (works : WorksThrough seed count layout t old new status) (view : View) → IsImage t.shown
+    → IsFound (shape works.replica.file) (unit_at works.replica.file.layout works.replica.file.cluster t.shown) view → HasEnded status
+    → (run : Run) × IsRun seed count works.replica.file t.shown view run × (status ≡ Done) × Appends old.written new.written (run_text view run)
 
 -- ---- a session that anything failed in
 
