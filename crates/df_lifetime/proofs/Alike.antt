@@ -6,14 +6,16 @@ use Rattle.df_format.specs.declared.superblock.SuperFields.{SuperFields}
 use Rattle.df_layout.specs.declared.layout.Layout.{Layout}
 use Rattle.df_quorum.specs.Quorum.{IsChosen}
 use Rattle.df_theory.specs.Found.{IsFound}
-use Rattle.df_theory.specs.Units.{AnyUnit, Place}
+use Rattle.df_theory.specs.Units.{AnyUnit, BlockPlace, Place, PreparePlace, ReplyPlace}
 use Rattle.df_theory.specs.View.{View}
 use Rattle.df_theory.proofs.Laws.{one_found_law}
 use Rattle.df_units.specs.Bytes.{unit_at}
 use Rattle.df_model.specs.Memory.{Memory, memory_of}
 use Rattle.df_model.specs.Work.{opened}
 use Rattle.df_replica.specs.Below.{DataFile, IsOpened, State as Replica, memory, shape, spelling}
+use Rattle.df_replica.specs.Reading.{shown_of}
 use Rattle.df_replica.proofs.Laws.{one_super}
+use Rattle.df_result.specs.Agreeing.{AgreeShown}
 use Rattle.df_top.specs.OneText.{ShowSame}
 use Rattle.df_lifetime.proofs.Files.{same_file}
 
@@ -44,3 +46,12 @@ module _ (layout : Layout) (a b : Image) (same : ShowSame layout a b) where
     memory_alike =
         one.stands ∙ ap (λ (image : Place → Option AnyUnit). first s.file image one.view) (units_alike s.file.cluster) ∙ ap (λ (v : View). first s.file (unit_at layout s.file.cluster b) v) view_alike
         ∙ ap (λ (f : DataFile). first f (unit_at layout f.cluster b) other.view) file_alike ∙ sym other.stands
+
+-- over the file what they show agrees
+pub agree_there : (layout : Layout) (a b : Image) → ShowSame layout a b → (file : DataFile) → file.layout ≡ layout → AgreeShown file.layout (shown_of file a) (shown_of file b)
+agree_there layout a b same file of =
+    let here : ShowSame file.layout a b = subst (λ (l : Layout). ShowSame l a b) (sym of) same in
+    record {
+      units = record { prepare = λ k. here.units file.cluster (PreparePlace k); reply = λ k. here.units file.cluster (ReplyPlace k); block = λ k. here.units file.cluster (BlockPlace k) };
+      classes = λ place read none. here.classes file.cluster place read none;
+    }

@@ -8,7 +8,7 @@ use Rattle.df_inspect.specs.declared.counts.Workload.{Workload}
 use Rattle.df_layout.specs.declared.layout.Layout.{Layout}
 use Rattle.df_theory.specs.Found.{IsFound}
 use Rattle.df_theory.specs.Shape.{Shape}
-use Rattle.df_theory.specs.Units.{AnyUnit, BlockPlace, Message, Parts, Place, PreparePlace, ReplyPlace}
+use Rattle.df_theory.specs.Units.{AnyUnit, Message, Parts, Place}
 use Rattle.df_theory.specs.View.{View}
 use Rattle.df_units.specs.Bytes.{unit_at}
 use Rattle.df_model.specs.After.{after_running, after_step_of, outcome, to_check, with_prepare, with_reply}
@@ -47,7 +47,7 @@ use Rattle.df_top.specs.Works.{Writes, asked_by, workload_of}
 use Rattle.df_top.specs.declared.status.Status.{Status}
 use Rattle.df_top.specs.declared.status.Status.TheVariants.{Done, Script, Words, Refused, Memory as NoMemory, DiskFault, ReadFault, WriteFault, Found}
 use Rattle.df_lifetime.specs.Printed.{Carried, HasEnded, PrintsOne, Twice, WorkloadHasOneText}
-use Rattle.df_lifetime.proofs.Alike.{file_alike, memory_alike, units_alike, view_alike}
+use Rattle.df_lifetime.proofs.Alike.{agree_there, file_alike, memory_alike, units_alike, view_alike}
 
 -- ---- one way
 
@@ -177,14 +177,6 @@ run_ended run t told failed old new WriteFault ended wrote = absurd ended
 
 found_here : (layout : Layout) (image : Image) (s : Replica) (is : IsOpened layout image s) → IsFound (shape s.file) (unit_at s.file.layout s.file.cluster image) is.view
 found_here layout image s is = subst (λ (l : Layout). IsFound (shape s.file) (unit_at l s.file.cluster image) is.view) (sym is.of) is.found
-
-agree_there : (layout : Layout) (a b : Image) → ShowSame layout a b → (file : DataFile) → file.layout ≡ layout → AgreeShown file.layout (shown_of file a) (shown_of file b)
-agree_there layout a b same file of =
-    let here : ShowSame file.layout a b = subst (λ (l : Layout). ShowSame l a b) (sym of) same in
-    record {
-      units = record { prepare = λ k. here.units file.cluster (PreparePlace k); reply = λ k. here.units file.cluster (ReplyPlace k); block = λ k. here.units file.cluster (BlockPlace k) };
-      classes = λ place read none. here.classes file.cluster place read none;
-    }
 
 pub agree_self : (layout : Layout) (shown : Shown) → AgreeShown layout shown shown
 agree_self layout shown = record { units = record { prepare = λ k. refl; reply = λ k. refl; block = λ k. refl }; classes = λ place read none. refl }

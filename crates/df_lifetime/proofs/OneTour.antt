@@ -7,7 +7,8 @@ use Rattle.df_disk.specs.Told.{Told}
 use Rattle.df_inspect.specs.Reports.{failing_texts}
 use Rattle.df_layout.specs.declared.damage.Finding.{Finding}
 use Rattle.df_layout.specs.declared.layout.Layout.{Layout}
-use Rattle.df_theory.specs.Units.{AnyUnit, BlockPlace}
+use Rattle.df_theory.specs.Units.{AnyUnit, BlockPlace, CopyPlace, HeaderPlace, Place, PreparePlace, ReplyPlace}
+use Rattle.df_units.specs.Bytes.{unit_at}
 use Rattle.df_model.specs.Blocks.{Blocks, entries, entry, reference_in}
 use Rattle.df_model.specs.Memory.{Memory, referenced_of}
 use Rattle.df_model.specs.Reading.{failing, with_finding}
@@ -15,14 +16,15 @@ use Rattle.df_model.specs.Supply.{Shown, block_at, block_given, check_of, class_
 use Rattle.df_model.specs.declared.answers.Scrubbed.TheVariants.{TourEnd}
 use Rattle.df_model.specs.declared.answers.Verdict.{Verdict}
 use Rattle.df_replica.specs.Below.{DataFile, State as Replica, failing_in, grid_with, memory}
+use Rattle.df_replica.specs.Leaving.{IsReadPlace, SparesReads}
 use Rattle.df_replica.specs.Reading.{shown_of}
 use Rattle.df_result.specs.Agreeing.{AgreeShown}
 use Rattle.df_script_model.specs.Texts.{scrubbed_text}
 use Rattle.df_top.specs.Outside.{PrintsLine}
 use Rattle.df_top.specs.Scrubs.{PrintsTour, ScrubsFile, failing_blocks, tour_report, tour_status}
 use Rattle.df_top.specs.declared.status.Status.{Status}
-use Rattle.df_lifetime.specs.Printed.{HasEnded, PrintsOne, ScrubHasOneText, Twice}
-use Rattle.df_lifetime.proofs.Alike.{file_alike, memory_alike}
+use Rattle.df_lifetime.specs.Printed.{HasEnded, PrintsOne, ScrubHasOneText, SparedScrubHasOneText, Twice}
+use Rattle.df_lifetime.proofs.Alike.{agree_there, file_alike, memory_alike}
 use Rattle.df_lifetime.proofs.OneText.{same_prints}
 
 -- ---- a check
@@ -91,3 +93,34 @@ module _ (layout : Layout) (runs : Twice layout (ScrubsFile layout)) (agree : Ag
 
 pub scrub_has_one_text : ScrubHasOneText
 scrub_has_one_text layout runs agree = tours_print_one layout runs agree
+
+-- ---- what a mending left
+
+-- it agrees with what was there, both ways
+spared_unit : (file : DataFile) (before after : Image) → SparesReads file before after → (place : Place) → IsReadPlace file.layout place → unit_at file.layout file.cluster after place ≡ unit_at file.layout file.cluster before place
+spared_unit file before after spares (CopyPlace k) read = absurd read
+spared_unit file before after spares (HeaderPlace k) read = absurd read
+spared_unit file before after spares (PreparePlace k) read = spares.units.prepare k
+spared_unit file before after spares (ReplyPlace k) read = spares.units.reply k
+spared_unit file before after spares (BlockPlace k) read = spares.units.block k
+
+-- two images that agree, each behind its mending
+spared_agree : (file : DataFile) (a b before after : Image) → SparesReads file a before → SparesReads file b after → AgreeShown file.layout (shown_of file a) (shown_of file b) → AgreeShown file.layout (shown_of file before) (shown_of file after)
+spared_agree file a b before after one other agree = record {
+  units = record {
+    prepare = λ k. one.units.prepare k ∙ agree.units.prepare k ∙ sym (other.units.prepare k);
+    reply = λ k. one.units.reply k ∙ agree.units.reply k ∙ sym (other.units.reply k);
+    block = λ k. one.units.block k ∙ agree.units.block k ∙ sym (other.units.block k);
+  };
+  classes = λ place read none. one.classes place read ∙ agree.classes place read (sym (spared_unit file a before one place read) ∙ none) ∙ sym (other.classes place read);
+}
+
+pub spared_scrub_has_one_text : SparedScrubHasOneText
+spared_scrub_has_one_text layout runs one other =
+    let s : Replica = runs.one.does.replica in
+    let u : Replica = runs.other.does.replica in
+    let of : s.file.layout ≡ layout = runs.one.does.is_opened.of in
+    let file : s.file ≡ u.file = file_alike layout runs.one.told.shown runs.other.told.shown runs.same s u runs.one.does.is_opened runs.other.does.is_opened in
+    let here : SparesReads s.file runs.other.told.shown runs.other.does.after.shown = subst (λ (f : DataFile). SparesReads f runs.other.told.shown runs.other.does.after.shown) (sym file) other in
+    let agree = spared_agree s.file runs.one.told.shown runs.other.told.shown runs.one.does.after.shown runs.other.does.after.shown one here (agree_there layout runs.one.told.shown runs.other.told.shown runs.same s.file of) in
+    tours_print_one layout runs (subst (λ (l : Layout). AgreeShown l (shown_of s.file runs.one.does.after.shown) (shown_of s.file runs.other.does.after.shown)) of agree)

@@ -1,5 +1,5 @@
--- What is printed is a function of what the disk shows at first: here of `recover`, as `df_top` says it of a script and of `inspect`; and whatever fails in a session, what is
--- written is a front of the text that its script has.
+-- What is printed is a function of what the disk shows at first: of `recover`, `scrub` and `workload`, as `df_top` says it of a script and of `inspect`. And whatever fails in
+-- a session, what is written is a front of the text that its script has.
 use Rattle.std.specs.Prelude.{◌≡◌, ◌+◌, ℕ, List, length, None, Some}
 use Rattle.df_base.specs.Image.{Image, IsImage}
 use Rattle.df_base.specs.Streams.{Appends, AppendsPart}
@@ -17,6 +17,7 @@ use Rattle.df_model.specs.Commands.{Command}
 use Rattle.df_model.specs.Supply.{result}
 use Rattle.df_model.specs.Work.{opened}
 use Rattle.df_replica.specs.Below.{DataFile, shape}
+use Rattle.df_replica.specs.Leaving.{SparesReads}
 use Rattle.df_replica.specs.Reading.{shown_of}
 use Rattle.df_result.specs.Agreeing.{AgreeShown}
 use Rattle.df_result.specs.Codec.{codec}
@@ -72,6 +73,12 @@ RecoverHasOneText = (layout : Layout) (runs : Twice layout (Recovers layout)) �
 abbrev pub ScrubHasOneText : Type 0
 ScrubHasOneText =
     (layout : Layout) (runs : Twice layout (ScrubsFile layout)) → AgreeShown layout (shown_of runs.one.does.replica.file runs.one.does.after.shown) (shown_of runs.one.does.replica.file runs.other.does.after.shown) → PrintsOne runs.one runs.other
+
+-- So it is over what the disks show at first alone, where each mending left what calls read as it was: the `spares` of each open (`MendsAll`).
+abbrev pub SparedScrubHasOneText : Type 0
+SparedScrubHasOneText =
+    (layout : Layout) (runs : Twice layout (ScrubsFile layout)) → SparesReads runs.one.does.replica.file runs.one.told.shown runs.one.does.after.shown
+    → SparesReads runs.other.does.replica.file runs.other.told.shown runs.other.does.after.shown → PrintsOne runs.one runs.other
 
 -- And so does a generated run of one seed and one number of rounds, over disks that show images.
 abbrev pub WorkloadHasOneText : Type 0
