@@ -1,10 +1,10 @@
 -- However a session ends, what is written is a front of the text of its script.
-use Rattle.std.proofs.Common.{◌≡◌, ◌⊎◌, inl, inr, ℕ, ◌+◌, ◌-◌, ◌≤◌, suc, Bool, true, false, List, [], ◌∷◌, ◌++◌, append_assoc, length, length-append, map, Option, Some, None, refl, sym, ◌∙◌, ap, subst, arith}
+use Rattle.std.proofs.Common.{◌≡◌, ◌⊎◌, inl, inr, ℕ, ◌+◌, ◌-◌, suc, Bool, true, false, List, [], ◌∷◌, ◌++◌, append_assoc, length, length-append, map, Option, Some, None, refl, sym, ◌∙◌, ap, subst, arith}
 use Rattle.std.specs.Prelude.{take}
 use Rattle.std.proofs.Math.Seq.{take-length}
 use Rattle.std.proofs.lemmas.List.{append-nil, take-append-le}
 use Rattle.df_base.specs.Streams.{Appends, AppendsPart}
-use Rattle.df_base.specs.Log.{Event, Sync}
+use Rattle.df_base.specs.Log.{Sync}
 use Rattle.df_disk.specs.Adds.{after_all}
 use Rattle.df_disk.specs.Told.{Told, did}
 use Rattle.df_inspect.specs.Opening.{script_text}
@@ -32,7 +32,7 @@ use Rattle.df_top.specs.OneText.{text_by}
 use Rattle.df_top.specs.Outside.{Outside}
 use Rattle.df_top.specs.Resulting.{joined, line_of, text_over}
 use Rattle.df_top.specs.Run.{ServesScript, script_budget, start}
-use Rattle.df_top.specs.Session.{EndsText, EndsWith, Failing, IsDamaged, act_of, said_of}
+use Rattle.df_top.specs.Session.{EndsWith, Failing, act_of, said_of}
 use Rattle.df_top.specs.declared.status.Status.{Status}
 use Rattle.df_top.specs.declared.status.Status.TheVariants.{Done, Script, Words, Refused, Memory, DiskFault, ReadFault, WriteFault, Found}
 use Rattle.df_lifetime.specs.Printed.{FrontIsWritten, Scripted, whole_text}

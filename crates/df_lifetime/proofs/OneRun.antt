@@ -39,14 +39,13 @@ use Rattle.df_workload.specs.Hearing.{heard}
 use Rattle.df_workload.specs.Rounds.{start}
 use Rattle.df_workload.specs.declared.state.State.{State as Run}
 use Rattle.df_top.specs.Lines.{command_in}
-use Rattle.df_top.specs.OneText.{ShowSame}
 use Rattle.df_top.specs.Outside.{Outside}
 use Rattle.df_top.specs.Session.{AreCalls, EndsCalls}
 use Rattle.df_top.specs.Working.{WorksThrough}
 use Rattle.df_top.specs.Works.{Writes, asked_by, workload_of}
 use Rattle.df_top.specs.declared.status.Status.{Status}
 use Rattle.df_top.specs.declared.status.Status.TheVariants.{Done, Script, Words, Refused, Memory as NoMemory, DiskFault, ReadFault, WriteFault, Found}
-use Rattle.df_lifetime.specs.Printed.{Carried, HasEnded, PrintsOne, Twice, WorkloadHasOneText}
+use Rattle.df_lifetime.specs.Printed.{HasEnded, PrintsOne, Twice, WorkloadHasOneText}
 use Rattle.df_lifetime.proofs.Alike.{agree_there, file_alike, memory_alike, units_alike, view_alike}
 
 -- ---- one way

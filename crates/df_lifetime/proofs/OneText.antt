@@ -1,23 +1,21 @@
 -- A word that is carried out twice, over disks that show the same, prints one text.
-use Rattle.std.proofs.Common.{◌≡◌, ◌⊎◌, inl, inr, ℕ, suc, List, [], ◌∷◌, length, Option, refl, sym, ◌∙◌, ap, subst}
+use Rattle.std.proofs.Common.{◌≡◌, inl, inr, ℕ, suc, List, [], ◌∷◌, length, Option, refl, sym, ◌∙◌, ap, subst}
 use Rattle.df_base.specs.Image.{Image}
-use Rattle.df_base.specs.Streams.{Appends, AppendsPart}
+use Rattle.df_base.specs.Streams.{Appends}
 use Rattle.df_disk.specs.Told.{Told}
-use Rattle.df_format.specs.declared.superblock.SuperFields.{SuperFields}
 use Rattle.df_inspect.specs.Reports.{summary_text}
 use Rattle.df_layout.specs.declared.layout.Layout.{Layout}
 use Rattle.df_sessions.specs.Requests.{sessions_of}
 use Rattle.df_sessions.specs.declared.session.Session.{Session}
 use Rattle.df_model.specs.Memory.{Memory}
-use Rattle.df_model.specs.declared.answers.Summary.{Summary}
 use Rattle.df_replica.specs.Below.{IsOpened, State as Replica, memory}
 use Rattle.df_replica.specs.Replica.{summary_of}
 use Rattle.df_top.specs.OneText.{ShowSame}
 use Rattle.df_top.specs.Outside.{Outside, PrintsLine}
 use Rattle.df_top.specs.Reporting.{Recovers}
 use Rattle.df_top.specs.declared.status.Status.{Status}
-use Rattle.df_top.specs.declared.status.Status.TheVariants.{Done, Found, WriteFault}
-use Rattle.df_lifetime.specs.Printed.{Carried, HasEnded, PrintsOne, RecoverHasOneText, Twice}
+use Rattle.df_top.specs.declared.status.Status.TheVariants.{Done}
+use Rattle.df_lifetime.specs.Printed.{Carried, HasEnded, PrintsOne, RecoverHasOneText}
 use Rattle.df_lifetime.proofs.Alike.{fields_alike, file_alike, memory_alike}
 
 -- ---- a text that is printed

@@ -1,20 +1,18 @@
 -- Two tours of the scrubber over what agrees list the same blocks.
-use Rattle.std.proofs.Common.{◌≡◌, ◌⊎◌, inl, inr, ℕ, zero, suc, ◌+◌, ◌≤◌, Bool, true, List, [], ◌∷◌, ◌++◌, length, Option, Some, None, refl, sym, ◌∙◌, ap, subst, arith}
+use Rattle.std.proofs.Common.{◌≡◌, inl, inr, ℕ, zero, suc, ◌+◌, ◌≤◌, List, ◌++◌, length, Option, Some, None, refl, sym, ◌∙◌, ap, subst, arith}
 use Rattle.std.specs.List.{range_with_len}
 use Rattle.std.proofs.lemmas.Bool.{and_from, le-leb}
 use Rattle.df_base.specs.Image.{Image}
-use Rattle.df_disk.specs.Told.{Told}
 use Rattle.df_inspect.specs.Reports.{failing_texts}
 use Rattle.df_layout.specs.declared.damage.Finding.{Finding}
 use Rattle.df_layout.specs.declared.layout.Layout.{Layout}
 use Rattle.df_theory.specs.Units.{AnyUnit, BlockPlace, CopyPlace, HeaderPlace, Place, PreparePlace, ReplyPlace}
 use Rattle.df_units.specs.Bytes.{unit_at}
-use Rattle.df_model.specs.Blocks.{Blocks, entries, entry, reference_in}
+use Rattle.df_model.specs.Blocks.{entries, entry, reference_in}
 use Rattle.df_model.specs.Memory.{Memory, referenced_of}
 use Rattle.df_model.specs.Reading.{failing, with_finding}
-use Rattle.df_model.specs.Supply.{Shown, block_at, block_given, check_of, class_at, class_or, verdict_of}
+use Rattle.df_model.specs.Supply.{Shown, block_given, check_of, class_at, class_or, verdict_of}
 use Rattle.df_model.specs.declared.answers.Scrubbed.TheVariants.{TourEnd}
-use Rattle.df_model.specs.declared.answers.Verdict.{Verdict}
 use Rattle.df_replica.specs.Below.{DataFile, State as Replica, failing_in, grid_with, memory}
 use Rattle.df_replica.specs.Leaving.{IsReadPlace, SparesReads}
 use Rattle.df_replica.specs.Reading.{shown_of}

@@ -1,7 +1,7 @@
 -- What a generated run prints: its counts count its answers, and so they say how far the numbers of the file went on.
-use Rattle.std.proofs.Common.{◌≡◌, ℕ, ◌+◌, Bool, true, false, if◌then◌else◌, List, [], ◌∷◌, map, Option, Some, None, Result, Ok, Err, refl, sym, ◌∙◌, ap, subst, arith}
+use Rattle.std.proofs.Common.{◌≡◌, ℕ, ◌+◌, Bool, true, false, if◌then◌else◌, List, [], ◌∷◌, map, Some, None, Result, Ok, Err, refl, sym, ◌∙◌, ap, subst, arith}
 use Rattle.std.specs.Prelude.{slice_index}
-use Rattle.df_base.specs.Image.{Image, IsImage}
+use Rattle.df_base.specs.Image.{IsImage}
 use Rattle.df_base.specs.Streams.{Appends}
 use Rattle.df_disk.specs.Told.{Told}
 use Rattle.df_inspect.specs.Reports.{workload_text}
@@ -24,11 +24,11 @@ use Rattle.df_model.specs.declared.errors.BlockError.{BlockError}
 use Rattle.df_model.specs.declared.errors.NotLive.{NotLive}
 use Rattle.df_model.specs.declared.errors.ReplyError.{ReplyError}
 use Rattle.df_model.specs.declared.errors.StepError.{StepError}
-use Rattle.df_replica.specs.Below.{DataFile, State as Replica, memory, shape, spelling}
+use Rattle.df_replica.specs.Below.{DataFile, memory, shape}
 use Rattle.df_replica.specs.Reading.{shown_of}
 use Rattle.df_replica.proofs.Laws.{found_keeps}
 use Rattle.df_result.specs.Codec.{codec}
-use Rattle.df_workload.specs.Asking.{asks, asks_at, number_body}
+use Rattle.df_workload.specs.Asking.{asks_at, number_body}
 use Rattle.df_workload.specs.Draw.{drawn_body}
 use Rattle.df_workload.specs.Following.{Follows}
 use Rattle.df_workload.specs.Hearing.{appended, begun, heard, outcome_of, released, replied, stepped, told_at, wrote}
