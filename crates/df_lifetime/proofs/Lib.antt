@@ -9,3 +9,9 @@ mod Done
 mod Found
 mod HurtSessions
 mod KeptReads
+mod Alike
+mod OneText
+mod Fronts
+mod OneRun
+mod OneTour
+mod RunTexts

@@ -4,3 +4,4 @@ pub mod Acknowledged
 pub mod NewDisks
 pub mod Reads
 pub mod Hurt
+pub mod Printed
