@@ -6,34 +6,17 @@
 Prints why the file is refused, or its layout, its cluster, its checkpoint, each prepare and each stored reply.
 """
 
-import hashlib
 import sys
 
 from reader_trailer import Refused, checkpoint_of, class_at, number
+from reader_units import BLOCK, COPIES, REPLY, SECTOR, TOP, bytes_at, checksum, shown
 
-SECTOR, HEADER, COPIES = 4096, 256, 4
-TOP = 2**62
-RESERVED, PREPARE, REPLY, BLOCK, TRAILER = 1, 2, 3, 4, 5
 NUMBERS = {  # field of a superblock copy: offset and bytes
     "Version": (32, 4), "Slots": (36, 4), "MessageSize": (40, 4), "Clients": (44, 4), "Cluster": (48, 16),
     "BlockSize": (64, 4), "Blocks": (68, 4), "Sequence": (72, 8), "Op": (80, 8), "Head": (88, 8), "Replies": (96, 8),
     "TrailerAddress": (104, 8), "OpChecksum": (112, 16), "TrailerChecksum": (128, 16), "TrailerSize": (144, 8),
     "Boot": (152, 8),
 }
-HEADS = {  # field of a header: offset and bytes
-    "cluster": (32, 16), "parent": (48, 16), "client": (64, 16), "op": (80, 8), "request": (88, 8), "mark": (96, 8),
-    "checkpoint": (104, 8), "size": (112, 4), "slot": (116, 4), "kind": (120, 1), "block_kind": (121, 1),
-    "version": (122, 2), "boot": (124, 8),
-}
-
-
-def checksum(data):
-    return hashlib.sha256(data).digest()[:16]
-
-
-def bytes_at(file, at, size):
-    """Bytes of the file, with zeros behind its end."""
-    return file[at : at + size].ljust(size, b"\0")
 
 
 def is_copy(sector):
@@ -112,57 +95,6 @@ def superblock_of(file, checkpoints):
     return f
 
 
-def header_of(raw):
-    """The fields of a header that passes the tests of its kind."""
-    h = {name: number(raw, at, size) for name, (at, size) in HEADS.items()}
-    h["checksum"], h["body_checksum"] = raw[:16], raw[16:32]
-    kind, op, mark = h["kind"], h["op"], h["mark"]
-    counters = all(1 <= h[name] <= TOP for name in ("op", "request", "checkpoint"))
-    if checksum(raw[16:HEADER]) != raw[:16] or h["version"] != 1 or h["boot"] or any(raw[132:HEADER]):
-        return None
-    if h["size"] < HEADER or h["cluster"] == 0 or (kind != BLOCK and h["block_kind"]):
-        return None
-    empty = not any(h[name] for name in ("parent", "client", "request", "mark", "checkpoint"))
-    passes = {
-        RESERVED: empty and op == 0 and h["size"] == HEADER and raw[16:32] == checksum(b""),
-        PREPARE: counters and h["client"] and mark < op and (op > 1 or h["parent"] == 0),
-        REPLY: counters and h["client"] and op <= mark <= TOP,
-        BLOCK: empty and h["slot"] == 0 and op and h["block_kind"],
-        TRAILER: op and 2 <= h["checkpoint"] <= TOP and h["client"] == 0 and h["slot"] == 0
-        and (mark == 0) == (h["request"] == 0) and (mark or h["parent"] == 0),
-    }.get(kind)
-    return h if passes else None
-
-
-def shown(file, f, zone, index):
-    """The unit that a place shows, with its body; or the name of the class of what is there."""
-    first = SECTOR * (COPIES + f["Slots"] // 16)
-    starts = {"WalHeaders": SECTOR * COPIES, "WalPrepares": first, "ClientReplies": first + f["MessageSize"] * f["Slots"]}
-    blocks = -(-(starts["ClientReplies"] + f["MessageSize"] * f["Clients"]) // f["BlockSize"])
-    starts["Grid"] = f["BlockSize"] * (blocks - 1)
-    length = {"WalHeaders": HEADER, "Grid": f["BlockSize"]}.get(zone, f["MessageSize"])
-    raw = bytes_at(file, starts[zone] + length * index, length)
-    if not any(raw[:HEADER]):
-        return "Blank"
-    h = header_of(raw[:HEADER])
-    if h is None or h["cluster"] != f["Cluster"] or h["size"] > max(length, f["MessageSize"] if zone == "WalHeaders" else 0):
-        return "Garbled"
-    h["body"] = raw[HEADER : h["size"]]
-    if zone != "WalHeaders" and checksum(h["body"]) != h["body_checksum"]:
-        return "Garbled"
-    belongs, at, least, count = {
-        RESERVED: ("WalHeaders", h["slot"], 0, f["Slots"]), PREPARE: ("WalPrepares", h["slot"], 0, f["Slots"]),
-        REPLY: ("ClientReplies", h["slot"], 0, f["Clients"]), BLOCK: ("Grid", h["op"], 1, f["Blocks"] + 1),
-        TRAILER: ("Grid", h["op"], 1, f["Blocks"] + 1),
-    }[h["kind"]]
-    if h["kind"] == PREPARE and zone == "WalHeaders":
-        belongs = "WalHeaders"
-    nowhere = (belongs == "WalHeaders") != (zone == "WalHeaders") or not least <= at < count
-    if nowhere or (h["kind"] == PREPARE and at != h["op"] % f["Slots"]):
-        return "Garbled"
-    return h if (belongs, at) == (zone, index) else f"Elsewhere {belongs} {at}"
-
-
 def tail_of(f, headers, prepares, known):
     """The longest list of prepares that are taken and fit; with each client's last request, in order of place, the sessions
     that are known first."""
@@ -187,26 +119,21 @@ def tail_of(f, headers, prepares, known):
     return tail, sessions
 
 
-def state_of(file, checkpoints=True):
-    """The prepares of the file, how many replies are stored, for each client its stored reply or what waits, and what its
-    checkpoint says. Without checkpoints a file that has one is refused, as by a program that knows none."""
-    f = superblock_of(file, checkpoints)
-    root, known, references = checkpoint_of(lambda address: shown(file, f, "Grid", address), f)
-    headers = [shown(file, f, "WalHeaders", slot) for slot in range(f["Slots"])]
-    prepares = [shown(file, f, "WalPrepares", slot) for slot in range(f["Slots"])]
-    places = [shown(file, f, "ClientReplies", place) for place in range(f["Clients"])]
-    logged = [one for one in headers + prepares if not isinstance(one, str)]
-    replies = [one for one in places if not isinstance(one, str)]
-    later = any(one["checkpoint"] > f["Sequence"] for one in logged + replies)
-    if later or any(one["op"] > f["Op"] + f["Slots"] for one in logged):
-        raise Refused(f"Damaged Superblock {f['Copy']} Stale")
-    tail, sessions = tail_of(f, headers, prepares, known)
-    head = f["Op"] + len(tail)
-    seen = [f["Head"], *(one["op"] for one in logged), *(max(one["op"], one["mark"]) for one in replies)]
-    if max(seen) > head:
-        slot = (head + 1) % f["Slots"]
-        raise Refused(f"Damaged WalPrepares {slot} {class_at(prepares[slot])}")
-    stored = max(f["Replies"], tail[-1]["mark"] if tail else 0, *(one["op"] for one in replies), 0)
+def rings_of(file, f, bodies=True):
+    """What each place of the rings and of the replies shows. Without bodies only the headers are kept."""
+    def every(zone, count):
+        return [kept(shown(file, f, zone, index)) for index in range(count)]
+
+    def kept(one):
+        return one if bodies or isinstance(one, str) else dict(one, body=None)
+    return {"headers": every("WalHeaders", f["Slots"]), "prepares": every("WalPrepares", f["Slots"]),
+            "places": every("ClientReplies", f["Clients"])}
+
+
+def stored_of(f, tail, sessions, places):
+    """How many replies are stored, and for each client its stored reply or what waits."""
+    replies = [one["op"] for one in places if not isinstance(one, str)]
+    stored = max(f["Replies"], tail[-1]["mark"] if tail else 0, *replies, 0)
     kept = {}
     for place, (client, last) in enumerate(sessions.items()):
         one = places[place]
@@ -215,8 +142,53 @@ def state_of(file, checkpoints=True):
             if isinstance(one, str) or any(one[name] != last[name] for name in ("client", "request", "op")):
                 raise Refused(f"Damaged ClientReplies {place} {class_at(one)}")
             kept[client] = one
-    blocks = {address: block_of(file, f, address, checksum) for address, checksum in references.items()}
-    return {"fields": f, "head": head, "prepares": tail, "stored": stored, "replies": kept, "root": root, "blocks": blocks}
+    return stored, kept
+
+
+def evidence_of(state):
+    """Each op that something in the file tells of: the op, and where it is told."""
+    told = [(state["fields"]["Head"], "the superblock", 0)]
+    for ring, zone in (("headers", "WalHeaders"), ("prepares", "WalPrepares")):
+        told += [(one["op"], zone, slot) for slot, one in enumerate(state[ring]) if not isinstance(one, str)]
+    for place, one in enumerate(state["places"]):
+        told += [] if isinstance(one, str) else [(max(one["op"], one["mark"]), "ClientReplies", place)]
+    return told
+
+
+def later_of(state):
+    """The places whose units are of a later checkpoint than the superblock's."""
+    f, found = state["fields"], []
+    for ring, zone in (("headers", "WalHeaders"), ("prepares", "WalPrepares"), ("places", "ClientReplies")):
+        for index, one in enumerate(state[ring]):
+            beyond = ring != "places" and not isinstance(one, str) and one["op"] > f["Op"] + f["Slots"]
+            if beyond or (not isinstance(one, str) and one["checkpoint"] > f["Sequence"]):
+                found.append((zone, index))
+    return found
+
+
+def find(file, state, checkpoints=True, bodies=True):
+    """Fills in what the file has, as far as it isn't refused: the superblock's fields, its checkpoint, what each place of the
+    rings and of the replies shows, the tail, the sessions, the head, how many replies are stored, and those."""
+    f = state["fields"] = superblock_of(file, checkpoints)
+    state.update(checkpoint_of(lambda address: shown(file, f, "Grid", address), f))
+    state.update(rings_of(file, f, bodies))
+    if later_of(state):
+        raise Refused(f"Damaged Superblock {f['Copy']} Stale")
+    state["tail"], state["sessions"] = tail_of(f, state["headers"], state["prepares"], state["known"])
+    head = state["head"] = f["Op"] + len(state["tail"])
+    if max(op for op, _, _ in evidence_of(state)) > head:
+        slot = (head + 1) % f["Slots"]
+        raise Refused(f"Damaged WalPrepares {slot} {class_at(state['prepares'][slot])}")
+    state["stored"], state["replies"] = stored_of(f, state["tail"], state["sessions"], state["places"])
+
+
+def state_of(file, checkpoints=True):
+    """All that is read of the file, with its referenced blocks. Without checkpoints a file that has one is refused, as by a
+    program that knows none."""
+    state = {}
+    find(file, state, checkpoints)
+    f, listed = state["fields"], state["references"].items()
+    return state | {"blocks": {address: block_of(file, f, address, checksum) for address, checksum in listed}}
 
 
 def block_of(file, f, address, checksum):
@@ -248,7 +220,7 @@ def main():
     for address, one in state["blocks"].items():
         print("block", address, one if isinstance(one, str) else f"kind {one['block_kind']} body {one['body'].hex() or '-'}")
     print("replies", state["stored"])
-    for prepare in state["prepares"]:
+    for prepare in state["tail"]:
         print("prepare", text_of(prepare))
     for reply in state["replies"].values():
         if reply["kind"] == REPLY:

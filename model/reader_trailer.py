@@ -18,10 +18,11 @@ def class_at(what):
 
 
 def chain_of(shown_at, f):
-    """The bodies of the trailer blocks put together, and their addresses; `shown_at` gives what an address shows."""
+    """The bodies of the trailer blocks put together, and each one's address with its checksum, in order of index; `shown_at`
+    gives what an address shows."""
     room = f["BlockSize"] - 256
     count = (f["TrailerSize"] + room - 1) // room
-    address, wanted, text, addresses = f["TrailerAddress"], f["TrailerChecksum"], b"", []
+    address, wanted, text, chain = f["TrailerAddress"], f["TrailerChecksum"], b"", []
     for index in range(count - 1, -1, -1):
         block = shown_at(address)
         if isinstance(block, str) or block["kind"] != TRAILER or number(block["checksum"], 0, 16) != wanted:
@@ -30,9 +31,9 @@ def chain_of(shown_at, f):
         leads = index == 0 or 1 <= block["request"] <= f["Blocks"]
         if (block["mark"], len(block["body"]), block["checkpoint"]) != (index, size, f["Sequence"]) or not leads:
             raise Refused(f"BadField TrailerChain {address}")
-        text, addresses = block["body"] + text, [address, *addresses]
+        text, chain = block["body"] + text, [(address, block["checksum"]), *chain]
         address, wanted = block["request"], block["parent"]
-    return text, addresses
+    return text, chain
 
 
 def session_at(text, at):
@@ -80,16 +81,16 @@ def references_of(text, at, f):
 
 
 def checkpoint_of(shown_at, f):
-    """What the superblock's checkpoint says: root, sessions by client, references by address."""
+    """What the superblock's checkpoint says: its root, sessions by client, references by address, and its trailer's chain."""
     if f["TrailerAddress"] == 0:
-        return b"", {}, {}
-    text, addresses = chain_of(shown_at, f)
+        return {"root": b"", "known": {}, "references": {}, "chain": []}
+    text, chain = chain_of(shown_at, f)
     root, sessions, references = parts_of(text, f)
-    for address in sorted(addresses):
+    for address in sorted(address for address, _ in chain):
         if address in references:
             raise Refused(f"BadField TrailerChain {address}")
     ops = [one["op"] for one in sessions.values()]
     for op in range(f["Replies"] + 1, f["Op"] + 1):
         if op not in ops:
             raise Refused(f"BadField Pending {op}")
-    return root, sessions, references
+    return {"root": root, "known": sessions, "references": references, "chain": chain}

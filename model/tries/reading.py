@@ -73,7 +73,7 @@ def read(t: Try) -> None:
     lines, wanted = [], []
     try:
         state = reader.state_of(data, knows("blocks"))
-        for one in state["prepares"]:
+        for one in state["tail"]:
             lines.append(f"prepare {one['op']}")
             wanted.append("prepare " + reader.text_of(one))
         for client, one in state["replies"].items():

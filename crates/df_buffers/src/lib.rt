@@ -10,7 +10,6 @@ mod make;
 mod probe;
 mod prove;
 mod raw;
-mod rooms;
 mod slots;
 mod sound;
 
@@ -18,6 +17,5 @@ pub use identity::{Identity, Wanted};
 pub use kinds::{Block, HeaderSector, Prepare, Reply, RoomKind, SuperSector, Trailer, UnitKind};
 pub use probe::ProbeRoom;
 pub use raw::Raw;
-pub use rooms::Rooms;
 pub use slots::SlotSeen;
 pub use sound::Sound;

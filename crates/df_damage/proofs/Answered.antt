@@ -14,6 +14,7 @@ use Rattle.df_damage.specs.Disks.{MayBeHurt}
 use Rattle.df_damage.specs.Openings.{OpensAsLeft}
 use Rattle.df_damage.proofs.Files.{opened_file, opened_found}
 use Rattle.df_damage.proofs.Opened.{checkpoint_stays, found_was_had, headers_may_be_hurt, headers_tell, two_copies_are_enough}
+use Rattle.df_damage.proofs.Started.{hurt_may_begin}
 use Rattle.df_damage.proofs.Refused.{refusals_are_of_damage, refusals_blame_hurt}
 
 module _ (file : DataFile) (view : View) (t : Told) (may : MayBeHurt file view t) where
@@ -29,6 +30,7 @@ module _ (file : DataFile) (view : View) (t : Told) (may : MayBeHurt file view t
     stands = subst (λ (x : DataFile). Represents s (opened (shape x) (unit_at file.layout x.cluster t.shown) is.view)) (opened_file file view t may s is) is.stands;
     had = (found_was_had file view t s may is).1;
     checkpoint = λ rest two. checkpoint_stays file view t s may rest two is;
+    begins = λ same. hurt_may_begin file view is.view t may (opened_found file view t may s is) same;
     headers = λ unhurt. (headers_tell file view t s may unhurt is).0;
     whole = λ none. ((needless none).finds s is).1;
   }

@@ -9,3 +9,6 @@ pub use Rattle.df_damage.proofs.Answered.{answer_is_of_hurt}
 -- ---- what was written
 pub use Rattle.df_damage.proofs.Barriers.{in_pools}
 pub use Rattle.df_damage.proofs.Written.{had_is_written, opened_is_written}
+-- ---- logs begun anew
+pub use Rattle.df_damage.proofs.Begun.{added_is_told, honest_stays, same_goes_on, stops_alike}
+pub use Rattle.df_damage.proofs.Started.{hurt_may_begin}

@@ -7,6 +7,8 @@ pub mod Opened
 pub mod Refused
 pub mod Written
 pub mod Tails
+pub mod Begun
+pub mod Started
 pub mod Answered
 pub mod Left
 pub mod Laws

@@ -1,6 +1,6 @@
 -- Where a view is found the superblock can be used, and each other answer of an open would be a second one.
 use Rattle.std.specs.Prelude.{Err}
-use Rattle.std.proofs.Common.{◌≡◌, inl, inr, ℕ, ◌<◌, refl, sym, ◌∙◌, ap, subst}
+use Rattle.std.proofs.Common.{◌≡◌, inl, inr, ℕ, ◌<◌, refl, sym, ◌∙◌, ap, subst, arith}
 use Rattle.std.proofs.Math.Bridge.{le_prop}
 use Rattle.std.proofs.Math.Nat.{ℕ_set}
 use Rattle.df_base.specs.Image.{Image, IsImage}
@@ -84,7 +84,8 @@ module _ (file : DataFile) (image : Image) (view : View) (whole : IsImage image)
       let cluster : other.cluster ≡ file.cluster = sym has.cluster ∙ ap (λ (g : SuperFields). g.cluster) (one_super image f fields has.super super) ∙ rules.0.cluster_is in
       let here : Opens (shape file) (unit_at file.layout file.cluster image) (Refused r) =
       subst (λ (x : DataFile). Opens (shape x) (unit_at file.layout x.cluster image) (Refused r)) (same_file other file of cluster) opens in
-      let both : Refused r ≡ Found view = one_answer_law (shape file) (unit_at file.layout file.cluster image) (Refused r) (Found view) here (Opened view found) in
+      let none = (found.checkpoint.tests.of.one found.checkpoint.tests.version).0 in
+      let both : Refused r ≡ Found view = one_answer_law (shape file) (unit_at file.layout file.cluster image) (Refused r) (Found view) here (Opened view found (omega (arith, none))) in
       cc
 
   answered : (error : OpenError) → Surveys file.layout image (Err error) → error ≡ DiskFault

@@ -1,11 +1,13 @@
 -- Why an open refuses a disk that may be hurt.
-use Rattle.std.proofs.Common.{◌≡◌, ◌⊎◌, inl, inr, ℕ, ◌%◌, ◌<◌, refl, sym, ◌∙◌, ap, subst, arith}
+use Rattle.std.proofs.Common.{◌≡◌, ◌⊎◌, inl, inr, ℕ, ◌%◌, ◌<◌, Option, Some, None, refl, sym, ◌∙◌, ap, subst, arith}
 use Rattle.std.specs.Prelude.{Err}
 use Rattle.df_base.specs.Log as logs
 use Rattle.df_disk.specs.Told.{Told}
 use Rattle.df_layout.specs.declared.places.Place.{Place}
 use Rattle.df_layout.specs.Zones.{file_sectors}
 use Rattle.df_format.specs.declared.superblock.SuperFault.TheVariants.{BadField as BrokenField, Version as OtherVersion}
+use Rattle.df_format.specs.Message.{Message}
+use Rattle.df_format.specs.Shown
 use Rattle.df_format.proofs.Laws.{faults}
 use Rattle.df_model.specs.declared.errors.OpenError.{OpenError}
 use Rattle.df_model.specs.declared.errors.OpenError.TheVariants.{BadField, Damaged, DiskFault, LayoutDiffers, NoQuorum, NotFormatted, Version}
@@ -13,13 +15,14 @@ use Rattle.df_theory.specs.Copies.{Agree}
 use Rattle.df_theory.specs.DamageLaws as laws
 use Rattle.df_theory.specs.Found.{IsFound}
 use Rattle.df_theory.specs.Opens as opens
+use Rattle.df_theory.specs.Tails.{In}
 use Rattle.df_theory.specs.UnitLog.{now}
 use Rattle.df_theory.specs.Units
-use Rattle.df_theory.specs.Units.{BlockPlace, CopyPlace, HeaderPlace, PreparePlace, ReplyPlace}
+use Rattle.df_theory.specs.Units.{BlockPlace, CopyPlace, HeaderPlace, PreparePlace, PrepareUnit, ReplyPlace}
 use Rattle.df_theory.specs.View.{View}
 use Rattle.df_theory.proofs.Laws.{blame_law, never_behind_law}
-use Rattle.df_units.specs.Bytes.{unit_at}
-use Rattle.df_units.specs.Meaning.{place_of}
+use Rattle.df_units.specs.Bytes.{message_unit, unit_at}
+use Rattle.df_units.specs.Meaning.{message_of, place_of}
 use Rattle.df_units.proofs.Laws.{chosen_choice, is_format}
 use Rattle.df_recovery.specs.Opening.{Refuses}
 use Rattle.df_recovery.specs.Surveys.{Surveys}
@@ -32,6 +35,11 @@ use Rattle.df_damage.proofs.Barriers.{agreed_rest, left, log, pooled, rests, sho
 use Rattle.df_damage.proofs.Files.{no_bad_field, no_fault, own_layout, refused_here, rules}
 use Rattle.df_damage.proofs.NotRefused.{found_is_not_refused}
 use Rattle.df_damage.proofs.Sectors.{in_zone, place_differs, search}
+
+-- a prepare that a file of version 1 shows is a group of its own
+prepare_alone : (slot : ℕ) (o : Option Message) (p : Units.Message) → message_unit (PreparePlace slot) o ≡ Some (PrepareUnit p) → p.header.group ≡ p.header.op
+prepare_alone slot None p is = absurd (cc)
+prepare_alone slot (Some u) p is = let same : message_of u ≡ p = cc in subst (λ (m : Units.Message). m.header.group ≡ m.header.op) same refl
 
 module _ (file : DataFile) (view : View) (t : Told) (may : MayBeHurt file view t) where
   -- ---- which refusals come
@@ -76,6 +84,15 @@ module _ (file : DataFile) (view : View) (t : Told) (may : MayBeHurt file view t
     | inr same ↦ absurd (hurt same)
   ]
 
+  -- each prepare of the tail was appended alone, so that its slot is all there is of its group
+  alone : (p : Units.Message) → In p view.tail → p.header.group ≡ p.header.op
+  alone p at = prepare_alone (p.header.op % file.layout.slots) (Shown.unit_at file.layout file.cluster (logs.now t.log) (place_of (PreparePlace (p.header.op % file.layout.slots)))) p (may.found.tail.takes p at).shown
+
+  group_unhurt : (p : Units.Message) → In p view.tail → unit_at file.layout file.cluster t.shown (PreparePlace (p.header.op % file.layout.slots)) ≡ now (log file view t may) (PreparePlace (p.header.op % file.layout.slots)) → laws.IsGroupUnhurt (shape file) (log file view t may) view (shown file view t may) p
+  group_unhurt p at same q there group =
+      let op : p.header.op ≡ q.header.op = sym (alone p at) ∙ sym group ∙ alone q there in
+      subst (λ (o : ℕ). unit_at file.layout file.cluster t.shown (PreparePlace (o % file.layout.slots)) ≡ now (log file view t may) (PreparePlace (o % file.layout.slots))) op same
+
   blamed : (at : Units.Place) → laws.BlamesHurt (shape file) (log file view t may) view (shown file view t may) (opens.Damaged at) → IsBlamed file view t (place_of at).zone (place_of at).index
   blamed (CopyPlace n) blames = blames
   blamed (HeaderPlace s) blames = blames
@@ -92,7 +109,10 @@ module _ (file : DataFile) (view : View) (t : Told) (may : MayBeHurt file view t
       found = lacks.2;
       is_tail = lacks.6;
       later = lacks.7;
-      hurt = hurt_there (PreparePlace (lacks.1.header.op % file.layout.slots)) lacks.8;
+      hurt = elim (hurt_or (PreparePlace (lacks.1.header.op % file.layout.slots))) [
+        | inl hurt ↦ hurt
+        | inr own ↦ absurd (lacks.8 (group_unhurt lacks.1 lacks.4 own))
+      ];
     })
   ]
 

@@ -12,6 +12,7 @@ use Rattle.df_theory.specs.View.{View}
 use Rattle.df_units.specs.Bytes.{unit_at}
 use Rattle.df_recovery.specs.Surveys.{Surveys}
 use Rattle.df_recovery.specs.Below.{DataFile, Represents, State, shape}
+use Rattle.df_damage.specs.Anew.{MayBegin}
 use Rattle.df_damage.specs.Disks.{IsAtRest, MayBeHurt}
 use Rattle.df_damage.specs.Hurt.{HasTwoCopies, IsHurtFile, IsHurtInside, IsUnhurtZone}
 use Rattle.df_damage.specs.Openings.{HasEachHeader}
@@ -22,7 +23,7 @@ use Rattle.df_damage.specs.Refusals.{BlamesHurt, MayBeOfDamage}
 abbrev pub IsNeedless : DataFile → Told → Type 0
 IsNeedless file t = (IsAtRest file t.log × HasTwoCopies t × IsHurtInside file.layout t Superblock) ⊎ IsHurtInside file.layout t WalHeaders
 
--- a state that is found: it is of this file, and stands for the view that is found in what is shown, which the file had
+-- a state that is found: it is of this file, and stands for the view that is found in what is shown, which the file had; where that has the file's checkpoint, a log may be begun anew there
 pub record FindsHad (file : DataFile) (view : View) (t : Told) (s : State) : Type 0 where
   pub of : s.file ≡ file
   pub found : View
@@ -30,6 +31,7 @@ pub record FindsHad (file : DataFile) (view : View) (t : Told) (s : State) : Typ
   pub stands : Represents s (opened (shape file) (unit_at file.layout file.cluster t.shown) found)
   pub had : WasHad file (add Sync t.log) found
   pub checkpoint : IsAtRest file t.log → HasTwoCopies t → found.checkpoint ≡ view.checkpoint
+  pub begins : found.checkpoint ≡ view.checkpoint → MayBegin file found t.shown
   pub headers : IsUnhurtZone file.layout t WalHeaders → HasEachHeader file t found
   pub whole : IsNeedless file t → found ≡ view
 

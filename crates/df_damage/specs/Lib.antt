@@ -1,6 +1,7 @@
 pub mod Hurt
 pub mod Past
 pub mod Disks
+pub mod Anew
 pub mod Unrefused
 pub mod Openings
 pub mod Refusals

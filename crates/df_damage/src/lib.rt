@@ -1,11 +1,13 @@
 //! What damage can do to a file, in sectors: what an open finds on a disk that was hurt, and why it refuses.
 #![tactic(auto)]
 
+mod anew;
 mod disks;
 mod needed;
 mod opening;
 mod refusing;
 
+pub use anew::{a_log_is_begun_anew, what_is_found_may_begin};
 pub use disks::what_is_left_may_be_hurt;
 pub use needed::needed_units_were_written;
 pub use opening::{

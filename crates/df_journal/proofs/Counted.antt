@@ -172,10 +172,10 @@ complete image c head seen counts boot = (
   λ is.
       let op = (counts.ring_op head).0 is.ring_op in
       let reply = (counts.reply_top head).0 is.reply_top in
-      record { header = λ s h shown own. op.header s h shown; prepare = λ s p shown own. op.prepare s p shown; superblock = is.superblock; reply = λ k r shown own. (reply.0 k r shown, reply.1 k r shown) },
+      record { header = λ s h shown own. op.header s h shown; prepare = λ s p shown own. inl (op.prepare s p shown); superblock = is.superblock; reply = λ k r shown own. (reply.0 k r shown, reply.1 k r shown) },
   λ is.
       let header : (s : ℕ) (h : Header) → image (HeaderPlace s) ≡ Some (HeaderUnit h) → h.op ≤ head = λ s h shown. is.header s h shown (let none = counts.boot.0.header s h shown in omega (arith, none, boot)) in
-      let prepare : (s : ℕ) (p : Message) → image (PreparePlace s) ≡ Some (PrepareUnit p) → p.header.op ≤ head = λ s p shown. is.prepare s p shown (let none = counts.boot.0.prepare s p shown in omega (arith, none, boot)) in
+      let prepare : (s : ℕ) (p : Message) → image (PreparePlace s) ≡ Some (PrepareUnit p) → p.header.op ≤ head = λ s p shown. let none = counts.boot.0.prepare s p shown in elim (is.prepare s p shown (omega (arith, none, boot))) [ inl below ↦ below | inr cut ↦ absurd (omega (arith, none, cut.boot)) ] in
       let reply : (k : ℕ) (r : Message) → image (ReplyPlace k) ≡ Some (ReplyUnit r) → (r.header.op ≤ head) × (r.header.mark ≤ head) = λ k r shown. is.reply k r shown (let none = counts.boot.1 k r shown in omega (arith, none, boot)) in
       record {
         ring_op = (counts.ring_op head).1 (record { header = header; prepare = prepare });

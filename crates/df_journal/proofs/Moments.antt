@@ -32,7 +32,7 @@ use Rattle.df_theory.specs.Holds.{Held}
 use Rattle.df_theory.specs.Next.{appended}
 use Rattle.df_theory.specs.Shape.{slots}
 use Rattle.df_theory.specs.View.{Checkpoint, View, head}
-use Rattle.df_theory.proofs.Laws.{found_law, slot_law}
+use Rattle.df_theory.proofs.Laws.{clear_slot_law, found_law, slot_law}
 use Rattle.df_units.specs.Append.{LeadsOnDisk, append_events}
 use Rattle.df_units.specs.Bytes.{first_at, unit_at}
 use Rattle.df_units.specs.Format.{format_of, shape_of}
@@ -115,7 +115,7 @@ stays layout cluster named parse image v u whole held same low high =
     let slot : (o : ℕ) → v.checkpoint.content.op < o → o ≤ v.checkpoint.content.op + slots sh → (o ≤ head u → IsTake (decision (slots sh) 0 units o)) × (head u < o → IsEmpty (decision (slots sh) 0 units o)) = λ o above within.
     let law = slot_law sh units u o places found (omega (arith, above, op)) (omega (arith, within, op)) in (
       λ le. subst (λ (b : ℕ). IsTake (decision (slots sh) b units o)) version.0 (law.0 (omega (arith, version.1, above, op)) le),
-      λ less. subst (λ (b : ℕ). IsEmpty (decision (slots sh) b units o)) version.0 (law.1 less),
+      λ less. subst (λ (b : ℕ). IsEmpty (decision (slots sh) b units o)) version.0 (clear_slot_law sh units u o places found version.0 less (omega (arith, within, op))),
     ) in
     record {
       taken = λ o above le. (slot o above (omega (arith, le, low, op, found.tail.room))).0 (omega (arith, le, low));

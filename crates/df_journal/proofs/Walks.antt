@@ -13,14 +13,15 @@ use Rattle.df_sessions.specs.declared.session.Session.{Session}
 use Rattle.df_sessions.specs.Requests.{sessions_of}
 use Rattle.df_sessions.specs.Table.{requested, with_request}
 use Rattle.df_theory.specs.Units
-use Rattle.df_theory.specs.Units.{AnyUnit, PreparePlace, PrepareUnit}
+use Rattle.df_theory.specs.Units.{AnyUnit, IsAlone, PreparePlace, PrepareUnit}
 use Rattle.df_theory.specs.Sessions.{MayAsk, noted, sessions_after}
 use Rattle.df_theory.specs.Tails.{Chain, Fits, In, last_checksum, last_mark}
 use Rattle.df_theory.specs.Shape.{Shape, clients, slots}
 use Rattle.df_theory.specs.View.{Checkpoint}
 use Rattle.df_theory.specs.Cases
-use Rattle.df_theory.specs.Found.{slot_behind}
-use Rattle.df_theory.proofs.Laws.{chain_append, last_mark-append, sessions-append, chain_ops, in_either, in_single}
+use Rattle.df_theory.specs.Found.{IsReach, IsTail, slot_behind}
+use Rattle.df_theory.specs.GroupLaws.{WalksAlone}
+use Rattle.df_theory.proofs.Laws.{alone_law, chain_append, last_mark-append, sessions-append, in_either, in_single}
 use Rattle.df_units.specs.Meaning.{header_of, number_of}
 use Rattle.df_buffers.specs.declared.slots.SlotSeen.{SlotSeen}
 use Rattle.df_journal.specs.declared.tail.Tail.{Tail}
@@ -43,7 +44,7 @@ pub record IsWalk (layout : Layout) (image : Units.Units) (b : Checkpoint) (last
   pub ps : List Units.Message
   pub chain : Chain layout.clients (b.content.op + 1) b.content.op_checksum 0 b.parts.sessions ps
   pub takes : (p : Units.Message) → In p ps → Cases.Takes layout.slots image b.content p
-  pub alone : (p : Units.Message) → In p ps → p.header.group_last ≡ p.header.op
+  pub alone : (p : Units.Message) → In p ps → IsAlone p.header
   pub ends : EndsAt b ps last sessions
 
 pub walk_none : (layout : Layout) (image : Units.Units) (sh : Shape) (b : Checkpoint) (op : ℕ) (checksum : List ℕ) (sessions : List Session) → StartsAt sh b layout op checksum sessions → IsWalk layout image b (record { op = op; checksum = checksum; mark = 0 }) sessions
@@ -144,12 +145,13 @@ module _ (layout : Layout) (cluster : ℕ) (table : List SlotSeen) (image : Unit
       let ps = walk.ps in
       let fits : Fits layout.clients (b.content.op + 1 + length ps) (last_checksum b.content.op_checksum ps) (last_mark 0 ps) (sessions_after b.parts.sessions ps) p.header =
       subst (λ (k : Units.Header). Fits layout.clients (b.content.op + 1 + length ps) (last_checksum b.content.op_checksum ps) (last_mark 0 ps) (sessions_after b.parts.sessions ps) k) (sym found.2) (fits_behind b last sessions ps (header_of h) walk.ends next.fits) in
-      let alone : p.header.group_last ≡ p.header.op = ap (λ (k : Units.Header). k.group_last) found.2 ∙ sym (ap (λ (k : Units.Header). k.op) found.2) in
+      let op_is : h.op ≡ p.header.op = sym (ap (λ (k : Units.Header). k.op) found.2) in
+      let alone : IsAlone p.header = record { first = ap (λ (k : Units.Header). k.group) found.2 ∙ op_is; last = ap (λ (k : Units.Header). k.group_last) found.2 ∙ op_is } in
       record {
         ps = ps ++ p ∷ [];
         chain = chain_append layout.clients (b.content.op + 1) b.content.op_checksum 0 b.parts.sessions ps (p ∷ []) walk.chain (fits, tt);
         takes = λ q at. elim (in_either q ps (p ∷ []) at) [ inl old ↦ walk.takes q old | inr new ↦ subst (λ (m : Units.Message). Cases.Takes layout.slots image b.content m) (sym (in_single q p new)) found.1 ];
-        alone = λ q at. elim (in_either q ps (p ∷ []) at) [ inl old ↦ walk.alone q old | inr new ↦ subst (λ (m : Units.Message). m.header.group_last ≡ m.header.op) (sym (in_single q p new)) alone ];
+        alone = λ q at. elim (in_either q ps (p ∷ []) at) [ inl old ↦ walk.alone q old | inr new ↦ subst (λ (m : Units.Message). IsAlone m.header) (sym (in_single q p new)) alone ];
         ends = record {
           op = omega (arith, next.taken.op_is, walk.ends.op, length-append ps (p ∷ []));
           checksum = sym (ap (λ (k : Units.Header). k.checksum) found.2) ∙ sym (last_checksum-append b.content.op_checksum ps (p ∷ []));
@@ -164,19 +166,7 @@ module _ (layout : Layout) (cluster : ℕ) (table : List SlotSeen) (image : Unit
 
   pub walk_ends : (sh : Shape) (b : Checkpoint) (op : ℕ) (checksum : List ℕ) (first : List Session) (last : Tail) (sessions : List Session) → StartsAt sh b layout op checksum first → IsWalk layout image b last sessions → last.op ≤ op + layout.slots
       → ((h : Header) → last.op < op + layout.slots → IsNext layout table last sessions h → ⊥) → FindsTail sh image b last sessions
-  walk_ends sh b op checksum first last sessions starts walk within none = record {
-    tail = walk.ps;
-    is = record {
-      chain = subst (λ (n : ℕ). Chain n (b.content.op + 1) b.content.op_checksum 0 b.parts.sessions walk.ps) (sym starts.clients_are) walk.chain;
-      takes = λ p at. subst (λ (n : ℕ). Cases.Takes n image b.content p) (sym starts.slots_are) (walk.takes p at);
-      room = omega (arith, within, walk.ends.op, starts.op_is, starts.slots_are);
-      groups = λ p at. omega (arith, walk.alone p at, (chain_ops layout.clients (b.content.op + 1) b.content.op_checksum 0 b.parts.sessions walk.ps p walk.chain at).1);
-      reaches = omega (arith, starts.pin);
-      pinned = ap (λ (n : ℕ). last_checksum b.content.op_checksum (take n walk.ps)) none_pinned ∙ sym starts.pin_checksum;
-      longest = longest;
-    };
-    ends = walk.ends;
-  }
+  walk_ends sh b op checksum first last sessions starts walk within none = record { tail = walk.ps; is = ended.0; reach = ended.1; ends = walk.ends }
     where
       none_pinned : b.content.pin - b.content.op ≡ 0
       none_pinned = omega (arith, starts.pin)
@@ -195,11 +185,25 @@ module _ (layout : Layout) (cluster : ℕ) (table : List SlotSeen) (image : Unit
             fits = subst (λ (k : Units.Header). Fits layout.clients (last.op + 1) (number_of last.checksum) last.mark (sessions_of sessions) k) taken.same (fits_before b last sessions walk.ps p.header walk.ends here);
           })
 
+      alone : WalksAlone sh image b walk.ps
+      alone = record {
+        alone = walk.alone;
+        chain = subst (λ (n : ℕ). Chain n (b.content.op + 1) b.content.op_checksum 0 b.parts.sessions walk.ps) (sym starts.clients_are) walk.chain;
+        takes = λ p at. subst (λ (n : ℕ). Cases.Takes n image b.content p) (sym starts.slots_are) (walk.takes p at);
+        room = omega (arith, within, walk.ends.op, starts.op_is, starts.slots_are);
+        reaches = omega (arith, starts.pin);
+        pinned = ap (λ (n : ℕ). last_checksum b.content.op_checksum (take n walk.ps)) none_pinned ∙ sym starts.pin_checksum;
+        longest = longest;
+      }
+
+      ended : IsTail sh image b walk.ps × IsReach sh image b walk.ps []
+      ended = alone_law sh image b walk.ps alone
+
 -- the slot of the op behind the end of a tail
-pub blamed_is : (sh : Shape) (b : Checkpoint) (ps : List Units.Message) (last : Tail) (sessions : List Session) (n : ℕ) → slots sh ≡ n → EndsAt b ps last sessions → (last.op + 1) % n ≡ slot_behind sh b ps
+pub blamed_is : (sh : Shape) (b : Checkpoint) (ps : List Units.Message) (last : Tail) (sessions : List Session) (n : ℕ) → slots sh ≡ n → EndsAt b ps last sessions → (last.op + 1) % n ≡ slot_behind sh b ps []
 blamed_is sh b ps last sessions n same ends =
-    let op : last.op + 1 ≡ b.content.op + length ps + 1 = omega (arith, ends.op) in
-    ap (λ (k : ℕ). k % n) op ∙ ap (λ (m : ℕ). (b.content.op + length ps + 1) % m) (sym same)
+    let op : last.op + 1 ≡ b.content.op + length ps + 0 + 1 = omega (arith, ends.op) in
+    ap (λ (k : ℕ). k % n) op ∙ ap (λ (m : ℕ). (b.content.op + length ps + 0 + 1) % m) (sym same)
 
 -- a request leaves no reply stored where none was
 pub still_unstored : (h : Header) (before after : List Session) (place : ℕ) → slice_get after place ≡ Some (requested h.client h.request h.op) → ((k : ℕ) → (k ≡ place → ⊥) → slice_get after k ≡ slice_get before k) → AreUnstored before → AreUnstored after

@@ -1,5 +1,5 @@
 -- The tail that a table of slots shows behind a checkpoint.
-use Rattle.std.specs.Prelude.{◌≡◌, ◌≢◌, ◌⊎◌, ◌<◌, ◌^◌, ◌≤◌, ◌+◌, ◌%◌, ℕ, List, length, slice_get, Option, Some, None}
+use Rattle.std.specs.Prelude.{◌≡◌, ◌≢◌, ◌⊎◌, ◌<◌, ◌^◌, ◌≤◌, ◌+◌, ◌%◌, ℕ, List, [], length, slice_get, Option, Some, None}
 use Rattle.df_layout.specs.declared.layout.Layout.{Layout}
 use Rattle.df_format.specs.declared.header.Header.{Header}
 use Rattle.df_format.specs.Spelling.{IsCheck}
@@ -39,10 +39,11 @@ pub record EndsAt (b : Checkpoint) (ps : List Units.Message) (end : Tail) (sessi
   pub mark : end.mark ≡ last_mark 0 ps
   pub sessions_are : sessions_of sessions ≡ sessions_after b.parts.sessions ps
 
--- the tail of the image ends so
+-- the tail of the image ends so, and no taken prepare fits behind it
 pub record FindsTail (sh : Shape) (image : Units.Units) (b : Checkpoint) (end : Tail) (sessions : List Session) : Type 0 where
   pub tail : List Units.Message
   pub is : Found.IsTail sh image b tail
+  pub reach : Found.IsReach sh image b tail []
   pub ends : EndsAt b tail end sessions
 
 -- the header of the prepare that comes next: it is taken from the slot of its op, and fits

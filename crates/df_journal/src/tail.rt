@@ -1,5 +1,5 @@
 // The tail: the longest list of taken prepares behind the checkpoint, each of which fits what precedes it.
-ghost use Rattle.std.specs.Prelude.{◌≡◌, ◌≤◌, ◌<◌, ◌+◌, ◌^◌, List, IfSome};
+ghost use Rattle.std.specs.Prelude.{◌≡◌, ◌≤◌, ◌<◌, ◌+◌, ◌^◌, List, [], IfSome};
 ghost use Rattle.df_format.specs.Spelling.{IsCheck};
 ghost use Rattle.df_sessions.specs.declared.session.Session.{Session};
 ghost use Rattle.df_theory.specs.Units.{Message, Units};
@@ -110,7 +110,7 @@ pub fn find_tail(
 /// The slot that is blamed where something was lost behind a tail: that of the next op. Its class is the table's.
 pub fn slot_behind(layout: &Layout, tail: &Tail) -> u32
     requires { tail.now.op < 2 ^ 63 }
-    ensures slot { (sh : Shape) (b : Checkpoint) (ps : List Message) (sessions : List Session) → slots sh ≡ layout.now.slots → EndsAt b ps tail.now sessions → result ≡ blamed sh b ps }
+    ensures slot { (sh : Shape) (b : Checkpoint) (ps : List Message) (sessions : List Session) → slots sh ≡ layout.now.slots → EndsAt b ps tail.now sessions → result ≡ blamed sh b ps [] }
     ensures below { result < layout.now.slots }
 {
     ((tail.op + 1) % u64::from(layout.slots)) as u32

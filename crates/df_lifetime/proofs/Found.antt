@@ -32,7 +32,7 @@ use Rattle.df_lifetime.proofs.Next.{stays}
 codec_of : (file : DataFile) → IsCodec (shape file) (spelling file)
 codec_of file = codec (shape file) (omega (arith, file.layout.clients_within.1)) (omega (arith, file.layout.block_size_within)) refl
 
-start_makes_sense : (file : DataFile) (image : Image) (view : View) → IsImage image → IsFound (shape file) (unit_at file.layout file.cluster image) view → IsWork (shape file) (spelling file) (start_of file image view)
+pub start_makes_sense : (file : DataFile) (image : Image) (view : View) → IsImage image → IsFound (shape file) (unit_at file.layout file.cluster image) view → IsWork (shape file) (spelling file) (start_of file image view)
 start_makes_sense file image view whole found =
     let choice = chosen_choice file.layout file.cluster image view.checkpoint.content whole found.chosen in
     found_law (shape file) (spelling file) (unit_at file.layout file.cluster image) view (codec_of file) (record { version = refl; names = ap (λ (c : Content). c.reply_checksums) (sym choice.1) })
@@ -54,7 +54,7 @@ module _ (file : DataFile) where
   all_stay acts w (a ∷ done) (x ∷ answers) work inputs there = (stays_behind acts w a.command x work inputs there.0, all_stay acts w done answers work inputs there.1)
 
   -- of the acts that came through the first ones were answered
-  front_there : (acts more : List Act) (w : Work) → IsWork (shape file) (spelling file) w → AreInputs (acts ++ more) → AreThere (kept (work_after file w (acts ++ more))) acts (answers_of file w acts)
+  pub front_there : (acts more : List Act) (w : Work) → IsWork (shape file) (spelling file) w → AreInputs (acts ++ more) → AreThere (kept (work_after file w (acts ++ more))) acts (answers_of file w acts)
   front_there [] more w work inputs = tt
   front_there (a ∷ acts) more w work inputs =
       let then : IsWork (shape file) (spelling file) (next file w a.given a.command).0 = sense_law (shape file) (spelling file) w a.given a.command inputs.0 work in (
@@ -62,7 +62,7 @@ module _ (file : DataFile) where
         front_there acts more (next file w a.given a.command).0 then inputs.1,
       )
 
-  front_inputs : (acts more : List Act) → AreInputs (acts ++ more) → AreInputs acts
+  pub front_inputs : (acts more : List Act) → AreInputs (acts ++ more) → AreInputs acts
   front_inputs [] more inputs = tt
   front_inputs (a ∷ acts) more inputs = (inputs.0, front_inputs acts more inputs.1)
 

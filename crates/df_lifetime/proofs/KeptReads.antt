@@ -1,7 +1,8 @@
--- What a read is supplied with over an honest disk is what the log shows, so that the machine's laws of reads apply.
+-- What a read is supplied with is what a log shows over which the disk is honest, so that the machine's laws of reads apply.
 use Rattle.std.proofs.Common.{◌≡◌, ℕ, ◌<◌, ◌≤◌, ◌==◌, ◌&&◌, not, nat_lt, nat_le, zero, suc, Bool, true, false, if◌then◌else◌, List, [], ◌∷◌, Option, Some, None, Result, Ok, refl, sym, ◌∙◌, ap, subst, arith}
 use Rattle.std.specs.List.{slice_get}
 use Rattle.std.proofs.lemmas.Bool.Decides.{nat_tests}
+use Rattle.df_base.specs.Log as logs
 use Rattle.df_layout.specs.declared.damage.Class.{Class}
 use Rattle.df_theory.specs.Device.{units_log}
 use Rattle.df_theory.specs.Shape.{Shape}
@@ -96,23 +97,26 @@ module _ (g : Grade) (w : Work) (command : Command) (x : Answer) (is : IsRead g 
   file = is.state.file
 
   abbrev log : UnitLog
-  log = units_log (format file) is.told.log
+  log = units_log (format file) is.base.log
 
   abbrev damage : Units.Place → Class
   damage = class_at file.layout file.cluster is.told.shown
 
   -- no read makes a unit
   abbrev spells : Codec
-  spells = record { spell = spelling file; prepare = λ m. 0; reply = λ m. 0; block = λ b. 0; content = λ c. 0 }
+  spells = record { spell = spelling file; prepare = λ m. 0; reply = λ place m. 0; block = λ a b. 0; content = λ c. 0 }
 
   by : IsKeptBy (shape file) (spelling file) log w
   by = firm g (shape file) (spelling file) log w is.keeps.kept_by
 
   answer : x ≡ (next file w is.given command).1
-  answer = (is.call.keeps g w is.keeps).1.0
+  answer = (is.call.keeps g w (Some is.base) is.keeps).1.0
+
+  shows : is.told.shown ≡ logs.now is.base.log
+  shows = sym is.same ∙ (let honest : is.base.shown ≡ logs.now is.base.log = λ i sector. is.honest.shows sector i in honest)
 
   units : unit_at file.layout file.cluster is.told.shown ≡ now log
-  units = ap (unit_at file.layout file.cluster) (λ i sector. is.honest.shows sector i) ∙ sym (now_units (format file) is.told.log.start is.told.log.events)
+  units = ap (unit_at file.layout file.cluster) shows ∙ sym (now_units (format file) is.base.log.start is.base.log.events)
 
   message : message_given (shown_of file is.told.shown) (memory is.state) command ≡ message_given (shown_by log damage) (memory_of (shape file) (spelling file) w) command
   message = λ i. message_given (record { units = units i; damage = damage }) (is.keeps.stands i) command

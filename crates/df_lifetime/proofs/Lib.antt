@@ -1,9 +1,17 @@
 mod Files
 mod Acts
 mod Orders
+mod Bases
 mod Lives
 mod Blank
 mod Next
 mod Done
 mod Found
+mod HurtSessions
 mod KeptReads
+mod Alike
+mod OneText
+mod Fronts
+mod OneRun
+mod OneTour
+mod RunTexts

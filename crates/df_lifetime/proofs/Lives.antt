@@ -8,7 +8,7 @@ use Rattle.df_base.specs.Image.{Image, IsImage, changed}
 use Rattle.df_base.specs.Log.{AreLoose, Event, IsLeft, IsLog, Log, Stop, Sync, loose_of, now}
 use Rattle.df_base.specs.Moments.{EachMoment, Extends, IsMoment}
 use Rattle.df_base.proofs.Laws.{changed_is_image, extends_self, from_before, now_is_image, weaker}
-use Rattle.df_disk.specs.Adds.{AddsPart}
+use Rattle.df_disk.specs.Adds.{AddsPart, after_all}
 use Rattle.df_disk.specs.Told.{IsHonest, Told, did}
 use Rattle.df_layout.specs.declared.layout.Layout.{Layout}
 use Rattle.df_theory.specs.Device.{IsSafeDisk, NoChanceOf, units_log}
@@ -22,16 +22,16 @@ use Rattle.df_units.proofs.Laws.{is_format}
 use Rattle.df_model.specs.Commands.{Answer}
 use Rattle.df_model.specs.Work.{Work, kept}
 use Rattle.df_model.specs.declared.errors.OpenError.TheVariants.{NotFormatted}
-use Rattle.df_replica.specs.Below.{State as Replica, shape, DataFile, IsNotRefused}
+use Rattle.df_replica.specs.Below.{State as Replica, shape, DataFile, IsNotRefused, told_after}
 use Rattle.df_replica.specs.Following.{MayOpen}
 use Rattle.df_replica.specs.HeldBlocks.{AreInputs}
 use Rattle.df_replica.specs.Opened.{MendsPartly, StopsOpening}
 use Rattle.df_replica.specs.Serving.{Grade, IsGoodFor, StandsFor, Whole, format}
 use Rattle.df_replica.specs.Session.{Act, HasView, IsMidway, work_after}
-use Rattle.df_replica.proofs.Laws.{good_left, good_safe, safe_is_not_refused}
-use Rattle.df_top.specs.Acknowledging.{CallsMade, IsUntil, KeepsAnswered, run_calls, script_calls}
+use Rattle.df_replica.proofs.Laws.{added_is_told, good_left, good_safe, safe_is_not_refused}
+use Rattle.df_top.specs.Acknowledging.{CallsMade, IsUntil, KeepsAnswered, events_made, run_calls, script_calls}
 use Rattle.df_top.specs.Formats.{Formats}
-use Rattle.df_top.specs.Keeping.{KeepsFile, LeavesAll}
+use Rattle.df_top.specs.Keeping.{KeepsFile, LeavesAll, over}
 use Rattle.df_top.specs.Opening.{RefusesFile}
 use Rattle.df_top.specs.Outside.{Outside}
 use Rattle.df_top.specs.Run.{Does, ServesScript}
@@ -43,6 +43,7 @@ use Rattle.df_top.specs.declared.status.Status.{Status}
 use Rattle.df_top.specs.declared.status.Status.TheVariants.{Done, Found, Words, Script, Refused, DiskFault, ReadFault, WriteFault, Memory}
 use Rattle.df_lifetime.specs.Life.{Chapter, EveryLifeGoesOn, EveryLifeIsInOrder, FormatWord, HaveAnswers, IsInOrder, MayHave, Outcome, ToAMoment, ToItsEnd, Word, calls_in, calls_made, calls_of, chapter_of, chapters_of, sessions_in, start_of}
 use Rattle.df_lifetime.specs.Life.Life.{Begun, Ended, Formatted, Made, Ran, Stopped}
+use Rattle.df_lifetime.proofs.Bases.{AnsweredOver, KeepsOver, told_over}
 use Rattle.df_lifetime.proofs.Acts.{HasFront, ends_inputs, first_answers, front_and_rest, has_front, work_on}
 use Rattle.df_lifetime.proofs.Files.{goes_told, one_file, one_told}
 use Rattle.df_lifetime.proofs.Orders.{Has, Order, after_barrier, goes_on, here, in_order, made_in_order, made_safe, may, none_referenced, order_of, same_moments, stands_shown, synced, synced_moments}
@@ -98,9 +99,14 @@ module _ (file : DataFile) (chapters : List Chapter) (t : Told) (is : IsInOrder 
       let goes = goes_told (did Sync t) new mends.told in
       let same : goes.0 ≡ n = one_told new goes.0 n goes.1 to in
       let one : mends.state.file ≡ file = one_file file layout t.shown view mends.state own found_shown mends.opened in
+      let es : List Event = mends.told.0 in
+      let ends : told_after es (did Sync t) ≡ n = one_told new (told_after es (did Sync t)) n (mends.told.1 ∙ added_is_told es (did Sync t)) to in
       let each : EachMoment (did Sync t).log n.log (IsGoodFor Whole (format file) (shape file) view view) =
-      (subst (λ (f : DataFile). (m : Told) (g : Grade) (v : View) → new ≡ Some m → MayOpen f v t → StandsFor g (unit_at f.layout f.cluster t.shown) v → EachMoment (did Sync t).log m.log (IsGoodFor g (format f) (shape f) v v)) one mends.moments)
-      n Whole view to opens (stands_shown file chapters t is chance) in
+      subst (λ (x : Told). EachMoment (did Sync t).log x.log (IsGoodFor Whole (format file) (shape file) view view)) ends
+      ((subst
+      (λ (f : DataFile). (g : Grade) (v : View) (base : Told) → base.shown ≡ t.shown → MayOpen f v base → StandsFor g (unit_at f.layout f.cluster t.shown) v
+      → EachMoment (did Sync base).log (told_after es (did Sync base)).log (IsGoodFor g (format f) (shape f) v v)) one mends.moments)
+      Whole view t refl opens (stands_shown file chapters t is chance)) in
       let grew : Extends n.log (did Sync t).log = subst (λ (x : Told). Extends x.log (did Sync t).log) same goes.2.grew in
       let later : EachMoment (did Sync t).log n.log (Order file chapters) = weaker (did Sync t).log n.log (IsGoodFor Whole (format file) (shape file) view view) (Order file chapters) (λ log good. good_order log good) each in
       record {
@@ -127,19 +133,16 @@ module _ (file : DataFile) (chapters : List Chapter) (t : Told) (is : IsInOrder 
   abbrev start : Work
   start = start_of file t.shown view
 
-  keeps_as : (replica : Replica) (acts : List Act) (xs : List Answer) (failed : Option Act) (new : Option Told) (n : Told) → new ≡ Some n → replica.file ≡ file
-      → ((g : Grade) (v : View) → MayOpen replica.file v t → StandsFor g (unit_at replica.file.layout replica.file.cluster t.shown) v → KeepsFile replica.file g (start_of replica.file t.shown v) t acts xs failed new)
-      → KeepsFile file Whole start t acts xs failed (Some n)
-  keeps_as replica acts xs failed new n to one keeps =
+  keeps_as : (replica : Replica) (acts : List Act) (xs : List Answer) (failed : Option Act) (mending added : List Event) (n : Told) → over mending added t ≡ Some n → replica.file ≡ file
+      → KeepsOver replica.file t acts xs failed mending added → KeepsFile file Whole start t acts xs failed (Some n)
+  keeps_as replica acts xs failed mending added n to one keeps =
       subst (λ (o : Option Told). KeepsFile file Whole start t acts xs failed o) to
-      ((subst (λ (f : DataFile). (g : Grade) (v : View) → MayOpen f v t → StandsFor g (unit_at f.layout f.cluster t.shown) v → KeepsFile f g (start_of f t.shown v) t acts xs failed new) one keeps)
-      Whole view opens (stands_shown file chapters t is chance))
+      (subst (λ (f : DataFile). KeepsOver f t acts xs failed mending added) one keeps Whole view t refl opens (stands_shown file chapters t is chance))
 
-  answered_as : (replica : Replica) (c : CallsMade) → replica.file ≡ file
-      → ((g : Grade) (v : View) → MayOpen replica.file v t → StandsFor g (unit_at replica.file.layout replica.file.cluster t.shown) v → KeepsAnswered replica.file g (start_of replica.file t.shown v) c) → KeepsAnswered file Whole start c
-  answered_as replica c one keeps =
-      (subst (λ (f : DataFile). (g : Grade) (v : View) → MayOpen f v t → StandsFor g (unit_at f.layout f.cluster t.shown) v → KeepsAnswered f g (start_of f t.shown v) c) one keeps)
-      Whole view opens (stands_shown file chapters t is chance)
+  answered_as : (replica : Replica) (c : CallsMade) (mending : List Event) → over mending [] t ≡ c.old → replica.file ≡ file → AnsweredOver replica.file t mending c → KeepsAnswered file Whole start c.old c
+  answered_as replica c mending from one keeps =
+      subst (λ (o : Option Told). KeepsAnswered file Whole start o c) from
+      (subst (λ (f : DataFile). AnsweredOver f t mending c) one keeps Whole view t refl opens (stands_shown file chapters t is chance))
 
   module _ (acts : List Act) (xs : List Answer) (failed : Option Act) (n : Told) (keeps : KeepsFile file Whole start t acts xs failed (Some n)) where
     same_end : keeps.after ≡ n
@@ -232,8 +235,8 @@ module _ (file : DataFile) (chapters : List Chapter) (t : Told) (is : IsInOrder 
         from_before Sync t.log n.log (Order file (cut 0 ∷ chapters)) (cut_order t.log (order_of file chapters t is)) (barrier c.acts c.answers c.failed n keeps)
         (weaker (did Sync t).log n.log (IsMidway file Whole start (c.acts ++ list_of c.failed)) (Order file (cut 0 ∷ chapters)) (mid_order 0) (midway c.acts c.answers c.failed n keeps))
 
-    module _ (on : KeepsAnswered file Whole start c) (to : c.new ≡ Some n) where
-      until : (log : Log) → Extends n.log log → IsUntil c.new log
+    module _ (on : KeepsAnswered file Whole start c.old c) (to : after_all (events_made c) c.old ≡ Some n) where
+      until : (log : Log) → Extends n.log log → IsUntil (after_all (events_made c) c.old) log
       until log later = subst (λ (o : Option Told). IsUntil o log) (sym to) later
 
       all_moments : (k : ℕ) (log : Log) → IsMoment t.log n.log log → HaveAnswers k log (Some c) → Order file (cut k ∷ chapters) log
@@ -275,17 +278,21 @@ module _ (file : DataFile) (chapters : List Chapter) (t : Told) (is : IsInOrder 
     script_comes serves =
         let c : CallsMade = script_calls serves.session in
         let one : serves.replica.file ≡ file = one_file file layout t.shown view serves.replica own found_shown serves.is_opened in
-        let keeps : KeepsFile file Whole start t c.acts c.answers c.failed (Some n) = keeps_as serves.replica c.acts c.answers c.failed new.told n to one serves.keeps in
+        let mending : List Event = serves.barrier.0 in
+        let keeps : KeepsFile file Whole start t c.acts c.answers c.failed (Some n) =
+        keeps_as serves.replica c.acts c.answers c.failed mending (events_made c) n (sym (told_over mending (events_made c) t serves.mended new.told serves.barrier.1 serves.adds) ∙ to) one serves.keeps in
         let inputs : AreInputs (c.acts ++ list_of c.failed) = ends_inputs c.from c.to c.old c.new c.acts c.answers c.failed c.calls in
-        served_comes c n keeps inputs (answered_as serves.replica c one serves.acknowledged) (ap (λ (o : Outside). o.told) serves.last_is ∙ to)
+        served_comes c n keeps inputs (answered_as serves.replica c mending (sym (told_over mending [] t serves.mended serves.mended serves.barrier.1 refl)) one serves.acknowledged) (sym serves.adds ∙ to)
 
     works_comes : (seed count : ℕ) (works : WorksThrough seed count layout t old new status) → Comes file chapters (Some (run_calls works.worked)) t n
     works_comes seed count works =
         let c : CallsMade = run_calls works.worked in
         let one : works.replica.file ≡ file = one_file file layout t.shown view works.replica own found_shown works.is_opened in
-        let keeps : KeepsFile file Whole start t c.acts c.answers c.failed (Some n) = keeps_as works.replica c.acts c.answers c.failed new.told n to one works.keeps in
+        let mending : List Event = works.barrier.0 in
+        let keeps : KeepsFile file Whole start t c.acts c.answers c.failed (Some n) =
+        keeps_as works.replica c.acts c.answers c.failed mending (events_made c) n (sym (told_over mending (events_made c) t works.mended new.told works.barrier.1 works.adds) ∙ to) one works.keeps in
         let inputs : AreInputs (c.acts ++ list_of c.failed) = ends_inputs c.from c.to c.old c.new c.acts c.answers c.failed c.calls in
-        served_comes c n keeps inputs (answered_as works.replica c one works.acknowledged) to
+        served_comes c n keeps inputs (answered_as works.replica c mending (sym (told_over mending [] t works.mended works.mended works.barrier.1 refl)) one works.acknowledged) (sym works.adds ∙ to)
 
     does_comes : (mode : Mode) (does : Does mode layout t old new status) → Comes file chapters (calls_of mode layout t old new status does) t n
     does_comes (Format shape cluster) does = absurd does
@@ -295,14 +302,16 @@ module _ (file : DataFile) (chapters : List Chapter) (t : Told) (is : IsInOrder 
     does_comes Recover (inl refuses) = absurd (refused layout old new status own refuses)
     does_comes Recover (inr (inl fails)) = stops_comes layout own new.told n to fails.disk
     does_comes Recover (inr (inr recovers)) =
-        idle_comes n (keeps_as recovers.replica [] [] None new.told n to (one_file file layout t.shown view recovers.replica own found_shown recovers.is_opened) recovers.keeps)
+        idle_comes n
+        (keeps_as recovers.replica [] [] None recovers.barrier.0 [] n (sym (told_over recovers.barrier.0 [] t new.told new.told recovers.barrier.1 refl) ∙ to) (one_file file layout t.shown view recovers.replica own found_shown recovers.is_opened) recovers.keeps)
     does_comes Inspect (inl refuses) = absurd (refused layout old new status own refuses)
     does_comes Inspect (inr (inl fails)) = part_comes new.told n to fails.disk
     does_comes Inspect (inr (inr inspects)) = sync_comes n (one_told new.told (did Sync t) n inspects.barrier to)
     does_comes Scrub (inl refuses) = absurd (refused layout old new status own refuses)
     does_comes Scrub (inr (inl fails)) = stops_comes layout own new.told n to fails.disk
     does_comes Scrub (inr (inr scrubs)) =
-        idle_comes n (keeps_as scrubs.replica [] [] None new.told n to (one_file file layout t.shown view scrubs.replica own found_shown scrubs.is_opened) scrubs.keeps)
+        idle_comes n
+        (keeps_as scrubs.replica [] [] None scrubs.barrier.0 [] n (sym (told_over scrubs.barrier.0 [] t new.told new.told scrubs.barrier.1 refl) ∙ to) (one_file file layout t.shown view scrubs.replica own found_shown scrubs.is_opened) scrubs.keeps)
     does_comes (Workload seed count) (inl refuses) = absurd (refused layout old new status own refuses)
     does_comes (Workload seed count) (inr (inl fails)) = stops_comes layout own new.told n to fails.disk
     does_comes (Workload seed count) (inr (inr works)) = works_comes seed count works
@@ -344,7 +353,7 @@ changed_kept es (c ∷ changes) image sector are firm =
     ]
 
 -- what a stop leaves is one of the images that it may leave
-left_by : (log : Log) (changes : List (ℕ × List ℕ)) → IsLog log → AreLoose log.events changes → IsLeft log (changed changes (now log))
+pub left_by : (log : Log) (changes : List (ℕ × List ℕ)) → IsLog log → AreLoose log.events changes → IsLeft log (changed changes (now log))
 left_by log changes is loose = record {
   whole = changed_is_image log.events changes (now log) loose (now_is_image log.start log.events is.start is.events);
   kept = λ sector firm. changed_kept log.events changes (now log) sector loose firm;

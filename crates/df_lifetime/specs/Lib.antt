@@ -3,3 +3,5 @@ pub mod There
 pub mod Acknowledged
 pub mod NewDisks
 pub mod Reads
+pub mod Hurt
+pub mod Printed

@@ -92,11 +92,11 @@ abbrev pub chapters_of : Extent → Image → Option CallsMade → List Chapter
 chapters_of extent shown None = []
 chapters_of extent shown (Some c) = chapter_of extent shown c ∷ []
 
--- this many of the calls were answered by then: none at any moment, or one and more
+-- this many of the calls were answered by then, as the disk told: none at any moment, or one and more
 abbrev pub HaveAnswers : ℕ → Log → Option CallsMade → Type 0
 HaveAnswers zero log calls = Unit {0}
 HaveAnswers (suc k) log None = ⊥
-HaveAnswers (suc k) log (Some c) = WereAnswered (suc k) log c
+HaveAnswers (suc k) log (Some c) = WereAnswered (suc k) c.old log c
 
 -- what a word did is a session where it served a script, or carried out a generated run
 abbrev pub calls_of : (mode : Mode) (layout : Layout) (t : Told) (old new : Outside) (status : Status) → Does mode layout t old new status → Option CallsMade

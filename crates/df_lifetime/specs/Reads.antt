@@ -1,4 +1,4 @@
--- Each read of what a file holds is Ok: no prepare, reply or block that is kept is refused or found damaged on an honest disk.
+-- Each read of what a file holds is Ok: no prepare, reply or block that is kept is refused or found damaged on a disk that is honest over the log by which it is kept.
 use Rattle.std.specs.Prelude.{◌≡◌, ◌<◌, ◌≤◌, ℕ, Ok, Option, Some}
 use Rattle.std.specs.List.{slice_get}
 use Rattle.df_disk.specs.Told.{IsHonest, Told}
@@ -10,15 +10,18 @@ use Rattle.df_model.specs.Work.{Work}
 use Rattle.df_replica.specs.Below.{State}
 use Rattle.df_replica.specs.Serving.{Grade, IsCall, IsKept, Whole}
 
--- a call over an honest disk, from a state of the replica that keeps the file for this state of the machine, that was answered so
+-- A call that was answered so, from a state of the replica that keeps the file for this state of the machine, by a log over which the disk is honest: the one that is
+-- told, or another base with the same shown image
 pub record IsRead (g : Grade) (w : Work) (command : Command) (x : Answer) : Type 0 where
   pub given : Given
   pub state : State
   pub later : State
   pub told : Told
   pub new : Option Told
-  pub keeps : IsKept g state w told.log
-  pub honest : IsHonest told
+  pub base : Told
+  pub same : base.shown ≡ told.shown
+  pub keeps : IsKept g state w base.log
+  pub honest : IsHonest base
   pub call : IsCall given command state later (Some told) new (Some x)
 
 -- a prepare of the tail is read: any op above the checkpoint's and at most the head

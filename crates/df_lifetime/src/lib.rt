@@ -1,8 +1,12 @@
-//! The life of a file: formats, runs and stops one after the other.
+//! The life of a file: formats, runs and stops one after the other; what a session keeps on a disk that was hurt; and what is printed.
 #![tactic(auto)]
 
+mod hurt;
 mod life;
+mod printed;
 mod reads;
 
+pub use hurt::hurt_sessions_keep;
 pub use life::sessions_compose;
+pub use printed::{a_front_is_written, a_run_has_one_result, a_word_has_one_text};
 pub use reads::what_is_kept_is_read;

@@ -114,6 +114,7 @@ module _ (sh : Shape) (spell : Parts → List ℕ) (w : Work) (sum client reques
       record {
         op_from = old.op_from;
         op_to = omega (arith, old.op_to, head_is);
+        ends = λ q at low. elim (in_either q v.tail (p ∷ []) at) [ inl before ↦ old.ends q before low | inr new ↦ absurd (omega (arith, ap (λ (x : Message). x.header.op) (in_single q p new), old.op_to)) ];
         op_checksum = old.op_checksum ∙ ap (last_checksum v.checkpoint.content.op_checksum) (sym same);
         sessions = old.sessions ∙ ap (sessions_after v.checkpoint.parts.sessions) (sym same);
         unspent = old.unspent;

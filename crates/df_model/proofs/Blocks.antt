@@ -1,10 +1,10 @@
 -- Blocks that are written and released.
 use Rattle.std.proofs.Common.{◌≡◌, inl, inr, ℕ, zero, suc, ◌+◌, ◌<◌, ◌≤◌, not, cond, ◌∷◌, ◌==◌, ◌||◌, Bool, true, false, if◌then◌else◌, List, length, Option, Some, None, refl, sym, ◌∙◌, ap, subst, arith}
-use Rattle.df_theory.specs.Units.{AnyUnit, BlockPlace, BlockUnit, Content, CopyPlace, Parts, Place, Units, or_else, overlay}
+use Rattle.df_theory.specs.Units.{AnyUnit, BlockPlace, BlockUnit, Content, CopyPlace, Parts, Place, PreparePlace, Units, or_else, overlay}
 use Rattle.df_theory.specs.Copies.{Agree, IsChosen}
 use Rattle.df_theory.specs.Shows.{Agrees, Needs}
 use Rattle.df_theory.specs.Holds.{Holds}
-use Rattle.df_theory.proofs.Laws.{put_else}
+use Rattle.df_theory.proofs.Laws.{put_else, short_same}
 use Rattle.std.specs.List.{filter, range_with_len}
 use Rattle.std.proofs.lemmas.Bool.{cases_eq}
 use Rattle.df_model.specs.Laws.{BlockAsideLaw, BlockMayLaw}
@@ -126,6 +126,7 @@ block_aside_law sh w image put a b free one = (
       needs = λ place x needed. keep place x (holds.bears.needs place x needed) (λ same. no_need x (subst (λ (p : Place). Needs sh w.view p x) same needed));
     };
     chosen = chosen holds;
+    short = short_same sh image (overlay put image) w.view (λ s. put_else put image (BlockPlace a) (PreparePlace s) (BlockUnit b) one (λ same. cc (same))) holds.short;
   },
   λ stands k c is. let shown = stands k c is in (shown.0, keep (BlockPlace k) (BlockUnit shown.0) shown.1 (λ same. no_reference k c is (let e : k ≡ a = cc (same) in e)), shown.2, shown.3),
 )

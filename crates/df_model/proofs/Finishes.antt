@@ -1,5 +1,5 @@
 -- The end of a checkpoint.
-use Rattle.std.proofs.Common.{◌≡◌, inl, ℕ, zero, suc, ◌+◌, ◌-◌, ◌*◌, ◌<◌, ◌||◌, Bool, true, false, List, [], ◌∷◌, length, take, drop, Option, Some, refl, sym, ◌∙◌, ap, subst, arith, length-drop}
+use Rattle.std.proofs.Common.{slice_index, ◌≡◌, inl, ℕ, zero, suc, ◌+◌, ◌-◌, ◌*◌, ◌<◌, ◌||◌, Bool, true, false, List, [], ◌∷◌, length, take, drop, Option, Some, refl, sym, ◌∙◌, ap, subst, arith, length-drop}
 use Rattle.std.proofs.lemmas.List.{take_all}
 use Rattle.std.proofs.Math.Nat.{mul-add}
 use Rattle.df_theory.specs.Units.{Block, Content, Parts, Session}
@@ -107,6 +107,7 @@ module _ (sh : Shape) (spell : Parts → List ℕ) (w : Work) (r : Running) (sum
     checksum = ap (λ (n : ℕ). last_checksum r.op_checksum (take n (drop (r.op - before.op) v.tail))) (let none : r.op - r.op ≡ 0 = omega arith in none);
     answered = (omega arith, omega (arith, first.3));
     stored = λ k m at below. absurd (omega (arith, below, first.3));
+    spare = λ k low. ap (λ (l : List ℕ). slice_index l k) work.version.names;
   }
 
   pub is_finish : IsFinish v c
@@ -125,7 +126,7 @@ module _ (sh : Shape) (spell : Parts → List ℕ) (w : Work) (r : Running) (sum
   }
 
   pub may_finish : MayFinish sh v c
-  may_finish = record { is = is_finish; trailer = is_trailer; unspent = is.unspent }
+  may_finish = record { is = is_finish; trailer = is_trailer; ends = is.ends; pin_ends = is.ends; unspent = is.unspent }
 
   pub same_sessions : sessions (checkpointed v c) ≡ sessions v
   same_sessions = ap (λ (l : List Session). sessions_after l (drop (r.op - v.checkpoint.content.op) v.tail)) is.sessions ∙ sessions-drop (r.op - v.checkpoint.content.op) v.checkpoint.parts.sessions v.tail

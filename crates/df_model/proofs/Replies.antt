@@ -65,6 +65,7 @@ module _ (sh : Shape) (spell : Parts → List ℕ) (w : Work) (sum op : ℕ) (bo
         record {
           op_from = old.op_from;
           op_to = old.op_to;
+          ends = old.ends;
           op_checksum = old.op_checksum;
           sessions = old.sessions;
           unspent = old.unspent;

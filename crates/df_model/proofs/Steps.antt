@@ -79,6 +79,7 @@ module _ (sh : Shape) (spell : Parts → List ℕ) (w : Work) (root : List ℕ) 
       record {
         op_from = omega arith;
         op_to = omega arith;
+        ends = λ p at low. work.view.groups p at;
         op_checksum = ap (last_checksum v.checkpoint.content.op_checksum) (sym whole);
         sessions = ap (sessions_after v.checkpoint.parts.sessions) (sym whole);
         unspent = omega (arith, work.view.checkpoint.tests.sequence.1);
@@ -125,6 +126,7 @@ module _ (sh : Shape) (spell : Parts → List ℕ) (w : Work) (r : Running) (sum
   step_capture = record {
     op_from = old.op_from;
     op_to = old.op_to;
+    ends = old.ends;
     op_checksum = old.op_checksum;
     sessions = old.sessions;
     unspent = old.unspent;

@@ -3,7 +3,7 @@ use Rattle.std.specs.Prelude.{◌≡◌, ◌<◌, ◌≤◌, ◌+◌, ◌-◌, �
 use Rattle.std.specs.List.{slice_get}
 use Rattle.df_theory.specs.Units.{Block, BlockPlace, BlockUnit, Content, Message, Units, Parts}
 use Rattle.df_theory.specs.Sessions.{sessions_after}
-use Rattle.df_theory.specs.Tails.{In, last_checksum}
+use Rattle.df_theory.specs.Tails.{EndsAt, In, last_checksum}
 use Rattle.df_theory.specs.Trailer.{InChain, IsCount, Links, text_of}
 use Rattle.df_theory.specs.Shape.{Shape, clients}
 use Rattle.df_theory.specs.View.{Checkpoint, View, head, sequence, sessions}
@@ -42,6 +42,7 @@ pub record IsSpare (sh : Shape) (r : Running) (a : ℕ) : Type 0 where
 pub record IsCapture (sh : Shape) (spell : Parts → List ℕ) (v : View) (r : Running) : Type 0 where
   pub op_from : v.checkpoint.content.op ≤ r.op
   pub op_to : r.op ≤ head v
+  pub ends : EndsAt r.op v.tail
   pub op_checksum : r.op_checksum ≡ last_checksum v.checkpoint.content.op_checksum (take (r.op - v.checkpoint.content.op) v.tail)
   pub sessions : r.parts.sessions ≡ sessions_after v.checkpoint.parts.sessions (take (r.op - v.checkpoint.content.op) v.tail)
   pub unspent : sequence v < 2 ^ 62

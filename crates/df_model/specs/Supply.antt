@@ -15,12 +15,12 @@ use Rattle.df_model.specs.Commands.{Advance, Answer, Append, Command, Given, Rea
 use Rattle.df_model.specs.declared.answers.Verdict.{Verdict}
 use Rattle.df_model.specs.declared.answers.Verdict.TheVariants.{Sound, Failing}
 
--- how a trailer is spelled, and the checksum that each kind of unit gets, whatever stands in its own field
+-- how a trailer is spelled, and the checksum that each kind of unit gets, whatever stands in its own field: a reply's and a block's header names its place, too
 pub record Codec : Type 0 where
   pub spell : Parts → List ℕ
   pub prepare : Message → ℕ
-  pub reply : Message → ℕ
-  pub block : Block → ℕ
+  pub reply : (place : ℕ) → Message → ℕ
+  pub block : (address : ℕ) → Block → ℕ
   pub content : Content → ℕ
 
 -- what a device shows: the valid units, and the class of what stands at a place that shows none
@@ -32,7 +32,7 @@ pub record Shown : Type 0 where
 
 abbrev pub trailer_sum : Codec → Memory → Course → List ℕ → ℕ
 trailer_sum codec m r [] = codec.content (content_of m r 0)
-trailer_sum codec m r (a ∷ more) = codec.block (trailer_block m r 0)
+trailer_sum codec m r (a ∷ more) = codec.block a (trailer_block m r 0)
 
 abbrev pub step_sum : Codec → Memory → Option Course → ℕ
 step_sum codec m None = 0
@@ -41,8 +41,8 @@ step_sum codec m (Some r) = trailer_sum codec m r r.left
 -- the checksum of the unit that the command makes
 abbrev pub checksum_given : Codec → Memory → Command → ℕ
 checksum_given codec m (Append client request body) = codec.prepare (prepare_of m 0 client request body)
-checksum_given codec m (Reply op body) = codec.reply (reply_of m 0 body)
-checksum_given codec m (WriteBlock kind body) = codec.block (block_of 0 kind body)
+checksum_given codec m (Reply op body) = codec.reply (place_of_reply m) (reply_of m 0 body)
+checksum_given codec m (WriteBlock kind body) = codec.block (next_address m) (block_of 0 kind body)
 checksum_given codec m Advance = step_sum codec m m.running
 checksum_given codec m command = 0
 

@@ -114,10 +114,10 @@ module _ (sh : Shape) (image : Units.Units) (b : Checkpoint) (read : Read) (is :
     kept : NotLost image b.content end.op → NotLost image b.content (b.content.op + length found.tail)
     kept = subst (NotLost image b.content) found.ends.op
 
-    pub opens_lost : (slot : ℕ) → slot ≡ Found.slot_behind sh b found.tail → (NotLost image b.content end.op → ⊥) → Opens sh image (Refused (Damages (PreparePlace slot)))
+    pub opens_lost : (slot : ℕ) → slot ≡ Found.slot_behind sh b found.tail [] → (NotLost image b.content end.op → ⊥) → Opens sh image (Refused (Damages (PreparePlace slot)))
     opens_lost slot at lost =
         let lost_there : NotLost image b.content (b.content.op + length found.tail) → ⊥ = λ not. lost (subst (NotLost image b.content) (sym found.ends.op) not) in
-        subst (λ (s : ℕ). Opens sh image (Refused (Damages (PreparePlace s)))) (sym at) (Lost b found.tail reaches lost_there)
+        subst (λ (s : ℕ). Opens sh image (Refused (Damages (PreparePlace s)))) (sym at) (Lost b found.tail [] reaches found.reach lost_there)
 
     replied : (n : ℕ) → NotLost image b.content end.op → IsReplies image b.content found.tail n → ReachesReplies sh image b found.tail n
     replied n not_lost replies = record { reaches = reaches; not_lost = kept not_lost; replies = replies }

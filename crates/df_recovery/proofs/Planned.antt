@@ -90,8 +90,11 @@ module _ (layout : Layout) (sh : Shape) (image : Units.Units) (v : View) (scan :
 
     no_prepare : (q : Message) → image (PreparePlace slot) ≡ Some (PrepareUnit q) → o ≤ q.header.op → ⊥
     no_prepare q shown le =
-        let le_head = is.found.not_lost.prepare slot q shown (prepare_boot (image (PreparePlace slot)) (entry scan slot).prepare q (shows slot below).prepare shown ∙ sym boot) in
-        absurd (omega (arith, le_head, le, high))
+        let none = prepare_boot (image (PreparePlace slot)) (entry scan slot).prepare q (shows slot below).prepare shown in
+        elim (is.found.not_lost.prepare slot q shown (none ∙ sym boot)) [
+          | inl le_head ↦ omega (arith, le_head, le, high)
+          | inr cut ↦ omega (arith, cut.boot, none)
+        ]
 
   -- what the decision says of the slot
   says : (slot o : ℕ) (d : Decision) → o % layout.slots ≡ slot → decision_of d ≡ decision layout.slots 0 image o → SaysOfSlot 0 o (image (HeaderPlace slot)) (image (PreparePlace slot)) (decision_of d)

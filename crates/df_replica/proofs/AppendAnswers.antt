@@ -34,7 +34,7 @@ use Rattle.df_replica.specs.Appending.{append_events, appended, header_given, ne
 use Rattle.df_replica.specs.Serving.{IsCall, format, next}
 use Rattle.df_replica.specs.Supply.{IsSupplied}
 use Rattle.df_state.specs.State.{IsState, Represents, State, memory, shape, spelling}
-use Rattle.df_replica.proofs.AppendCalls.{allowed_does, allowed_makes, refused_does, refused_makes, ring_then, test_is}
+use Rattle.df_replica.proofs.AppendCalls.{allowed_does, allowed_makes, allowed_puts, refused_does, refused_makes, refused_puts, ring_then, test_is}
 use Rattle.df_replica.proofs.AppendMemory.{appended_memory}
 use Rattle.df_replica.proofs.AppendTests.{may_next}
 use Rattle.df_replica.proofs.Calls.{AreCalls, Answered, answered_call, stopped_call}
@@ -68,7 +68,7 @@ module _ (s : State) (client request : ℕ) (body : List ℕ) (given : Given) (i
     }
 
     refused_call : (old : Option Told) → IsSupplied s old command given → IsCall given command s s old old (Some (ToAppend (Err e)))
-    refused_call old supplied = answered_call given command s [] input (refused_does s client request body given is sum e some) s (ToAppend (Err e)) refused_as old old supplied refl
+    refused_call old supplied = answered_call given command s [] input (refused_does s client request body given is sum e some) (refused_puts s client request body given is sum e some) s (ToAppend (Err e)) refused_as old old supplied refl
 
   -- ---- a receipt, and a fault
 
@@ -130,10 +130,10 @@ module _ (s : State) (client request : ℕ) (body : List ℕ) (given : Given) (i
     allowed_calls g w t k = allowed_does s client request body given is sum none own g w t k
 
     receipt_call : (old new : Option Told) → IsSupplied s old command given → new ≡ after_all (append_events s u) old → IsCall given command s (appended s u) old new (Some answer)
-    receipt_call old new supplied all = answered_call given command s (append_events s u) input allowed_calls (appended s u) answer allowed_as old new supplied all
+    receipt_call old new supplied all = answered_call given command s (append_events s u) input allowed_calls (allowed_puts s client request body given is sum none own) (appended s u) answer allowed_as old new supplied all
 
     fault_call : (old new : Option Told) (t : State) → IsSupplied s old command given → t.live ≡ false → AddsPart (append_events s u) old new → IsCall given command s t old new None
-    fault_call old new t supplied dead part = stopped_call given command s (append_events s u) input allowed_calls t old new supplied dead part
+    fault_call old new t supplied dead part = stopped_call given command s (append_events s u) input allowed_calls (allowed_puts s client request body given is sum none own) t old new supplied dead part
 
 -- no refusal is a fault
 abbrev IsRefusal : AppendError → Type 0

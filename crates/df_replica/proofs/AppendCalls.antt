@@ -1,6 +1,6 @@
 -- What an append does to the disk is the machine's append, and behind it the header ring shows the table.
 use Rattle.std.specs.Prelude.{Ok, slice_get}
-use Rattle.std.proofs.Common.{◌≡◌, inl, inr, ℕ, ◌/◌, ◌%◌, ◌==◌, List, [], ◌∷◌, Option, Some, None, refl, sym, ◌∙◌, ap, subst}
+use Rattle.std.proofs.Common.{◌≡◌, inl, inr, ℕ, ◌+◌, ◌/◌, ◌%◌, ◌==◌, List, [], ◌∷◌, Option, Some, None, refl, sym, ◌∙◌, ap, subst}
 use Rattle.std.proofs.lemmas.Bool.{cond-true, eq-eqb}
 use Rattle.df_base.specs.Image.{Image}
 use Rattle.df_base.specs.Log.{now}
@@ -17,7 +17,7 @@ use Rattle.df_journal.specs.Below.{IsInOwnSlot}
 use Rattle.df_journal.specs.Append.{EndsAppended, MayAppendOn, ShowsRing, journal_steps, new_sector, with_header}
 use Rattle.df_journal.proofs.Laws.{append_steps, ends_appended, next_sector}
 use Rattle.df_theory.specs.Units as theory
-use Rattle.df_theory.specs.Units.{AnyUnit, HeaderPlace, HeaderUnit, Place, PreparePlace, PrepareUnit}
+use Rattle.df_theory.specs.Units.{AnyUnit, BlockPlace, CopyPlace, HeaderPlace, HeaderUnit, Place, PreparePlace, PrepareUnit, ReplyPlace, or_else}
 use Rattle.df_theory.specs.Next.{MayAppend}
 use Rattle.df_theory.specs.Shape.{Shape}
 use Rattle.df_theory.specs.UnitLog.{put_one}
@@ -34,6 +34,7 @@ use Rattle.df_model.specs.Making.{prepare_of}
 use Rattle.df_model.specs.Memory.{Memory, memory_of}
 use Rattle.df_model.specs.OnDisk.{DoesOnDisk}
 use Rattle.df_model.specs.Refusals.{append_refusals, first_refusal}
+use Rattle.df_model.specs.Supply.{puts_of, unless}
 use Rattle.df_model.specs.Work.{Work}
 use Rattle.df_model.specs.declared.errors.AppendError.{AppendError}
 use Rattle.df_model.proofs.Laws.{append_may_law}
@@ -41,6 +42,7 @@ use Rattle.df_state.specs.State.{IsState, Represents, State, memory, shape, spel
 use Rattle.df_replica.specs.Appending.{append_events, next_unit}
 use Rattle.df_replica.specs.Serving.{Grade, IsKept, format}
 use Rattle.df_replica.proofs.Calls.{AreCalls, firmly}
+use Rattle.df_replica.proofs.Leaves.{Makes, makes_nothing}
 use Rattle.df_replica.proofs.Makes.{OfMade, Unless}
 use Rattle.df_replica.proofs.WritesOn.{StandsIn, steps_stand}
 
@@ -104,6 +106,12 @@ module _ (s : State) (client request : ℕ) (body : List ℕ) (given : Given) (i
       let p = prepare_of (memory_of (shape s.file) (spelling s.file) w) given.checksum client request body in
       subst (λ (o : Option AppendError). Unless o (P (PreparePlace (p.header.op % s.file.layout.slots)) (PrepareUnit p))) (sym (test_is w rep (Some e) some)) tt
 
+  pub refused_puts : (e : AppendError) → first_refusal (append_refusals (memory s) client request body) ≡ Some e → Makes given command s []
+  refused_puts e some =
+      let m = memory s in
+      makes_nothing given command s
+      (λ place. ap (λ (o : Option AppendError). unless o (put_one (PreparePlace ((m.head + 1) % m.layout.slots)) (PrepareUnit (prepare_of m given.checksum client request body))) place) some) (λ no. no)
+
   module _ (none : first_refusal (append_refusals (memory s) client request body) ≡ None) (own : IsInOwnSlot s.file.layout u) where
     brings : Brings s.file.layout s.file.cluster (place_in WalPrepares u.header.slot) u (sectors_of u)
     brings = made_brings s.file.layout s.file.cluster (place_in WalPrepares u.header.slot) u (λ same. cc) own
@@ -119,6 +127,26 @@ module _ (s : State) (client request : ℕ) (body : List ℕ) (given : Given) (i
         (inl (put_one_law (PreparePlace u.header.slot) (PrepareUnit (message_of u))).at) in
         subst (λ (o : Option AppendError). Unless o (StandsIn f events (PreparePlace (p.header.op % s.file.layout.slots)) (PrepareUnit p))) (sym (test_is w rep None none))
         (subst (λ (q : theory.Message). StandsIn f events (PreparePlace (q.header.op % s.file.layout.slots)) (PrepareUnit q)) (sym (prepare_is w rep)) wrote)
+
+    -- its steps put the prepare, and headers, which no call reads
+    put_is : (place : Place) → put_one (PreparePlace u.header.slot) (PrepareUnit (message_of u)) place ≡ puts_of (memory s) given.checksum command place
+    put_is place =
+        let m = memory s in
+        let p : theory.Message = prepare_of m given.checksum client request body in
+        let same : p ≡ message_of u = λ i. prepare_of m (sum i) client request body in
+        ap (λ (x : theory.Message). put_one (PreparePlace u.header.slot) (PrepareUnit x) place) (sym same)
+        ∙ ap (λ (o : Option AppendError). unless o (put_one (PreparePlace ((m.head + 1) % m.layout.slots)) (PrepareUnit p)) place) (sym none)
+
+    pub allowed_puts : Makes given command s (append_events s u)
+    allowed_puts = record {
+      steps = journal_steps u s.headers;
+      are = append_steps s.file.layout u s.headers own is.ring (sectors_of u) brings;
+      prepare = λ k o. ap (λ (p : Option AnyUnit). or_else p o) (put_is (PreparePlace k));
+      reply = λ k o. ap (λ (p : Option AnyUnit). or_else p o) (put_is (ReplyPlace k));
+      block = λ k o. ap (λ (p : Option AnyUnit). or_else p o) (put_is (BlockPlace k));
+      copy = λ w work rep k o. ap (λ (p : Option AnyUnit). or_else p o) (put_is (CopyPlace k));
+      last = λ no. absurd no;
+    }
 
     module _ (g : Grade) (w : Work) (t : Told) (k : IsKept g s w t.log) where
       next_is : IsNextSector s.file.layout s.file.cluster (now t.log) u.header (u.header.slot / 16) (new_sector u s.headers)

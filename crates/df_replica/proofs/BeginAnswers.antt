@@ -24,6 +24,7 @@ use Rattle.df_replica.specs.Beginning.{begin_refusal, begun, needed}
 use Rattle.df_replica.specs.Serving.{IsCall, next}
 use Rattle.df_replica.specs.Supply.{IsSupplied}
 use Rattle.df_replica.proofs.Calls.{AreCalls, Answered, answered_call}
+use Rattle.df_replica.proofs.Leaves.{Makes, makes_nothing}
 
 -- what a begin makes of the memory
 abbrev begun_memory : (Parts → List ℕ) → Memory → List ℕ → Memory
@@ -39,6 +40,9 @@ module _ (s : State) (root : List ℕ) (given : Given) (bytes : AreBytes root) (
   -- it does nothing
   does : AreCalls given command s []
   does g w t k = record { steps = []; are = tt; does = refl }
+
+  does_nothing : Makes given command s []
+  does_nothing = makes_nothing given command s (λ place. refl) (λ no. no)
 
   module _ (w : Work) (rep : Represents s w) where
     test_is : (o : Option BeginError) → begin_refusal s root ≡ o → first_refusal (begin_refusals (memory_of (shape s.file) (spelling s.file) w) (needed_of (spelling s.file) (memory_of (shape s.file) (spelling s.file) w) root) root) ≡ o
@@ -62,7 +66,7 @@ module _ (s : State) (root : List ℕ) (given : Given) (bytes : AreBytes root) (
     }
 
     pub refused_call : (told : Option Told) → IsSupplied s told command given → IsCall given command s s told told (Some (ToBegin (Err e)))
-    refused_call told supplied = answered_call given command s [] input does s (ToBegin (Err e)) refused_as told told supplied refl
+    refused_call told supplied = answered_call given command s [] input does does_nothing s (ToBegin (Err e)) refused_as told told supplied refl
 
   -- ---- a checkpoint that is begun
 
@@ -104,7 +108,7 @@ module _ (s : State) (root : List ℕ) (given : Given) (bytes : AreBytes root) (
     }
 
     pub begun_call : (told : Option Told) → IsSupplied s told command given → IsCall given command s (begun s root) told told (Some (ToBegin (Ok (needed s root))))
-    begun_call told supplied = answered_call given command s [] input does (begun s root) (ToBegin (Ok (needed s root))) begun_as told told supplied refl
+    begun_call told supplied = answered_call given command s [] input does does_nothing (begun s root) (ToBegin (Ok (needed s root))) begun_as told told supplied refl
 
 module _ (s : State) (root : List ℕ) (bytes : AreBytes root) (live : s.live ≡ true) where
   pub refusal_serves : (e : BeginError) → begin_refusal s root ≡ Some e → (told : Option Told) → Serves (Begin root) s s told told (begin_answer (Err e))

@@ -18,7 +18,7 @@ use Rattle.df_grid.specs.Writes.{block_steps}
 use Rattle.df_journal.specs.Append.{ShowsRing}
 use Rattle.df_theory.specs.Device.{AreSteps}
 use Rattle.df_theory.specs.Units as theory
-use Rattle.df_theory.specs.Units.{BlockPlace, BlockUnit, HeaderPlace}
+use Rattle.df_theory.specs.Units.{AnyUnit, BlockPlace, BlockUnit, CopyPlace, HeaderPlace, Place, PreparePlace, ReplyPlace, or_else}
 use Rattle.df_theory.specs.UnitLog.{put_one}
 use Rattle.df_theory.proofs.Laws.{put_one_law}
 use Rattle.df_units.specs.Format.{format_of}
@@ -36,6 +36,7 @@ use Rattle.df_model.specs.Memory.{Memory, memory_of}
 use Rattle.df_model.specs.OnDisk.{DoesOnDisk}
 use Rattle.df_model.specs.Refusals.{block_refusals, first_refusal}
 use Rattle.df_model.specs.Sense.{IsWork}
+use Rattle.df_model.specs.Supply.{puts_of, unless}
 use Rattle.df_model.specs.Work.{Work}
 use Rattle.df_model.proofs.Laws.{change_law}
 use Rattle.df_model.specs.declared.errors.BlockError.{BlockError}
@@ -46,6 +47,7 @@ use Rattle.df_replica.specs.Blocks.{block_events, block_given, next_block, refer
 use Rattle.df_replica.specs.Serving.{Grade, IsCall, IsKept, format, next}
 use Rattle.df_replica.specs.Supply.{IsSupplied}
 use Rattle.df_replica.proofs.Calls.{AreCalls, Answered, answered_call, stopped_call}
+use Rattle.df_replica.proofs.Leaves.{Makes, makes_nothing}
 use Rattle.df_replica.proofs.BlockStates.{blocks_memory}
 
 module _ (s : State) (kind : ℕ) (body : List ℕ) (given : Given) (live : s.live ≡ true) (sum : given.checksum ≡ number_of (next_block s kind body).header.checksum) where
@@ -80,6 +82,11 @@ module _ (s : State) (kind : ℕ) (body : List ℕ) (given : Given) (live : s.li
           does = subst (λ (o : Option BlockError). UnlessRefused o [] (DoesBlock w.view (next_address m) (block_of given.checksum kind body) [])) (sym (test_is w k.stands (Some e) some)) refl;
         }
 
+    refused_puts : Makes given command s []
+    refused_puts =
+        let m = memory s in
+        makes_nothing given command s (λ place. ap (λ (o : Option BlockError). unless o (put_one (BlockPlace (next_address m)) (BlockUnit (block_of given.checksum kind body))) place) some) (λ no. no)
+
     refused_as : Answered given command s s [] (ToWriteBlock (Err e))
     refused_as = record {
       file = refl;
@@ -90,7 +97,7 @@ module _ (s : State) (kind : ℕ) (body : List ℕ) (given : Given) (live : s.li
     }
 
     refused_call : (old : Option Told) → IsSupplied s old command given → IsCall given command s s old old (Some (ToWriteBlock (Err e)))
-    refused_call old supplied = answered_call given command s [] input refused_does s (ToWriteBlock (Err e)) refused_as old old supplied refl
+    refused_call old supplied = answered_call given command s [] input refused_does refused_puts s (ToWriteBlock (Err e)) refused_as old old supplied refl
 
   -- ---- a block that is written, and a fault
 
@@ -123,6 +130,25 @@ module _ (s : State) (kind : ℕ) (body : List ℕ) (given : Given) (live : s.li
               (subst (λ (b : theory.Block). DoesBlock w.view (next_address m) b steps) (sym block_is)
               (subst (λ (a : ℕ). DoesBlock w.view a (meaning.block_of u) steps) (sym (address_is w k.stands)) does));
         }
+
+    -- its steps put that block
+    put_is : (place : Place) → put_one (BlockPlace u.header.op) (BlockUnit (meaning.block_of u)) place ≡ puts_of (memory s) given.checksum command place
+    put_is place =
+        let m = memory s in
+        let b : theory.Block = block_of given.checksum kind body in
+        ap (λ (x : theory.Block). put_one (BlockPlace u.header.op) (BlockUnit x) place) (sym block_is)
+        ∙ ap (λ (o : Option BlockError). unless o (put_one (BlockPlace (next_address m)) (BlockUnit b)) place) (sym none)
+
+    block_puts : Makes given command s (block_events s u)
+    block_puts = record {
+      steps = block_steps u;
+      are = wrote;
+      prepare = λ k o. ap (λ (p : Option AnyUnit). or_else p o) (put_is (PreparePlace k));
+      reply = λ k o. ap (λ (p : Option AnyUnit). or_else p o) (put_is (ReplyPlace k));
+      block = λ k o. ap (λ (p : Option AnyUnit). or_else p o) (put_is (BlockPlace k));
+      copy = λ w work rep k o. ap (λ (p : Option AnyUnit). or_else p o) (put_is (CopyPlace k));
+      last = λ no. absurd no;
+    }
 
     abbrev answer : Answer
     answer = ToWriteBlock (Ok (u.header.op, number_of u.header.checksum))
@@ -166,10 +192,10 @@ module _ (s : State) (kind : ℕ) (body : List ℕ) (given : Given) (live : s.li
     allowed_as = record { file = refl; live = live; stands = λ w work rep. allowed_at w work rep; made = λ w work rep. tt; ring = λ g w a b k all. ring_kept g w a b k all }
 
     written_call : (old new : Option Told) → IsSupplied s old command given → new ≡ after_all (block_events s u) old → IsCall given command s (written s u.header) old new (Some answer)
-    written_call old new supplied all = answered_call given command s (block_events s u) input does_block (written s u.header) answer allowed_as old new supplied all
+    written_call old new supplied all = answered_call given command s (block_events s u) input does_block block_puts (written s u.header) answer allowed_as old new supplied all
 
     fault_call : (old new : Option Told) (t : State) → IsSupplied s old command given → t.live ≡ false → AddsPart (block_events s u) old new → IsCall given command s t old new None
-    fault_call old new t supplied dead part = stopped_call given command s (block_events s u) input does_block t old new supplied dead part
+    fault_call old new t supplied dead part = stopped_call given command s (block_events s u) input does_block block_puts t old new supplied dead part
 
 -- no refusal is a fault
 abbrev IsRefusal : BlockError → Type 0

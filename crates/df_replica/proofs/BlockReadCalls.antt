@@ -31,6 +31,7 @@ use Rattle.df_replica.specs.Answering.{GivesBlock, ServesBlockRead}
 use Rattle.df_replica.specs.BlockReads.{IsBlockFound, IsReadBlock}
 use Rattle.df_replica.specs.Supply.{IsSupplied}
 use Rattle.df_replica.proofs.Calls.{AreCalls, Answered, answered_call, stopped_call}
+use Rattle.df_replica.proofs.Leaves.{makes_nothing}
 use Rattle.df_replica.proofs.ReadCalls.{zero_sum}
 
 module _ (s : State) (address : ℕ) (live : s.live ≡ true) where
@@ -56,7 +57,7 @@ module _ (s : State) (address : ℕ) (live : s.live ≡ true) where
       → ((given : Given) → IsSupplied s told (ReadBlock address) given → GivesBlock told found given → after.read_answer (memory s) given.block address ≡ answer)
       → ServesBlockRead (ReadBlock address) s s told found (Some (ToReadBlock answer))
   answers told found answer same given supplied gives =
-      answered_call given (ReadBlock address) s [] (input told given supplied) (calls given) s (ToReadBlock answer) (answered given answer (same given supplied gives)) told told supplied refl
+      answered_call given (ReadBlock address) s [] (input told given supplied) (calls given) (makes_nothing given (ReadBlock address) s (λ place. refl) (λ no. no)) s (ToReadBlock answer) (answered given answer (same given supplied gives)) told told supplied refl
 
   block_is : (told : Option Told) (b : Result Units.Block Class) → IsBlockFound s address told b → (given : Given) → IsSupplied s told (ReadBlock address) given → GivesBlock told (Some b) given → given.block ≡ b
   block_is None b by given supplied gives = gives
@@ -74,7 +75,7 @@ module _ (s : State) (address : ℕ) (live : s.live ≡ true) where
 
   -- a fault
   pub block_stopped : (told : Option Told) (t : State) → t.live ≡ false → ServesBlockRead (ReadBlock address) s t told None None
-  block_stopped told t dead given supplied gives = stopped_call given (ReadBlock address) s [] (input told given supplied) (calls given) t told told supplied dead refl
+  block_stopped told t dead given supplied gives = stopped_call given (ReadBlock address) s [] (input told given supplied) (calls given) (makes_nothing given (ReadBlock address) s (λ place. refl) (λ no. no)) t told told supplied dead refl
 
 -- what the grid reads is what the machine does
 found_by : (s : State) (address : ℕ) (told : Option Told) (b : Result Units.Block Class) → ReadsBlock s.file.layout s.file.cluster told address (sum_at address s.blocks.live) b → IsBlockFound s address told b

@@ -10,7 +10,7 @@ use Rattle.df_theory.specs.Runs.{Step}
 use Rattle.df_theory.specs.UnitLog.{put_one}
 use Rattle.df_theory.proofs.Laws.{put_one_law}
 use Rattle.df_theory.specs.Units as theory
-use Rattle.df_theory.specs.Units.{BlockPlace, BlockUnit}
+use Rattle.df_theory.specs.Units.{BlockPlace, BlockUnit, CopyPlace, PreparePlace, ReplyPlace, or_else}
 use Rattle.df_units.specs.Format.{format_of}
 use Rattle.df_units.specs.Meaning.{block_of}
 use Rattle.df_grid.specs.Writes.{block_steps}
@@ -19,16 +19,18 @@ use Rattle.df_model.specs.Commands.{Advance, Answer, Given, ToAdvance}
 use Rattle.df_model.specs.Laws.{DoesBlock}
 use Rattle.df_model.specs.Making.{first_of, piece_of, trailer_block}
 use Rattle.df_model.specs.Memory.{Course, block_room}
+use Rattle.df_model.specs.Supply.{puts_of}
 use Rattle.df_model.specs.Work.{Work}
 use Rattle.df_model.specs.declared.answers.Progress.TheVariants.{Working}
-use Rattle.df_state.specs.State.{Capture, IsCourse, IsRunning, IsState, Represents, State, course_of, memory, shape, spelling}
+use Rattle.df_state.specs.State.{Capture, IsCourse, IsRunning, IsState, Represents, State, course_in, course_of, memory, shape, spelling}
 use Rattle.df_replica.specs.Answering.{Serves}
 use Rattle.df_replica.specs.Serving.{Grade, IsCall, IsKept, format, next}
 use Rattle.df_replica.specs.Stepping.{OfRunning, advanced, block_events, block_sum, block_to_write, made_by, made_for, trailer_unit}
 use Rattle.df_replica.proofs.Calls.{AreCalls}
+use Rattle.df_replica.proofs.Leaves.{IsWhole, Makes}
 use Rattle.df_replica.proofs.RingSpared.{ring_spared}
 use Rattle.df_replica.proofs.Makes.{OfStep}
-use Rattle.df_replica.proofs.StepAnswers.{does_step, fault_call, makes_step, next_is, runs, stepped_call, sum_is}
+use Rattle.df_replica.proofs.StepAnswers.{does_step, fault_call, makes_step, next_is, runs, step_puts_are, stepped_call, sum_is}
 use Rattle.df_replica.proofs.StepMemory.{block_memory, step_memory}
 use Rattle.df_replica.proofs.WritesOn.{StandsIn, steps_stand}
 
@@ -75,6 +77,35 @@ module _ (s : State) (r : Capture) (a : ℕ) (more : List ℕ) (given : Given) (
       (subst (λ (x : ℕ). StandsIn f (block_events s r) (BlockPlace x) (BlockUnit b)) (ap first_of left)
       (subst (λ (x : theory.Block). StandsIn f (block_events s r) (BlockPlace u.header.op) (BlockUnit x)) (block_is w rep) wrote))
 
+  -- its steps put that block
+  made_is : block_of (trailer_unit s r) ≡ trailer_block (memory s) (course_of s.file s.blocks r) given.checksum
+  made_is =
+      let c : Course = course_of s.file s.blocks r in
+      unit
+      ∙ ap (λ (n : ℕ). record (block_to_write s r (block_sum s r)) { sequence = n }) is.sequence.0
+      ∙ ap (λ (n : ℕ). record (trailer_block (memory s) c (block_sum s r)) { body = piece_of (block_room (memory s).layout) n c.text }) is.written
+      ∙ ap (trailer_block (memory s) c) (sym sum_here)
+
+  put_is : (place : theory.Place) → put_one (BlockPlace (trailer_unit s r).header.op) (BlockUnit (block_of (trailer_unit s r))) place ≡ puts_of (memory s) given.checksum Advance place
+  put_is place =
+      ap (λ (b : theory.Block). put_one (BlockPlace (trailer_unit s r).header.op) (BlockUnit b) place) made_is
+      ∙ ap (λ (n : ℕ). put_one (BlockPlace n) (BlockUnit (trailer_block (memory s) (course_of s.file s.blocks r) given.checksum)) place) (ap first_of left)
+      ∙ sym (step_puts_are s r given running sum (a ∷ more) left place)
+
+  puts : Makes given Advance s (block_events s r)
+  puts = record {
+    steps = given_steps;
+    are = steps;
+    prepare = λ k o. ap (λ (p : Option theory.AnyUnit). or_else p o) (put_is (PreparePlace k));
+    reply = λ k o. ap (λ (p : Option theory.AnyUnit). or_else p o) (put_is (ReplyPlace k));
+    block = λ k o. ap (λ (p : Option theory.AnyUnit). or_else p o) (put_is (BlockPlace k));
+    copy = λ w work rep k o. ap (λ (p : Option theory.AnyUnit). or_else p o) (put_is (CopyPlace k));
+    last = λ whole.
+        let none : s.blocks.left ≡ [] = subst IsWhole (ap (course_in s.file s.blocks) running) whole in
+        let no : a ∷ more ≡ [] = sym left ∙ none in
+        absurd (cc);
+  }
+
   ring : (g : Grade) (w : Work) (x y : Told) → IsKept g s w x.log → Some y ≡ after_all (block_events s r) (Some x) → ShowsRing s.file.layout s.file.cluster (now y.log) s.headers
   ring g w x y k all = ring_spared s.file.layout s.file.cluster s.headers (block_events s r) given_steps x y k.log_is steps (λ slot. refl, tt) k.ring all
 
@@ -85,11 +116,11 @@ module _ (s : State) (r : Capture) (a : ℕ) (more : List ℕ) (given : Given) (
 
   pub block_call : s.live ≡ true → (old new : Option Told) → new ≡ after_all (block_events s r) old → IsCall given Advance s (advanced s r) old new (Some (ToAdvance (Ok (Working (length s.blocks.left)))))
   block_call live old new all =
-      stepped_call s r given running sum (advanced s r) (block_events s r) (Working (length s.blocks.left)) refl live refl does
+      stepped_call s r given running sum (advanced s r) (block_events s r) (Working (length s.blocks.left)) refl live refl does puts
       (λ w work rep. block_memory s r running a more left ∙ ap (step_memory (memory s)) (sym sum_here)) answers makes ring old new sum all
 
   pub block_fault : (old new : Option Told) (t : State) → t.live ≡ false → AddsPart (block_events s r) old new → IsCall given Advance s t old new None
-  block_fault old new t dead part = fault_call s r given running sum (block_events s r) does old new t sum dead part
+  block_fault old new t dead part = fault_call s r given running sum (block_events s r) does puts old new t sum dead part
 
 -- ---- of the state alone
 

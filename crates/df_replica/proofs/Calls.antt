@@ -1,6 +1,7 @@
 -- Every call: whose device calls are the machine's has good moments, and where it answered what is kept goes on.
-use Rattle.std.proofs.Common.{◌≡◌, ℕ, inl, inr, true, false, List, [], ◌∷◌, ◌++◌, append_assoc, Option, Some, None, refl, sym, ◌∙◌, ap, subst}
-use Rattle.df_base.specs.Log.{Event, IsLog, Log, now}
+use Rattle.std.proofs.Common.{◌≡◌, ℕ, Bool, ◌||◌, inl, inr, true, false, List, [], ◌∷◌, ◌++◌, append_assoc, Option, Some, None, refl, sym, ◌∙◌, ap, subst}
+use Rattle.df_base.specs.Image.{covers}
+use Rattle.df_base.specs.Log.{Event, IsLog, Log, Stop, Sync, Write, now}
 use Rattle.df_base.specs.Moments.{EachMoment, Extends, adds}
 use Rattle.df_base.proofs.Laws.{extends_self}
 use Rattle.df_disk.specs.Told as told
@@ -23,9 +24,11 @@ use Rattle.df_model.specs.Work.{Work, kept}
 use Rattle.df_model.proofs.Laws.{disk_command_law, sense_law}
 use Rattle.df_state.specs.declared.file.DataFile.{DataFile}
 use Rattle.df_state.specs.State.{Represents, State, shape, spelling}
+use Rattle.df_replica.specs.Leaving.{writes_to}
 use Rattle.df_replica.specs.Serving.{EachIsGood, Firm, GoesOnTo, Grade, IsCall, IsGoodFor, IsKept, Keeps, KeptFor, Whole, format, next}
 use Rattle.df_replica.specs.Supply.{IsSupplied}
 use Rattle.df_replica.specs.WrittenFor.{IsWrittenFor, WritesOn}
+use Rattle.df_replica.proofs.Leaves.{Makes, leaves_copies, leaves_shown, settles_on, spares_held}
 use Rattle.df_replica.proofs.Makes.{HasEach, OfMade, after_has, made_weaker}
 use Rattle.df_replica.proofs.WritesOn.{StandsIn, brought_is_written, stays_written}
 
@@ -35,6 +38,33 @@ use Rattle.df_replica.proofs.WritesOn.{StandsIn, brought_is_written, stays_writt
 pub all_are_part : (events : List Event) (old new : Option Told) → new ≡ after_all events old → AddsPart events old new
 all_are_part [] old new is = is
 all_are_part (e ∷ es) old new is = inr (all_are_part es (told.after e old) new is)
+
+-- a front of the events, told of any log
+pub record Front (events : List Event) (old new : Option Told) : Type 0 where
+  pub part : List Event
+  pub is : new ≡ after_all part old
+  pub again : (base : Option Told) → AddsPart events base (after_all part base)
+  pub dry : (sector : ℕ) → writes_to events sector ≡ false → writes_to part sector ≡ false
+
+none_added : (events : List Event) (base : Option Told) → AddsPart events base base
+none_added [] base = refl
+none_added (e ∷ es) base = inl refl
+
+both_dry : (x y z : Bool) → (y ≡ false → z ≡ false) → (x || y) ≡ false → (x || z) ≡ false
+both_dry true y z on dry = dry
+both_dry false y z on dry = on dry
+
+dry_on : (e : Event) (es part : List Event) (sector : ℕ) → (writes_to es sector ≡ false → writes_to part sector ≡ false) → writes_to (e ∷ es) sector ≡ false → writes_to (e ∷ part) sector ≡ false
+dry_on (Write at bytes) es part sector on dry = both_dry (covers at bytes sector) (writes_to es sector) (writes_to part sector) on dry
+dry_on Sync es part sector on dry = on dry
+dry_on (Stop changes) es part sector on dry = on dry
+
+pub front_of : (events : List Event) (old new : Option Told) → AddsPart events old new → Front events old new
+front_of [] old new is = record { part = []; is = is; again = none_added []; dry = λ sector dry. refl }
+front_of (e ∷ es) old new (inl is) = record { part = []; is = is; again = none_added (e ∷ es); dry = λ sector dry. refl }
+front_of (e ∷ es) old new (inr more) =
+    let rest = front_of es (told.after e old) new more in
+    record { part = e ∷ rest.part; is = rest.is; again = λ base. inr (rest.again (told.after e base)); dry = λ sector dry. dry_on e es rest.part sector (rest.dry sector) dry }
 
 -- a disk that tells goes on telling
 tells_on : (events : List Event) (t : Told) → AddsPart events (Some t) None → ⊥
@@ -126,18 +156,26 @@ module _ (given : Given) (command : Command) (s : State) (events : List Event) (
   good_part (Some t) (Some n) part g w k = (grows events t n part, moments g w t k n part)
 
   -- one that ended in a fault
-  pub stopped_call : (t : State) (old new : Option Told) → IsSupplied s old command given → t.live ≡ false → AddsPart events old new → IsCall given command s t old new None
-  stopped_call t old new supplied dead part = record {
-    file = tt;
-    input = input;
-    supplied = supplied;
-    live = dead;
-    answers = λ g w k. tt;
-    keeps = λ g w k. (good_part old new part g w k, tt);
-    written = λ w k. tt;
-  }
+  pub stopped_call : Makes given command s events → (t : State) (old new : Option Told) → IsSupplied s old command given → t.live ≡ false → AddsPart events old new → IsCall given command s t old new None
+  stopped_call makes t old new supplied dead part =
+      let front = front_of events old new part in
+      record {
+        file = tt;
+        input = input;
+        supplied = supplied;
+        live = dead;
+        events = front.part;
+        told = front.is;
+        answers = λ g w k. tt;
+        keeps = λ g w base k. (good_part base (after_all front.part base) (front.again base) g w k, tt);
+        leaves = tt;
+        copies = λ w k. tt;
+        spares = λ w k a held other sector here. front.dry sector (spares_held given command s events makes w k a held other sector here);
+        settles = λ w log k settled. tt;
+        written = λ w k. tt;
+      }
 
-  module _ (t : State) (answer : Answer) (call : Answered given command s t events answer) where
+  module _ (makes : Makes given command s events) (t : State) (answer : Answer) (call : Answered given command s t events answer) where
     sense_then : (w : Work) → IsWork (shape s.file) (spelling s.file) w → IsWork (shape t.file) (spelling t.file) (next s.file w given command).0
     sense_then w work =
         subst (λ (file : DataFile). IsWork (shape file) (spelling file) (next s.file w given command).0) (sym call.file) (sense_law (shape s.file) (spelling s.file) w given command input work)
@@ -192,7 +230,13 @@ module _ (given : Given) (command : Command) (s : State) (events : List Event) (
       input = input;
       supplied = supplied;
       live = call.live;
+      events = events;
+      told = all;
       answers = λ g w k. alone g w k;
-      keeps = λ g w k. (good_part old new (all_are_part events old new all) g w k, goes_on old new all g w k);
+      keeps = λ g w base k. (good_part base (after_all events base) (all_are_part events base (after_all events base) refl) g w k, goes_on base (after_all events base) refl g w k);
+      leaves = λ image whole. leaves_shown given command s events makes image whole;
+      copies = λ w k image whole. leaves_copies given command s events makes w k image whole;
+      spares = λ w k. spares_held given command s events makes w k;
+      settles = λ w log k settled. settles_on given command s events makes w log k settled;
       written = λ w k. writes_on old new all w k;
     }

@@ -10,10 +10,14 @@ use Rattle.df_theory.specs.Holds.{Holds}
 use Rattle.df_theory.specs.UnitLog.{Stopped, UnitEvent, UnitLog}
 use Rattle.df_theory.specs.Units
 use Rattle.df_theory.specs.Units.{AnyUnit, Place}
-use Rattle.df_theory.proofs.Laws.{disk_stop_law, found_law, now_units, rests_safe, safe_disk_law}
-use Rattle.df_units.proofs.Laws.{is_format}
+use Rattle.df_theory.specs.Rests.{RestsOn}
+use Rattle.df_theory.proofs.Laws.{clean_start_law, disk_stop_law, found_law, now_units, rests_safe, safe_disk_law}
+use Rattle.df_damage.specs.Anew.{begun}
+use Rattle.df_trailer.specs.Text.{parse_of}
+use Rattle.df_units.specs.Meaning.{layout_of}
+use Rattle.df_units.proofs.Laws.{is_format, of_places}
 use Rattle.df_state.specs.State.{shape}
-use Rattle.df_replica.specs.Following.{FaultedMayOpen, StoppedMayOpen, TidyMayOpen}
+use Rattle.df_replica.specs.Following.{BegunMayOpen, FaultedMayOpen, StoppedMayOpen, TidyMayOpen}
 use Rattle.df_replica.specs.Serving.{format}
 
 -- a unit of the pool is one of the pools
@@ -65,3 +69,27 @@ faulted_may_open file view t safe honest chance held = record {
       (held (record { whole = now_is_image t.log.start t.log.events safe.is_log.start safe.is_log.events; kept = λ sector fast. refl }));
   no_chance = chance;
 }
+
+-- ---- a log that begins
+
+-- a unit of the pools of a log that has just begun is shown at its start
+shown_first : (image : Units.Units) (place : Place) (x : AnyUnit) → InPools image [] place x → image place ≡ Some x
+shown_first image place x (inl (inl is)) = is
+shown_first image place x (inl (inr none)) = absurd none
+shown_first image place x (inr none) = absurd none
+
+pub begun_may_open : BegunMayOpen
+begun_may_open file view t may =
+    let f = format file in
+    let sh = shape file in
+    let image = f.unit_at t.shown in
+    let rests : RestsOn sh (units_log f (begun t).log) view = clean_start_law sh image view (of_places file.layout file.cluster file.named (parse_of (layout_of file.layout)) t.shown may.whole) may.found may.clean in
+    record {
+      safe = safe_disk_law f sh (begun t).log (is_format file.layout file.cluster) (record { start = may.whole; events = tt }) (rests_safe sh (units_log f (begun t).log) view rests);
+      honest = record { shows = λ sector. refl };
+      found = may.found;
+      no_chance = record {
+        pooled = λ place x is. inl (inl is);
+        distinct = λ place other x y one two. may.distinct place other x y (shown_first image place x one) (shown_first image other y two);
+      };
+    }

@@ -3,6 +3,7 @@ use Rattle.std.proofs.Common.{◌≡◌, ◌⊎◌, inl, inr, ℕ, ◌<◌, ◌=
 use Rattle.std.specs.Prelude.{Ok}
 use Rattle.std.proofs.lemmas.Bool.Decides.{nat_tests}
 use Rattle.df_disk.specs.Told.{Told}
+use Rattle.df_disk.specs.Adds.{after_all}
 use Rattle.df_layout.specs.declared.damage.Class.{Class}
 use Rattle.df_layout.specs.declared.damage.Class.TheVariants.{Stale}
 use Rattle.df_format.proofs.Laws.{some-eq}
@@ -208,7 +209,7 @@ kept_shows s w None a c k holds = tt
 kept_shows s w (Some t) a c k holds = let is : IsKept Whole s w t.log = k in shows_held s.file t a c (backed_shows s.file t w a c is.kept_by.1 holds)
 
 pub held_blocks_are_shown : HeldBlocksAreShown
-held_blocks_are_shown s0 s told0 told acts answers served inputs w k a c holds stays =
-    let work = (keeps_alone Whole s0 w told0 k).0 in
+held_blocks_are_shown s0 s told0 told acts answers events served inputs w base k a c holds stays =
+    let work = (keeps_alone Whole s0 w base k).0 in
     let last = stays_held s0.file acts w a c work inputs holds stays in
-    (last, subst (λ (file : DataFile). ShowsHeld file a c told) served.file (kept_shows s (work_after s0.file w acts) told a c (served.kept_on Whole w k).1 last))
+    (last, subst (λ (file : DataFile). ShowsHeld file a c (after_all events base)) served.file (kept_shows s (work_after s0.file w acts) (after_all events base) a c (served.kept_on Whole w base k).1 last))

@@ -13,6 +13,7 @@ use Rattle.df_superblock.specs.Steps.{AreStepsOfCopies}
 use Rattle.df_theory.specs.CopyPuts.{PutsCopies, update_steps}
 use Rattle.df_theory.specs.Runs.{Step, Syncs}
 use Rattle.df_theory.specs.Units as theory
+use Rattle.df_theory.specs.Units.{BlockPlace, CopyPlace, CopyUnit, PreparePlace, ReplyPlace, or_else}
 use Rattle.df_theory.specs.View.{PassesTests, sequence}
 use Rattle.df_units.specs.Meaning.{content_of, number_of, offset_list, rest_of}
 use Rattle.df_units.specs.Puts.{put_copies}
@@ -23,6 +24,7 @@ use Rattle.df_model.specs.Laws.{DoesFinish}
 use Rattle.df_model.specs.Making as making
 use Rattle.df_model.specs.Memory.{Memory}
 use Rattle.df_model.specs.Sense.{IsWork}
+use Rattle.df_model.specs.Supply.{puts_of, trailer_puts}
 use Rattle.df_model.specs.Work.{Work}
 use Rattle.df_model.specs.declared.answers.Progress.TheVariants.{Done}
 use Rattle.df_model.specs.declared.errors.StepError.{StepError}
@@ -32,9 +34,10 @@ use Rattle.df_replica.specs.Answering.{Serves, step_answer}
 use Rattle.df_replica.specs.Serving.{Grade, IsCall, IsKept, format, next}
 use Rattle.df_replica.specs.Stepping.{IsMade, OfRunning, finished, last_events, made_by, made_for, next_fields}
 use Rattle.df_replica.proofs.Calls.{AreCalls, all_are_part, firmly}
+use Rattle.df_replica.proofs.Leaves.{Makes, copies_made, copies_over}
 use Rattle.df_replica.proofs.RingSpared.{ring_spared}
 use Rattle.df_replica.proofs.Makes.{OfStep}
-use Rattle.df_replica.proofs.StepAnswers.{does_step, fault_call, makes_step, next_is, runs, stepped_call, sum_is}
+use Rattle.df_replica.proofs.StepAnswers.{does_step, fault_call, makes_step, next_is, runs, step_puts_are, stepped_call, sum_is}
 use Rattle.df_replica.proofs.StepMemory.{last_memory, step_memory}
 use Rattle.df_replica.proofs.WritesOn.{StandsIn}
 
@@ -110,6 +113,25 @@ module _ (s : State) (r : Capture) (given : Given) (is : IsState s) (course : Is
   makes : (w : Work) → Represents s w → OfStep (shape s.file) (spelling s.file) (StandsIn (format s.file) (last_events s r)) w given.checksum w.running
   makes w rep = makes_step s r given running sum (StandsIn (format s.file) (last_events s r)) w rep [] left tt
 
+  -- its steps put copies, which no call reads
+  puts : Makes given Advance s (last_events s r)
+  puts =
+      let none : (place : theory.Place) → puts_of (memory s) given.checksum Advance place ≡ trailer_puts (memory s) (course_of s.file s.blocks r) given.checksum [] place = step_puts_are s r given running sum [] left in
+      record {
+        steps = given_steps;
+        are = steps s.file.layout s.file.cluster;
+        prepare = λ k o. sym (ap (λ (p : Option theory.AnyUnit). or_else p o) (none (PreparePlace k)));
+        reply = λ k o. sym (ap (λ (p : Option theory.AnyUnit). or_else p o) (none (ReplyPlace k)));
+        block = λ k o. sym (ap (λ (p : Option theory.AnyUnit). or_else p o) (none (BlockPlace k)));
+        copy = λ w work rep k o.
+            let is : content_of (content_with f) ≡ making.content_of (memory s) (course_of s.file s.blocks r) given.checksum =
+            content_is w work rep ∙ ap (making.content_of (memory s) (course_of s.file s.blocks r)) (sym sum_here) in
+            ap (λ (c : theory.Content). copies_over (CopyUnit c) k o) is
+            ∙ copies_made (making.content_of (memory s) (course_of s.file s.blocks r) given.checksum) k o
+            ∙ sym (ap (λ (p : Option theory.AnyUnit). or_else p o) (none (CopyPlace k)));
+        last = λ whole. tt;
+      }
+
   ring : (g : Grade) (w : Work) (x y : Told) → IsKept g s w x.log → Some y ≡ after_all (last_events s r) (Some x) → ShowsRing s.file.layout s.file.cluster (now y.log) s.headers
   ring g w x y k all =
       ring_spared s.file.layout s.file.cluster s.headers (last_events s r) given_steps x y k.log_is (steps s.file.layout s.file.cluster)
@@ -122,10 +144,10 @@ module _ (s : State) (r : Capture) (given : Given) (is : IsState s) (course : Is
 
   pub last_call : s.live ≡ true → (old new : Option Told) → new ≡ after_all (last_events s r) old → IsCall given Advance s (finished s r) old new (Some (ToAdvance (Ok (Done r.sequence))))
   last_call live old new all =
-      stepped_call s r given running sum (finished s r) (last_events s r) (Done r.sequence) refl live refl does (λ w work rep. leaves w work rep) answers makes ring old new sum all
+      stepped_call s r given running sum (finished s r) (last_events s r) (Done r.sequence) refl live refl does puts (λ w work rep. leaves w work rep) answers makes ring old new sum all
 
   pub last_fault : (old new : Option Told) (t : State) → t.live ≡ false → AddsPart (last_events s r) old new → IsCall given Advance s t old new None
-  last_fault old new t dead part = fault_call s r given running sum (last_events s r) does old new t sum dead part
+  last_fault old new t dead part = fault_call s r given running sum (last_events s r) does puts old new t sum dead part
 
 -- ---- of the state alone
 

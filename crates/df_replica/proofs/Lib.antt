@@ -10,12 +10,14 @@ pub mod NewFile
 pub mod Formatted
 pub mod MendEvents
 pub mod MendSteps
+pub mod MendShows
 pub mod Mendable
 pub mod SurveyPlans
 pub mod Settled
 pub mod Barriers
 pub mod Listed
 pub mod Opens
+pub mod Leaves
 pub mod Makes
 pub mod WritesOn
 pub mod Calls

@@ -31,6 +31,7 @@ use Rattle.df_replica.specs.Reading.{IsFoundBy, IsKnownUnit}
 use Rattle.df_replica.specs.Supply.{IsSupplied}
 use Rattle.df_replica.proofs.LookupFinds.{reply_found_by, reply_known, reply_lacks_by}
 use Rattle.df_replica.proofs.Calls.{AreCalls, Answered, answered_call, stopped_call}
+use Rattle.df_replica.proofs.Leaves.{makes_nothing}
 
 zero_sum : (given : Given) → given.checksum ≡ 0 → IsChecksum given.checksum
 zero_sum given zero = subst IsChecksum (sym zero) (let small : 0 < 2 ^ 128 = omega arith in small)
@@ -55,7 +56,7 @@ module _ (s : State) (client : ℕ) (live : s.live ≡ true) where
       → ((given : Given) → IsSupplied s told (ReadReply client) given → Gives told found given → after.lookup_answer (memory s) given.message client ≡ answer)
       → ServesRead (ReadReply client) s s told found (Some (ToReadReply answer))
   answers told found answer same given supplied gives =
-      answered_call given (ReadReply client) s [] (input told given supplied) (calls given) s (ToReadReply answer) (answered given answer (same given supplied gives)) told told supplied refl
+      answered_call given (ReadReply client) s [] (input told given supplied) (calls given) (makes_nothing given (ReadReply client) s (λ place. refl) (λ no. no)) s (ToReadReply answer) (answered given answer (same given supplied gives)) told told supplied refl
 
   message_is : (told : Option Told) (m : Result Units.Message Class) → IsFoundBy s (ReadReply client) told m → (given : Given) → IsSupplied s told (ReadReply client) given → Gives told (Some m) given → given.message ≡ m
   message_is None m by given supplied gives = gives
@@ -74,7 +75,7 @@ module _ (s : State) (client : ℕ) (live : s.live ≡ true) where
 
   -- a fault
   pub lookup_stopped : (told : Option Told) (t : State) → t.live ≡ false → ServesRead (ReadReply client) s t told None None
-  lookup_stopped told t dead given supplied gives = stopped_call given (ReadReply client) s [] (input told given supplied) (calls given) t told told supplied dead refl
+  lookup_stopped told t dead given supplied gives = stopped_call given (ReadReply client) s [] (input told given supplied) (calls given) (makes_nothing given (ReadReply client) s (λ place. refl) (λ no. no)) t told told supplied dead refl
 
 -- ---- a refusal
 

@@ -6,8 +6,9 @@ use Rattle.df_base.specs.declared.Failed.{Failed}
 use Rattle.df_base.specs.Log.{Sync}
 use Rattle.df_base.specs.Moments.{EachMoment}
 use Rattle.df_disk.specs.Told.{Told}
-use Rattle.df_disk.specs.Adds.{Adds, AddsPart}
-use Rattle.df_disk.proofs.Laws.{adds_part}
+use Rattle.df_disk.specs.Adds.{Adds, AddsPart, after_all}
+use Rattle.df_damage.specs.Anew.{told_after}
+use Rattle.df_damage.proofs.Laws.{added_is_told}
 use Rattle.df_layout.specs.declared.damage.Mend.{Mend}
 use Rattle.df_layout.specs.declared.layout.Layout.{Layout}
 use Rattle.df_format.specs.declared.header.Header.{Header}
@@ -18,13 +19,15 @@ use Rattle.df_theory.specs.Units.{AnyUnit, HeaderPlace, HeaderUnit, Place, or_el
 use Rattle.df_theory.specs.Device.{AreSteps, units_log}
 use Rattle.df_theory.specs.MakingLaws.{all_puts}
 use Rattle.df_theory.specs.MendLaws.{AllPutTable, PutsTable, Reaches, copy_steps, header_steps, mend_steps}
+use Rattle.df_theory.specs.Grown.{IsClear}
+use Rattle.df_theory.specs.Rests.{RestsOn}
 use Rattle.df_theory.specs.Runs.{Command, Puts, Step, Syncs, after_steps}
 use Rattle.df_theory.specs.TidyLaws.{IsTidy, KeepsStanding, LeadsTidily}
 use Rattle.df_theory.specs.Commands.{mend_command}
 use Rattle.df_theory.specs.View.{View}
 use Rattle.df_theory.specs.WholeLaws.{IsStanding}
-use Rattle.df_theory.specs.UnitLog.{Synced, UnitLog, add, now, wrote}
-use Rattle.df_theory.proofs.Laws.{now_units, steps_join_law, tidy_mend_law}
+use Rattle.df_theory.specs.UnitLog.{Synced, UnitLog, add, now, settled, wrote}
+use Rattle.df_theory.proofs.Laws.{clear_law, now_units, steps_join_law, tidy_mend_law}
 use Rattle.df_units.specs.Format.{format_of}
 use Rattle.df_units.specs.Calls.{IsCall}
 use Rattle.df_units.proofs.Laws.{call_ends, call_good, call_whole, copy_put, headers_put, is_format}
@@ -37,6 +40,7 @@ use Rattle.df_recovery.specs.Plan.{header_or_none, headers_in, if_wanted}
 use Rattle.df_replica.specs.Mending.{IsMended, MayMendOn, header_events, mending_events, mending_steps, needs_sector, sector_puts, sector_writes, sectors_of, sectors_to}
 use Rattle.df_replica.specs.Serving.{Firm, Grade, IsGoodFor, StandingFor, Whole, format}
 use Rattle.df_state.specs.State.{shape}
+use Rattle.df_replica.proofs.Calls.{all_are_part}
 use Rattle.df_replica.proofs.MendEvents.{sectors_more}
 
 -- ---- the calls are steps
@@ -156,13 +160,17 @@ stands_then : (g : Grade) (file : DataFile) (table : List Header) (mends : List 
 stands_then Firm file table mends f members t v law standing = tt
 stands_then Whole file table mends f members t v law standing = (law.1 standing).standing
 
+-- in a file of version 1 nothing survives above the head
+clear : (file : DataFile) (log : UnitLog) (v : View) → RestsOn (shape file) log v → IsClear (settled log) v
+clear file log v rests = let tests = rests.holds.bears.sound.checkpoint.tests in clear_law (shape file) log v rests (tests.of.one tests.version).0
+
 pub mending_moments : (file : DataFile) (table : List Header) (mends : List Mend) (f : SuperFields) (members : List Bool) (before after : Told) (may : MayMendOn file table mends f members before)
     → AreSteps (format file) (mending_events file.layout table mends f members) (mending_steps file.layout table mends f members) → AddsPart (mending_events file.layout table mends f members) (Some before) (Some after)
     → EachMoment before.log after.log (IsGoodFor may.grade (format file) (shape file) may.view may.view)
 mending_moments file table mends f members before after may steps part = each may.grade may.standing
   where
     law : TidilyMends file table mends f members before may.view
-    law = tidy_mend_law (shape file) (units_log (format file) before.log) may.view (headers_in table) (sector_puts table (sectors_of file.layout mends)) (repaired f 0 members) may.may
+    law = tidy_mend_law (shape file) (units_log (format file) before.log) may.view (headers_in table) (sector_puts table (sectors_of file.layout mends)) (repaired f 0 members) may.may (clear file (units_log (format file) before.log) may.view may.may.rests)
 
     call : IsCall (format file) (mending_events file.layout table mends f members) (mending_steps file.layout table mends f members) before after
     call = record { log = may.is_log; steps = steps; adds = part }
@@ -183,7 +191,7 @@ mending_ends file table mends f members before after (Ok x) may is steps adds =
     let log = units_log fmt before.log in
     let puts = sector_puts table (sectors_of file.layout mends) in
     let ss = mending_steps file.layout table mends f members in
-    let law : TidilyMends file table mends f members before may.view = tidy_mend_law sh log may.view (headers_in table) puts (repaired f 0 members) may.may in
+    let law : TidilyMends file table mends f members before may.view = tidy_mend_law sh log may.view (headers_in table) puts (repaired f 0 members) may.may (clear file log may.view may.may.rests) in
     let ends : units_log fmt after.log ≡ after_steps ss log = call_ends fmt (mending_events file.layout table mends f members) ss before after may.is_log steps adds in
     record {
       tidy = subst (λ (l : UnitLog). IsTidy sh l may.view) (sym ends) law.0.tidy;
@@ -194,19 +202,17 @@ mending_ends file table mends f members before after (Ok x) may is steps adds =
           ap (λ (u : Units.Units). u (HeaderPlace s)) (sym (now_units fmt after.log.start after.log.events)) ∙ ap (λ (l : UnitLog). now l (HeaderPlace s)) ends ∙ shown ∙ ap (λ (o : Option Header). Some (HeaderUnit (header_or_none o))) at;
     }
 
--- ---- of what the disk tells
+-- ---- all of it, by any log
 
-module _ (file : DataFile) (table : List Header) (mends : List Mend) (f : SuperFields) (members : List Bool) (old new : Option Told) (result : Result Unit Failed) where
-  pub told_moments : AreSteps (format file) (mending_events file.layout table mends f members) (mending_steps file.layout table mends f members) → Adds (mending_events file.layout table mends f members) old new result
-      → (before after : Told) → old ≡ Some before → new ≡ Some after → (may : MayMendOn file table mends f members before) → EachMoment before.log after.log (IsGoodFor may.grade (format file) (shape file) may.view may.view)
-  told_moments steps adds before after first last may =
-      let events = mending_events file.layout table mends f members in
-      mending_moments file table mends f members before after may steps
-      (subst (λ (o : Option Told). AddsPart events o (Some after)) first (subst (AddsPart events old) last (adds_part events old new result adds)))
+module _ (file : DataFile) (table : List Header) (mends : List Mend) (f : SuperFields) (members : List Bool) (base : Told) (may : MayMendOn file table mends f members base)
+    (steps : AreSteps (format file) (mending_events file.layout table mends f members) (mending_steps file.layout table mends f members)) where
+  all_told : Some (told_after (mending_events file.layout table mends f members) base) ≡ after_all (mending_events file.layout table mends f members) (Some base)
+  all_told = sym (added_is_told (mending_events file.layout table mends f members) base)
 
-  pub told_ends : IsTable file.layout file.cluster table → AreSteps (format file) (mending_events file.layout table mends f members) (mending_steps file.layout table mends f members) → Adds (mending_events file.layout table mends f members) old new result
-      → (before after : Told) → old ≡ Some before → new ≡ Some after → (may : MayMendOn file table mends f members before) → OnOk result (IsMended may.grade file may.view table after)
-  told_ends is steps adds before after first last may =
+  pub all_moments : EachMoment base.log (told_after (mending_events file.layout table mends f members) base).log (IsGoodFor may.grade (format file) (shape file) may.view may.view)
+  all_moments =
       let events = mending_events file.layout table mends f members in
-      mending_ends file table mends f members before after result may is steps
-      (subst (λ (o : Option Told). Adds events o (Some after) result) first (subst (λ (o : Option Told). Adds events old o result) last adds))
+      mending_moments file table mends f members base (told_after events base) may steps (all_are_part events (Some base) (Some (told_after events base)) all_told)
+
+  pub all_mended : IsTable file.layout file.cluster table → IsMended may.grade file may.view table (told_after (mending_events file.layout table mends f members) base)
+  all_mended is = mending_ends file table mends f members base (told_after (mending_events file.layout table mends f members) base) (Ok tt) may is steps all_told

@@ -1,5 +1,5 @@
 -- What an open leaves is kept by what the machine begins with: a mending writes no prepare.
-use Rattle.std.proofs.Common.{◌≡◌, ◌-◌, ◌+◌, ◌%◌, ℕ, List, [], ◌∷◌, ◌++◌, map, Bool, true, false, if◌then◌else◌, inl, inr, Option, Some, None, refl, sym, ◌∙◌, ap, subst, arith}
+use Rattle.std.proofs.Common.{◌≡◌, ◌-◌, ◌+◌, ◌%◌, ℕ, List, [], ◌∷◌, ◌++◌, map, Bool, true, false, if◌then◌else◌, Option, Some, None, refl, sym, ◌∙◌, ap, subst, arith}
 use Rattle.std.specs.Prelude.{nat_lt, Ok}
 use Rattle.std.specs.List.{range_with_len, slice_get}
 use Rattle.df_base.specs.Image.{Image, IsImage}
@@ -7,14 +7,15 @@ use Rattle.df_base.specs.Log
 use Rattle.df_base.specs.Log.{Event, IsLog, Sync}
 use Rattle.df_base.specs.Moments.{EachMoment, Extends}
 use Rattle.df_base.proofs.Laws.{adds_extends, extends_self, now_is_image}
-use Rattle.df_disk.specs.Told as told
 use Rattle.df_disk.specs.Told.{Told, did}
 use Rattle.df_disk.specs.Adds.{AddsPart, after_all}
+use Rattle.df_damage.specs.Anew.{told_after}
+use Rattle.df_damage.proofs.Laws.{added_is_told}
 use Rattle.df_layout.specs.declared.damage.Mend.{Mend}
 use Rattle.df_format.specs.declared.header.Header.{Header}
 use Rattle.df_format.specs.declared.superblock.SuperFields.{SuperFields}
 use Rattle.df_theory.specs.Units
-use Rattle.df_theory.specs.Units.{AnyUnit, PreparePlace, or_else}
+use Rattle.df_theory.specs.Units.{AnyUnit, BlockPlace, PreparePlace, or_else}
 use Rattle.df_theory.specs.Device.{AreSteps, units_log}
 use Rattle.df_theory.specs.Found.{AreOfPlaces, IsFound}
 use Rattle.df_theory.specs.MakingLaws.{all_puts}
@@ -25,7 +26,7 @@ use Rattle.df_theory.specs.UnitLog.{Synced, UnitLog, add, now, wrote}
 use Rattle.df_theory.specs.View.{View, head}
 use Rattle.df_theory.proofs.Laws.{now_units, one_found_law}
 use Rattle.df_units.specs.Bytes.{unit_at}
-use Rattle.df_units.proofs.Laws.{all_added, call_ends, chosen_choice, of_places}
+use Rattle.df_units.proofs.Laws.{all_added, call_ends, chosen_choice, of_places, part_moments}
 use Rattle.df_model.specs.Codec.{IsCodec}
 use Rattle.df_model.specs.Laws.{IsKeptBy}
 use Rattle.df_model.specs.Work.{Work, checksum_of, checksum_of_op, first_tour, opened, waiting_checksum}
@@ -35,15 +36,16 @@ use Rattle.df_theory.specs.WholeLaws.{IsStanding}
 use Rattle.df_trailer.specs.Text.{parse_of}
 use Rattle.df_trailer.proofs.Laws.{codec}
 use Rattle.df_units.specs.Meaning.{layout_of}
-use Rattle.df_replica.proofs.Calls.{good_safe}
+use Rattle.df_replica.proofs.Calls.{Front, front_of, good_safe}
+use Rattle.df_replica.proofs.Leaves.{stays_firm, unit_after, unwritten}
+use Rattle.df_replica.specs.Leaving.{AreSettled}
 use Rattle.df_superblock.specs.Steps.{repaired}
 use Rattle.df_state.specs.declared.file.DataFile.{DataFile}
 use Rattle.df_layout.specs.declared.layout.Layout.{Layout}
 use Rattle.df_replica.specs.Surveying.{TellsSurvey}
 use Rattle.df_replica.specs.Following.{MayOpen}
-use Rattle.df_replica.specs.Mending.{IsMended, live_state, mending_events, mending_steps, sector_puts, sectors_of}
+use Rattle.df_replica.specs.Mending.{IsMended, IsPlanned, live_state, mending_events, mending_steps, sector_puts, sectors_of}
 use Rattle.df_replica.specs.Serving.{Firm, Grade, IsGoodFor, IsKept, Keeps, KeptFor, StandingFor, Whole, format}
-use Rattle.df_replica.specs.Opened.{ToldBy}
 use Rattle.df_state.specs.State.{Represents, State, shape, spelling}
 use Rattle.df_recovery.specs.Surveys.{IsOpened}
 
@@ -140,12 +142,65 @@ open_keeps g s mends members view before after may is steps all moments mended =
       ring = mended.ring;
     }
 
--- the answer of the survey, of what an honest disk shows
-pub survey_opened : (layout : Layout) (told : Option Told) (before : Told) (s : State) → told ≡ Some before → (view : View) → MayOpen s.file view before → s.file.layout ≡ layout → TellsSurvey layout told (Ok s) → IsOpened s.file.layout before.shown s
-survey_opened layout told before s is view may same answer =
-    let shown : before.shown ≡ Log.now before.log = λ i sector. may.honest.shows sector i in
-    let whole : IsImage before.shown = subst IsImage (sym shown) (now_is_image before.log.start before.log.events may.safe.is_log.start may.safe.is_log.events) in
-    subst (λ (l : Layout). IsOpened l before.shown s) (sym same) ((subst (λ (o : Option Told). TellsSurvey layout o (Ok s)) is answer) whole)
+-- ---- no step of a mending puts a block
+
+steps_join : (ss ts : List Step) (place : Units.Place) (o : Option AnyUnit) → unit_after (ss ++ ts) place o ≡ unit_after ts place (unit_after ss place o)
+steps_join [] ts place o = refl
+steps_join ((Puts put) ∷ ss) ts place o = steps_join ss ts place (or_else (put place) o)
+steps_join (Syncs ∷ ss) ts place o = steps_join ss ts place o
+
+puts_aside : (a : ℕ) (table : List Header) (ks : List ℕ) → unit_after (all_puts (sector_puts table ks)) (BlockPlace a) None ≡ None
+puts_aside a table [] = refl
+puts_aside a table (k ∷ ks) = puts_aside a table ks
+
+headers_aside : (a : ℕ) (table : List Header) (ks : List ℕ) → unit_after (header_steps (sector_puts table ks)) (BlockPlace a) None ≡ None
+headers_aside a table [] = refl
+headers_aside a table (k ∷ ks) = steps_join (all_puts (sector_puts table (k ∷ ks))) (Syncs ∷ []) (BlockPlace a) None ∙ puts_aside a table (k ∷ ks)
+
+copies_aside : (a number : ℕ) (f : SuperFields) (members : List Bool) → unit_after (copy_steps (repaired f number members)) (BlockPlace a) None ≡ None
+copies_aside a number f [] = refl
+copies_aside a number f (true ∷ members) = copies_aside a (number + 1) f members
+copies_aside a number f (false ∷ members) = copies_aside a (number + 1) f members
+
+mending_aside : (file : DataFile) (table : List Header) (mends : List Mend) (f : SuperFields) (members : List Bool) (a : ℕ) → unit_after (mending_steps file.layout table mends f members) (BlockPlace a) None ≡ None
+mending_aside file table mends f members a =
+    let headers = header_steps (sector_puts table (sectors_of file.layout mends)) in
+    let copies = copy_steps (repaired f 0 members) in
+    steps_join headers copies (BlockPlace a) None ∙ ap (unit_after copies (BlockPlace a)) (headers_aside a table (sectors_of file.layout mends)) ∙ copies_aside a 0 f members
+
+-- so behind the barrier none is loose
+pub open_settles : (s : State) (mends : List Mend) (members : List Bool) (base : Told) (w : Work) → AreSteps (format s.file) (mending_events s.file.layout s.headers mends s.fields members) (mending_steps s.file.layout s.headers mends s.fields members)
+    → AreSettled s.file (told_after (mending_events s.file.layout s.headers mends s.fields members) (did Sync base)).log w
+open_settles s mends members base w steps =
+    let es = mending_events s.file.layout s.headers mends s.fields members in
+    let ss = mending_steps s.file.layout s.headers mends s.fields members in
+    let n : Told = told_after es (did Sync base) in
+    subst (λ (l : Log.Log). AreSettled s.file l w) (sym (all_added es (did Sync base) n (sym (added_is_told es (did Sync base)))))
+    (record {
+      firm = λ a sector durable here.
+          stays_firm es (did Sync base).log sector refl (unwritten s.file.layout s.file.cluster es ss steps (BlockPlace a) (mending_aside s.file s.headers mends s.fields members a) sector here);
+    })
+
+-- the answer of the survey, of what the disk shows, by a log that shows the same
+pub survey_opened : (layout : Layout) (t base : Told) (s : State) → base.shown ≡ t.shown → (view : View) → MayOpen s.file view base → s.file.layout ≡ layout → TellsSurvey layout (Some t) (Ok s) → IsOpened s.file.layout base.shown s
+survey_opened layout t base s same view may of answer =
+    let shown : base.shown ≡ Log.now base.log = λ i sector. may.honest.shows sector i in
+    let whole : IsImage t.shown = subst IsImage (sym shown ∙ same) (now_is_image base.log.start base.log.events may.safe.is_log.start may.safe.is_log.events) in
+    subst (λ (m : Image). IsOpened s.file.layout m s) (sym same) (subst (λ (l : Layout). IsOpened l t.shown s) (sym of) (answer whole))
+
+-- what is planned of what one log shows is planned of another one that shows the same
+pub planned_same : (file : DataFile) (table : List Header) (mends : List Mend) (f : SuperFields) (members : List Bool) (t base : Told) → base.shown ≡ t.shown → IsPlanned file table mends f members t → IsPlanned file table mends f members base
+planned_same file table mends f members t base same plan =
+    let there : IsPlanned file table mends f members (record { log = base.log; shown = t.shown }) = record {
+      scan = plan.scan;
+      copies = plan.copies;
+      super = plan.super;
+      members_are = plan.members_are;
+      op = plan.op;
+      scanned = plan.scanned;
+      planned = plan.planned;
+    } in
+    subst (λ (m : Image). IsPlanned file table mends f members (record { log = base.log; shown = m })) (sym same) there
 
 -- ---- what an open finds in an image, whatever was done to it
 
@@ -168,12 +223,12 @@ live_kept g s w log is = record { log_is = is.log_is; stands = is.stands; kept_b
 
 -- ---- where the disk failed
 
-part_told : (es : List Event) (old new : Option Told) → AddsPart es old new → ToldBy old new
-part_told [] old new is = ([], is)
-part_told (e ∷ es) old new (inl same) = ([], same)
-part_told (e ∷ es) old new (inr more) =
-    let rest = part_told es (told.after e old) new more in
-    (e ∷ rest.0, rest.1)
+-- a front of the mending was added
+pub mend_stops : (es : List Event) (old new : Option Told) (t : Told) → old ≡ Some t → AddsPart es old new → Front es (Some t) new
+mend_stops es old new t is part = front_of es (Some t) new (subst (λ (o : Option Told). AddsPart es o new) is part)
 
-pub mend_stops : (es : List Event) (old new : Option Told) (t : Told) → old ≡ Some t → AddsPart es old new → ToldBy (Some t) new
-mend_stops es old new t is part = part_told es (Some t) new (subst (λ (o : Option Told). AddsPart es o new) is part)
+-- and its moments are moments of the whole one
+pub front_moments : (es : List Event) (base : Told) (part : List Event) → ((b : Option Told) → AddsPart es b (after_all part b)) → (P : Log.Log → Type 0) → EachMoment base.log (told_after es base).log P → EachMoment base.log (told_after part base).log P
+front_moments es base part again P each =
+    part_moments es base (told_after part base) P (subst (AddsPart es (Some base)) (added_is_told part base) (again (Some base)))
+    (subst (λ (l : Log.Log). EachMoment base.log l P) (all_added es base (told_after es base) (sym (added_is_told es base))) each)

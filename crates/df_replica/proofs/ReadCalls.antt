@@ -30,6 +30,7 @@ use Rattle.df_replica.specs.Reading.{IsFoundBy, IsKnownUnit, IsReadPrepare, Prep
 use Rattle.df_replica.specs.Supply.{IsSupplied}
 use Rattle.df_replica.proofs.ReadFinds.{prepare_found_by, prepare_known, prepare_lacks_by}
 use Rattle.df_replica.proofs.Calls.{AreCalls, Answered, answered_call, stopped_call}
+use Rattle.df_replica.proofs.Leaves.{makes_nothing}
 
 pub zero_sum : (given : Given) → given.checksum ≡ 0 → IsChecksum given.checksum
 zero_sum given zero = subst IsChecksum (sym zero) (let small : 0 < 2 ^ 128 = omega arith in small)
@@ -54,7 +55,7 @@ module _ (s : State) (op : ℕ) (live : s.live ≡ true) where
       → ((given : Given) → IsSupplied s told (ReadPrepare op) given → Gives told found given → after.prepare_answer (memory s) given.message op ≡ answer)
       → ServesRead (ReadPrepare op) s s told found (Some (ToReadPrepare answer))
   answers told found answer same given supplied gives =
-      answered_call given (ReadPrepare op) s [] (input told given supplied) (calls given) s (ToReadPrepare answer) (answered given answer (same given supplied gives)) told told supplied refl
+      answered_call given (ReadPrepare op) s [] (input told given supplied) (calls given) (makes_nothing given (ReadPrepare op) s (λ place. refl) (λ no. no)) s (ToReadPrepare answer) (answered given answer (same given supplied gives)) told told supplied refl
 
   message_is : (told : Option Told) (m : Result Units.Message Class) → IsFoundBy s (ReadPrepare op) told m → (given : Given) → IsSupplied s told (ReadPrepare op) given → Gives told (Some m) given → given.message ≡ m
   message_is None m by given supplied gives = gives
@@ -73,7 +74,7 @@ module _ (s : State) (op : ℕ) (live : s.live ≡ true) where
 
   -- a fault
   pub prepare_stopped : (told : Option Told) (t : State) → t.live ≡ false → ServesRead (ReadPrepare op) s t told None None
-  prepare_stopped told t dead given supplied gives = stopped_call given (ReadPrepare op) s [] (input told given supplied) (calls given) t told told supplied dead refl
+  prepare_stopped told t dead given supplied gives = stopped_call given (ReadPrepare op) s [] (input told given supplied) (calls given) (makes_nothing given (ReadPrepare op) s (λ place. refl) (λ no. no)) t told told supplied dead refl
 
 -- ---- a refusal
 

@@ -22,6 +22,7 @@ use Rattle.df_replica.specs.Serving.{IsCall, next}
 use Rattle.df_replica.specs.Supply.{IsSupplied}
 use Rattle.df_replica.proofs.BlockStates.{blocks_memory}
 use Rattle.df_replica.proofs.Calls.{AreCalls, Answered, answered_call}
+use Rattle.df_replica.proofs.Leaves.{makes_nothing}
 use Rattle.df_replica.proofs.ReadCalls.{zero_sum}
 
 module _ (s : State) (address : ℕ) (live : s.live ≡ true) where
@@ -37,7 +38,7 @@ module _ (s : State) (address : ℕ) (live : s.live ≡ true) where
         ap (λ (x : Option NotLive). as_answer ToRelease (outcome x w (with_live w address None) tt)) (ap (λ (x : Memory). first_refusal (release_refusals x address)) (sym rep) ∙ there)
 
   served : (given : Given) (t : State) (answer : Answer) → Answered given (Release address) s t [] answer → (told : Option Told) → IsSupplied s told (Release address) given → IsCall given (Release address) s t told told (Some answer)
-  served given t answer answered told supplied = answered_call given (Release address) s [] (input told given supplied) (calls given) t answer answered told told supplied refl
+  served given t answer answered told supplied = answered_call given (Release address) s [] (input told given supplied) (calls given) (makes_nothing given (Release address) s (λ place. refl) (λ no. no)) t answer answered told told supplied refl
 
   -- a refusal
   pub refused_release : (e : NotLive) → first_refusal (release_refusals (memory s) address) ≡ Some e → (told : Option Told) → Serves (Release address) s s told told (Some (ToRelease (Err e)))

@@ -16,7 +16,7 @@ use Rattle.df_journal.specs.Append.{ShowsRing}
 use Rattle.df_replies.specs.Slots.{IsInOwnSlot, write_steps}
 use Rattle.df_theory.specs.Device.{IsPut}
 use Rattle.df_theory.specs.Units as theory
-use Rattle.df_theory.specs.Units.{HeaderPlace, ReplyPlace, ReplyUnit}
+use Rattle.df_theory.specs.Units.{AnyUnit, BlockPlace, CopyPlace, HeaderPlace, Place, PreparePlace, ReplyPlace, ReplyUnit, or_else}
 use Rattle.df_theory.specs.UnitLog.{put_one}
 use Rattle.df_theory.proofs.Laws.{put_one_law}
 use Rattle.df_units.specs.Bytes.{first_at}
@@ -33,6 +33,7 @@ use Rattle.df_model.specs.Memory.{Memory, memory_of}
 use Rattle.df_model.specs.OnDisk.{DoesOnDisk}
 use Rattle.df_model.specs.Refusals.{first_refusal, reply_refusals}
 use Rattle.df_model.specs.Sense.{IsWork}
+use Rattle.df_model.specs.Supply.{puts_of, unless}
 use Rattle.df_model.specs.Work.{Work}
 use Rattle.df_model.proofs.Laws.{change_law}
 use Rattle.df_model.specs.declared.errors.ReplyError.{ReplyError}
@@ -43,6 +44,7 @@ use Rattle.df_replica.specs.Replying.{first_check, next_reply, replied, reply_ev
 use Rattle.df_replica.specs.Serving.{Grade, IsCall, IsKept, format, next}
 use Rattle.df_replica.specs.Supply.{IsSupplied}
 use Rattle.df_replica.proofs.Calls.{AreCalls, Answered, answered_call, stopped_call}
+use Rattle.df_replica.proofs.Leaves.{Makes, makes_nothing}
 use Rattle.df_replica.proofs.Makes.{OfMade, Unless}
 use Rattle.df_replica.proofs.WritesOn.{StandsIn, steps_stand}
 use Rattle.df_replica.proofs.ReplyMemory.{replied_memory}
@@ -84,6 +86,11 @@ module _ (s : State) (op : ℕ) (body : List ℕ) (given : Given) (is : IsState 
           does = subst (λ (o : Option ReplyError). UnlessRefused o [] (DoesReply w.view (place_of_reply m) (reply_of m given.checksum body) [])) (sym (test_is w k.stands (Some e) some)) refl;
         }
 
+    refused_puts : Makes given command s []
+    refused_puts =
+        let m = memory s in
+        makes_nothing given command s (λ place. ap (λ (o : Option ReplyError). unless o (put_one (ReplyPlace (place_of_reply m)) (ReplyUnit (reply_of m given.checksum body))) place) some) (λ no. no)
+
     refused_makes : (w : Work) → Represents s w → OfMade (shape s.file) (spelling s.file) (StandsIn (format s.file) []) w given command
     refused_makes w rep =
         let m = memory_of (shape s.file) (spelling s.file) w in
@@ -99,7 +106,7 @@ module _ (s : State) (op : ℕ) (body : List ℕ) (given : Given) (is : IsState 
     }
 
     refused_call : (old : Option Told) → IsSupplied s old command given → IsCall given command s s old old (Some (ToReply (Err e)))
-    refused_call old supplied = answered_call given command s [] input refused_does s (ToReply (Err e)) refused_as old old supplied refl
+    refused_call old supplied = answered_call given command s [] input refused_does refused_puts s (ToReply (Err e)) refused_as old old supplied refl
 
   -- ---- a stored reply, and a fault
 
@@ -135,6 +142,26 @@ module _ (s : State) (op : ℕ) (body : List ℕ) (given : Given) (is : IsState 
               (subst (λ (p : theory.Message). DoesReply w.view (place_of_reply m) p steps) (sym (reply_is w k.stands))
               (subst (λ (place : ℕ). DoesReply w.view place (message_of u) steps) (sym (place_is w k.stands)) does));
         }
+
+    -- its steps put that reply
+    put_is : (place : Place) → put_one (ReplyPlace u.header.slot) (ReplyUnit (message_of u)) place ≡ puts_of (memory s) given.checksum command place
+    put_is place =
+        let m = memory s in
+        let r : theory.Message = reply_of m given.checksum body in
+        let same : r ≡ message_of u = (λ i. reply_of m (sum i) body) ∙ ap (λ (parent : ℕ). record { header = record (message_of u).header { parent = parent }; body = body }) (first_number s.waiting waits) in
+        ap (λ (x : theory.Message). put_one (ReplyPlace u.header.slot) (ReplyUnit x) place) (sym same)
+        ∙ ap (λ (o : Option ReplyError). unless o (put_one (ReplyPlace (place_of_reply m)) (ReplyUnit r)) place) (sym none)
+
+    reply_puts : Makes given command s (reply_events s u)
+    reply_puts = record {
+      steps = write_steps u;
+      are = (put, tt);
+      prepare = λ k o. ap (λ (p : Option AnyUnit). or_else p o) (put_is (PreparePlace k));
+      reply = λ k o. ap (λ (p : Option AnyUnit). or_else p o) (put_is (ReplyPlace k));
+      block = λ k o. ap (λ (p : Option AnyUnit). or_else p o) (put_is (BlockPlace k));
+      copy = λ w work rep k o. ap (λ (p : Option AnyUnit). or_else p o) (put_is (CopyPlace k));
+      last = λ no. absurd no;
+    }
 
     -- the reply that it makes is the one that it writes
     makes : (w : Work) → Represents s w → OfMade (shape s.file) (spelling s.file) (StandsIn (format s.file) (reply_events s u)) w given command
@@ -182,10 +209,10 @@ module _ (s : State) (op : ℕ) (body : List ℕ) (given : Given) (is : IsState 
     allowed_as = record { file = refl; live = live; stands = λ w work rep. allowed_at w work rep; made = λ w work rep. makes w rep; ring = λ g w a b k all. ring_kept g w a b k all }
 
     stored_call : (old new : Option Told) → IsSupplied s old command given → new ≡ after_all (reply_events s u) old → IsCall given command s (replied s u.header) old new (Some answer)
-    stored_call old new supplied all = answered_call given command s (reply_events s u) input does_reply (replied s u.header) answer allowed_as old new supplied all
+    stored_call old new supplied all = answered_call given command s (reply_events s u) input does_reply reply_puts (replied s u.header) answer allowed_as old new supplied all
 
     fault_call : (old new : Option Told) (t : State) → IsSupplied s old command given → t.live ≡ false → AddsPart (reply_events s u) old new → IsCall given command s t old new None
-    fault_call old new t supplied dead part = stopped_call given command s (reply_events s u) input does_reply t old new supplied dead part
+    fault_call old new t supplied dead part = stopped_call given command s (reply_events s u) input does_reply reply_puts t old new supplied dead part
 
 -- no refusal is a fault
 abbrev IsRefusal : ReplyError → Type 0

@@ -23,6 +23,7 @@ use Rattle.df_replica.specs.Scrubbing.{scrub_of, with_scrub}
 use Rattle.df_replica.specs.Serving.{next}
 use Rattle.df_replica.specs.Supply.{IsSupplied}
 use Rattle.df_replica.proofs.Calls.{AreCalls, Answered, answered_call, stopped_call}
+use Rattle.df_replica.proofs.Leaves.{makes_nothing}
 use Rattle.df_replica.proofs.ReadCalls.{zero_sum}
 
 -- a check leaves the blocks as they are
@@ -74,11 +75,11 @@ module _ (s : State) (live : s.live ≡ true) where
   pub scrub_serves : (told : Option Told) (answer : Scrubbed) (scrub : ScrubState) → IsMachines (grid_with s.file s.blocks) (scrub_of s) scrub told answer → ServesScrub s (with_scrub s scrub) told (Ok answer)
   scrub_serves told answer scrub machines given supplied gives =
       let of = machines (memory s) (record { layout = refl; blocks = refl; tour = refl; findings = refl }) in
-      answered_call given Scrub s [] (input told given supplied) (calls given) (with_scrub s scrub) (ToScrub answer) (answered told answer scrub of given (verdict_is s told answer scrub of given supplied gives)) told told supplied refl
+      answered_call given Scrub s [] (input told given supplied) (calls given) (makes_nothing given Scrub s (λ place. refl) (λ no. no)) (with_scrub s scrub) (ToScrub answer) (answered told answer scrub of given (verdict_is s told answer scrub of given supplied gives)) told told supplied refl
 
   -- a fault
   pub scrub_stopped : (told : Option Told) (t : State) (e : Failed) → t.live ≡ false → ServesScrub s t told (Err e)
-  scrub_stopped told t e dead given supplied gives = stopped_call given Scrub s [] (input told given supplied) (calls given) t told told supplied dead refl
+  scrub_stopped told t e dead given supplied gives = stopped_call given Scrub s [] (input told given supplied) (calls given) (makes_nothing given Scrub s (λ place. refl) (λ no. no)) t told told supplied dead refl
 
 -- ---- what was found last
 
@@ -97,4 +98,4 @@ module _ (s : State) (place : ℕ) (live : s.live ≡ true) where
 
   pub recent_serves : (told : Option Told) → Serves (Recent place) s s told told (Some (ToRecent (slice_get s.findings place)))
   recent_serves told given supplied =
-      answered_call given (Recent place) s [] (record { checksum = zero_sum given supplied; fields = tt }) (recent_calls given) s (ToRecent (slice_get s.findings place)) (recent_answered given) told told supplied refl
+      answered_call given (Recent place) s [] (record { checksum = zero_sum given supplied; fields = tt }) (recent_calls given) (makes_nothing given (Recent place) s (λ place. refl) (λ no. no)) s (ToRecent (slice_get s.findings place)) (recent_answered given) told told supplied refl

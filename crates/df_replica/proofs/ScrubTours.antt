@@ -92,7 +92,7 @@ tells s (Some t) = λ codec w work rep.
     (tour_law (shape s.file) codec (shown_of s.file t.shown) (at_start w) refl work.few)
 
 pub tour_serves : (s : State) (told : Option Told) (list : List Finding) → ServesTour s told list
-tour_serves s told list = record { machine = tells s told; keeps = keeps_behind s told list; written = written_behind s told list }
+tour_serves s told list = record { machine = tells s told; keeps = λ g w base k. keeps_behind s base list g w k; written = written_behind s told list }
 
 -- ---- how many there are
 

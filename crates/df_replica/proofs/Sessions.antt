@@ -1,10 +1,11 @@
 -- Calls one after the other: nothing is served at first, one more call goes on, and a fault stops them.
 use Rattle.std.proofs.Common.{◌≡◌, ◌⊎◌, inl, inr, List, [], ◌∷◌, ◌++◌, Option, Some, None, Err, refl, sym, ◌∙◌, ap, subst, arith}
 use Rattle.df_base.specs.Image.{Image}
-use Rattle.df_base.specs.Log.{Event, IsLeft, Log}
-use Rattle.df_base.specs.Moments.{EachMoment, Extends}
+use Rattle.df_base.specs.Log.{Event, IsLeft, Log, add}
+use Rattle.df_base.specs.Moments.{EachMoment, Extends, adds}
 use Rattle.df_base.proofs.Laws.{extends_add, extends_self, more, weaker}
 use Rattle.df_disk.specs.Told.{Told}
+use Rattle.df_disk.specs.Adds.{after_all}
 use Rattle.df_layout.specs.declared.damage.Class.TheVariants.{Blank}
 use Rattle.df_theory.specs.View.{View}
 use Rattle.df_theory.specs.Device.{NoChanceOf}
@@ -13,6 +14,7 @@ use Rattle.df_model.specs.declared.answers.Verdict.TheVariants.{Sound}
 use Rattle.df_model.specs.Work.{Work, kept}
 use Rattle.df_state.specs.declared.file.DataFile.{DataFile}
 use Rattle.df_state.specs.State.{State, shape}
+use Rattle.df_replica.specs.Leaving.{AreSettled}
 use Rattle.df_replica.specs.Serving.{EachIsGood, Firm, Grade, IsGoodFor, IsKept, Keeps, Whole, format, next}
 use Rattle.df_replica.specs.Session.{Act, AnsweredIsThere, EachIsMidway, FaultStopsThem, HasView, HoldsFor, HoldsSome, IsMidway, LeavesEither, LeavesView, NothingIsServed, OneMoreIsServed, answers_of, work_after}
 use Rattle.df_replica.specs.WrittenFor.{IsWrittenIn}
@@ -123,7 +125,7 @@ midway_now s (Some t) g w k = (
 )
 
 pub nothing_is_served : NothingIsServed
-nothing_is_served s told live = record { file = refl; live = live; answered = λ g w k. (refl, k); kept_on = λ g w k. (midway_now s told g w k, k); written = λ w k was. was }
+nothing_is_served s told live = record { file = refl; live = live; told_is = refl; answered = λ g w k. (refl, k); kept_on = λ g w base k. (midway_now s base g w k, k); settles = λ w log k settled. settled; written = λ w k was. was }
 
 -- what was kept goes on being kept where no log is told
 pub keeps_alone : (g : Grade) (s : State) (w : Work) (told : Option Told) → Keeps g s w told → Keeps g s w None
@@ -147,24 +149,47 @@ module _ (s0 s t : State) (told0 told new : Option Told) (acts : List Act) (answ
   answer_then w answer before is =
       (λ i. before i ++ (is ∙ ap (λ (file : DataFile). (next file (work_after s0.file w acts) act.given act.command).1) same) i ∷ []) ∙ sym (answers_more s0.file w acts act)
 
+-- events one after the other
+pub added_on : (es fs : List Event) (old : Option Told) → after_all (es ++ fs) old ≡ after_all fs (after_all es old)
+added_on [] fs old = refl
+added_on (e ∷ es) fs old = added_on es fs _
+
+adds_on : (es fs : List Event) (log : Log) → adds (es ++ fs) log ≡ adds fs (adds es log)
+adds_on [] fs log = refl
+adds_on (e ∷ es) fs log = adds_on es fs (add e log)
+
 pub one_more_is_served : OneMoreIsServed
-one_more_is_served s0 s t told0 told new acts answers act answer served call = record {
-  file = call.file ∙ served.file;
-  live = call.live;
-  answered = λ g w k.
-      let before = served.answered g w k in
-      let on = call.answers g (work_after s0.file w acts) before.1 in
-      (answer_then s0 s t told0 told new acts answers act served.file w answer before.0 on.0, subst (λ (x : Work). Keeps g t x None) (work_then s0 s t told0 told new acts answers act served.file w) on.1);
-  kept_on = λ g w k.
-      let before = served.kept_on g w k in
-      let on = call.keeps g (work_after s0.file w acts) before.1 in
-      (one_more_moments s0 s t told0 told new acts answers act served.file g w before.0 on.0, subst (λ (x : Work). Keeps g t x new) (work_then s0 s t told0 told new acts answers act served.file w) on.1.1);
-  written = λ w k was.
-      let on = call.written (work_after s0.file w acts) (served.answered Firm w k).1 in
-      let later : Work = (next s.file (work_after s0.file w acts) act.given act.command).0 in
-      subst (λ (x : Work). IsWrittenIn s0.file new x) (work_then s0 s t told0 told new acts answers act served.file w)
-      (subst (λ (file : DataFile). IsWrittenIn file told (work_after s0.file w acts) → IsWrittenIn file new later) served.file on (served.written w k was));
-}
+one_more_is_served s0 s t told0 told new acts answers es act answer served call =
+    let fs = call.events in
+    record {
+      file = call.file ∙ served.file;
+      live = call.live;
+      told_is = call.told ∙ ap (after_all fs) served.told_is ∙ sym (added_on es fs told0);
+      answered = λ g w k.
+          let before = served.answered g w k in
+          let on = call.answers g (work_after s0.file w acts) before.1 in
+          (answer_then s0 s t told0 told new acts answers act served.file w answer before.0 on.0, subst (λ (x : Work). Keeps g t x None) (work_then s0 s t told0 told new acts answers act served.file w) on.1);
+      kept_on = λ g w base k.
+          let before = served.kept_on g w base k in
+          let on = call.keeps g (work_after s0.file w acts) (after_all es base) before.1 in
+          subst (λ (o : Option Told). EachIsMidway s0.file g w (acts ++ act ∷ []) base o × Keeps g t (work_after s0.file w (acts ++ act ∷ [])) o) (sym (added_on es fs base)) (
+            one_more_moments s0 s t base (after_all es base) (after_all fs (after_all es base)) acts answers act served.file g w before.0 on.0,
+            subst (λ (x : Work). Keeps g t x (after_all fs (after_all es base))) (work_then s0 s t told0 told new acts answers act served.file w) on.1.1,
+          );
+      settles = λ w log k was.
+          let before = served.settles w log k was in
+          let u = work_after s0.file w acts in
+          let on = call.settles u (adds es log) (served.answered Firm w k).1 in
+          let later : Work = (next s.file u act.given act.command).0 in
+          subst (λ (l : Log). AreSettled s0.file l (work_after s0.file w (acts ++ act ∷ []))) (sym (adds_on es fs log))
+          (subst (λ (x : Work). AreSettled s0.file (adds fs (adds es log)) x) (work_then s0 s t told0 told new acts answers act served.file w)
+          (subst (λ (file : DataFile). AreSettled file (adds es log) u → AreSettled file (adds fs (adds es log)) later) served.file on before));
+      written = λ w k was.
+          let on = call.written (work_after s0.file w acts) (served.answered Firm w k).1 in
+          let later : Work = (next s.file (work_after s0.file w acts) act.given act.command).0 in
+          subst (λ (x : Work). IsWrittenIn s0.file new x) (work_then s0 s t told0 told new acts answers act served.file w)
+          (subst (λ (file : DataFile). IsWrittenIn file told (work_after s0.file w acts) → IsWrittenIn file new later) served.file on (served.written w k was));
+    }
 
 -- ---- a fault
 
@@ -179,16 +204,21 @@ leaves_either file g s w u None (Some n) same good = absurd good
 leaves_either file g s w u (Some t) (Some n) same good = λ image left chance. good_left file g (kept w) (kept u) n.log (last_moment file g s (kept w) (kept u) t n same good) image left chance
 
 pub fault_stops_them : FaultStopsThem
-fault_stops_them s0 s t told0 told new acts answers act served call = record {
-  moments = λ g w k.
-      let before = served.kept_on g w k in
-      one_more_moments s0 s t told0 told new acts answers act served.file g w before.0 (call.keeps g (work_after s0.file w acts) before.1).0;
-  left = λ g w k.
-      let before = served.kept_on g w k in
-      let then : Work = (next s.file (work_after s0.file w acts) act.given act.command).0 in
-      subst (λ (x : Work). LeavesEither s0.file g (work_after s0.file w acts) x new) (work_then s0 s t told0 told new acts answers act served.file w)
-      (leaves_either s0.file g s (work_after s0.file w acts) then told new served.file (call.keeps g (work_after s0.file w acts) before.1).0);
-}
+fault_stops_them s0 s t told0 told new acts answers es act served call =
+    let fs = call.events in
+    record {
+      told_is = call.told ∙ ap (after_all fs) served.told_is ∙ sym (added_on es fs told0);
+      moments = λ g w base k.
+          let before = served.kept_on g w base k in
+          subst (λ (o : Option Told). EachIsMidway s0.file g w (acts ++ act ∷ []) base o) (sym (added_on es fs base))
+          (one_more_moments s0 s t base (after_all es base) (after_all fs (after_all es base)) acts answers act served.file g w before.0 (call.keeps g (work_after s0.file w acts) (after_all es base) before.1).0);
+      left = λ g w base k.
+          let before = served.kept_on g w base k in
+          let then : Work = (next s.file (work_after s0.file w acts) act.given act.command).0 in
+          subst (λ (o : Option Told). LeavesEither s0.file g (work_after s0.file w acts) (work_after s0.file w (acts ++ act ∷ [])) o) (sym (added_on es fs base))
+          (subst (λ (x : Work). LeavesEither s0.file g (work_after s0.file w acts) x (after_all fs (after_all es base))) (work_then s0 s t told0 told new acts answers act served.file w)
+          (leaves_either s0.file g s (work_after s0.file w acts) then (after_all es base) (after_all fs (after_all es base)) served.file (call.keeps g (work_after s0.file w acts) (after_all es base) before.1).0));
+    }
 
 -- ---- what was answered is there
 
@@ -197,4 +227,4 @@ leaves_kept file g s w None same k = tt
 leaves_kept file g s w (Some t) same k = subst (λ (f : DataFile). LeavesView f g w (Some t)) same (view_now g s w t k)
 
 pub answered_is_there : AnsweredIsThere
-answered_is_there s0 s told0 told acts answers served g w k = leaves_kept s0.file g s (work_after s0.file w acts) told served.file (served.kept_on g w k).1
+answered_is_there s0 s told0 told acts answers es served g w base k = leaves_kept s0.file g s (work_after s0.file w acts) (after_all es base) served.file (served.kept_on g w base k).1

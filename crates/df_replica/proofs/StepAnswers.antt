@@ -18,6 +18,7 @@ use Rattle.df_model.specs.Commands.{Advance, Answer, Given, IsInput, ToAdvance, 
 use Rattle.df_model.specs.Laws.{DoesAdvance, DoesAdvanceTo}
 use Rattle.df_model.specs.Memory.{Course, Memory, course as course_from, course_of as courses, memory_of}
 use Rattle.df_model.specs.Sense.{IsWork}
+use Rattle.df_model.specs.Supply.{puts_of, step_puts, trailer_puts}
 use Rattle.df_model.specs.Work.{Running, Work}
 use Rattle.df_model.proofs.Laws.{change_law}
 use Rattle.df_model.specs.declared.answers.Progress.{Progress}
@@ -28,6 +29,7 @@ use Rattle.df_replica.specs.Serving.{Grade, IsCall, IsKept, format, next}
 use Rattle.df_replica.specs.Stepping.{made_by, made_for, next_fields, pending, trailer_unit}
 use Rattle.df_replica.specs.Supply.{IsSupplied}
 use Rattle.df_replica.proofs.Calls.{AreCalls, Answered, answered_call, stopped_call}
+use Rattle.df_replica.proofs.Leaves.{IsWhole, Makes, makes_nothing}
 use Rattle.df_replica.proofs.Makes.{OfLeft, OfStep}
 use Rattle.df_replica.proofs.WritesOn.{StandsIn}
 use Rattle.df_replica.proofs.StepMemory.{step_memory}
@@ -68,6 +70,11 @@ module _ (s : State) (given : Given) (live : s.live ≡ true) (idle : s.running 
     does = subst (λ (o : Option Running). DoesAdvance (shape s.file) (spelling s.file) w given.checksum o []) (sym (idle_work w k.stands)) refl;
   }
 
+  idle_puts : Makes given Advance s []
+  idle_puts =
+      let none : course_in s.file s.blocks s.running ≡ None = ap (course_in s.file s.blocks) idle in
+      makes_nothing given Advance s (λ place. ap (λ (o : Option Course). step_puts (memory s) o given.checksum place) none) (λ is. subst IsWhole none is)
+
   idle_as : Answered given Advance s s [] (ToAdvance (Err step.NotRunning))
   idle_as = record {
     file = refl;
@@ -78,7 +85,7 @@ module _ (s : State) (given : Given) (live : s.live ≡ true) (idle : s.running 
   }
 
   pub idle_call : (old : Option Told) → IsSupplied s old Advance given → IsCall given Advance s s old old (Some (ToAdvance (Err step.NotRunning)))
-  idle_call old supplied = answered_call given Advance s [] (step_input s given sum) idle_does s (ToAdvance (Err step.NotRunning)) idle_as old old supplied refl
+  idle_call old supplied = answered_call given Advance s [] (step_input s given sum) idle_does idle_puts s (ToAdvance (Err step.NotRunning)) idle_as old old supplied refl
 
 -- ---- where one does
 
@@ -123,6 +130,12 @@ module _ (s : State) (r : Capture) (given : Given) (running : s.running ≡ Some
       subst (λ (o : Option Running). OfStep (shape s.file) spell P w given.checksum o) (sym R.is)
       (subst (λ (k : List ℕ). OfLeft (shape s.file) spell P w given.checksum R.on k) (sym (ap (λ (c : Course). c.left) R.course ∙ left)) made)
 
+  -- what it puts
+  pub step_puts_are : (l : List ℕ) → s.blocks.left ≡ l → (place : theory.Place) → puts_of (memory s) given.checksum Advance place ≡ trailer_puts (memory s) (course_of s.file s.blocks r) given.checksum l place
+  step_puts_are l left place =
+      ap (λ (o : Option Course). step_puts (memory s) o given.checksum place) (ap (course_in s.file s.blocks) running)
+      ∙ ap (λ (k : List ℕ). trailer_puts (memory s) (course_of s.file s.blocks r) given.checksum k place) left
+
   -- what it leaves in memory
   pub memory_is : (w : Work) → IsWork (shape s.file) spell w → Represents s w → step_memory (memory s) given.checksum ≡ memory_of (shape s.file) spell (next s.file w given Advance).0
   memory_is w work rep = ap (λ (m : Memory). step_memory m given.checksum) rep ∙ sym (change_law (shape s.file) spell w given Advance work)
@@ -130,7 +143,7 @@ module _ (s : State) (r : Capture) (given : Given) (running : s.running ≡ Some
   -- ---- a call with these device calls, which spare the header ring
 
   module _ (t : State) (events : List Event) (progress : Progress) (same_file : t.file ≡ s.file) (live : t.live ≡ true) (same_headers : t.headers ≡ s.headers)
-      (does : AreCalls given Advance s events) (leaves : (w : Work) → IsWork (shape s.file) spell w → Represents s w → memory t ≡ step_memory (memory s) given.checksum)
+      (does : AreCalls given Advance s events) (puts : Makes given Advance s events) (leaves : (w : Work) → IsWork (shape s.file) spell w → Represents s w → memory t ≡ step_memory (memory s) given.checksum)
       (answers : (w : Work) → Represents s w → (next s.file w given Advance).1 ≡ ToAdvance (Ok progress))
       (makes : (w : Work) → Represents s w → OfStep (shape s.file) spell (StandsIn (format s.file) events) w given.checksum w.running)
       (spares : (g : Grade) (w : Work) (a b : Told) → IsKept g s w a.log → Some b ≡ after_all events (Some a) → ShowsRing s.file.layout s.file.cluster (now b.log) s.headers) where
@@ -148,7 +161,7 @@ module _ (s : State) (r : Capture) (given : Given) (running : s.running ≡ Some
     }
 
     pub stepped_call : (old new : Option Told) → IsSupplied s old Advance given → new ≡ after_all events old → IsCall given Advance s t old new (Some (ToAdvance (Ok progress)))
-    stepped_call old new supplied all = answered_call given Advance s events (step_input s given sum) does t (ToAdvance (Ok progress)) stepped_as old new supplied all
+    stepped_call old new supplied all = answered_call given Advance s events (step_input s given sum) does puts t (ToAdvance (Ok progress)) stepped_as old new supplied all
 
-  pub fault_call : (events : List Event) → AreCalls given Advance s events → (old new : Option Told) (t : State) → IsSupplied s old Advance given → t.live ≡ false → AddsPart events old new → IsCall given Advance s t old new None
-  fault_call events does old new t supplied dead part = stopped_call given Advance s events (step_input s given sum) does t old new supplied dead part
+  pub fault_call : (events : List Event) → AreCalls given Advance s events → Makes given Advance s events → (old new : Option Told) (t : State) → IsSupplied s old Advance given → t.live ≡ false → AddsPart events old new → IsCall given Advance s t old new None
+  fault_call events does puts old new t supplied dead part = stopped_call given Advance s events (step_input s given sum) does puts t old new supplied dead part

@@ -120,5 +120,5 @@ ServesScrub s t told result = (given : Given) → IsSupplied s told Scrub given 
 -- a whole tour that listed these is checks of the machine's alone, from its start to its end; what is kept of the file goes on from there, and so does what was written
 pub record ServesTour (s : State) (told : Option Told) (list : List Finding) : Type 0 where
   pub machine : TellsTour s told
-  pub keeps : (g : Grade) (w : Work) → Keeps g s w told → Keeps g (toured s list) (work_toured w list) told
+  pub keeps : (g : Grade) (w : Work) (base : Option Told) → Keeps g s w base → Keeps g (toured s list) (work_toured w list) base
   pub written : (w : Work) → WritesOn s.file told told w (work_toured w list)

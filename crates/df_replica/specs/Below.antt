@@ -1,4 +1,5 @@
 -- What the contracts above cite of the crates below this one.
+pub use Rattle.df_damage.specs.Anew.{MayBegin, begun, told_after}
 pub use Rattle.df_damage.specs.Answers.{FindsHad, IsNeedless, RefusesHurt}
 pub use Rattle.df_damage.specs.Disks.{IsAtRest, MayBeHurt}
 pub use Rattle.df_damage.specs.Hurt.{HasTwoCopies, IsHurtFile}

@@ -1,6 +1,8 @@
 -- What becomes of a block over calls: as long as a reason holds its address, it is shown there, and a read by its checksum gives it.
 use Rattle.std.specs.Prelude.{◌≡◌, ◌<◌, ℕ, List, [], ◌∷◌, Option, Some, None, Ok}
+use Rattle.df_base.specs.Log.{Event}
 use Rattle.df_disk.specs.Told.{IsHonest, Told}
+use Rattle.df_disk.specs.Adds.{after_all}
 use Rattle.df_theory.specs.Units.{Block, BlockPlace, BlockUnit}
 use Rattle.df_model.specs.Commands.{Answer, IsInput}
 use Rattle.df_model.specs.Supply.{block_at, no_trailer}
@@ -34,8 +36,10 @@ ShowsHeld file a c (Some t) =
     IsHonest t
     → (b : Block) × (b.checksum ≡ c) × (0 < b.kind) × ((format file).unit_at t.shown (BlockPlace a) ≡ Some (BlockUnit b)) × (no_trailer (block_at (shown_of file t.shown) (Some c) a) ≡ Ok b)
 
--- from a file that shows each block that it references, over any acts that were served: a block that is held at first is still held and shown as long as its address stays held
+-- From a file that shows each block that it references, over any acts that were served: a block that is held at first is still held as long as its address stays held,
+-- and shown, by each log by which the file was kept.
 abbrev pub HeldBlocksAreShown : Type 0
 HeldBlocksAreShown =
-    (s0 s : State) (told0 told : Option Told) (acts : List Act) (answers : List Answer) → IsServed s0 s told0 told acts answers → AreInputs acts → (w : Work) → Keeps Whole s0 w told0
-    → (a c : ℕ) → HoldsBlock w a c → StaysHeld s0.file a w acts → HoldsBlock (work_after s0.file w acts) a c × ShowsHeld s0.file a c told
+    (s0 s : State) (told0 told : Option Told) (acts : List Act) (answers : List Answer) (events : List Event) → IsServed s0 s told0 told acts answers events → AreInputs acts
+    → (w : Work) (base : Option Told) → Keeps Whole s0 w base → (a c : ℕ) → HoldsBlock w a c → StaysHeld s0.file a w acts
+    → HoldsBlock (work_after s0.file w acts) a c × ShowsHeld s0.file a c (after_all events base)

@@ -1,5 +1,6 @@
 pub mod Formatting
 pub mod WrittenFor
+pub mod Leaving
 pub mod Serving
 pub mod Making
 pub mod Replica

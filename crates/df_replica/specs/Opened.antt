@@ -1,28 +1,50 @@
--- What an open leaves of a file where the disk failed in it.
+-- What an open leaves of a file, and what it leaves where the disk failed in it.
 use Rattle.std.specs.Prelude.{◌≡◌, ◌⊎◌, List, Option, Some}
+use Rattle.df_base.specs.Image.{Image, IsImage}
 use Rattle.df_base.specs.Log.{Event, Sync}
 use Rattle.df_base.specs.Moments.{EachMoment}
 use Rattle.df_disk.specs.Told.{Told, did}
 use Rattle.df_disk.specs.Adds.{after_all}
 use Rattle.df_layout.specs.declared.layout.Layout.{Layout}
+use Rattle.df_damage.specs.Anew.{told_after}
 use Rattle.df_theory.specs.View.{View}
 use Rattle.df_units.specs.Bytes.{unit_at}
+use Rattle.df_model.specs.Work.{opened as first_work}
 use Rattle.df_state.specs.State.{State, shape}
 use Rattle.df_recovery.specs.Surveys.{IsOpened}
 use Rattle.df_replica.specs.Following.{MayOpen}
-use Rattle.df_replica.specs.Serving.{Grade, IsGoodFor, StandsFor, format}
+use Rattle.df_replica.specs.Leaving.{AreSettled, SparesReads, image_after}
+use Rattle.df_replica.specs.Mending.{IsMended}
+use Rattle.df_replica.specs.Serving.{Grade, IsGoodFor, IsKept, StandsFor, format}
 
 -- what the disk tells changed by events alone
 abbrev pub ToldBy : (old new : Option Told) → Type 0
 ToldBy old new = (events : List Event) × (new ≡ after_all events old)
 
--- the file was found, and the disk failed within its mending: at each moment whatever a stop leaves has the view that was found
+-- What an open leaves of a base, behind the barrier and the mending: each moment since has the view that was found, and at the end the file is tidy and kept for the state
+-- that the machine begins with, and no block of its checkpoint is loose.
+pub record OpensOver (g : Grade) (view : View) (s : State) (base n : Told) : Type 0 where
+  pub moments : EachMoment (did Sync base).log n.log (IsGoodFor g (format s.file) (shape s.file) view view)
+  pub mended : IsMended g s.file view s.headers n
+  pub kept_for : IsKept g s (first_work (shape s.file) (unit_at s.file.layout s.file.cluster base.shown) view) n.log
+  pub settled : AreSettled s.file n.log (first_work (shape s.file) (unit_at s.file.layout s.file.cluster base.shown) view)
+
+-- The file was found and mended: so it is by each log that shows what the disk showed, and by which the file may be opened, the told one or one that is begun anew there.
+-- Whatever the disk shows, the mending leaves each place that a call reads as it was.
+pub record MendsAll (t : Told) (s : State) (later : Option Told) : Type 0 where
+  pub mending : List Event
+  pub told : later ≡ after_all mending (Some (did Sync t))
+  pub spares : (image : Image) → IsImage image → SparesReads s.file image (image_after mending image)
+  pub over : (g : Grade) (view : View) (base : Told) → base.shown ≡ t.shown → MayOpen s.file view base → StandsFor g (unit_at s.file.layout s.file.cluster t.shown) view
+      → OpensOver g view s base (told_after mending (did Sync base))
+
+-- the file was found, and the disk failed within its mending: at each moment whatever a stop leaves has the view that was found, by each of these logs
 pub record MendsPartly (layout : Layout) (t : Told) (later : Option Told) : Type 0 where
   pub state : State
   pub opened : IsOpened layout t.shown state
   pub told : ToldBy (Some (did Sync t)) later
-  pub moments : (n : Told) (g : Grade) (view : View) → later ≡ Some n → MayOpen state.file view t → StandsFor g (unit_at state.file.layout state.file.cluster t.shown) view
-      → EachMoment (did Sync t).log n.log (IsGoodFor g (format state.file) (shape state.file) view view)
+  pub moments : (g : Grade) (view : View) (base : Told) → base.shown ≡ t.shown → MayOpen state.file view base → StandsFor g (unit_at state.file.layout state.file.cluster t.shown) view
+      → EachMoment (did Sync base).log (told_after told.0 (did Sync base)).log (IsGoodFor g (format state.file) (shape state.file) view view)
 
 -- it failed in the barrier, which added a sync or nothing, or in a read behind it; or within the mending
 abbrev pub StopsOpening : Layout → Told → Option Told → Type 0

@@ -1,8 +1,10 @@
 -- What is kept of a file from call to call, and what each call of a replica promises, whatever the state of the machine that it stands for.
 use Rattle.std.specs.Prelude.{◌≡◌, ℕ, true, false, List, Option, Some, None}
-use Rattle.df_base.specs.Log.{IsLog, Log, now}
-use Rattle.df_base.specs.Moments.{EachMoment, Extends}
+use Rattle.df_base.specs.Image.{Image, IsImage}
+use Rattle.df_base.specs.Log.{Event, IsLog, Log, now}
+use Rattle.df_base.specs.Moments.{EachMoment, Extends, adds}
 use Rattle.df_disk.specs.Told.{Told}
+use Rattle.df_disk.specs.Adds.{after_all}
 use Rattle.df_theory.specs.Units.{Parts, Units}
 use Rattle.df_theory.specs.Shape.{Shape}
 use Rattle.df_theory.specs.UnitLog.{UnitLog}
@@ -17,7 +19,8 @@ use Rattle.df_model.specs.Laws.{IsKeptBy}
 use Rattle.df_model.specs.Sense.{IsBacked, IsWork}
 use Rattle.df_model.specs.Work.{Work, kept}
 use Rattle.df_state.specs.declared.file.DataFile.{DataFile}
-use Rattle.df_state.specs.State.{Represents, State, shape, spelling}
+use Rattle.df_state.specs.State.{Represents, State, memory, shape, spelling}
+use Rattle.df_replica.specs.Leaving.{AreSettled, LeavesCopies, LeavesShown, SparesHeld, image_after}
 use Rattle.df_replica.specs.Supply.{IsSupplied}
 use Rattle.df_replica.specs.WrittenFor.{WritesOn}
 
@@ -84,15 +87,22 @@ GoesOnTo g t new expected (Some answer) = (answer ≡ expected.1) × Keeps g t e
 abbrev pub next : DataFile → Work → Given → Command → Work × Answer
 next file w given command = after (shape file) (spelling file) w given command
 
--- every call, with what it was rightly supplied with, from each state of the machine that the replica stands for: it answers as the machine; and where the file was kept for
--- that state, each moment is good and what comes after is kept. Whatever the disk shows: where all was written that the state before has, all was
--- that the one behind the answer has
+-- Every call, with what it was rightly supplied with, from each state of the machine that the replica stands for: it answers as the machine, and adds these events to
+-- the log that is told. Over each log by which the file was kept for that state, the told one or one begun anew, each moment of them is good and what comes after is
+-- kept. Whatever the disk shows: an answered call leaves shown what it makes and nothing else, headers aside; no call writes to a block that is held, but the running trailer's next;
+-- where no block of the durable checkpoint is loose, none is behind the answer; and where all was written that the state before has, all was that the one behind has
 pub record IsCall (given : Given) (command : Command) (s t : State) (old new : Option Told) (answer : Option Answer) : Type 0 where
   pub file : OnSome answer (t.file ≡ s.file)
   pub live : StaysLive answer t
   pub input : IsInput given command
   pub supplied : IsSupplied s old command given
+  pub events : List Event
+  pub told : new ≡ after_all events old
   pub answers : (g : Grade) (w : Work) → Keeps g s w None → GoesOnTo g t None (next s.file w given command) answer
-  pub keeps : (g : Grade) (w : Work) → Keeps g s w old
-      → EachIsGood g s (kept w) (kept (next s.file w given command).0) old new × GoesOnTo g t new (next s.file w given command) answer
+  pub keeps : (g : Grade) (w : Work) (base : Option Told) → Keeps g s w base
+      → EachIsGood g s (kept w) (kept (next s.file w given command).0) base (after_all events base) × GoesOnTo g t (after_all events base) (next s.file w given command) answer
+  pub leaves : OnSome answer ((image : Image) → IsImage image → LeavesShown s.file (memory s) given.checksum command image (image_after events image))
+  pub copies : (w : Work) → Keeps Firm s w None → OnSome answer ((image : Image) → IsImage image → LeavesCopies s.file (memory s) given.checksum command image (image_after events image))
+  pub spares : (w : Work) → Keeps Firm s w None → SparesHeld s.file command w events
+  pub settles : (w : Work) (log : Log) → Keeps Firm s w None → AreSettled s.file log w → OnSome answer (AreSettled s.file (adds events log) (next s.file w given command).0)
   pub written : (w : Work) → Keeps Firm s w None → OnSome answer (WritesOn s.file old new w (next s.file w given command).0)

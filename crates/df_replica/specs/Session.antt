@@ -1,9 +1,10 @@
 -- Calls one after the other, from one state of the machine on: what they answered, what is kept behind them, and what a stop at any moment leaves.
 use Rattle.std.specs.Prelude.{◌≡◌, ◌⊎◌, true, List, [], ◌∷◌, ◌++◌, Option, Some, None}
 use Rattle.df_base.specs.Image.{Image}
-use Rattle.df_base.specs.Log.{IsLeft, Log}
-use Rattle.df_base.specs.Moments.{EachMoment, Extends}
+use Rattle.df_base.specs.Log.{Event, IsLeft, Log}
+use Rattle.df_base.specs.Moments.{EachMoment, Extends, adds}
 use Rattle.df_disk.specs.Told.{Told}
+use Rattle.df_disk.specs.Adds.{after_all}
 use Rattle.df_theory.specs.Units.{Units}
 use Rattle.df_theory.specs.Shape.{Shape}
 use Rattle.df_theory.specs.View.{View}
@@ -13,6 +14,7 @@ use Rattle.df_model.specs.Commands.{Answer, Command, Given}
 use Rattle.df_model.specs.Work.{Work, kept}
 use Rattle.df_state.specs.declared.file.DataFile.{DataFile}
 use Rattle.df_state.specs.State.{State, shape}
+use Rattle.df_replica.specs.Leaving.{AreSettled}
 use Rattle.df_replica.specs.Serving.{Firm, Grade, IsCall, Keeps, Whole, format, next}
 use Rattle.df_replica.specs.WrittenFor.{WritesOn}
 
@@ -65,41 +67,44 @@ abbrev pub LeavesEither : DataFile → Grade → (w u : Work) → Option Told �
 LeavesEither file g w u None = Unit {0}
 LeavesEither file g w u (Some t) = (image : Image) → IsLeft t.log image → NoChanceOf (format file) t.log image → HasView file g w image ⊎ HasView file g u image
 
--- from one state of a replica to another these acts were served: from each state of the machine that the first stood for, the answers are the machine's and the second stands
--- for the state after them; and where the file was kept, it is, and each moment since is midway. Whatever the disk shows: where all was written that
--- the first state of the machine has, all was that the last one has
-pub record IsServed (s0 s : State) (told0 told : Option Told) (acts : List Act) (answers : List Answer) : Type 0 where
+-- From one state of a replica to another these acts were served, and added these events: from each state of the machine that the first stood for, the answers are the
+-- machine's and the second stands for the state after them; and over each log by which the file was kept, it is, and each moment since is midway. Whatever the disk
+-- shows: where no block of the durable checkpoint was loose, none is, and where all was written that the first state of the machine has, all was that the last one has
+pub record IsServed (s0 s : State) (told0 told : Option Told) (acts : List Act) (answers : List Answer) (events : List Event) : Type 0 where
   pub file : s.file ≡ s0.file
   pub live : s.live ≡ true
+  pub told_is : told ≡ after_all events told0
   pub answered : (g : Grade) (w : Work) → Keeps g s0 w None → (answers ≡ answers_of s0.file w acts) × Keeps g s (work_after s0.file w acts) None
-  pub kept_on : (g : Grade) (w : Work) → Keeps g s0 w told0 → EachIsMidway s0.file g w acts told0 told × Keeps g s (work_after s0.file w acts) told
+  pub kept_on : (g : Grade) (w : Work) (base : Option Told) → Keeps g s0 w base → EachIsMidway s0.file g w acts base (after_all events base) × Keeps g s (work_after s0.file w acts) (after_all events base)
+  pub settles : (w : Work) (log : Log) → Keeps Firm s0 w None → AreSettled s0.file log w → AreSettled s0.file (adds events log) (work_after s0.file w acts)
   pub written : (w : Work) → Keeps Firm s0 w None → WritesOn s0.file told0 told w (work_after s0.file w acts)
 
 -- the call after them ended in a fault: each moment is midway in the acts and this one, and what a stop leaves now has the view after the acts or after one more, never less
-pub record IsStopped (s0 : State) (told0 told : Option Told) (acts : List Act) (act : Act) : Type 0 where
-  pub moments : (g : Grade) (w : Work) → Keeps g s0 w told0 → EachIsMidway s0.file g w (acts ++ act ∷ []) told0 told
-  pub left : (g : Grade) (w : Work) → Keeps g s0 w told0 → LeavesEither s0.file g (work_after s0.file w acts) (work_after s0.file w (acts ++ act ∷ [])) told
+pub record IsStopped (s0 : State) (told0 told : Option Told) (acts : List Act) (act : Act) (events : List Event) : Type 0 where
+  pub told_is : told ≡ after_all events told0
+  pub moments : (g : Grade) (w : Work) (base : Option Told) → Keeps g s0 w base → EachIsMidway s0.file g w (acts ++ act ∷ []) base (after_all events base)
+  pub left : (g : Grade) (w : Work) (base : Option Told) → Keeps g s0 w base → LeavesEither s0.file g (work_after s0.file w acts) (work_after s0.file w (acts ++ act ∷ [])) (after_all events base)
 
 -- ---- the laws
 
 -- at first nothing is served
 abbrev pub NothingIsServed : Type 0
-NothingIsServed = (s : State) (told : Option Told) → s.live ≡ true → IsServed s s told told [] []
+NothingIsServed = (s : State) (told : Option Told) → s.live ≡ true → IsServed s s told told [] [] []
 
 -- a call that answered is served, too
 abbrev pub OneMoreIsServed : Type 0
 OneMoreIsServed =
-    (s0 s t : State) (told0 told new : Option Told) (acts : List Act) (answers : List Answer) (act : Act) (answer : Answer) → IsServed s0 s told0 told acts answers → IsCall act.given act.command s t told new (Some answer)
-    → IsServed s0 t told0 new (acts ++ act ∷ []) (answers ++ answer ∷ [])
+    (s0 s t : State) (told0 told new : Option Told) (acts : List Act) (answers : List Answer) (events : List Event) (act : Act) (answer : Answer) → IsServed s0 s told0 told acts answers events
+    → (call : IsCall act.given act.command s t told new (Some answer)) → IsServed s0 t told0 new (acts ++ act ∷ []) (answers ++ answer ∷ []) (events ++ call.events)
 
 -- one that ended in a fault stops them
 abbrev pub FaultStopsThem : Type 0
 FaultStopsThem =
-    (s0 s t : State) (told0 told new : Option Told) (acts : List Act) (answers : List Answer) (act : Act) → IsServed s0 s told0 told acts answers → IsCall act.given act.command s t told new None
-    → IsStopped s0 told0 new acts act
+    (s0 s t : State) (told0 told new : Option Told) (acts : List Act) (answers : List Answer) (events : List Event) (act : Act) → IsServed s0 s told0 told acts answers events
+    → (call : IsCall act.given act.command s t told new None) → IsStopped s0 told0 new acts act (events ++ call.events)
 
--- what was answered is there: a stop behind the acts leaves the view after all of them
+-- what was answered is there, by each log by which the file was kept: a stop behind the acts leaves the view after all of them
 abbrev pub AnsweredIsThere : Type 0
 AnsweredIsThere =
-    (s0 s : State) (told0 told : Option Told) (acts : List Act) (answers : List Answer) → IsServed s0 s told0 told acts answers
-    → (g : Grade) (w : Work) → Keeps g s0 w told0 → LeavesView s0.file g (work_after s0.file w acts) told
+    (s0 s : State) (told0 told : Option Told) (acts : List Act) (answers : List Answer) (events : List Event) → IsServed s0 s told0 told acts answers events
+    → (g : Grade) (w : Work) (base : Option Told) → Keeps g s0 w base → LeavesView s0.file g (work_after s0.file w acts) (after_all events base)

@@ -2,18 +2,10 @@
 ghost use Rattle.std.specs.Prelude.{◌≡◌, IfOk, IfErr, Some, true};
 ghost use Rattle.df_base.specs.Image.{IsImage};
 ghost use Rattle.df_base.specs.Log.{Sync};
-ghost use Rattle.df_base.specs.Moments.{EachMoment};
-ghost use Rattle.df_disk.specs.Told.{Told, after, did};
+ghost use Rattle.df_disk.specs.Told.{Told, after};
 ghost use Rattle.df_damage.specs.Answers.{TellsHurt};
-ghost use Rattle.df_theory.specs.View.{View};
-ghost use Rattle.df_units.specs.Bytes.{unit_at};
-ghost use Rattle.df_model.specs.Work.{opened};
-ghost use Rattle.df_replica.specs.Following.{MayOpen};
-ghost use Rattle.df_replica.specs.Mending.{IsMended};
 ghost use Rattle.df_recovery.specs.Scanning.{SurveysBy, answer_of};
-ghost use Rattle.df_replica.specs.Opened.{StopsOpening, ToldBy};
-ghost use Rattle.df_replica.specs.Serving.{Grade, IsGoodFor, IsKept, StandsFor, format};
-ghost use Rattle.df_state.specs.State.{shape};
+ghost use Rattle.df_replica.specs.Opened.{MendsAll, StopsOpening, ToldBy};
 ghost use Rattle.df_replica.specs.Surveying.{TellsSurvey};
 
 use crate::{OpenError, Replica, Rooms, survey};
@@ -29,14 +21,7 @@ impl Replica {
         ensures given_back { IfErr result (λ refused. refused.0.layout ≡ rooms.layout) }
         ensures answer { TellsSurvey rooms.layout (D.told disk.old) (answer_of result) }
         ensures hurt { TellsHurt rooms.layout (D.told disk.old) (answer_of result) }
-        ensures moments { (before after : Told) → D.told disk.old ≡ Some before → D.told disk.new ≡ Some after → IfOk result (λ replica. (g : Grade) (view : View)
-            → MayOpen replica.file view before → StandsFor g (unit_at replica.file.layout replica.file.cluster before.shown) view
-            → EachMoment (did Sync before).log after.log (IsGoodFor g (format replica.file) (shape replica.file) view view)) }
-        ensures mended { (before after : Told) → D.told disk.old ≡ Some before → D.told disk.new ≡ Some after → IfOk result (λ replica. (g : Grade) (view : View)
-            → MayOpen replica.file view before → StandsFor g (unit_at replica.file.layout replica.file.cluster before.shown) view → IsMended g replica.file view replica.headers after) }
-        ensures kept_for { (before after : Told) → D.told disk.old ≡ Some before → D.told disk.new ≡ Some after → IfOk result (λ replica. (g : Grade) (view : View)
-            → MayOpen replica.file view before → StandsFor g (unit_at replica.file.layout replica.file.cluster before.shown) view
-            → IsKept g replica (opened (shape replica.file) (unit_at replica.file.layout replica.file.cluster before.shown) view) after.log) }
+        ensures opened { (t : Told) → D.told disk.old ≡ Some t → IfOk result (λ replica. MendsAll t replica (D.told disk.new)) }
         ensures told { IfOk result (λ replica. ToldBy (after Sync (D.told disk.old)) (D.told disk.new)) }
         ensures refused { IfErr result (λ refused. (refused.1 ≡ OpenError.DiskFault → ⊥) → D.told disk.new ≡ after Sync (D.told disk.old)) }
         ensures stopped { (t : Told) → D.told disk.old ≡ Some t → IfErr result (λ refused. IsImage t.shown → refused.1 ≡ OpenError.DiskFault → StopsOpening rooms.layout t (D.told disk.new)) }

@@ -1,9 +1,10 @@
 // A file that was surveyed: its state, and what is to be mended before calls may work on it.
-ghost use Rattle.std.specs.Prelude.{◌≡◌, IfOk, IfErr, OnOk, Some, slice_get};
+ghost use Rattle.std.specs.Prelude.{◌≡◌, IfOk, IfErr, slice_get};
 ghost use Rattle.df_base.specs.Causes.{HasCause};
 ghost use Rattle.df_base.specs.Moments.{EachMoment};
 ghost use Rattle.df_disk.specs.Told.{Told};
 ghost use Rattle.df_disk.specs.Adds.{Adds};
+ghost use Rattle.df_damage.specs.Anew.{told_after};
 ghost use Rattle.df_theory.specs.Device.{AreSteps};
 ghost use Rattle.df_theory.specs.View.{View};
 ghost use Rattle.df_state.specs.State.{shape};
@@ -186,19 +187,19 @@ impl Surveyed {
 
     /// Mends what `to_mend` lists, and hands out the replica: header sectors first, each needed one once, then one sync,
     /// where there was such a sector, then the copies, each durable before the next one. A stop at any moment leaves the
-    /// state that was found, and so does a fault; the rooms come back with it.
+    /// state that was found, by each log on which the plan rests, and so does a fault; the rooms come back with it.
     pub fn mend<D: Disk>(self, disk: &mut D) -> Result<Replica, (Rooms, Failed)>
         ensures state { IfOk result (λ replica. replica ≡ live_state self.state) }
         ensures rooms { IfErr result (λ refused. refused.0.layout ≡ self.state.file.layout) }
         ensures events { Adds (mending_events self.state.file.layout self.state.headers self.mends self.state.fields self.chosen.members) (D.told disk.old) (D.told disk.new) result }
         ensures steps { AreSteps (format self.state.file) (mending_events self.state.file.layout self.state.headers self.mends self.state.fields self.chosen.members)
             (mending_steps self.state.file.layout self.state.headers self.mends self.state.fields self.chosen.members) }
-        ensures moments { (before after : Told) → D.told disk.old ≡ Some before → D.told disk.new ≡ Some after → (g : Grade) (view : View)
-            → IsPlanned self.state.file self.state.headers self.mends self.state.fields self.chosen.members before → RestsOnDisk g self.state.file view before
-            → EachMoment before.log after.log (IsGoodFor g (format self.state.file) (shape self.state.file) view view) }
-        ensures mended { (before after : Told) → D.told disk.old ≡ Some before → D.told disk.new ≡ Some after → (g : Grade) (view : View)
-            → IsPlanned self.state.file self.state.headers self.mends self.state.fields self.chosen.members before → RestsOnDisk g self.state.file view before
-            → OnOk result (IsMended g self.state.file view self.state.headers after) }
+        ensures moments { (base : Told) (g : Grade) (view : View)
+            → IsPlanned self.state.file self.state.headers self.mends self.state.fields self.chosen.members base → RestsOnDisk g self.state.file view base
+            → EachMoment base.log (told_after (mending_events self.state.file.layout self.state.headers self.mends self.state.fields self.chosen.members) base).log (IsGoodFor g (format self.state.file) (shape self.state.file) view view) }
+        ensures mended { (base : Told) (g : Grade) (view : View)
+            → IsPlanned self.state.file self.state.headers self.mends self.state.fields self.chosen.members base → RestsOnDisk g self.state.file view base
+            → IsMended g self.state.file view self.state.headers (told_after (mending_events self.state.file.layout self.state.headers self.mends self.state.fields self.chosen.members) base) }
         ensures cause { HasCause (D.faults disk.old) (D.faults disk.new) result }
     {
         let Surveyed {

@@ -69,8 +69,8 @@ abbrev pub plain : Shape → Codec
 plain sh = record {
   spell = λ parts. replicate (text_size sh parts) 0;
   prepare = λ p. 1000 + p.header.op;
-  reply = λ r. 2000 + r.header.op;
-  block = λ b. 3000 + b.sequence + length b.body;
+  reply = λ place r. 2000 + r.header.op;
+  block = λ address b. 3000 + b.sequence + length b.body;
   content = λ c. c.sequence;
 }
 

@@ -3,7 +3,7 @@
 -- A state is found from units that are shown: the superblock, the tail of prepares after its checkpoint, and replies. Its
 -- head is the last prepare's op, its sequence the superblock's, and its replies the greatest of the superblock's number, the
 -- last prepare's mark and the ops of the replies. That each number was once the file's isn't enough: each has to be borne by
--- a unit whose own stamp lies within all three. Without any one of the following, a file finds a state that it never had.
+-- a unit whose own counters lie within all three (`counters_stood_together` of df_theory is that law). Without any one of the following, a file finds a state that it never had.
 -- Written (head, replies, sequence), the superblock being (0,0,1) where nothing else is said:
 --
 -- the last prepare's mark counts among the replies: after (1,0,1), (1,1,1), (2,1,1) the reply is lost, and (2,0,1) is found;
@@ -14,17 +14,8 @@
 -- no reply's mark is: after (1,0,1), (2,0,1), (2,1,1) the second prepare is lost, and the reply to the first finds (1,1,1);
 -- no prepare's checkpoint is beyond the found one: after (0,0,2), (1,0,2) the older superblock finds (1,0,1);
 -- and no reply's is: after (1,0,1), (1,0,2), (1,1,2) the older superblock finds (1,1,1).
-use Rattle.std.specs.Prelude.{ℕ, ◌+◌, ◌<◌, ◌≤◌, ◌⊎◌, List, max}
+use Rattle.std.specs.Prelude.{ℕ, ◌+◌, ◌<◌, ◌≤◌, ◌⊎◌}
 use Rattle.df_stamps.specs.declared.counters.Counters.{Counters}
-use Rattle.df_stamps.specs.Stamps.{Stamp, top_head, top_replies, top_sequence}
-
--- what the prepares and headers of the rings and the replies show
-abbrev pub counters_of : List Stamp → List Stamp → Counters
-counters_of prepares answers = record {
-  ring_op = top_head prepares;
-  reply_top = max (top_head answers) (top_replies answers);
-  checkpoint = max (top_sequence prepares) (top_sequence answers);
-}
 
 -- something was written after a later checkpoint than that of this sequence and op
 abbrev pub IsBehind : Counters → ℕ → ℕ → ℕ → Type 0

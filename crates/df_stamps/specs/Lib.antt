@@ -1,2 +1,1 @@
 pub mod Evidence
-pub mod Stamps

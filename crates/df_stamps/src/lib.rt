@@ -2,7 +2,5 @@
 #![tactic(auto)]
 
 mod counters;
-mod laws;
 
 pub use counters::{Counters, behind, lost};
-pub use laws::{found_together, stood_together};

@@ -1,6 +1,6 @@
 // Each sector of a realistic file struck alone: the whole state is found, or the one place is blamed that the sector was needed for.
 use crate::seen::{Seen, heal, look};
-use df_layout::{Place, Zone};
+use df_layout::{Class, Place, Zone};
 use df_memdisk::{MemoryDisk, Strike};
 use df_runs::{Status, long_session, run_script, small_file};
 use std::alloc::Global;
@@ -9,18 +9,16 @@ use std::test::Fail;
 // Sequence, checkpoint, head and replies behind the session.
 const WHOLE: Seen = Seen::State([11, 200, 200, 200]);
 
+fn garbled(zone: Zone, index: u64) -> Seen {
+    Seen::Damaged(Place { zone, index }, Class::Garbled)
+}
+
 // A reply takes the first sector of its place, from sector 70 on. The ten checkpoints' trailers took the addresses 1 and 2 in turn, so
 // the last one stands at address 2, which begins at sector 84.
 fn expected(sector: u64) -> Seen {
     match sector {
-        70 | 72 | 74 | 76 => Seen::Damaged(Place {
-            zone: Zone::ClientReplies,
-            index: (sector - 70) / 2,
-        }),
-        84 => Seen::Damaged(Place {
-            zone: Zone::Grid,
-            index: 2,
-        }),
+        70 | 72 | 74 | 76 => garbled(Zone::ClientReplies, (sector - 70) / 2),
+        84 => garbled(Zone::Grid, 2),
         _ => WHOLE,
     }
 }

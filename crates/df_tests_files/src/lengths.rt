@@ -100,16 +100,43 @@ fn sectors_of_one_byte_are_no_file(rt: HostRuntime) -> Result<(), Fail> {
     Ok(())
 }
 
-// Layouts whose new superblock is put before a file of layout small. Its rings, replies and grid are elsewhere.
-const LAYOUTS: [&str; 4] = [
-    "16,4096,1,4096,12",
-    "16,4096,1,4096,1024",
-    "32,8192,16,16384,64",
-    "64,8192,4,16384,64",
+// Layouts whose new superblock is put before a file of layout small; the rings, replies and grid of the first two are elsewhere. What is
+// printed then of a file with a checkpoint, which is later than that superblock, and of one without.
+const LAYOUTS: [(&str, &str, &str, Status); 4] = [
+    (
+        "16,4096,1,4096,12",
+        LATER,
+        "refused Damaged WalPrepares 1 Blank\n",
+        Status::Refused,
+    ),
+    (
+        "16,4096,1,4096,1024",
+        LATER,
+        "refused Damaged WalPrepares 1 Blank\n",
+        Status::Refused,
+    ),
+    (
+        "32,8192,16,16384,64",
+        LATER,
+        "refused ReplyPending op 4\n",
+        Status::Done,
+    ),
+    (
+        "64,8192,4,16384,64",
+        LATER,
+        "refused Damaged WalPrepares 1 Elsewhere WalPrepares 2\n",
+        Status::Refused,
+    ),
 ];
 
-const OPS: &str = "append 5 1 aa\nreply 1 bb\nappend 6 1 -\nblock 1 cc\n\
+const LATER: &str = "refused Damaged Superblock 0 Stale\n";
+
+const WITH_CHECKPOINT: &str = "append 5 1 aa\nreply 1 bb\nappend 6 1 -\nblock 1 cc\n\
     checkpoint -\nstep\nstep\nappend 5 2 -\n";
+
+const WITHOUT: &str =
+    "append 5 1 aa\nreply 1 bb\nappend 6 1 -\nappend 7 1 -\nreply 2 -\nreply 3 -\n\
+    append 5 2 -\n";
 
 // Puts the superblock of a new file of this layout before another file.
 fn put_superblock(alloc: Global, disk: &mut MemoryDisk, layout: &str) -> Result<(), Fail> {
@@ -122,18 +149,32 @@ fn put_superblock(alloc: Global, disk: &mut MemoryDisk, layout: &str) -> Result<
     Ok(())
 }
 
-// Two reports of it are one, and it is opened or refused.
+// Whether a run over a small file behind this script, under the superblock of another layout, ends and prints so.
+fn is_told_under(
+    alloc: Global,
+    script: &str,
+    layout: &str,
+    expected: (Status, &str),
+) -> Result<bool, Fail> {
+    let mut disk = file_behind(alloc, script)?;
+    put_superblock(alloc, &mut disk, layout)?;
+    let ran = run_script(alloc, &mut disk, b"lookup 5\n")?;
+    Ok(ran.status == expected.0 && printed(&ran, expected.1))
+}
+
 #[test]
 fn a_file_under_another_layout_is_opened_or_refused(rt: HostRuntime) -> Result<(), Fail> {
-    for layout in LAYOUTS {
-        let mut disk = file_behind(rt.alloc(), OPS)?;
-        put_superblock(rt.alloc(), &mut disk, layout)?;
-        let first = run_words(rt.alloc(), &mut disk, &["inspect"])?;
-        let second = run_words(rt.alloc(), &mut disk, &["inspect"])?;
-        assert!(rt; first.text.as_slice() == second.text.as_slice(), "{layout}");
-        let ran = run_script(rt.alloc(), &mut disk, b"lookup 5\n")?;
-        let told = ran.status == Status::Done || ran.status == Status::Refused;
-        assert!(rt; told, "{layout}");
+    for (layout, later, without, status) in &LAYOUTS {
+        let refused = (Status::Refused, *later);
+        assert!(rt;
+            is_told_under(rt.alloc(), WITH_CHECKPOINT, layout, refused)?,
+            "{layout}"
+        );
+        let told = (*status, *without);
+        assert!(rt;
+            is_told_under(rt.alloc(), WITHOUT, layout, told)?,
+            "{layout}"
+        );
     }
     Ok(())
 }

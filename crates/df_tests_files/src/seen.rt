@@ -1,17 +1,17 @@
 // What is seen of a file in memory: the state that a survey finds or its refusal, and whether two reports of it are one.
 use df_images::{OpenError, survey_small};
-use df_layout::Place;
+use df_layout::{Class, Place};
 use df_memdisk::{MemoryDisk, Strike};
 use df_model::Summary;
 use df_runs::{Status, run_script, run_words, small_file};
 use std::alloc::Global;
 use std::test::Fail;
 
-/// What an open finds: sequence, checkpoint, head and replies; or the place that it blames.
+/// What an open finds: sequence, checkpoint, head and replies; or the place that it blames, and what stands there.
 #[derive(Clone, Copy, Debug, PartialEq, Eq)]
 pub(crate) enum Seen {
     State([u64; 4]),
-    Damaged(Place),
+    Damaged(Place, Class),
     /// Any other refusal.
     Refused,
 }
@@ -28,7 +28,7 @@ fn state(summary: &Summary) -> Seen {
 fn surveyed(alloc: Global, disk: &mut MemoryDisk) -> Result<Seen, Fail> {
     Ok(match survey_small(alloc, disk)? {
         Ok(surveyed) => state(&surveyed.summary()),
-        Err(OpenError::Damaged { place, class: _ }) => Seen::Damaged(place),
+        Err(OpenError::Damaged { place, class }) => Seen::Damaged(place, class),
         Err(_) => Seen::Refused,
     })
 }
@@ -84,7 +84,7 @@ pub(crate) fn short_file(alloc: Global) -> Result<MemoryDisk, Fail> {
 pub(crate) fn is_had_or_blamed(seen: Seen) -> bool {
     match seen {
         Seen::State(state) => STATES.contains(&state),
-        Seen::Damaged(_) => true,
+        Seen::Damaged(_, _) => true,
         Seen::Refused => false,
     }
 }

@@ -24,8 +24,10 @@ pub(crate) struct Forged {
     pub(crate) layout: &'static str,
     /// The first sector of the grid in that layout.
     pub(crate) grid: u16,
-    /// Its op, the head and the number of replies.
+    /// Its op, which is the head, too.
     pub(crate) op: u64,
+    /// How many of the last ops up to it wait for their replies.
+    pub(crate) waiting: u64,
     /// The index that the one trailer block names.
     pub(crate) index: u64,
     /// How many bytes the superblock says that the text has beyond those that it has.
@@ -96,9 +98,10 @@ fn forge_copies(
     let mut bytes = [0u8; SECTOR];
     disk.read(0, &mut bytes)?;
     put_u64(&mut bytes, 72, 2);
-    for at in [80usize, 88, 96] {
+    for at in [80usize, 88] {
         put_u64(&mut bytes, at, forged.op);
     }
+    put_u64(&mut bytes, 96, forged.op.saturating_sub(forged.waiting));
     put_u64(&mut bytes, 104, 1);
     if forged.op > 0 {
         bytes[112] = 9;

@@ -15,6 +15,7 @@ const SMALL: Forged = Forged {
     layout: "small",
     grid: 80,
     op: 0,
+    waiting: 0,
     index: 0,
     beyond: 0,
     text: &[NO_ROOT, NO_SESSIONS, NO_BITS],
@@ -154,7 +155,7 @@ fn a_text_that_no_checkpoint_has_is_refused(rt: HostRuntime) -> Result<(), Fail>
     Ok(())
 }
 
-const FORGED_SESSIONS: [Row; 7] = [
+const FORGED_SESSIONS: [Row; 10] = [
     // The trailer is sound; the replies that it speaks of were never stored.
     Row {
         forged: SESSIONS,
@@ -218,6 +219,30 @@ const FORGED_SESSIONS: [Row; 7] = [
             ..SESSIONS
         },
         printed: "refused BadField TrailerSessions 0\n",
+    },
+    // Both ops wait for their replies, and each is a session's last request; or the first of them, or both, are no session's.
+    Row {
+        forged: Forged {
+            waiting: 2,
+            ..SESSIONS
+        },
+        printed: OPENS,
+    },
+    Row {
+        forged: Forged {
+            waiting: 2,
+            text: &[NO_ROOT, Part::Count(1), Part::Session(8, 1, 2), NO_BITS],
+            ..SESSIONS
+        },
+        printed: "refused BadField Pending 1\n",
+    },
+    Row {
+        forged: Forged {
+            waiting: 1,
+            text: &[NO_ROOT, Part::Count(1), Part::Session(7, 1, 1), NO_BITS],
+            ..SESSIONS
+        },
+        printed: "refused BadField Pending 2\n",
     },
 ];
 

@@ -7,6 +7,7 @@ use df_images::{
 use df_layout::Layout;
 use df_memdisk::MemoryDisk;
 use std::alloc::Global;
+use std::process::Abort;
 use std::test::Fail;
 
 const CALLS: [Call; 3] = [
@@ -23,21 +24,36 @@ const CALLS: [Call; 3] = [
     },
 ];
 
-// A small file behind these calls whose header ring and copies 1 and 3 show zeros; one device call may be listed to fail.
-fn hurt(alloc: Global, failing: u64) -> Result<MemoryDisk, Fail> {
+// Copies 1 and 3, and the header ring.
+const RING: [u64; 4] = [1, 3, 4, 5];
+
+// Two copies and a header sector that are hurt, and the order in which a mending writes them, each with a sync behind it.
+const THREE: [(&[u64], [u16; 3]); 3] = [
+    (&[0, 1, 5], [5, 0, 1]),
+    (&[0, 2, 4], [4, 0, 2]),
+    (&[2, 3, 5], [5, 2, 3]),
+];
+
+// A small file behind these calls of which these sectors show zeros; one device call may be listed to fail.
+fn hurt(alloc: Global, sectors: &[u64], failing: u64) -> Result<MemoryDisk, Fail> {
     let mut disk = small_file(alloc, failing)?;
     if serve(alloc, &mut disk, &CALLS)? != CALLS.len() {
         return Err("a call is refused".into());
     }
-    strike(&mut disk, &[1, 3, 4, 5], 0)?;
+    strike(&mut disk, sectors, 0)?;
     Ok(disk)
 }
 
 // The same file behind an open that was stopped at the mending's device call of this number.
-fn stopped(alloc: Global, number: u64, loose: &[(u16, Fate)]) -> Result<MemoryDisk, Fail> {
-    let mut before = hurt(alloc, 0)?;
+fn stopped(
+    alloc: Global,
+    sectors: &[u64],
+    number: u64,
+    loose: &[(u16, Fate)],
+) -> Result<MemoryDisk, Fail> {
+    let mut before = hurt(alloc, sectors, 0)?;
     let open_calls = before.calls().saturating_add(SURVEY_CALLS);
-    let mut disk = hurt(alloc, open_calls.saturating_add(number))?;
+    let mut disk = hurt(alloc, sectors, open_calls.saturating_add(number))?;
     if open(alloc, &mut disk, &Layout::small())?.is_ok() {
         return Err("the mending isn't stopped".into());
     }
@@ -55,7 +71,7 @@ fn is_mended(alloc: Global, disk: &mut MemoryDisk) -> Result<bool, Fail> {
 fn a_mending_that_is_stopped_in_one_sector_is_gone_on_with(rt: HostRuntime) -> Result<(), Fail> {
     for (number, sector) in [(1u64, 4u16), (4, 1), (5, 1), (6, 3), (7, 3)] {
         for fate in FATES {
-            let mut disk = stopped(rt.alloc(), number, &[(sector, fate)])?;
+            let mut disk = stopped(rt.alloc(), &RING, number, &[(sector, fate)])?;
             assert!(rt; is_mended(rt.alloc(), &mut disk)?, "call {number} {fate:?}");
         }
     }
@@ -67,8 +83,37 @@ fn a_mending_that_is_stopped_in_one_sector_is_gone_on_with(rt: HostRuntime) -> R
 fn a_mending_that_is_stopped_in_two_sectors_is_gone_on_with(rt: HostRuntime) -> Result<(), Fail> {
     for first in FATES {
         for second in FATES {
-            let mut disk = stopped(rt.alloc(), 2, &[(4, first), (5, second)])?;
+            let mut disk = stopped(rt.alloc(), &RING, 2, &[(4, first), (5, second)])?;
             assert!(rt; is_mended(rt.alloc(), &mut disk)?, "{first:?} {second:?}");
+        }
+    }
+    Ok(())
+}
+
+// A mending that is stopped within the write of this number, whose sector is as written, as it was shown before, or filled.
+fn expect_mended(
+    rt: &impl Abort,
+    alloc: Global,
+    sectors: &[u64],
+    write: u64,
+    sector: u16,
+) -> Result<(), Fail> {
+    for fate in [Fate::AsWritten, Fate::AsBefore, Fate::Filled] {
+        let number = write.saturating_mul(2).saturating_add(1);
+        let mut disk = stopped(alloc, sectors, number, &[(sector, fate)])?;
+        let done = is_mended(alloc, &mut disk)?;
+        assert!(rt; done, "{sectors:?} write {write} {fate:?}");
+    }
+    Ok(())
+}
+
+#[test]
+fn a_mending_of_two_copies_and_a_header_sector_is_gone_on_with(
+    rt: HostRuntime,
+) -> Result<(), Fail> {
+    for (sectors, written) in &THREE {
+        for (write, sector) in written.iter().enumerate() {
+            expect_mended(&rt, rt.alloc(), sectors, write as u64, *sector)?;
         }
     }
     Ok(())

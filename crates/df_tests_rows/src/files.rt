@@ -41,6 +41,14 @@ fn a_file_is_made_once(rt: HostRuntime) -> Result<(), Fail> {
 }
 
 #[test]
+fn a_file_is_as_long_as_its_layout(rt: HostRuntime) -> Result<(), Fail> {
+    let mut disk = blank(rt.alloc(), &[])?;
+    let words = &["format", "16,4096,1,4096,1024", "7"];
+    let text = "formatted 1046\n";
+    expect_words(&rt, rt.alloc(), &mut disk, words, text, Status::Done)
+}
+
+#[test]
 fn two_damaged_copies_are_mended(rt: HostRuntime) -> Result<(), Fail> {
     let mut disk = small_file(rt.alloc(), &[])?;
     let script = b"append 5 1 -\n";

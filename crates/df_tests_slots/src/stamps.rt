@@ -1,10 +1,8 @@
 // The two tests at their limits.
-use df_stamps::{Counters, behind, found_together, lost, stood_together};
+use df_stamps::{Counters, behind, lost};
 
 #[test]
 fn each_limit_is_still_allowed(rt: HostRuntime) {
-    stood_together();
-    found_together();
     let seen = Counters {
         ring_op: 40,
         reply_top: 39,

@@ -6,7 +6,7 @@ ghost use Rattle.df_format.specs.Whole.{greatest_size};
 ghost use Rattle.df_format.specs.Making.{for_body};
 
 use crate::room_examples::{block, prepare, reply, trailer};
-use df_buffers::{Block, Identity, Prepare, Raw, Reply, Rooms, Trailer, UnitKind, Wanted};
+use df_buffers::{Block, Identity, Prepare, Raw, Reply, Trailer, UnitKind, Wanted};
 use df_format::Header;
 use df_layout::{Layout, Place};
 
@@ -63,9 +63,7 @@ fn is_made_at<K: UnitKind>(
 fn makes_and_proves_units_of_each_kind(rt: HostRuntime) {
     let layout = Layout::small();
     let alloc = rt.alloc();
-    let rooms = Rooms::reserve(alloc, &layout).expect(&rt, "memory of rooms");
-    assert!(rt; rooms.layout() == layout);
-    let Rooms { prepare: room, .. } = rooms;
+    let room = Raw::<Prepare>::reserve(alloc, &layout).expect(&rt, "memory of a prepare");
     assert!(rt; is_made_at(room, layout, prepare(b"abc"), b"abc", 1));
     let room = Raw::<Reply>::reserve(alloc, &layout).expect(&rt, "memory of a reply");
     assert!(rt; is_made_at(room, layout, reply(b""), b"", 2));

@@ -1,5 +1,5 @@
 -- The recovery table over an image whose units agree with a view.
-use Rattle.std.proofs.Common.{◌≡◌, ◌⊎◌, inl, inr, ℕ, ◌==◌, Bool, true, false, if◌then◌else◌, ◌+◌, ◌%◌, ◌<◌, ◌≤◌, Option, Some, None, refl, sym, ◌∙◌, ap, subst, arith}
+use Rattle.std.proofs.Common.{◌≡◌, ◌⊎◌, inl, inr, ℕ, ◌==◌, nat_lt, Bool, true, false, if◌then◌else◌, ◌+◌, ◌%◌, ◌<◌, ◌≤◌, Option, Some, None, refl, sym, ◌∙◌, ap, subst, arith}
 use Rattle.std.proofs.lemmas.Bool.{cases_eq, cases_lt}
 use Rattle.std.proofs.lemmas.Bool.Decides.{nat_tests}
 use Rattle.df_theory.specs.Units.{AnyUnit, BlockUnit, Content, CopyUnit, Header, HeaderPlace, HeaderUnit, Message, Place, PreparePlace, PrepareUnit, ReplyPlace, ReplyUnit, Units}
@@ -8,7 +8,7 @@ use Rattle.df_theory.specs.Shape.{Shape}
 use Rattle.df_theory.specs.View.{View, boot_of, head}
 use Rattle.df_theory.specs.Shows.{Agrees, AgreesHeader, AgreesPrepare, AgreesReply}
 use Rattle.df_theory.specs.Holds.{Sound}
-use Rattle.df_theory.specs.Cases.{Current, Far, IsEmpty, IsTake, Lost, Nothing, Old, Seen, Take, Takes, case, seen, seen_header, seen_prepare}
+use Rattle.df_theory.specs.Cases.{Current, Far, IsEmpty, IsTake, Lost, Nothing, Old, Seen, Take, Takes, case, cut, decided, decision, seen, seen_header, seen_prepare}
 use Rattle.df_theory.proofs.Tails.{chain_ops, in_one}
 use Rattle.df_theory.proofs.Slots.{mod_apart}
 
@@ -163,11 +163,64 @@ below_header sh v o x a above within = elim (cases_lt x.op o) [
   ]
 ]
 
-pub below_prepare : (sh : Shape) (v : View) (o : ℕ) (x : Message) → AgreesPrepare sh v (o % sh.layout.slots) x → head v < o → o ≤ v.checkpoint.content.op + sh.layout.slots → IsBelow (boot_of v) o x.header
-below_prepare sh v o x a above within = elim (cases_lt x.header.op o) [
-  | inl less ↦ inl less
-  | inr not ↦ elim (cases_eq x.header.op o) [
-    | inl same ↦ inr (same, λ of. omega (arith, a.op of))
-    | inr differs ↦ absurd (mod_apart sh.layout.slots o x.header.op sh.some (omega arith) (omega (arith, a.ring)) a.slot)
-  ]
+-- a prepare there is no newer
+pub near_prepare : (sh : Shape) (v : View) (o : ℕ) (x : Message) → AgreesPrepare sh v (o % sh.layout.slots) x → head v < o → o ≤ v.checkpoint.content.op + sh.layout.slots → x.header.op ≤ o
+near_prepare sh v o x a above within = elim (cases_lt o x.header.op) [
+  | inl more ↦ absurd (mod_apart sh.layout.slots o x.header.op sh.some more (omega (arith, a.ring)) a.slot)
+  | inr not ↦ omega arith
 ]
+
+-- neither is what its ring shows
+abbrev pub IsNear : Seen → Type 0
+IsNear Far = ⊥
+IsNear Nothing = Unit {0}
+IsNear Old = Unit {0}
+IsNear (Current a) = Unit {0}
+
+seen_near : (b o : ℕ) (h : Header) → h.op ≤ o → IsNear (seen b o h)
+seen_near b o h low = elim (cases_eq h.op o) [
+  | inl same ↦ elim (cases_eq h.boot b) [
+    | inl of ↦ subst IsNear (sym (seen_now b o h same of)) tt
+    | inr past ↦ subst IsNear (sym (seen_past b o h same past)) tt
+  ]
+  | inr differs ↦ subst IsNear (sym (seen_old b o h (omega arith))) tt
+]
+
+pub prepare_near : (b o : ℕ) (x : Option AnyUnit) → ((p : Message) → x ≡ Some (PrepareUnit p) → p.header.op ≤ o) → IsNear (seen_prepare b o x)
+prepare_near b o None low = tt
+prepare_near b o (Some (PrepareUnit p)) low = seen_near b o p.header (low p refl)
+prepare_near b o (Some (CopyUnit c)) low = tt
+prepare_near b o (Some (HeaderUnit h)) low = tt
+prepare_near b o (Some (ReplyUnit r)) low = tt
+prepare_near b o (Some (BlockUnit d)) low = tt
+
+-- beside an old header, or none, a prepare is taken, and once it is cut its slot is empty
+pub take_beside : (a : Seen) (c : ℕ) → (a ≡ Old) ⊎ (a ≡ Nothing) → IsTake (case a (Current c))
+take_beside a c (inl is) = subst (λ (s : Seen). IsTake (case s (Current c))) (sym is) tt
+take_beside a c (inr is) = subst (λ (s : Seen). IsTake (case s (Current c))) (sym is) tt
+
+cut_old : (b : Seen) → IsNear b → IsEmpty (cut Old (case Old b))
+cut_old Nothing near = tt
+cut_old Old near = tt
+cut_old (Current c) near = tt
+cut_old Far near = absurd near
+
+cut_nothing : (b : Seen) → IsNear b → IsEmpty (cut Nothing (case Nothing b))
+cut_nothing Nothing near = tt
+cut_nothing Old near = tt
+cut_nothing (Current c) near = tt
+cut_nothing Far near = absurd near
+
+pub empty_cut : (a b : Seen) → (a ≡ Old) ⊎ (a ≡ Nothing) → IsNear b → IsEmpty (cut a (case a b))
+empty_cut a b (inl is) near = subst (λ (s : Seen). IsEmpty (cut s (case s b))) (sym is) (cut_old b near)
+empty_cut a b (inr is) near = subst (λ (s : Seen). IsEmpty (cut s (case s b))) (sym is) (cut_nothing b near)
+
+pub decided_above : (n b top : ℕ) (image : Units) (o : ℕ) → top < o → decided n b top image o ≡ cut (seen_header b o (image (HeaderPlace (o % n)))) (decision n b image o)
+decided_above n b top image o above = go (nat_lt top o) (lt_true top o above)
+  where
+    go : (t : Bool) → t ≡ true → (if t then cut (seen_header b o (image (HeaderPlace (o % n)))) (decision n b image o) else decision n b image o) ≡ cut (seen_header b o (image (HeaderPlace (o % n)))) (decision n b image o)
+    go true yes_true = refl
+    go false no_true = absurd (cc)
+
+    lt_true : (a b : ℕ) → a < b → nat_lt a b ≡ true
+    lt_true a b e = grind (arith, nat_tests)

@@ -14,7 +14,7 @@ module _ (P : AnyUnit → Type 0) where
   All start (Synced ∷ es) = All start es
   All start ((Stopped after) ∷ es) = Shows after × All start es
 
-  now_all : (start : Units) (es : List UnitEvent) → All start es → Shows (now_of start es)
+  pub now_all : (start : Units) (es : List UnitEvent) → All start es → Shows (now_of start es)
   now_all start [] all = all
   now_all start ((Wrote touches stands after) ∷ es) all = all.1.0
   now_all start (Synced ∷ es) all = now_all start es all

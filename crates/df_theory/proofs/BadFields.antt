@@ -1,12 +1,12 @@
 -- An open of settled units never finds a bad field.
-use Rattle.std.proofs.Common.{◌≡◌, inl, inr, ℕ, suc, ◌+◌, ◌-◌, ◌<◌, ◌≤◌, List, [], ◌∷◌, ◌++◌, length, Some, refl, sym, ◌∙◌, ap, subst, arith, length-append, append_assoc}
+use Rattle.std.proofs.Common.{◌≡◌, inl, inr, ℕ, suc, ◌+◌, ◌-◌, ◌%◌, ◌<◌, ◌≤◌, List, [], ◌∷◌, ◌++◌, length, Some, refl, sym, ◌∙◌, ap, subst, arith, length-append, append_assoc}
 use Rattle.df_theory.specs.Units.{Block, BlockPlace, BlockUnit, Content, CopyPlace, PreparePlace, ReplyPlace, Units}
 use Rattle.df_theory.specs.Shape.{Shape}
 use Rattle.df_theory.specs.Copies.{IsChosen}
 use Rattle.df_theory.specs.Trailer.{InChain, IsReference, Links}
 use Rattle.df_theory.specs.View.{Checkpoint, IsSoundCheckpoint, PassesTests, View}
 use Rattle.df_theory.specs.Found.{slot_behind}
-use Rattle.df_theory.specs.Opens.{AreLinks, Arrives, BadField, Damaged, Found, IsLink, IsShown, NoQuorum, ReadsTo, Refused}
+use Rattle.df_theory.specs.Opens.{AreLinks, Arrives, BadField, BootSpent, Damaged, Found, IsLink, IsShown, NoQuorum, ReadsTo, Refused}
 use Rattle.df_theory.specs.DamageLaws.{NoBadFieldLaw}
 use Rattle.df_theory.proofs.Fields.{fields_hold_law}
 use Rattle.df_theory.proofs.Once.{was_chain}
@@ -67,12 +67,16 @@ no_bad sh images v grows empty distinct shown of (inr (c, chosen, inr (tests, re
           (λ e x y at is checksum. distinct (BlockPlace e) (BlockPlace e) (BlockUnit x) (BlockUnit y) (was_chain sh images v grows w.0 w.1 e x at) (of (BlockPlace e) (BlockUnit y) is) checksum);
     })
 no_bad sh images v grows empty distinct shown of (inr (c, chosen, inr (tests, reference, inr (inr (b, content, readable, inl p))))) = let both : Refused BadField ≡ Refused (Damaged (CopyPlace p.0)) = p.3 in cc
-no_bad sh images v grows empty distinct shown of (inr (c, chosen, inr (tests, reference, inr (inr (b, content, readable, inr (not_behind, (tail, is_tail, inl p))))))) =
-    let both : Refused BadField ≡ Refused (Damaged (PreparePlace (slot_behind sh b tail))) = p.1 in cc
-no_bad sh images v grows empty distinct shown of (inr (c, chosen, inr (tests, reference, inr (inr (b, content, readable, inr (not_behind, (tail, is_tail, inr (not_lost, (n, counted, inl p))))))))) =
+no_bad sh images v grows empty distinct shown of (inr (c, chosen, inr (tests, reference, inr (inr (b, content, readable, inr (not_behind, inl p)))))) =
+    let both : Refused BadField ≡ Refused (Damaged (PreparePlace (p.0 % sh.layout.slots))) = p.2 in cc
+no_bad sh images v grows empty distinct shown of (inr (c, chosen, inr (tests, reference, inr (inr (b, content, readable, inr (not_behind, inr (inl p))))))) =
+    let both : Refused BadField ≡ Refused (Damaged (PreparePlace ((b.content.op + length p.0 + 1) % sh.layout.slots))) = p.2 in cc
+no_bad sh images v grows empty distinct shown of (inr (c, chosen, inr (tests, reference, inr (inr (b, content, readable, inr (not_behind, inr (inr (tail, is_tail, inl p)))))))) =
+    let both : Refused BadField ≡ Refused (Damaged (PreparePlace (slot_behind sh b tail p.1.0))) = p.1.2 in cc
+no_bad sh images v grows empty distinct shown of (inr (c, chosen, inr (tests, reference, inr (inr (b, content, readable, inr (not_behind, inr (inr (tail, is_tail, inr (not_lost, (n, counted, inl p)))))))))) =
     let both : Refused BadField ≡ Refused (Damaged (ReplyPlace p.0)) = p.2 in cc
-no_bad sh images v grows empty distinct shown of (inr (c, chosen, inr (tests, reference, inr (inr (b, content, readable, inr (not_behind, (tail, is_tail, inr (not_lost, (n, counted, inr p))))))))) =
-    let both : Refused BadField ≡ Found p.0 = p.5 in cc
+no_bad sh images v grows empty distinct shown of (inr (c, chosen, inr (tests, reference, inr (inr (b, content, readable, inr (not_behind, inr (inr (tail, is_tail, inr (not_lost, (n, counted, inr p)))))))))) =
+    elim p.5 [ inl q ↦ (let both : Refused BadField ≡ Found p.0 = q.1 in cc) | inr q ↦ (let both : Refused BadField ≡ Refused BootSpent = q.1 in cc) ]
 
 pub no_bad_field_law : NoBadFieldLaw
 no_bad_field_law sh images v grows empty distinct shown of opens = no_bad sh images v grows empty distinct shown of (answers_of sh shown (Refused BadField) opens)

@@ -1,7 +1,7 @@
 -- At rest a refusal blames what is hurt, and a read gives what was written.
-use Rattle.std.proofs.Common.{◌≡◌, inl, inr, ℕ, ◌+◌, ◌-◌, ◌%◌, ◌<◌, List, [], ◌∷◌, ◌++◌, length, Some, refl, sym, ◌∙◌, ap, subst, arith, length-append}
+use Rattle.std.proofs.Common.{◌≡◌, inl, inr, ℕ, ◌+◌, ◌-◌, ◌%◌, ◌<◌, List, [], ◌∷◌, ◌++◌, length, take, Some, refl, sym, ◌∙◌, ap, subst, arith, length-append, append_assoc}
 use Rattle.std.specs.List.{slice_get}
-use Rattle.df_theory.specs.Units.{AnyUnit, Block, BlockPlace, BlockUnit, Content, Message, Place, PreparePlace, ReplyPlace, Session, Units}
+use Rattle.df_theory.specs.Units.{AnyUnit, Block, BlockPlace, BlockUnit, Content, Message, Place, PreparePlace, PrepareUnit, ReplyPlace, Session, Units}
 use Rattle.df_theory.specs.Tails.{In}
 use Rattle.df_theory.specs.Shape.{Shape}
 use Rattle.df_theory.specs.Copies.{Agree}
@@ -11,13 +11,14 @@ use Rattle.df_theory.specs.UnitLog.{UnitLog, now}
 use Rattle.df_theory.specs.Chance.{Distinct, NoChance}
 use Rattle.df_theory.specs.Rests.{RestsOn}
 use Rattle.df_theory.specs.Found.{IsTail, NotLost, slot_behind}
-use Rattle.df_theory.specs.Opens.{Damaged, Found, IsReadable, IsShown, ReadsTo, Refusal, Refused}
-use Rattle.df_theory.specs.DamageLaws.{BlameLaw, BlamesHurt, IsHurt, ReadLaw}
+use Rattle.df_theory.proofs.Knowns.{IsNamedTail, fitting_front, known_at, known_same, named_tail}
+use Rattle.df_theory.specs.Opens.{AreFitting, BootSpent, named_by, Damaged, Found, IsReadable, IsShown, ReadsTo, Refusal, Refused}
+use Rattle.df_theory.specs.DamageLaws.{BlameLaw, BlamesHurt, IsGroupUnhurt, IsHurt, ReadLaw}
 use Rattle.df_theory.proofs.Choices.{one_chosen}
 use Rattle.df_theory.proofs.OneView.{same_parts}
 use Rattle.df_theory.proofs.Once.{same_links}
 use Rattle.df_theory.proofs.Fields.{front_of}
-use Rattle.df_theory.proofs.Layers.{Answers, AnswersFields, AnswersReplies, AnswersTail, AnswersTraces, AnswersTrailer, answers_of}
+use Rattle.df_theory.proofs.Layers.{Answers, AnswersFields, AnswersKnown, AnswersReplies, AnswersTail, AnswersTraces, AnswersTrailer, answers_of}
 use Rattle.df_theory.proofs.OneAnswer.{count_one, in_behind}
 use Rattle.df_theory.proofs.BadFields.{all_shown}
 use Rattle.df_theory.proofs.Hurts.{pool_pools, chosen_still, not_behind, lost_is_hurt_law, missing_is_hurt_law, reply_is_hurt_law}
@@ -75,22 +76,51 @@ module _ (sh : Shape) (log : UnitLog) (v : View) (shown : Units) (rests : RestsO
   blame_replies : (tail : List Message) → IsTail sh shown v.checkpoint tail → NotLost shown v.checkpoint.content (v.checkpoint.content.op + length tail) → AnswersReplies shown v.checkpoint tail (Refused r) → BlamesHurt sh log v shown r
   blame_replies tail is_tail not_lost (n, counted, inl p) = subst (λ (x : Refusal). BlamesHurt sh log v shown x) (let both : Refused r ≡ Refused (Damaged (ReplyPlace p.0)) = p.2 in let one : Damaged (ReplyPlace p.0) ≡ r = cc in one) (λ unhurt. blamed unhurt)
     where
-      blamed : shown (ReplyPlace p.0) ≡ now log (ReplyPlace p.0) → (s : Session) × (q : Message) × (found : List Message) × (slice_get (sessions v) p.0 ≡ Some s) × In q v.tail × (q.header.client ≡ s.client) × IsTail sh shown v.checkpoint found × (v.checkpoint.content.op + length found < q.header.op) × IsHurt log shown (PreparePlace (q.header.op % sh.layout.slots))
+      blamed : shown (ReplyPlace p.0) ≡ now log (ReplyPlace p.0) → (s : Session) × (q : Message) × (found : List Message) × (slice_get (sessions v) p.0 ≡ Some s) × In q v.tail × (q.header.client ≡ s.client) × IsTail sh shown v.checkpoint found × (v.checkpoint.content.op + length found < q.header.op) × (IsGroupUnhurt sh log v shown q → ⊥)
       blamed unhurt = elim (reply_is_hurt_law sh log v shown tail n p.0 p.1.session rests chance is_tail counted p.1.at p.1.stored unhurt) [
         | inl answered ↦ absurd (p.1.lacks answered)
-        | inr later ↦ (later.0, later.1, tail, later.2, later.3, later.4, is_tail, later.5, missing_is_hurt_law sh log v shown (v.checkpoint.content.op + length tail) rests not_lost later.1 later.3 later.5)
+        | inr later ↦ (later.0, later.1, tail, later.2, later.3, later.4, is_tail, later.5, missing_is_hurt_law sh log v shown tail rests chance is_tail not_lost later.1 later.3 later.5)
       ]
-  blame_replies tail is_tail not_lost (n, counted, inr p) = absurd (let both : Refused r ≡ Found p.0 = p.5 in cc)
+  blame_replies tail is_tail not_lost (n, counted, inr p) = elim p.5 [
+    | inl q ↦ absurd (let both : Refused r ≡ Found p.0 = q.1 in cc)
+    | inr q ↦ subst (λ (x : Refusal). BlamesHurt sh log v shown x) (let both : Refused r ≡ Refused BootSpent = q.1 in let one : BootSpent ≡ r = cc in one) (omega (arith, q.0, ap (λ (b : Checkpoint). b.content.boot) p.1))
+  ]
 
   blame_tail : AnswersTail sh shown v.checkpoint (Refused r) → BlamesHurt sh log v shown r
   blame_tail (tail, is_tail, inl p) = subst (λ (x : Refusal). BlamesHurt sh log v shown x)
-      (let both : Refused r ≡ Refused (Damaged (PreparePlace (slot_behind sh v.checkpoint tail))) = p.1 in let one : Damaged (PreparePlace (slot_behind sh v.checkpoint tail)) ≡ r = cc in one)
-      (λ unhurt. p.0 (lost_is_hurt_law sh log v shown tail rests chance agreed is_tail unhurt))
+      (let both : Refused r ≡ Refused (Damaged (PreparePlace (slot_behind sh v.checkpoint tail p.1.0))) = p.1.2 in let one : Damaged (PreparePlace (slot_behind sh v.checkpoint tail p.1.0)) ≡ r = cc in one)
+      (λ unhurt. p.0 (lost_is_hurt_law sh log v shown tail p.1.0 rests chance agreed is_tail p.1.1 unhurt))
   blame_tail (tail, is_tail, inr p) = blame_replies tail is_tail p.0 p.1
+
+  -- what the superblock names, as the file shows it
+  named : IsNamedTail sh (now log) v.checkpoint (take (v.checkpoint.content.pin - v.checkpoint.content.op) v.tail)
+  named =
+      let sound = rests.holds.bears.sound in
+      named_tail sh (now log) v.checkpoint v.tail sound.chain sound.grouped sound.pin_ends (λ p at. rests.holds.bears.needs (PreparePlace (p.header.op % sh.layout.slots)) (PrepareUnit p) (p, at, refl, refl)) sound.checkpoint.tests.pin.0 sound.records.pin_to sound.records.checksum
+
+  one_named : (s : ℕ) (p q : Message) → shown (PreparePlace s) ≡ Some (PrepareUnit p) → now log (PreparePlace s) ≡ Some (PrepareUnit q) → p.header.checksum ≡ q.header.checksum → p ≡ q
+  one_named s p q at there checksum = chance.distinct (PreparePlace s) (PreparePlace s) (PrepareUnit p) (PrepareUnit q)
+      (pool_pools log.start log.events (PreparePlace s) (PrepareUnit p) (chance.pooled (PreparePlace s) (PrepareUnit p) at)) (pool_pools log.start log.events (PreparePlace s) (PrepareUnit q) (rests.pooled (PreparePlace s) (PrepareUnit q) there)) checksum
+
+  blame_known : AnswersKnown sh shown v.checkpoint (Refused r) → BlamesHurt sh log v shown r
+  blame_known (inl p) = subst (λ (x : Refusal). BlamesHurt sh log v shown x) (let both : Refused r ≡ Refused (Damaged (PreparePlace (p.0 % sh.layout.slots))) = p.2 in let one : Damaged (PreparePlace (p.0 % sh.layout.slots)) ≡ r = cc in one) (λ unhurt.
+      let lack = p.1 in
+      let ks : List Message = take (v.checkpoint.content.pin - v.checkpoint.content.op) v.tail in
+      let at = known_at sh.layout.slots (now log) (v.checkpoint.content.op + 1) v.checkpoint.content.pin_checksum p.0 v.checkpoint.content.pin ks (named.known (omega (arith, named.count, lack.count, lack.above))) (omega (arith, lack.above)) (omega (arith, named.count, lack.count)) (omega (arith, named.count)) in
+      let same : lack.read ≡ at.rest = known_same sh.layout.slots shown (now log) (p.0 + 1) v.checkpoint.content.pin_checksum lack.read at.rest lack.known at.known (omega (arith, lack.count, at.count)) one_named in
+      lack.lacks at.here (unhurt ∙ at.shown) (at.names ∙ ap (λ (l : List Message). named_by v.checkpoint.content.pin_checksum l) (sym same)))
+  blame_known (inr (inl p)) =
+      let unfit = p.1 in
+      let ks : List Message = take (v.checkpoint.content.pin - v.checkpoint.content.op) v.tail in
+      let some : 0 < length ks = omega (arith, named.count, unfit.count, length-append p.0 (unfit.next ∷ unfit.rest)) in
+      let same : p.0 ++ unfit.next ∷ unfit.rest ≡ ks = known_same sh.layout.slots shown (now log) (v.checkpoint.content.op + 1) v.checkpoint.content.pin_checksum (p.0 ++ unfit.next ∷ unfit.rest) ks unfit.known (named.known some) (omega (arith, named.count, unfit.count)) one_named in
+      let split : (p.0 ++ unfit.next ∷ []) ++ unfit.rest ≡ ks = append_assoc p.0 (unfit.next ∷ []) unfit.rest ∙ same in
+      absurd (unfit.fails (fitting_front sh v.checkpoint (p.0 ++ unfit.next ∷ []) unfit.rest (subst (λ (l : List Message). AreFitting sh v.checkpoint l) (sym split) named.fits)))
+  blame_known (inr (inr p)) = blame_tail p
 
   blame_traces : AnswersTraces sh shown v.checkpoint (Refused r) → BlamesHurt sh log v shown r
   blame_traces (inl p) = absurd (p.1 (not_behind sh log v shown rests chance.pooled))
-  blame_traces (inr p) = blame_tail p.1
+  blame_traces (inr p) = blame_known p.1
 
   blame_trailer : AnswersTrailer sh shown v.checkpoint.content (Refused r) → BlamesHurt sh log v shown r
   blame_trailer (inl p) = subst (λ (x : Refusal). BlamesHurt sh log v shown x) (let both : Refused r ≡ Refused (Damaged (BlockPlace p.0)) = p.4 in let one : Damaged (BlockPlace p.0) ≡ r = cc in one) (wanted_hurt sh log v shown rests chance p.0 p.1 p.2 p.3)

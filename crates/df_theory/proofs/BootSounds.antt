@@ -1,24 +1,25 @@
--- A boot update keeps a view sound.
+-- A boot update keeps a view sound, also one that changes the version.
 use Rattle.std.proofs.Common.{◌≡◌, ℕ, ◌+◌, ◌-◌, List, [], ◌∷◌, length, take, drop, slice_index, sym, ◌∙◌, ap, subst, arith}
-use Rattle.df_theory.specs.Units.{Block, Content}
-use Rattle.df_theory.specs.Tails.{Chain, last_checksum}
+use Rattle.df_theory.specs.Units.{Block, Content, Layout}
+use Rattle.df_theory.specs.Tails.{AreGroups, Chain, last_checksum}
 use Rattle.df_theory.specs.Shape.{Shape}
 use Rattle.df_theory.specs.Trailer.{IsCount, IsTrailer, Links, piece_size, Says}
 use Rattle.df_theory.specs.View.{View, head}
 use Rattle.df_theory.specs.Holds.{Sound}
 use Rattle.df_theory.specs.Next.{MayBoot, SameCheckpoint, booted}
+use Rattle.df_theory.specs.Upgrades.{as_version, of_version}
 use Rattle.df_theory.proofs.Tails.{chain_ops}
 use Rattle.df_theory.proofs.Sounds.{is}
 
-module _ (sh : Shape) (v : View) (d : Content) (sound : Sound sh v) (may : MayBoot v d) where
-  same : SameCheckpoint v.checkpoint.content d
+module _ (sh : Shape) (n : ℕ) (v : View) (d : Content) (sound : Sound sh v) (may : MayBoot (as_version n v) d) where
+  same : SameCheckpoint (record v.checkpoint.content { version = n }) d
   same = may.is.same
 
   links_same : (room : ℕ) (c e : Content) → e.sequence ≡ c.sequence → e.trailer_size ≡ c.trailer_size → (cs : List (ℕ × Block)) (a k : ℕ) → Links room c cs a k → Links room e cs a k
   links_same room c e s t [] a k is = is
   links_same room c e s t (b ∷ bs) a k is = (is.0, is.1, is.2, is.3 ∙ sym s, is.4, is.5 ∙ ap (λ (n : ℕ). piece_size room n (length bs)) (sym t), is.6, links_same room c e s t bs b.1.before b.1.before_checksum is.7)
 
-  boot_trailer : IsTrailer sh d v.checkpoint.chain v.checkpoint.parts
+  boot_trailer : IsTrailer (of_version n sh) d v.checkpoint.chain v.checkpoint.parts
   boot_trailer =
       let t = sound.checkpoint.trailer in
       let room : ℕ = sh.layout.block_size - 256 in
@@ -39,26 +40,33 @@ module _ (sh : Shape) (v : View) (d : Content) (sound : Sound sh v) (may : MayBo
         spare = t.spare;
       }
 
-  pub boot_sound : Sound sh (booted v d)
-  boot_sound =
+  pub raise_sound : Sound (of_version n sh) (booted v d)
+  raise_sound =
       let tests = sound.checkpoint.tests in
       let top : head (booted v d) ≡ head v = omega (arith, same.op.0) in
       record {
         chain = subst (λ (o : ℕ). Chain sh.layout.clients (o + 1) d.op_checksum 0 v.checkpoint.parts.sessions v.tail) (sym same.op.0)
             (subst (λ (k : ℕ). Chain sh.layout.clients (v.checkpoint.content.op + 1) k 0 v.checkpoint.parts.sessions v.tail) (sym same.op.1) sound.chain);
         room = sound.room;
+        grouped = subst (λ (o : ℕ). AreGroups 0 o (o + 1) v.tail) (sym same.op.0) sound.grouped;
         groups = λ p at. omega (arith, sound.groups p at, top);
+        pin_ends = λ p at low. omega (arith, sound.groups p at, may.is.pin);
         checkpoint = record {
           tests = record {
-            version = same.file.0 ∙ tests.version;
+            version = same.file.0;
             cluster = same.file.1 ∙ tests.cluster;
             layout = same.file.2 ∙ tests.layout;
             sequence = (omega (arith, same.sequence, tests.sequence.0), omega (arith, same.sequence, tests.sequence.1));
+            boot = omega (arith, may.is.boot, may.unspent);
             op_checksum = λ zero_is. same.op.1 ∙ tests.op_checksum (omega (arith, same.op.0));
             head = (omega (arith, may.is.head, same.op.0), omega (arith, may.is.head, same.op.0, sound.room), omega (arith, may.is.head, sound.head_to));
             replies = (omega (arith, may.is.head, may.is.replies, sound.pipeline.0), omega (arith, may.is.head, may.is.replies, sound.pipeline.1));
             pin = (omega (arith, may.is.pin, same.op.0), omega (arith, may.is.pin, may.is.head));
+            pin_checksum = λ level.
+                let none : d.pin - d.op ≡ 0 = omega (arith, level) in
+                sym may.is.records.checksum ∙ ap (λ (k : ℕ). last_checksum d.op_checksum (take k (drop (d.op - v.checkpoint.content.op) v.tail))) none;
             answered = omega (arith, may.is.answered, may.is.replies);
+            spare = λ k low. may.is.records.spare k (omega (arith, low, ap (λ (l : Layout). l.clients) tests.layout));
             of = may.is.of;
             rest = λ i. ap (λ (l : List ℕ). slice_index l i) same.file.3 ∙ tests.rest i;
           };
@@ -89,3 +97,6 @@ module _ (sh : Shape) (v : View) (d : Content) (sound : Sound sh v) (may : MayBo
           };
         };
       }
+
+pub boot_sound : (sh : Shape) (v : View) (d : Content) → Sound sh v → MayBoot v d → Sound sh (booted v d)
+boot_sound sh v d sound may = subst (λ (n : ℕ). Sound (of_version n sh) (booted v d)) sound.checkpoint.tests.version (raise_sound sh v.checkpoint.content.version v d sound may)

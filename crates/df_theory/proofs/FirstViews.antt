@@ -1,9 +1,9 @@
 -- The first view is sound, and an image of a file that was just made holds it.
 use Rattle.std.proofs.Common.{◌≡◌, inl, ℕ, ◌+◌, ◌-◌, List, take, [], length, Some, None, refl, sym, ◌∙◌, ap, subst, arith}
 use Rattle.std.specs.List.{slice_get}
-use Rattle.df_theory.specs.Units.{AnyUnit, Block, BlockPlace, CopyPlace, CopyUnit, HeaderPlace, Message, Parts, Place, PreparePlace, ReplyPlace, Session, Units}
+use Rattle.df_theory.specs.Units.{AnyUnit, Block, BlockPlace, CopyPlace, CopyUnit, HeaderPlace, Message, Parts, Place, PreparePlace, PrepareUnit, ReplyPlace, Session, Units}
 use Rattle.df_theory.specs.Sessions.{sessions_after}
-use Rattle.df_theory.specs.Tails.{Chain, In, last_checksum, last_mark}
+use Rattle.df_theory.specs.Tails.{AreGroups, Chain, In, last_checksum, last_mark}
 use Rattle.df_theory.specs.Shape.{Shape}
 use Rattle.df_theory.specs.Trailer.{InChain, IsTrailer, no_parts}
 use Rattle.df_theory.specs.View.{View, sessions}
@@ -13,6 +13,7 @@ use Rattle.df_theory.specs.First.{IsFirst, ShowsMade}
 use Rattle.df_theory.proofs.Choices.{chosen_above}
 use Rattle.df_theory.proofs.CopyVotes.{agree_at}
 use Rattle.df_theory.proofs.Steps.{made_agrees}
+use Rattle.df_theory.proofs.Images.{short_clear}
 
 module _ (sh : Shape) (v : View) (first : IsFirst sh v) where
   no_session : (k : ℕ) (s : Session) → slice_get (sessions v) k ≡ Some s → ⊥
@@ -49,7 +50,9 @@ module _ (sh : Shape) (v : View) (first : IsFirst sh v) where
   first_sound = record {
     chain = subst (λ (l : List Message). Chain sh.layout.clients (v.checkpoint.content.op + 1) v.checkpoint.content.op_checksum 0 v.checkpoint.parts.sessions l) (sym first.tail) tt;
     room = omega (arith, ap length first.tail);
+    grouped = subst (λ (l : List Message). AreGroups 0 v.checkpoint.content.op (v.checkpoint.content.op + 1) l) (sym first.tail) tt;
     groups = λ p at. absurd (subst (λ (l : List Message). In p l) first.tail at);
+    pin_ends = λ p at low. absurd (subst (λ (l : List Message). In p l) first.tail at);
     checkpoint = record {
       tests = first.content.tests;
       trailer = first_trailer;
@@ -86,4 +89,5 @@ module _ (sh : Shape) (v : View) (first : IsFirst sh v) where
   first_holds image made zero_is one_is = record {
     bears = record { sound = first_sound; agrees = λ place x is. made_agrees sh v place x (made place x is); needs = λ place x need. absurd (first_needs place x need) };
     chosen = chosen_above image v.checkpoint.content (agree_at image v.checkpoint.content 0 1 (omega arith) (omega arith) zero_is one_is) (λ d a. inl (let is = made (CopyPlace a.first) (CopyUnit d) a.at_first in cc));
+    short = short_clear sh image v (λ s p is own. absurd (made (PreparePlace s) (PrepareUnit p) is));
   }

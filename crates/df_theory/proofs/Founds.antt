@@ -2,17 +2,19 @@
 use Rattle.std.proofs.Common.{◌≡◌, ◌⊎◌, inl, inr, ℕ, ◌+◌, ◌-◌, ◌%◌, ◌^◌, ◌<◌, ◌≤◌, List, [], ◌∷◌, length, Option, Some, refl, sym, ◌∙◌, ap, subst, arith}
 use Rattle.std.proofs.lemmas.Bool.{cases_eq, cases_lt}
 use Rattle.df_theory.specs.Units.{AnyUnit, BlockPlace, BlockUnit, CopyPlace, Header, HeaderPlace, HeaderUnit, Message, Place, PreparePlace, PrepareUnit, ReplyPlace, ReplyUnit, Session, Units}
-use Rattle.df_theory.specs.Sessions.{Answers, Tracks, noted}
-use Rattle.df_theory.specs.Tails.{Chain, In, last_mark}
+use Rattle.df_theory.specs.Sessions.{Answers, Tracks, noted, sessions_after}
+use Rattle.df_theory.specs.Tails.{Chain, In, last_checksum, last_mark}
+use Rattle.df_theory.specs.Groups.{IsShort}
+use Rattle.df_theory.proofs.Tails.{chain_ops}
 use Rattle.df_theory.specs.Shape.{Shape, clients}
 use Rattle.df_theory.specs.View.{View, boot_of, head, sessions}
 use Rattle.df_theory.specs.Shows.{Agrees, AgreesHeader, AgreesPrepare, AgreesReply, Needs}
 use Rattle.df_theory.specs.Holds.{Holds, IsNamed, Sound}
-use Rattle.df_theory.specs.Cases.{Current, IsTake, Seen, Takes, case, decision, seen, seen_header, seen_prepare}
+use Rattle.df_theory.specs.Cases.{Current, IsEmpty, IsTake, Seen, Takes, case, decision, seen, seen_header, seen_prepare}
 use Rattle.df_theory.specs.Found.{AreOfPlaces, IsClean, IsFound, IsOfPlace}
 use Rattle.df_theory.specs.ViewLaws.{SlotLaw}
 use Rattle.df_theory.proofs.Sessions.{tracks_chain}
-use Rattle.df_theory.proofs.Agreeing.{seen_now, take_same, take_boot, below_header, below_prepare, old_header, old_prepare, empty_case, header_agrees, prepare_agrees, reply_agrees, head_room, takes_if}
+use Rattle.df_theory.proofs.Agreeing.{seen_now, take_same, take_beside, take_boot, below_header, decided_above, empty_cut, near_prepare, old_header, prepare_near, header_agrees, prepare_agrees, reply_agrees, head_room, takes_if}
 
 -- each op of a chain has a prepare
 pub chain_at : (clients op parent mark : ℕ) (ss : List Session) (ps : List Message) (o : ℕ) → Chain clients op parent mark ss ps → op ≤ o → o < op + length ps → (p : Message) × In p ps × (p.header.op ≡ o)
@@ -73,7 +75,9 @@ module _ (sh : Shape) (image : Units) (v : View) (places : AreOfPlaces sh image)
     chain = f.tail.chain;
     room = f.tail.room;
     checkpoint = f.checkpoint;
+    grouped = f.tail.grouped;
     groups = f.tail.groups;
+    pin_ends = f.tail.pin_ends;
     head_from = f.not_lost.superblock;
     head_to = head_to;
     pipeline = (replies_to, near_head);
@@ -110,9 +114,9 @@ module _ (sh : Shape) (image : Units) (v : View) (places : AreOfPlaces sh image)
       let place : image (HeaderPlace (p.0.header.op % sh.layout.slots)) ≡ Some (HeaderUnit h) = ap (λ (o : ℕ). image (HeaderPlace (o % sh.layout.slots))) p.2 ∙ ap (λ (n : ℕ). image (HeaderPlace n)) (sym (slot (omega arith))) ∙ is in
       (p.0, p.1, p.2, sym (taken_header (boot_of v) h p.0 _ _ place takes.shown (sym p.2) of (take_boot sh.layout.slots image v.checkpoint.content p.0 takes higher) (takes.take higher)))
 
-  prepare_in_tail : (s : ℕ) (q : Message) → image (PreparePlace s) ≡ Some (PrepareUnit q) → s ≡ q.header.op % sh.layout.slots → q.header.boot ≡ boot_of v → v.checkpoint.content.pin < q.header.op → In q v.tail
-  prepare_in_tail s q is slot of above =
-      let p = tail_at q.header.op (omega (arith, f.checkpoint.tests.pin.0)) (f.not_lost.prepare s q is of) in
+  prepare_in_tail : (s : ℕ) (q : Message) → image (PreparePlace s) ≡ Some (PrepareUnit q) → s ≡ q.header.op % sh.layout.slots → q.header.boot ≡ boot_of v → v.checkpoint.content.pin < q.header.op → q.header.op ≤ head v → In q v.tail
+  prepare_in_tail s q is slot of above to =
+      let p = tail_at q.header.op (omega (arith, f.checkpoint.tests.pin.0)) to in
       let takes = f.tail.takes p.0 p.1 in
       let place : image (PreparePlace (p.0.header.op % sh.layout.slots)) ≡ Some (PrepareUnit q) = ap (λ (o : ℕ). image (PreparePlace (o % sh.layout.slots))) p.2 ∙ ap (λ (n : ℕ). image (PreparePlace n)) (sym slot) ∙ is in
       let one : p.0 ≡ q = (let two : Some (PrepareUnit p.0) ≡ Some (PrepareUnit q) = sym takes.shown ∙ place in cc) in
@@ -136,7 +140,7 @@ module _ (sh : Shape) (image : Units) (v : View) (places : AreOfPlaces sh image)
         checkpoint = (f.not_behind.prepare s p is).0;
         boot = (f.not_behind.prepare s p is).2;
         slot = slot;
-        in_tail = λ own above. prepare_in_tail s p is slot own above;
+        in_tail = λ own above to. prepare_in_tail s p is slot own above to;
       }
 
   found_agrees : IsClean image v → (place : Place) (x : AnyUnit) → image place ≡ Some x → IsOfPlace sh place x → Agrees sh v place x
@@ -159,10 +163,31 @@ module _ (sh : Shape) (image : Units) (v : View) (places : AreOfPlaces sh image)
       there.2 ∙ ap (λ (w : Message). Some (ReplyUnit w)) same ∙ ap Some (sym need.2)
   found_needs (BlockPlace a) x need = f.chain_shown a need.0 need.1 ∙ ap Some (sym need.2)
 
+  -- what is shown behind the tail would be taken
+  found_short : IsShort sh image v
+  found_short ps more = f.tail.longest ps (record {
+    behind = record { room = more.behind.room; shown = taken; chain = more.behind.chain; grouped = more.behind.grouped };
+    some = more.some;
+    ends = more.ends;
+  })
+    where
+      taken : (p : Message) → In p ps → Takes sh.layout.slots image v.checkpoint.content p
+      taken p at =
+          let own = more.behind.shown p at in
+          let ops = chain_ops sh.layout.clients (v.checkpoint.content.op + 1 + length v.tail) (last_checksum v.checkpoint.content.op_checksum v.tail) (last_mark 0 v.tail) (sessions_after v.checkpoint.parts.sessions v.tail) ps p more.behind.chain at in
+          let old = old_header (boot_of v) p.header.op (image (HeaderPlace (p.header.op % sh.layout.slots))) (λ x is. below_header sh v p.header.op x (header_found (p.header.op % sh.layout.slots) x is) (omega (arith, ops.0)) (omega (arith, ops.1, more.behind.room))) in
+          record {
+            shown = own.shown;
+            take = λ above. subst (λ (y : Option AnyUnit). IsTake (case (seen_header (boot_of v) p.header.op (image (HeaderPlace (p.header.op % sh.layout.slots)))) (seen_prepare (boot_of v) p.header.op y))) (sym own.shown)
+                (subst (λ (s : Seen). IsTake (case (seen_header (boot_of v) p.header.op (image (HeaderPlace (p.header.op % sh.layout.slots)))) s)) (sym (seen_now (boot_of v) p.header.op p.header refl own.own))
+                (take_beside (seen_header (boot_of v) p.header.op (image (HeaderPlace (p.header.op % sh.layout.slots)))) p.header.checksum old));
+          }
+
   pub found_holds : IsClean image v → Holds sh image v
   found_holds clean = record {
     bears = record { sound = found_sound; agrees = λ place x is. found_agrees clean place x is (places place x is); needs = found_needs };
     chosen = f.chosen;
+    short = found_short;
   }
 
 -- ---- to what is found
@@ -221,10 +246,24 @@ module _ (sh : Shape) (image : Units) (v : View) (h : Holds sh image v) where
       chain = sound.chain;
       takes = takes;
       room = sound.room;
+      grouped = sound.grouped;
       groups = sound.groups;
+      pin_ends = sound.pin_ends;
       reaches = sound.records.pin_to;
       pinned = sound.records.checksum;
-      longest = λ p room taken fits. omega (arith, (agrees_prepare (p.header.op % sh.layout.slots) p taken.shown).op (take_boot sh.layout.slots image v.checkpoint.content p taken (omega (arith, fits.op_is, sound.records.pin_to))), fits.op_is);
+      longest = λ ps more. h.short ps (record {
+        behind = record {
+          room = more.behind.room;
+          shown = λ p at.
+              let taken = more.behind.shown p at in
+              let ops = chain_ops sh.layout.clients (v.checkpoint.content.op + 1 + length v.tail) (last_checksum v.checkpoint.content.op_checksum v.tail) (last_mark 0 v.tail) (sessions_after v.checkpoint.parts.sessions v.tail) ps p more.behind.chain at in
+              record { shown = taken.shown; own = take_boot sh.layout.slots image v.checkpoint.content p taken (omega (arith, ops.0, sound.records.pin_to)) };
+          chain = more.behind.chain;
+          grouped = more.behind.grouped;
+        };
+        some = more.some;
+        ends = more.ends;
+      });
     };
     not_lost = record {
       header = λ s x is. (agrees_header s x is).op;
@@ -253,7 +292,7 @@ slot_law sh image v o places f above within = (
   λ pinned low.
       let p = chain_at sh.layout.clients (v.checkpoint.content.op + 1) v.checkpoint.content.op_checksum 0 v.checkpoint.parts.sessions v.tail o f.tail.chain (omega arith) (omega arith) in
       subst (λ (n : ℕ). IsTake (decision sh.layout.slots (boot_of v) image n)) p.2 ((f.tail.takes p.0 p.1).take (omega (arith, p.2))),
-  λ high. empty_case (seen_header (boot_of v) o (image (HeaderPlace (o % sh.layout.slots)))) (seen_prepare (boot_of v) o (image (PreparePlace (o % sh.layout.slots))))
+  λ high. subst IsEmpty (sym (decided_above sh.layout.slots (boot_of v) (head v) image o high)) (empty_cut (seen_header (boot_of v) o (image (HeaderPlace (o % sh.layout.slots)))) (seen_prepare (boot_of v) o (image (PreparePlace (o % sh.layout.slots))))
       (old_header (boot_of v) o (image (HeaderPlace (o % sh.layout.slots))) (λ x is. below_header sh v o x (header_found sh image v places f (o % sh.layout.slots) x is) high within))
-      (old_prepare (boot_of v) o (image (PreparePlace (o % sh.layout.slots))) (λ x is. below_prepare sh v o x (prepare_found sh image v places f (o % sh.layout.slots) x is) high within)),
+      (prepare_near (boot_of v) o (image (PreparePlace (o % sh.layout.slots))) (λ x is. near_prepare sh v o x (prepare_found sh image v places f (o % sh.layout.slots) x is) high within))),
 )

@@ -1,7 +1,7 @@
 -- What agrees with a view agrees with each later one.
-use Rattle.std.proofs.Common.{◌≡◌, ◌⊎◌, inl, inr, ℕ, ◌+◌, ◌-◌, ◌<◌, ◌≤◌, refl, ap, subst, arith, length-append, length-drop}
-use Rattle.df_theory.specs.Units.{AnyUnit, BlockPlace, Content, CopyPlace, HeaderPlace, Message, Place, PreparePlace, ReplyPlace}
-use Rattle.df_theory.specs.Tails.{In}
+use Rattle.std.proofs.Common.{◌≡◌, ◌⊎◌, inl, inr, ℕ, ◌+◌, ◌-◌, ◌<◌, ◌≤◌, refl, sym, ap, subst, arith, length-append, length-drop}
+use Rattle.df_theory.specs.Units.{AnyUnit, BlockPlace, Content, CopyPlace, Header, HeaderPlace, Message, Place, PreparePlace, PrepareUnit, ReplyPlace}
+use Rattle.df_theory.specs.Tails.{BindsHead, In}
 use Rattle.df_theory.specs.Shape.{Shape}
 use Rattle.df_theory.specs.Copies.{rank_of}
 use Rattle.df_theory.specs.View.{Checkpoint, View, boot_of, head, sequence}
@@ -29,9 +29,17 @@ copy_grew v u n c (inr more) a = λ differs. elim (a differs) [
   | inr less ↦ inr (omega arith)
 ]
 
-pub agrees_grew : (sh : Shape) (v u : View) → Grew v u → (place : Place) (x : AnyUnit) → Agrees sh v place x → Agrees sh u place x
-agrees_grew sh v u g (CopyPlace n) x a = (a.0, a.1, copy_grew v u n a.0 g.checkpoint a.2)
-agrees_grew sh v u g (HeaderPlace s) x a = (
+-- the head stays, or the boot is raised, or a prepare of this boot that is shown isn't above it: nothing survived there
+abbrev pub Stays : View → View → Place → AnyUnit → Type 0
+Stays v u place x = (head u ≡ head v) ⊎ (boot_of v < boot_of u) ⊎ ((s : ℕ) (p : Message) → place ≡ PreparePlace s → x ≡ PrepareUnit p → p.header.boot ≡ boot_of v → p.header.op ≤ head v)
+
+binds_on : (top more : ℕ) (h : Header) → BindsHead top h → (more ≡ top) ⊎ (h.op ≤ top) → top ≤ more → BindsHead more h
+binds_on top more h binds (inl same) up = subst (λ (n : ℕ). BindsHead n h) (sym same) binds
+binds_on top more h binds (inr low) up = inl (omega arith)
+
+pub agrees_grew : (sh : Shape) (v u : View) → Grew v u → (place : Place) (x : AnyUnit) → Stays v u place x → Agrees sh v place x → Agrees sh u place x
+agrees_grew sh v u g (CopyPlace n) x stays a = (a.0, a.1, copy_grew v u n a.0 g.checkpoint a.2)
+agrees_grew sh v u g (HeaderPlace s) x stays a = (
   a.0,
   a.1,
   record {
@@ -45,20 +53,23 @@ agrees_grew sh v u g (HeaderPlace s) x a = (
         (old.0, g.tail old.0 old.1 (omega (arith, old.2, g.pin.1)), old.2, old.3);
   },
 )
-agrees_grew sh v u g (PreparePlace s) x a = (
+agrees_grew sh v u g (PreparePlace s) x stays a = (
   a.0,
   a.1,
   record {
     some = a.2.some;
-    op = λ same. omega (arith, a.2.op (omega (arith, a.2.boot, g.boot)), g.head);
+    op = λ same. binds_on (head v) (head u) a.0.header (a.2.op (omega (arith, a.2.boot, g.boot))) (low same) g.head;
     ring = omega (arith, a.2.ring, g.op);
     checkpoint = omega (arith, a.2.checkpoint, g.sequence);
     boot = omega (arith, a.2.boot, g.boot);
     slot = a.2.slot;
-    in_tail = λ same above. g.tail a.0 (a.2.in_tail (omega (arith, a.2.boot, g.boot)) (omega (arith, g.pin.0))) (omega (arith, g.pin.1));
+    in_tail = λ same above to. g.tail a.0 (a.2.in_tail (omega (arith, a.2.boot, g.boot)) (omega (arith, g.pin.0)) (elim (low same) [ inl head_is ↦ omega arith | inr is ↦ is ])) (omega (arith, g.pin.1));
   },
 )
-agrees_grew sh v u g (ReplyPlace k) x a = (
+  where
+    low : a.0.header.boot ≡ boot_of u → (head u ≡ head v) ⊎ (a.0.header.op ≤ head v)
+    low same = elim stays [ inl is ↦ inl is | inr (inl more) ↦ absurd (omega (arith, a.2.boot, same, more)) | inr (inr each) ↦ inr (each s a.0 refl a.1 (omega (arith, a.2.boot, g.boot))) ]
+agrees_grew sh v u g (ReplyPlace k) x stays a = (
   a.0,
   a.1,
   record {
@@ -69,7 +80,7 @@ agrees_grew sh v u g (ReplyPlace k) x a = (
     alone = a.2.alone;
   },
 )
-agrees_grew sh v u g (BlockPlace a) x b = b
+agrees_grew sh v u g (BlockPlace a) x stays b = b
 
 pub next_grew : (sh : Shape) (v u : View) → Sound sh v → Next v u → Grew v u
 next_grew sh v _ sound Same = record { head = omega arith; checkpoint = inl refl; sequence = omega arith; boot = omega arith; pin = (omega arith, sound.checkpoint.tests.pin.0); op = omega arith; replies = omega arith; tail = λ p at above. at }

@@ -1,10 +1,10 @@
 -- What is found in any image of settled units was the view of a settled image.
-use Rattle.std.proofs.Common.{◌≡◌, ◌⊎◌, inl, inr, ℕ, ◌+◌, ◌-◌, ◌%◌, ◌<◌, ◌≤◌, List, length, Option, Some, None, refl, sym, ◌∙◌, ap, subst, arith}
+use Rattle.std.proofs.Common.{◌≡◌, ◌⊎◌, inl, inr, ℕ, ◌+◌, ◌-◌, ◌%◌, ◌<◌, ◌≤◌, List, length, take, Option, Some, None, refl, sym, ◌∙◌, ap, subst, arith}
 use Rattle.std.specs.List.{slice_get}
 use Rattle.std.proofs.lemmas.Bool.{cases_lt}
 use Rattle.df_theory.specs.Units.{AnyUnit, BlockPlace, BlockUnit, Content, CopyPlace, CopyUnit, Message, Place, PreparePlace, PrepareUnit, ReplyPlace, ReplyUnit, Session, Units}
 use Rattle.df_theory.specs.Sessions.{sessions_after}
-use Rattle.df_theory.specs.Tails.{Chain, last_mark}
+use Rattle.df_theory.specs.Tails.{Chain, In, last_checksum, last_mark}
 use Rattle.df_theory.specs.Shape.{Shape}
 use Rattle.df_theory.specs.Copies.{rank_of}
 use Rattle.df_theory.specs.Trailer.{Links}
@@ -17,7 +17,12 @@ use Rattle.df_theory.specs.Past.{FromEmpty, Was}
 use Rattle.df_theory.specs.HistoryLaws.{FoundWasLaw, OneContentLaw, OneReplyLaw}
 use Rattle.df_theory.proofs.Choices.{rank_low}
 use Rattle.df_theory.proofs.OneView.{same_parts as parts_same}
-use Rattle.df_theory.proofs.Past.{settled_was, was_one, stamp_law}
+use Rattle.df_theory.proofs.Past.{WasIn, settled_one, settled_was, was_prepare, stamp_law}
+use Rattle.df_theory.proofs.Grouped.{group_from, group_holds, same_group}
+use Rattle.df_theory.proofs.Founds.{chain_at}
+use Rattle.df_theory.proofs.Agreeing.{take_boot}
+use Rattle.df_theory.proofs.Pinned.{same_named}
+use Rattle.df_theory.proofs.Tails.{chain_last, chain_ops}
 use Rattle.df_theory.proofs.Settled.{settled_content, settled_reply, after_append, after_reply, after_base}
 use Rattle.df_theory.proofs.Once.{was_base, was_sound, was_reply, was_chain, same_links, same_chains, last_of, no_mark}
 
@@ -32,11 +37,67 @@ module _ (sh : Shape) (images : List Units) (v : View) (grows : Grows sh images 
       let same : a.0.checkpoint.content ≡ w.checkpoint.content = ap (λ (b : Checkpoint). b.content) a.2 ∙ sym z.2 in
       (a.0, a.1, same, a.3 ∙ ap (λ (c : Content). c.head) same, a.4 ∙ ap (λ (c : Content). c.replies) same)
 
+  -- a prepare that the content names is that of each view with this content
+  named : (y : View) → Was sh images v grows y → y.checkpoint.content ≡ w.checkpoint.content → (p q : Message) → In p w.tail → In q y.tail → p.header.op ≡ q.header.op → p.header.op ≤ w.checkpoint.content.pin → p ≡ q
+  named y was content p q at there op low =
+      let sound = was_sound sh images v grows y was in
+      let ops = chain_ops sh.layout.clients (w.checkpoint.content.op + 1) w.checkpoint.content.op_checksum 0 w.checkpoint.parts.sessions w.tail p f.tail.chain at in
+      let chain : Chain sh.layout.clients (w.checkpoint.content.op + 1) w.checkpoint.content.op_checksum 0 y.checkpoint.parts.sessions y.tail =
+      subst (λ (c : Content). Chain sh.layout.clients (c.op + 1) c.op_checksum 0 y.checkpoint.parts.sessions y.tail) content sound.chain in
+      let ends : last_checksum w.checkpoint.content.op_checksum (take (w.checkpoint.content.pin - w.checkpoint.content.op) y.tail) ≡ w.checkpoint.content.pin_checksum =
+      subst (λ (c : Content). last_checksum c.op_checksum (take (c.pin - c.op) y.tail) ≡ c.pin_checksum) content sound.records.checksum in
+      same_named sh.layout.clients (w.checkpoint.content.op + 1) w.checkpoint.content.op_checksum 0 0 w.checkpoint.parts.sessions y.checkpoint.parts.sessions w.tail y.tail (w.checkpoint.content.pin - w.checkpoint.content.op) f.tail.chain chain
+      (omega (arith, f.tail.reaches)) (omega (arith, sound.records.pin_to, ap (λ (c : Content). c.pin) content, ap (λ (c : Content). c.op) content)) (f.tail.pinned ∙ sym ends)
+      (λ a b in_a in_b checksum. distinct (PreparePlace (a.header.op % sh.layout.slots)) (PreparePlace (b.header.op % sh.layout.slots)) (PrepareUnit a) (PrepareUnit b)
+      (of (PreparePlace (a.header.op % sh.layout.slots)) (PrepareUnit a) (f.tail.takes a in_a).shown) (was_prepare sh images v grows y was b in_b) checksum)
+      (w.checkpoint.content.pin - p.header.op) p q at there op (omega (arith, ops.0))
+
+  settled_at : (p : Message) → In p w.tail → InImages images (PreparePlace (p.header.op % sh.layout.slots)) (PrepareUnit p)
+  settled_at p at = of (PreparePlace (p.header.op % sh.layout.slots)) (PrepareUnit p) (f.tail.takes p at).shown
+
+  -- each prepare of the tail was in a view's
+  was_in : (p : Message) → In p w.tail → WasIn sh images v grows p
+  was_in p at =
+      let ops = chain_ops sh.layout.clients (w.checkpoint.content.op + 1) w.checkpoint.content.op_checksum 0 w.checkpoint.parts.sessions w.tail p f.tail.chain at in
+      let holds_op = group_holds sh.layout.clients 0 w.checkpoint.content.op (w.checkpoint.content.op + 1) w.checkpoint.content.op_checksum 0 w.checkpoint.parts.sessions w.tail p f.tail.chain f.tail.grouped (omega arith) at in
+      elim (cases_lt w.checkpoint.content.pin p.header.op) [
+        | inr low ↦
+            let a = checkpoint_event in
+            let sound = was_sound sh images v grows a.0 a.1 in
+            let op_is : a.0.checkpoint.content.op ≡ w.checkpoint.content.op = ap (λ (c : Content). c.op) a.2 in
+            let q = chain_at sh.layout.clients (a.0.checkpoint.content.op + 1) a.0.checkpoint.content.op_checksum 0 a.0.checkpoint.parts.sessions a.0.tail p.header.op sound.chain (omega (arith, ops.0, op_is)) (omega (arith, sound.records.pin_to, ap (λ (c : Content). c.pin) a.2)) in
+            (a.0, a.1, subst (λ (x : Message). In x a.0.tail) (sym (named a.0 a.1 a.2 p q.0 at q.1 (sym q.2) (omega arith))) q.1)
+        | inl above ↦ above_case p at ops holds_op above
+      ]
+    where
+      above_case : (p : Message) → In p w.tail → (w.checkpoint.content.op + 1 ≤ p.header.op) × (p.header.op < w.checkpoint.content.op + 1 + length w.tail) → p.header.group ≤ p.header.op → w.checkpoint.content.pin < p.header.op → WasIn sh images v grows p
+      above_case p at ops holds_op above = elim (settled_was sh images v grows empty (p.header.op % sh.layout.slots) p (settled_at p at) holds_op) [
+        | inl was ↦ was
+        | inr gap ↦
+            let last = f.tail.groups p at in
+            let begins : w.checkpoint.content.op < p.header.group = elim (cases_lt w.checkpoint.content.op p.header.group) [
+              | inl yes_above ↦ yes_above
+              | inr not ↦ absurd (omega (arith, (group_from sh.layout.clients 0 w.checkpoint.content.op (w.checkpoint.content.op + 1) w.checkpoint.content.op_checksum 0 w.checkpoint.parts.sessions w.tail p f.tail.chain f.tail.grouped at (omega arith)).2))
+            ] in
+            let q = chain_at sh.layout.clients (w.checkpoint.content.op + 1) w.checkpoint.content.op_checksum 0 w.checkpoint.parts.sessions w.tail gap.missing f.tail.chain (omega (arith, gap.from)) (omega (arith, gap.to)) in
+            let group = same_group sh.layout.clients 0 w.checkpoint.content.op (w.checkpoint.content.op + 1) w.checkpoint.content.op_checksum 0 w.checkpoint.parts.sessions w.tail p q.0 f.tail.chain f.tail.grouped at q.1 (omega (arith, q.2, gap.from)) (omega (arith, q.2, gap.to)) in
+            let q_above : w.checkpoint.content.pin < q.0.header.op = elim (cases_lt w.checkpoint.content.pin q.0.header.op) [
+              | inl yes_above ↦ yes_above
+              | inr not ↦ absurd (let q_last = f.tail.pin_ends q.0 q.1 (omega arith) in let p_last = last_op p at in omega (arith, q_last, group.1, p_last, above))
+            ] in
+            let own_p = take_boot sh.layout.slots shown w.checkpoint.content p (f.tail.takes p at) above in
+            let own_q = take_boot sh.layout.slots shown w.checkpoint.content q.0 (f.tail.takes q.0 q.1) q_above in
+            absurd (gap.lacks (q.0.header.op % sh.layout.slots) q.0 (settled_at q.0 q.1) q.2 (own_q ∙ sym own_p) group.0)
+      ]
+        where
+          last_op : (p : Message) → In p w.tail → p.header.op ≤ p.header.group_last
+          last_op p at = chain_last sh.layout.clients (w.checkpoint.content.op + 1) w.checkpoint.content.op_checksum 0 w.checkpoint.parts.sessions w.tail p f.tail.chain at
+
   append_event : 0 < length w.tail → (b : View) × Was sh images v grows b × (rank_of b.checkpoint.content ≤ rank_of w.checkpoint.content) × (head b ≡ head w) × (b.replies ≡ last_mark 0 w.tail)
   append_event some =
       let p = last_of sh.layout.clients (w.checkpoint.content.op + 1) w.checkpoint.content.op_checksum 0 0 w.checkpoint.parts.sessions w.tail f.tail.chain some in
       let place = (f.tail.takes p.0 p.1).shown in
-      let z = settled_was sh images v grows empty (p.0.header.op % sh.layout.slots) p.0 (of (PreparePlace (p.0.header.op % sh.layout.slots)) (PrepareUnit p.0) place) in
+      let z = was_in p.0 p.1 in
       let b = after_append sh images v grows empty z.0 p.0 z.1 z.2 in
       (b.0, b.1, (let low = f.not_behind.prepare (p.0.header.op % sh.layout.slots) p.0 place in rank_low b.0.checkpoint.content w.checkpoint.content (omega (arith, b.4, low.0)) (omega (arith, b.5, low.2))), omega (arith, b.2, p.2, p.4, f.tail.groups p.0 p.1), b.3 ∙ p.3)
 
@@ -101,10 +162,13 @@ module _ (sh : Shape) (images : List Units) (v : View) (grows : Grows sh images 
         let op : z.checkpoint.content.op ≡ w.checkpoint.content.op = ap (λ (c : Content). c.op) same_content in
         same_chains sh.layout.clients (z.checkpoint.content.op + 1) z.checkpoint.content.op_checksum w.checkpoint.content.op_checksum 0 0 z.checkpoint.parts.sessions w.checkpoint.parts.sessions z.tail w.tail sound.chain
         (subst (λ (n : ℕ). Chain sh.layout.clients (n + 1) w.checkpoint.content.op_checksum 0 w.checkpoint.parts.sessions w.tail) (sym op) f.tail.chain) (omega arith)
-        (λ p q at there same.
-        let place = (f.tail.takes q there).shown in
-        let y = settled_was sh images v grows empty (q.header.op % sh.layout.slots) q (of (PreparePlace (q.header.op % sh.layout.slots)) (PrepareUnit q) place) in
-        was_one sh images v grows z y.0 p q was at y.1 y.2 same)
+        (λ p q at there same. elim (cases_lt w.checkpoint.content.pin q.header.op) [
+          | inl above ↦
+              let own_q = take_boot sh.layout.slots shown w.checkpoint.content q (f.tail.takes q there) above in
+              let own_p = sound.records.tail p at (omega (arith, above, ap (λ (c : Content). c.pin) same_content)) in
+              settled_one sh images v grows empty (p.header.op % sh.layout.slots) (q.header.op % sh.layout.slots) p q (was_prepare sh images v grows z was p at) (settled_at q there) same (own_p ∙ ap (λ (c : Content). c.boot) same_content ∙ sym own_q)
+          | inr low ↦ sym (named z was same_content q p there at (sym same) (omega arith))
+        ])
 
     pub same_sessions : sessions z ≡ sessions w
     same_sessions = λ i. sessions_after (same_parts i).sessions (same_tail i)

@@ -1,10 +1,12 @@
 -- A file at rest whose only prepare is lost: an open refuses, and names its slot.
-use Rattle.std.proofs.Common.{◌≡◌, ℕ, ◌%◌, Bool, true, false, if◌then◌else◌, Some, None, refl, sym, ◌∙◌, ap, arith, []}
-use Rattle.df_theory.specs.Units.{AnyUnit, Place, PreparePlace, PrepareUnit, Units}
+use Rattle.std.proofs.Common.{◌≡◌, inl, ℕ, ◌%◌, ◌<◌, Bool, true, false, if◌then◌else◌, List, [], ◌∷◌, length, Some, None, refl, sym, ◌∙◌, ap, arith}
+use Rattle.df_theory.specs.Units.{AnyUnit, Message, Place, PreparePlace, PrepareUnit, Units}
 use Rattle.df_theory.specs.UnitLog.{now, same_place}
 use Rattle.df_theory.specs.Copies.{Agree}
 use Rattle.df_theory.specs.Chance.{InPool, NoChance}
-use Rattle.df_theory.specs.Found.{IsTail, NotLost}
+use Rattle.df_theory.specs.Found.{IsReach, IsTail, NotLost}
+use Rattle.df_theory.specs.Tails.{Chain, In}
+use Rattle.df_theory.specs.Cases.{Takes}
 use Rattle.df_theory.specs.Opens.{Lost}
 use Rattle.df_theory.specs.View.{Checkpoint}
 use Rattle.df_theory.specs.Sample.{HurtSampleLaw}
@@ -46,15 +48,31 @@ agreed = record { first = 0; second = 1; apart = omega arith; inside = omega ari
 base : Checkpoint
 base = first.checkpoint
 
+-- the slot of the first op shows nothing
+no_more : (ps : List Message) → 0 < length ps → ((p : Message) → In p ps → Takes 16 shown content1 p) → Chain 4 1 0 0 [] ps → ⊥
+no_more [] some takes chain = omega arith
+no_more (p ∷ ps) some takes chain =
+    let none : shown (PreparePlace (p.header.op % 16)) ≡ None = ap (λ (o : ℕ). shown (PreparePlace (o % 16))) chain.0.op_is in
+    let both : Some (PrepareUnit p) ≡ None = sym (takes p (inl refl)).shown ∙ none in
+    cc
+
 no_tail : IsTail shape shown first.checkpoint []
 no_tail = record {
   chain = tt;
   takes = λ p none. absurd none;
   room = omega arith;
+  grouped = tt;
   groups = λ p none. absurd none;
+  pin_ends = λ p none low. absurd none;
   reaches = omega arith;
   pinned = refl;
-  longest = λ p room taken fits. absurd (let none : shown (PreparePlace (p.header.op % 16)) ≡ None = ap (λ (o : ℕ). shown (PreparePlace (o % 16))) fits.op_is in let both : Some (PrepareUnit p) ≡ None = sym taken.shown ∙ none in cc);
+  longest = λ ps more. no_more ps more.some more.behind.shown more.behind.chain;
+}
+
+reach : IsReach shape shown first.checkpoint [] []
+reach = record {
+  behind = record { room = omega arith; shown = λ p none. absurd none; chain = tt; grouped = tt };
+  longest = λ p behind. no_more (p ∷ []) (omega arith) behind.shown behind.chain;
 }
 
 lost : NotLost shown content1 0 → ⊥
@@ -72,9 +90,9 @@ hurt_sample_law =
       chance = chance;
       agreed = agreed;
       hurt = λ place away. without_else (PreparePlace 1) place (now log1) away;
-      refuses = Lost first.checkpoint [] (record {
+      refuses = Lost first.checkpoint [] [] (record {
         readable = record { chosen = never.0; sound = leads1.0.leads.rests.holds.bears.sound.checkpoint; shown = λ a x none. absurd none };
         not_behind = never.1;
         tail_is = no_tail;
-      }) lost;
+      }) reach lost;
     }

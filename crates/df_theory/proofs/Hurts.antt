@@ -1,12 +1,14 @@
 -- What damage can do to a file at rest.
-use Rattle.std.proofs.Common.{◌≡◌, ◌⊎◌, inl, inr, ℕ, ◌+◌, ◌-◌, ◌%◌, ◌<◌, ◌≤◌, ◌==◌, Bool, true, false, if◌then◌else◌, zero, suc, List, [], ◌∷◌, ◌++◌, length, take, drop, Some, None, refl, sym, ◌∙◌, ap, subst, arith}
+use Rattle.std.proofs.Common.{◌≡◌, ◌⊎◌, inl, inr, ℕ, ◌+◌, ◌-◌, ◌%◌, ◌<◌, ◌≤◌, ◌==◌, Bool, true, false, if◌then◌else◌, zero, suc, List, [], ◌∷◌, ◌++◌, length, take, drop, Some, None, refl, sym, ◌∙◌, ap, subst, arith, length-append}
 use Rattle.std.specs.List.{slice_get}
-use Rattle.std.proofs.lemmas.List.{take_at}
+use Rattle.std.proofs.lemmas.List.{length-take, take_at}
 use Rattle.std.proofs.lemmas.Bool.{cases_lt}
 use Rattle.std.proofs.lemmas.Bool.Decides.{nat_tests}
 use Rattle.df_theory.specs.Units.{AnyUnit, BlockPlace, BlockUnit, Content, CopyPlace, CopyUnit, Header, HeaderPlace, HeaderUnit, Message, Place, PreparePlace, PrepareUnit, ReplyPlace, ReplyUnit, Session, Units}
 use Rattle.df_theory.specs.Sessions.{Answers, noted, session_of, sessions_after}
-use Rattle.df_theory.specs.Tails.{Chain, In, last_mark}
+use Rattle.df_theory.specs.Tails.{AreGroups, BindsHead, Chain, In, last_checksum, last_mark}
+use Rattle.df_theory.specs.Groups.{IsShort, ShowsOwn}
+use Rattle.df_theory.specs.Cases.{Takes}
 use Rattle.df_theory.specs.Shape.{Shape, clients}
 use Rattle.df_theory.specs.Copies.{Agree, IsChosen}
 use Rattle.df_theory.specs.Trailer.{Links}
@@ -14,19 +16,22 @@ use Rattle.df_theory.specs.View.{View, head, sessions}
 use Rattle.df_theory.specs.Shows.{Agrees, AgreesCopy, AgreesHeader, AgreesPrepare, AgreesReply}
 use Rattle.df_theory.specs.Holds.{Sound}
 use Rattle.df_theory.specs.UnitLog.{UnitEvent, UnitLog, now, settled}
-use Rattle.df_theory.specs.Chance.{InPool, InPools, NoChance}
+use Rattle.df_theory.specs.Chance.{InImages, InPool, InPools, NoChance}
 use Rattle.df_theory.specs.Rests.{RestsOn}
-use Rattle.df_theory.specs.Found.{IsTail, NotBehind, NotLost}
+use Rattle.df_theory.specs.Found.{IsReach, IsTail, NotBehind, NotLost, slot_behind}
 use Rattle.df_theory.specs.HistoryLaws.{FoundWasOfLogLaw}
-use Rattle.df_theory.specs.DamageLaws.{CheckpointStaysLaw, HeadersTellLaw, HurtLaw, LostIsHurtLaw, MissingIsHurtLaw, NeverBehindLaw, ReplyIsHurtLaw, ShowsPool, TailIsFrontLaw}
-use Rattle.df_theory.proofs.Tails.{chain_ops, in_one, in_dropped}
-use Rattle.df_theory.proofs.Sessions.{sessions-append, last_mark-take, chain_drop}
+use Rattle.df_theory.specs.DamageLaws.{CheckpointStaysLaw, HeadersTellLaw, HurtLaw, IsGroupUnhurt, LostIsHurtLaw, MissingIsHurtLaw, NeverBehindLaw, ReplyIsHurtLaw, ShowsPool, TailIsFrontLaw}
+use Rattle.df_theory.proofs.Tails.{chain_last, chain_ops, in_either, in_one, in_single, in_dropped}
+use Rattle.df_theory.proofs.Sessions.{sessions-append, last_mark-take, chain_drop, chain_take}
 use Rattle.df_theory.proofs.Choices.{chosen_above, one_chosen}
 use Rattle.df_theory.proofs.Agreeing.{take_boot, prepare_agrees, header_agrees, reply_agrees, head_room, takes_if}
 use Rattle.df_theory.proofs.Founds.{chain_at, header_in_tail}
 use Rattle.df_theory.proofs.Pinned.{same_named}
 use Rattle.df_theory.proofs.OneView.{same_parts}
-use Rattle.df_theory.proofs.OneFound.{next_of}
+use Rattle.df_theory.proofs.OneFound.{goes_on, step_on}
+use Rattle.df_theory.proofs.Short.{WasOwn, more_by, pool_short}
+use Rattle.df_theory.proofs.Grouped.{same_group}
+use Rattle.df_theory.proofs.Knowns.{groups_take, in_take}
 use Rattle.df_theory.proofs.Once.{same_links}
 use Rattle.df_theory.proofs.Had.{found_was_law}
 
@@ -74,6 +79,16 @@ module _ (sh : Shape) (log : UnitLog) (v : View) (shown : Units) (rests : RestsO
     reply = λ k r is. let a = reply_is k r is in (a.checkpoint, a.boot);
   }
 
+  prepare_settled : (s : ℕ) (p : Message) → shown (PreparePlace s) ≡ Some (PrepareUnit p) → InImages (settled log) (PreparePlace s) (PrepareUnit p)
+  prepare_settled s p is = elim (of (PreparePlace s) (PrepareUnit p) is) [
+    | inl old ↦ old
+    | inr pending ↦ absurd ((rests.calm (PreparePlace s) (rests.pending (PreparePlace s) (PrepareUnit p) pending).0).no_prepare tt)
+  ]
+
+  pub shown_short : IsShort sh shown v
+  shown_short ps more = pool_short sh (settled log) v rests.grows ps (more_by sh (ShowsOwn sh.layout.slots shown v.checkpoint.content) (WasOwn sh.layout.slots (settled log) v.checkpoint.content) v.checkpoint v.tail ps
+      (λ p at own. record { settled = prepare_settled (p.header.op % sh.layout.slots) p own.shown; own = own.own }) more)
+
   -- ---- the tail that is found
 
   module _ (tail : List Message) (found : IsTail sh shown v.checkpoint tail) (chance : NoChance log shown) where
@@ -86,11 +101,12 @@ module _ (sh : Shape) (log : UnitLog) (v : View) (shown : Units) (rests : RestsO
         (pool_pools log.start log.events (PreparePlace (p.header.op % sh.layout.slots)) (PrepareUnit p) (chance.pooled (PreparePlace (p.header.op % sh.layout.slots)) (PrepareUnit p) here))
         (pool_pools log.start log.events (PreparePlace (q.header.op % sh.layout.slots)) (PrepareUnit q) (rests.pooled (PreparePlace (q.header.op % sh.layout.slots)) (PrepareUnit q) needed))
 
-    pub front : (p : Message) → In p tail → In p v.tail
-    front p at =
+    -- a prepare of the found tail that the file's head reaches is of the file's tail
+    front_if : (p : Message) → In p tail → p.header.op ≤ head v → In p v.tail
+    front_if p at low =
         let ops = chain_ops sh.layout.clients (v.checkpoint.content.op + 1) v.checkpoint.content.op_checksum 0 v.checkpoint.parts.sessions tail p found.chain at in
         elim (cases_lt v.checkpoint.content.pin p.header.op) [
-          | inl above ↦ (prepare_is (p.header.op % sh.layout.slots) p (found.takes p at).shown).in_tail (take_boot sh.layout.slots shown v.checkpoint.content p (found.takes p at) above) above
+          | inl above ↦ (prepare_is (p.header.op % sh.layout.slots) p (found.takes p at).shown).in_tail (take_boot sh.layout.slots shown v.checkpoint.content p (found.takes p at) above) above low
           | inr not ↦
               let from : v.checkpoint.content.op ≤ v.checkpoint.content.pin = rests.holds.bears.sound.checkpoint.tests.pin.0 in
               let q = chain_at sh.layout.clients (v.checkpoint.content.op + 1) v.checkpoint.content.op_checksum 0 v.checkpoint.parts.sessions v.tail p.header.op rests.holds.bears.sound.chain (omega (arith, ops.0)) (omega (arith, rests.holds.bears.sound.records.pin_to)) in
@@ -100,37 +116,147 @@ module _ (sh : Shape) (log : UnitLog) (v : View) (shown : Units) (rests : RestsO
               subst (λ (w : Message). In w v.tail) (sym one) q.1
         ]
 
-    pub same_prepare : (p q : Message) → In p tail → In q v.tail → p.header.op ≡ q.header.op → p ≡ q
-    same_prepare p q at there same = in_one sh.layout.clients (v.checkpoint.content.op + 1) v.checkpoint.content.op_checksum 0 v.checkpoint.parts.sessions v.tail p q rests.holds.bears.sound.chain (front p at) there same
+    tail_op : (q : Message) → In q v.tail → q.header.op ≤ head v
+    tail_op q there =
+        let ops = chain_ops sh.layout.clients (v.checkpoint.content.op + 1) v.checkpoint.content.op_checksum 0 v.checkpoint.parts.sessions v.tail q rests.holds.bears.sound.chain there in
+        omega (arith, ops.1)
 
-    -- the slot behind it shows what it should
-    module _ (unhurt : shown (PreparePlace ((v.checkpoint.content.op + length tail + 1) % sh.layout.slots)) ≡ now log (PreparePlace ((v.checkpoint.content.op + length tail + 1) % sh.layout.slots))) where
+    pub same_prepare : (p q : Message) → In p tail → In q v.tail → p.header.op ≡ q.header.op → p ≡ q
+    same_prepare p q at there same =
+        in_one sh.layout.clients (v.checkpoint.content.op + 1) v.checkpoint.content.op_checksum 0 v.checkpoint.parts.sessions v.tail p q rests.holds.bears.sound.chain (front_if p at (omega (arith, tail_op q there))) there same
+
+    -- it isn't longer: what survived above the head makes up no whole group
+    pub tail_short : length tail ≤ length v.tail
+    tail_short = elim (cases_lt (length v.tail) (length tail)) [
+      | inr not ↦ omega arith
+      | inl less ↦
+          let sound = rests.holds.bears.sound in
+          let rest = goes_on sh.layout.clients (v.checkpoint.content.op + 1) v.checkpoint.content.op_checksum 0 0 v.checkpoint.content.op (head v) v.checkpoint.parts.sessions v.tail tail sound.chain found.chain
+          (λ p q at there op. sym (same_prepare q p there at (sym op))) (omega arith) found.grouped (omega arith) (λ p at. omega (arith, sound.groups p at)) (omega arith) in
+          absurd (shown_short rest.0 (record {
+            behind = record {
+              room = omega (arith, rest.1, found.room);
+              shown = λ q at.
+                  let ops = chain_ops sh.layout.clients (v.checkpoint.content.op + 1 + length v.tail) (last_checksum v.checkpoint.content.op_checksum v.tail) (last_mark 0 v.tail) (sessions_after v.checkpoint.parts.sessions v.tail) rest.0 q rest.3 at in
+                  let taken = found.takes q (rest.2 q at) in
+                  record { shown = taken.shown; own = take_boot sh.layout.slots shown v.checkpoint.content q taken (omega (arith, ops.0, sound.records.pin_to)) };
+              chain = rest.3;
+              grouped = rest.4;
+            };
+            some = omega (arith, rest.1);
+            ends = λ q at. omega (arith, found.groups q (rest.2 q at), rest.1);
+          }))
+    ]
+
+    pub front : (p : Message) → In p tail → In p v.tail
+    front p at =
+        let ops = chain_ops sh.layout.clients (v.checkpoint.content.op + 1) v.checkpoint.content.op_checksum 0 v.checkpoint.parts.sessions tail p found.chain at in
+        front_if p at (omega (arith, ops.1, tail_short))
+
+    -- what the file has behind it
+    abbrev Behind : Type 0
+    Behind = (rest : List Message) × (length tail + length rest ≡ length v.tail) × ((q : Message) → In q rest → In q v.tail)
+        × Chain sh.layout.clients (v.checkpoint.content.op + 1 + length tail) (last_checksum v.checkpoint.content.op_checksum tail) (last_mark 0 tail) (sessions_after v.checkpoint.parts.sessions tail) rest
+        × AreGroups 0 (v.checkpoint.content.op + length tail) (v.checkpoint.content.op + 1 + length tail) rest
+
+    behind : Behind
+    behind =
+        let sound = rests.holds.bears.sound in
+        goes_on sh.layout.clients (v.checkpoint.content.op + 1) v.checkpoint.content.op_checksum 0 0 v.checkpoint.content.op (v.checkpoint.content.op + length tail) v.checkpoint.parts.sessions tail v.tail found.chain sound.chain same_prepare tail_short
+        sound.grouped (omega arith) (λ p at. omega (arith, found.groups p at)) (omega arith)
+
+    taken_now : (q : Message) → In q v.tail → shown (PreparePlace (q.header.op % sh.layout.slots)) ≡ now log (PreparePlace (q.header.op % sh.layout.slots)) → Takes sh.layout.slots shown v.checkpoint.content q
+    taken_now q at same = takes_if sh shown v rests.holds.bears.sound all_agree q at (same ∙ rests.holds.bears.needs (PreparePlace (q.header.op % sh.layout.slots)) (PrepareUnit q) (q, at, refl, refl))
+
+    -- the slot behind all that is reached shows what it should
+    module _ (more : List Message) (reach : IsReach sh shown v.checkpoint tail more) (unhurt : shown (PreparePlace (slot_behind sh v.checkpoint tail more)) ≡ now log (PreparePlace (slot_behind sh v.checkpoint tail more))) where
+      one_more : (p q : Message) → In p more → In q behind.0 → p.header.op ≡ q.header.op → p ≡ q
+      one_more p q at there same =
+          let ops = chain_ops sh.layout.clients (v.checkpoint.content.op + 1 + length tail) (last_checksum v.checkpoint.content.op_checksum tail) (last_mark 0 tail) (sessions_after v.checkpoint.parts.sessions tail) more p reach.behind.chain at in
+          let above : v.checkpoint.content.pin < p.header.op = omega (arith, ops.0, found.reaches) in
+          let taken = reach.behind.shown p at in
+          let in_tail = (prepare_is (p.header.op % sh.layout.slots) p taken.shown).in_tail (take_boot sh.layout.slots shown v.checkpoint.content p taken above) above (omega (arith, tail_op q (behind.2 q there))) in
+          in_one sh.layout.clients (v.checkpoint.content.op + 1) v.checkpoint.content.op_checksum 0 v.checkpoint.parts.sessions v.tail p q rests.holds.bears.sound.chain in_tail (behind.2 q there) same
+
+      -- all that the file has is reached
+      far_enough : length more < length behind.0 → ⊥
+      far_enough less =
+          let next = step_on sh.layout.clients (v.checkpoint.content.op + 1 + length tail) (last_checksum v.checkpoint.content.op_checksum tail) (last_mark 0 tail) 0 (v.checkpoint.content.op + length tail) (sessions_after v.checkpoint.parts.sessions tail) more behind.0 reach.behind.chain behind.3 one_more behind.4 less in
+          let op : next.0.header.op ≡ v.checkpoint.content.op + length tail + length more + 1 = omega (arith, next.4) in
+          let here = ap (λ (o : ℕ). shown (PreparePlace (o % sh.layout.slots))) op ∙ unhurt ∙ ap (λ (o : ℕ). now log (PreparePlace (o % sh.layout.slots))) (sym op) in
+          reach.longest next.0 (record {
+            room = omega (arith, behind.1, rests.holds.bears.sound.room, length-append more (next.0 ∷ []));
+            shown = λ p at. elim (in_either p more (next.0 ∷ []) at) [
+              | inl old ↦ reach.behind.shown p old
+              | inr new ↦ subst (λ (q : Message). Takes sh.layout.slots shown v.checkpoint.content q) (sym (in_single p next.0 new)) (taken_now next.0 (behind.2 next.0 next.1) here)
+            ];
+            chain = next.2;
+            grouped = next.3;
+          })
+
       not_shorter : length tail < length v.tail → ⊥
-      not_shorter less =
-          let next = next_of sh.layout.clients (v.checkpoint.content.op + 1) v.checkpoint.content.op_checksum 0 v.checkpoint.parts.sessions tail v.tail found.chain rests.holds.bears.sound.chain same_prepare less in
-          let op : next.0.header.op ≡ v.checkpoint.content.op + length tail + 1 = omega (arith, next.2.op_is) in
-          let needed = rests.holds.bears.needs (PreparePlace (next.0.header.op % sh.layout.slots)) (PrepareUnit next.0) (next.0, next.1, refl, refl) in
-          let there : shown (PreparePlace (next.0.header.op % sh.layout.slots)) ≡ Some (PrepareUnit next.0) =
-          ap (λ (o : ℕ). shown (PreparePlace (o % sh.layout.slots))) op ∙ unhurt ∙ ap (λ (o : ℕ). now log (PreparePlace (o % sh.layout.slots))) (sym op) ∙ needed in
-          found.longest next.0 (omega (arith, rests.holds.bears.sound.room)) (takes_if sh shown v rests.holds.bears.sound all_agree next.0 next.1 there) next.2
+      not_shorter less = elim (cases_lt (length more) (length behind.0)) [
+        | inl near ↦ far_enough near
+        | inr far ↦ found.longest behind.0 (record {
+          behind = record {
+            room = omega (arith, behind.1, rests.holds.bears.sound.room);
+            shown = λ q at.
+                let ops = chain_ops sh.layout.clients (v.checkpoint.content.op + 1 + length tail) (last_checksum v.checkpoint.content.op_checksum tail) (last_mark 0 tail) (sessions_after v.checkpoint.parts.sessions tail) behind.0 q behind.3 at in
+                let p = chain_at sh.layout.clients (v.checkpoint.content.op + 1 + length tail) (last_checksum v.checkpoint.content.op_checksum tail) (last_mark 0 tail) (sessions_after v.checkpoint.parts.sessions tail) more q.header.op reach.behind.chain (omega (arith, ops.0)) (omega (arith, ops.1)) in
+                subst (λ (w : Message). Takes sh.layout.slots shown v.checkpoint.content w) (one_more p.0 q p.1 at p.2) (reach.behind.shown p.0 p.1);
+            chain = behind.3;
+            grouped = behind.4;
+          };
+          some = omega (arith, behind.1);
+          ends = λ q at. omega (arith, rests.holds.bears.sound.groups q (behind.2 q at), behind.1);
+        })
+      ]
 
       pub not_lost : NotLost shown v.checkpoint.content (v.checkpoint.content.op + length tail)
       not_lost = elim (cases_lt (length tail) (length v.tail)) [
         | inl less ↦ absurd (not_shorter less)
-        | inr more ↦ record {
-          header = λ s h is own. omega (arith, (header_is s h is).op own);
-          prepare = λ s p is own. omega (arith, (prepare_is s p is).op own);
-          superblock = omega (arith, rests.holds.bears.sound.head_from);
-          reply = λ k r is own.
-              let a = reply_is k r is in
-              (omega (arith, a.op own, rests.holds.bears.sound.pipeline.0), omega (arith, a.mark own));
-        }
+        | inr more_is ↦
+            let top : head v ≡ v.checkpoint.content.op + length tail = omega (arith, tail_short) in
+            record {
+              header = λ s h is own. omega (arith, (header_is s h is).op own);
+              prepare = λ s p is own. subst (λ (n : ℕ). BindsHead n p.header) top ((prepare_is s p is).op own);
+              superblock = omega (arith, rests.holds.bears.sound.head_from);
+              reply = λ k r is own.
+                  let a = reply_is k r is in
+                  (omega (arith, a.op own, rests.holds.bears.sound.pipeline.0), omega (arith, a.mark own));
+            }
       ]
+
+    -- of the group of a prepare that the found tail lacks a slot is hurt
+    pub missing : NotLost shown v.checkpoint.content (v.checkpoint.content.op + length tail) → (p : Message) → In p v.tail → v.checkpoint.content.op + length tail < p.header.op → IsGroupUnhurt sh log v shown p → ⊥
+    missing lost p at above unhurt = elim (lost.prepare (p.header.op % sh.layout.slots) p (unhurt p at refl ∙ rests.holds.bears.needs (PreparePlace (p.header.op % sh.layout.slots)) (PrepareUnit p) (p, at, refl, refl)) (sound.records.tail p at (omega (arith, found.reaches)))) [
+      | inl low ↦ omega arith
+      | inr cut ↦
+          let last = sound.groups p at in
+          let some = chain_last sh.layout.clients (v.checkpoint.content.op + 1) v.checkpoint.content.op_checksum 0 v.checkpoint.parts.sessions v.tail p sound.chain at in
+          let k : ℕ = p.header.group_last - (v.checkpoint.content.op + length tail) in
+          let size : length (take k behind.0) ≡ k = omega (arith, length-take k behind.0, behind.1, last) in
+          let chain = chain_take k sh.layout.clients (v.checkpoint.content.op + 1 + length tail) (last_checksum v.checkpoint.content.op_checksum tail) (last_mark 0 tail) (sessions_after v.checkpoint.parts.sessions tail) behind.0 behind.3 in
+          let mate : (q : Message) → In q (take k behind.0) → (q.header.group ≡ p.header.group) × (q.header.group_last ≡ p.header.group_last) = λ q there.
+          let ops = chain_ops sh.layout.clients (v.checkpoint.content.op + 1 + length tail) (last_checksum v.checkpoint.content.op_checksum tail) (last_mark 0 tail) (sessions_after v.checkpoint.parts.sessions tail) (take k behind.0) q chain there in
+          same_group sh.layout.clients 0 v.checkpoint.content.op (v.checkpoint.content.op + 1) v.checkpoint.content.op_checksum 0 v.checkpoint.parts.sessions v.tail p q sound.chain sound.grouped at (behind.2 q (in_take k q behind.0 there)) (omega (arith, cut.first, ops.0)) (omega (arith, ops.1, size, some, above)) in
+          found.longest (take k behind.0) (record {
+            behind = record {
+              room = omega (arith, size, last, sound.room);
+              shown = λ q there. let q_in = behind.2 q (in_take k q behind.0 there) in taken_now q q_in (unhurt q q_in (mate q there).0);
+              chain = chain;
+              grouped = groups_take k 0 (v.checkpoint.content.op + length tail) (v.checkpoint.content.op + 1 + length tail) behind.0 behind.4;
+            };
+            some = omega (arith, size, some, above);
+            ends = λ q there. omega (arith, (mate q there).1, size, some, above);
+          })
+    ]
 
 pub hurt_law : HurtLaw
 hurt_law sh log v shown rests of agreed needs = record {
   bears = record { sound = rests.holds.bears.sound; agrees = all_agree sh log v shown rests of; needs = needs };
   chosen = chosen_still sh log v shown rests of agreed;
+  short = shown_short sh log v shown rests of;
 }
 
 pub never_behind_law : NeverBehindLaw
@@ -146,7 +272,7 @@ pub tail_is_front_law : TailIsFrontLaw
 tail_is_front_law sh log v shown tail rests chance found = front sh log v shown rests chance.pooled tail found chance
 
 pub lost_is_hurt_law : LostIsHurtLaw
-lost_is_hurt_law sh log v shown tail rests chance agreed found unhurt = not_lost sh log v shown rests chance.pooled tail found chance unhurt
+lost_is_hurt_law sh log v shown tail more rests chance agreed found reach unhurt = not_lost sh log v shown rests chance.pooled tail found chance more reach unhurt
 
 pub checkpoint_stays_law : CheckpointStaysLaw
 checkpoint_stays_law sh log v w shown rests chance agreed f = λ i. record { content = content i; chain = chain i; parts = parts i }
@@ -170,12 +296,7 @@ checkpoint_stays_law sh log v w shown rests chance agreed f = λ i. record { con
 -- ---- what is missing
 
 pub missing_is_hurt_law : MissingIsHurtLaw
-missing_is_hurt_law sh log v shown top rests lost p at above same =
-    let there = same ∙ rests.holds.bears.needs (PreparePlace (p.header.op % sh.layout.slots)) (PrepareUnit p) (p, at, refl, refl) in
-    elim (cases_lt v.checkpoint.content.pin p.header.op) [
-      | inl higher ↦ omega (arith, lost.prepare (p.header.op % sh.layout.slots) p there (rests.holds.bears.sound.records.tail p at higher))
-      | inr named ↦ omega (arith, lost.superblock, rests.holds.bears.sound.checkpoint.tests.pin.1)
-    ]
+missing_is_hurt_law sh log v shown tail rests chance found lost p at above unhurt = missing sh log v shown rests chance.pooled tail found chance lost p at above unhurt
 
 noted_past : (h : Header) (s t : Session) (ss rest : List Session) (k : ℕ) (b : Bool) → slice_get ss k ≡ Some s → (slice_get rest k ≡ Some s) ⊎ ((h.client ≡ s.client) × (slice_get rest k ≡ Some (session_of h)))
     → (slice_get (if b then session_of h ∷ ss else t ∷ rest) (suc k) ≡ Some s) ⊎ ((h.client ≡ s.client) × (slice_get (if b then session_of h ∷ ss else t ∷ rest) (suc k) ≡ Some (session_of h)))
@@ -218,16 +339,6 @@ front_is clients op parent mark ss (p ∷ ps) (q ∷ qs) one two same short =
     let rest = front_is clients (op + 1) p.header.checksum p.header.mark (noted p.header ss) ps qs one.1 chain (λ x y at there. same x y (inr at) (inr there)) (omega arith) in
     λ i. sym first i ∷ rest i
 
-not_past : (sh : Shape) (log : UnitLog) (v : View) (shown : Units) (tail : List Message) → RestsOn sh log v → NoChance log shown → IsTail sh shown v.checkpoint tail → length tail ≤ length v.tail
-not_past sh log v shown tail rests chance found = elim (cases_lt (length v.tail) (length tail)) [
-  | inl more ↦
-      let next = next_of sh.layout.clients (v.checkpoint.content.op + 1) v.checkpoint.content.op_checksum 0 v.checkpoint.parts.sessions v.tail tail rests.holds.bears.sound.chain found.chain
-      (λ p q at there op. sym (same_prepare sh log v shown rests chance.pooled tail found chance q p there at (sym op))) more in
-      let a = (prepare_is sh log v shown rests chance.pooled (next.0.header.op % sh.layout.slots) next.0 (found.takes next.0 next.1).shown).op (take_boot sh.layout.slots shown v.checkpoint.content next.0 (found.takes next.0 next.1) (omega (arith, next.2.op_is, rests.holds.bears.sound.records.pin_to))) in
-      absurd (omega (arith, a, next.2.op_is))
-  | inr short ↦ omega arith
-]
-
 pub reply_is_hurt_law : ReplyIsHurtLaw
 reply_is_hurt_law sh log v shown tail n k s rests chance found counted at low unhurt = elim (after_at (sessions_after v.checkpoint.parts.sessions tail) rest k s at) [
   | inl stays ↦
@@ -246,7 +357,7 @@ reply_is_hurt_law sh log v shown tail n k s rests chance found counted at low un
     rest = drop (length tail) v.tail
 
     split : v.tail ≡ tail ++ drop (length tail) v.tail
-    split = front_is sh.layout.clients (v.checkpoint.content.op + 1) v.checkpoint.content.op_checksum 0 v.checkpoint.parts.sessions tail v.tail found.chain rests.holds.bears.sound.chain (same_prepare sh log v shown rests chance.pooled tail found chance) (not_past sh log v shown tail rests chance found)
+    split = front_is sh.layout.clients (v.checkpoint.content.op + 1) v.checkpoint.content.op_checksum 0 v.checkpoint.parts.sessions tail v.tail found.chain rests.holds.bears.sound.chain (same_prepare sh log v shown rests chance.pooled tail found chance) (tail_short sh log v shown rests chance.pooled tail found chance)
 
     same_sessions : sessions_after (sessions_after v.checkpoint.parts.sessions tail) (drop (length tail) v.tail) ≡ sessions v
     same_sessions = sym (sessions-append v.checkpoint.parts.sessions tail (drop (length tail) v.tail)) ∙ ap (λ (l : List Message). sessions_after v.checkpoint.parts.sessions l) (sym split)
@@ -266,7 +377,7 @@ reply_is_hurt_law sh log v shown tail n k s rests chance found counted at low un
 
     late : (p : Message) → In p (drop (length tail) v.tail) → v.checkpoint.content.op + length tail < p.header.op
     late p at =
-        let chain = chain_drop (length tail) sh.layout.clients (v.checkpoint.content.op + 1) v.checkpoint.content.op_checksum 0 v.checkpoint.parts.sessions v.tail (not_past sh log v shown tail rests chance found) rests.holds.bears.sound.chain in
+        let chain = chain_drop (length tail) sh.layout.clients (v.checkpoint.content.op + 1) v.checkpoint.content.op_checksum 0 v.checkpoint.parts.sessions v.tail (tail_short sh log v shown rests chance.pooled tail found chance) rests.holds.bears.sound.chain in
         let ops = chain_ops sh.layout.clients (v.checkpoint.content.op + 1 + length tail) _ 0 _ (drop (length tail) v.tail) p chain at in
         omega (arith, ops.0)
 

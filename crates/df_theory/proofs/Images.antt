@@ -1,11 +1,12 @@
 -- Images that hold a view.
-use Rattle.std.proofs.Common.{◌≡◌, ◌⊎◌, inl, inr, ℕ, Some, sym, ◌∙◌}
-use Rattle.df_theory.specs.Units.{AnyUnit, Content, CopyPlace, Place, Units}
+use Rattle.std.proofs.Common.{◌≡◌, ◌⊎◌, inl, inr, ℕ, ◌%◌, ◌≤◌, [], ◌∷◌, Some, refl, sym, ◌∙◌, arith}
+use Rattle.df_theory.specs.Units.{AnyUnit, Content, CopyPlace, Message, Place, PreparePlace, PrepareUnit, Units}
 use Rattle.df_theory.specs.Shape.{Shape}
 use Rattle.df_theory.specs.Copies.{Agree, IsChosen}
-use Rattle.df_theory.specs.View.{View}
+use Rattle.df_theory.specs.View.{View, boot_of, head}
 use Rattle.df_theory.specs.Shows.{Agrees, Needs}
 use Rattle.df_theory.specs.Holds.{Bears}
+use Rattle.df_theory.specs.Groups.{IsShort}
 
 -- nothing is needed at this place, and what is shown agrees
 pub record IsOpen (sh : Shape) (v : View) (j : Units) (place : Place) : Type 0 where
@@ -37,3 +38,28 @@ chosen_same i j c same h = record {
       let k = h.lowest d (agree_same j i d (λ m. sym (same m)) a) tie n below (sym (same n) ∙ shown) in
       (k.0, k.1, same k.0 ∙ k.2);
 }
+
+-- ---- what survived above the head
+
+-- nothing of the view's boot is shown above its head
+abbrev pub IsClearIn : Units → View → Type 0
+IsClearIn image v = (s : ℕ) (p : Message) → image (PreparePlace s) ≡ Some (PrepareUnit p) → p.header.boot ≡ boot_of v → p.header.op ≤ head v
+
+pub short_clear : (sh : Shape) (image : Units) (v : View) → IsClearIn image v → IsShort sh image v
+short_clear sh image v clear [] more = omega (arith, more.some)
+short_clear sh image v clear (p ∷ ps) more =
+    let own = more.behind.shown p (inl refl) in
+    let low = clear (p.header.op % sh.layout.slots) p own.shown own.own in
+    omega (arith, low, more.behind.chain.0.op_is)
+
+pub short_same : (sh : Shape) (i j : Units) (v : View) → ((s : ℕ) → j (PreparePlace s) ≡ i (PreparePlace s)) → IsShort sh i v → IsShort sh j v
+short_same sh i j v same short ps more = short ps (record {
+  behind = record {
+    room = more.behind.room;
+    shown = λ p at. let own = more.behind.shown p at in record { shown = sym (same (p.header.op % sh.layout.slots)) ∙ own.shown; own = own.own };
+    chain = more.behind.chain;
+    grouped = more.behind.grouped;
+  };
+  some = more.some;
+  ends = more.ends;
+})

@@ -1,5 +1,5 @@
 -- What each writer leaves whole.
-use Rattle.std.proofs.Common.{◌≡◌, ◌⊎◌, inl, inr, ℕ, ◌-◌, ◌%◌, ◌<◌, ◌||◌, [], ◌∷◌, Option, Some, None, refl, sym, ◌∙◌, ap, subst, arith}
+use Rattle.std.proofs.Common.{◌≡◌, ◌⊎◌, inl, inr, ℕ, ◌+◌, ◌-◌, ◌%◌, ◌<◌, ◌||◌, [], ◌∷◌, Option, Some, None, refl, sym, ◌∙◌, ap, subst, arith}
 use Rattle.std.proofs.lemmas.Bool.{cases_eq}
 use Rattle.df_theory.specs.Units.{AnyUnit, BlockPlace, BlockUnit, Content, CopyPlace, CopyUnit, Header, HeaderPlace, HeaderUnit, Message, Place, PreparePlace, PrepareUnit, ReplyPlace, ReplyUnit, Units, is_some, or_else, overlay}
 use Rattle.df_theory.specs.Tails.{In}
@@ -12,8 +12,8 @@ use Rattle.df_theory.specs.Chance.{EachLeft}
 use Rattle.df_theory.specs.Runs.{Puts, Syncs}
 use Rattle.df_theory.specs.WriterLaws.{IsHeaderSector}
 use Rattle.df_theory.specs.WholeLaws.{IsStanding, Spares, StandsLaw, WholeAppendLaw, WholeBlockLaw, WholeReplyLaw, WholeUpdateLaw}
-use Rattle.df_theory.proofs.Tails.{in_either, in_single, in_dropped}
-use Rattle.df_theory.proofs.Appends.{next_slot}
+use Rattle.df_theory.proofs.Tails.{chain_ops, in_either, in_single, in_dropped}
+use Rattle.df_theory.proofs.Slots.{mod_apart}
 use Rattle.df_theory.proofs.Writes.{put_else}
 
 module _ (sh : Shape) (image : Units) (v : View) (p : Message) (prepare headers : Units) (sound : Sound sh v) (may : MayAppend sh v (p ∷ [])) (one : PutsOne prepare (PreparePlace (p.header.op % sh.layout.slots)) (PrepareUnit p)) (sector : IsHeaderSector sh image p headers)
@@ -40,7 +40,9 @@ module _ (sh : Shape) (image : Units) (v : View) (p : Message) (prepare headers 
 
   -- the new header stands in no other slot
   not_new : (s : ℕ) (q : Message) → In q v.tail → s ≡ q.header.op % sh.layout.slots → s ≡ p.header.op % sh.layout.slots → ⊥
-  not_new s q at mine new = next_slot sh v p sound may.is.turn.0 (omega (arith, may.room)) (PrepareUnit q) (q, at, sym new ∙ mine, refl)
+  not_new s q at mine new =
+      let ops = chain_ops sh.layout.clients (v.checkpoint.content.op + 1) v.checkpoint.content.op_checksum 0 v.checkpoint.parts.sessions v.tail q sound.chain at in
+      mod_apart sh.layout.slots q.header.op p.header.op sh.some (omega (arith, ops.1, may.is.turn.0)) (omega (arith, ops.0, may.is.turn.0, may.room)) (sym mine ∙ new)
 
   kept_header : (s : ℕ) (h : Header) → after (HeaderPlace s) ≡ Some (HeaderUnit h) → (s ≡ p.header.op % sh.layout.slots → ⊥) → ((q : Message) → In q v.tail → s ≡ q.header.op % sh.layout.slots → q.header ≡ h) → HasHeader s
   kept_header s h shown away old = (

@@ -9,12 +9,17 @@ pub use Rattle.df_theory.proofs.Runs.{commands_law}
 pub use Rattle.df_theory.proofs.Headline.{barrier_law, clean_start_law, headline_law}
 pub use Rattle.df_theory.proofs.Tidy.{tidy_append_law, tidy_block_law, tidy_finish_law, tidy_idle_law, tidy_mend_law, tidy_reply_law, tidy_sync_law}
 pub use Rattle.df_theory.proofs.TidyMakes.{tidy_format_law}
+pub use Rattle.df_theory.proofs.FlushLaws.{flush_law}
+pub use Rattle.df_theory.proofs.TidyGroups.{clear_law, tidy_boot_law, tidy_flush_law}
 pub use Rattle.df_theory.proofs.TidyRuns.{standing_run_law, tidy_run_law}
 -- ---- images, and what an open finds
 pub use Rattle.df_theory.proofs.OneFound.{found_law, one_chosen_law, one_found_law, one_view_law}
 pub use Rattle.df_theory.proofs.OneAnswer.{found_answer_law, one_answer_law}
 pub use Rattle.df_theory.proofs.Founds.{chain_at, found_sound, slot_law}
 pub use Rattle.df_theory.proofs.Decisions.{decision_law}
+pub use Rattle.df_theory.proofs.GroupWalks.{alone_law, clear_slot_law, lost_law, walk_law}
+pub use Rattle.df_theory.proofs.GroupRules.{group_rule_law}
+pub use Rattle.df_theory.proofs.Images.{short_clear, short_same}
 -- ---- histories and damage
 pub use Rattle.df_theory.proofs.Past.{one_prepare_law, stamp_law}
 pub use Rattle.df_theory.proofs.Had.{found_was_law, one_content_law, one_reply_law}
@@ -38,3 +43,25 @@ pub use Rattle.df_theory.proofs.Runs.{after_append, each_append, each_weaker}
 pub use Rattle.df_theory.proofs.Tails.{chain_ops, in_dropped, in_either, in_one, in_single}
 pub use Rattle.df_theory.proofs.Sessions.{chain_append, last_mark-append, noted_get, sessions-append, sessions-drop, tracks_chain, tracks_noted}
 pub use Rattle.df_theory.proofs.Sounds.{append_sound, checkpoint_sound, reply_sound, tracks}
+-- ---- what histories of several logs stand on
+pub use Rattle.df_theory.proofs.Agreeing.{prepare_agrees, take_boot}
+pub use Rattle.df_theory.proofs.AllOf.{All, Shows, all_wrote, now_all, pools_all}
+pub use Rattle.df_theory.proofs.Choices.{boot_higher, one_chosen, rank_low}
+pub use Rattle.df_theory.proofs.Clear.{low_steps, low_update}
+pub use Rattle.df_theory.proofs.Founds.{holds_found}
+pub use Rattle.df_theory.proofs.Grew.{next_grew}
+pub use Rattle.df_theory.proofs.Grouped.{group_from, group_holds, same_group}
+pub use Rattle.df_theory.proofs.HurtSample.{without, without_else, without_shows}
+pub use Rattle.df_theory.proofs.Hurts.{pool_pools}
+pub use Rattle.df_theory.proofs.Images.{IsOpen, bears_open, chosen_same}
+pub use Rattle.df_theory.proofs.Mends.{IsUnderWay, header_steps_miss, is_mend, missed, under_way_still}
+pub use Rattle.df_theory.proofs.Once.{last_of, no_mark, one_stored, same_chains, same_links, stored_op}
+pub use Rattle.df_theory.proofs.OneFound.{one_view}
+pub use Rattle.df_theory.proofs.OneView.{same_parts}
+pub use Rattle.df_theory.proofs.Past.{HasGap, IsNew, appended_clear, next_in, no_made, same_slot}
+pub use Rattle.df_theory.proofs.Pinned.{same_named}
+pub use Rattle.df_theory.proofs.Samples.{all_reserved, copies_of, layout, puts_reserved, reserved, sector}
+pub use Rattle.df_theory.proofs.Settled.{append_here, base_here, made_content, made_reply, reply_here}
+pub use Rattle.df_theory.proofs.Tails.{chain_last}
+pub use Rattle.df_theory.proofs.Upgrades.{raise_anew_law, raise_ends_law}
+pub use Rattle.df_theory.proofs.Writes.{no_choice}

@@ -35,7 +35,7 @@ shown_put table put image puts s y some =
     let slot : e.0 ≡ s = (let at = e.1 in cc) in
     ap (λ (o : Option AnyUnit). or_else o (image (HeaderPlace s))) some ∙ ap Some (e.2 ∙ ap (λ (k : ℕ). HeaderUnit (table k)) slot)
 
-under_way_still : (sh : Shape) (v : View) (table : ℕ → Header) (put image : Units) → PutsTable table put → IsUnderWay sh image v table → IsUnderWay sh (overlay put image) v table
+pub under_way_still : (sh : Shape) (v : View) (table : ℕ → Header) (put image : Units) → PutsTable table put → IsUnderWay sh image v table → IsUnderWay sh (overlay put image) v table
 under_way_still sh v table put image puts way = record {
   each = λ s. elim (way.each s) [
     | inl shown ↦ inl (shown_still table put image puts s shown)
@@ -43,7 +43,7 @@ under_way_still sh v table put image puts way = record {
   ];
 }
 
-is_mend : (sh : Shape) (v : View) (table : ℕ → Header) (put image : Units) → PutsTable table put → IsUnderWay sh image v table → IsHeaderMend sh image v put
+pub is_mend : (sh : Shape) (v : View) (table : ℕ → Header) (put image : Units) → PutsTable table put → IsUnderWay sh image v table → IsHeaderMend sh image v put
 is_mend sh v table put image puts way = record {
   each = λ place y is.
       let e = puts place y is in
@@ -64,33 +64,33 @@ synced_after sh v log rests = sync_law sh log v (rests_safe sh log v rests).sync
 -- ---- what stays as it was
 
 -- none of these writes reaches the place
-abbrev AllMiss : Place → List Step → Type 0
+abbrev pub AllMiss : Place → List Step → Type 0
 AllMiss place [] = Unit {0}
 AllMiss place ((Puts put) ∷ ss) = (put place ≡ None) × AllMiss place ss
 AllMiss place (Syncs ∷ ss) = AllMiss place ss
 
-missed : (place : Place) (ss : List Step) (log : UnitLog) → AllMiss place ss → now (after_steps ss log) place ≡ now log place
+pub missed : (place : Place) (ss : List Step) (log : UnitLog) → AllMiss place ss → now (after_steps ss log) place ≡ now log place
 missed place [] log miss = refl
 missed place ((Puts put) ∷ ss) log miss = missed place ss (wrote put log) miss.1 ∙ ap (λ (o : Option AnyUnit). or_else o (now log place)) miss.0
 missed place (Syncs ∷ ss) log miss = missed place ss (add Synced log) miss
 
-miss_append : (place : Place) (ss ts : List Step) → AllMiss place ss → AllMiss place ts → AllMiss place (ss ++ ts)
+pub miss_append : (place : Place) (ss ts : List Step) → AllMiss place ss → AllMiss place ts → AllMiss place (ss ++ ts)
 miss_append place [] ts one two = two
 miss_append place ((Puts put) ∷ ss) ts one two = (one.0, miss_append place ss ts one.1 two)
 miss_append place (Syncs ∷ ss) ts one two = miss_append place ss ts one two
 
-no_copy : (table : ℕ → Header) (put : Units) → PutsTable table put → (n : ℕ) → put (CopyPlace n) ≡ None
+pub no_copy : (table : ℕ → Header) (put : Units) → PutsTable table put → (n : ℕ) → put (CopyPlace n) ≡ None
 no_copy table put puts n = go (put (CopyPlace n)) refl
   where
     go : (o : Option AnyUnit) → put (CopyPlace n) ≡ o → put (CopyPlace n) ≡ None
     go None none = none
     go (Some y) some = absurd (let at = (puts (CopyPlace n) y some).1 in cc)
 
-headers_miss : (table : ℕ → Header) (puts : List Units) → AllPutTable table puts → (n : ℕ) → AllMiss (CopyPlace n) (all_puts puts)
+pub headers_miss : (table : ℕ → Header) (puts : List Units) → AllPutTable table puts → (n : ℕ) → AllMiss (CopyPlace n) (all_puts puts)
 headers_miss table [] all n = tt
 headers_miss table (put ∷ puts) all n = (no_copy table put all.0 n, headers_miss table puts all.1 n)
 
-header_steps_miss : (table : ℕ → Header) (puts : List Units) → AllPutTable table puts → (n : ℕ) → AllMiss (CopyPlace n) (header_steps puts)
+pub header_steps_miss : (table : ℕ → Header) (puts : List Units) → AllPutTable table puts → (n : ℕ) → AllMiss (CopyPlace n) (header_steps puts)
 header_steps_miss table [] all n = tt
 header_steps_miss table (put ∷ puts) all n = (no_copy table put all.0 n, miss_append (CopyPlace n) (all_puts puts) (Syncs ∷ []) (headers_miss table puts all.1 n) tt)
 
@@ -101,7 +101,7 @@ no_header c k put one s = go (put (HeaderPlace s)) refl
     go None none = none
     go (Some y) some = absurd (let at = (one.only (HeaderPlace s) y some).0 in cc)
 
-copies_miss : (c : Content) (m n : ℕ) (ks : List (ℕ × Units)) → AllPutCopy c m n ks → (s : ℕ) → AllMiss (HeaderPlace s) (copy_steps ks)
+pub copies_miss : (c : Content) (m n : ℕ) (ks : List (ℕ × Units)) → AllPutCopy c m n ks → (s : ℕ) → AllMiss (HeaderPlace s) (copy_steps ks)
 copies_miss c m n [] all s = tt
 copies_miss c m n (k ∷ ks) all s = (no_header c k.0 k.1 all.0 s, copies_miss c m n ks all.3 s)
 
@@ -152,14 +152,14 @@ mend_law sh log v table headers copies may =
 
 -- ---- nothing is left
 
-headers_shown : (table : ℕ → Header) (puts : List Units) (log : UnitLog) → AllPutTable table puts → (s : ℕ) → (now log (HeaderPlace s) ≡ Some (HeaderUnit (table s))) ⊎ Reaches puts (HeaderPlace s) → now (after_steps (all_puts puts) log) (HeaderPlace s) ≡ Some (HeaderUnit (table s))
+pub headers_shown : (table : ℕ → Header) (puts : List Units) (log : UnitLog) → AllPutTable table puts → (s : ℕ) → (now log (HeaderPlace s) ≡ Some (HeaderUnit (table s))) ⊎ Reaches puts (HeaderPlace s) → now (after_steps (all_puts puts) log) (HeaderPlace s) ≡ Some (HeaderUnit (table s))
 headers_shown table [] log all s (inl shown) = shown
 headers_shown table [] log all s (inr none) = absurd none
 headers_shown table (put ∷ puts) log all s (inl shown) = headers_shown table puts (wrote put log) all.1 s (inl (shown_still table put (now log) all.0 s shown))
 headers_shown table (put ∷ puts) log all s (inr (inl here)) = headers_shown table puts (wrote put log) all.1 s (inl (shown_put table put (now log) all.0 s here.0 here.1))
 headers_shown table (put ∷ puts) log all s (inr (inr there)) = headers_shown table puts (wrote put log) all.1 s (inr there)
 
-steps_shown : (table : ℕ → Header) (puts : List Units) (log : UnitLog) → AllPutTable table puts → (s : ℕ) → (now log (HeaderPlace s) ≡ Some (HeaderUnit (table s))) ⊎ Reaches puts (HeaderPlace s) → now (after_steps (header_steps puts) log) (HeaderPlace s) ≡ Some (HeaderUnit (table s))
+pub steps_shown : (table : ℕ → Header) (puts : List Units) (log : UnitLog) → AllPutTable table puts → (s : ℕ) → (now log (HeaderPlace s) ≡ Some (HeaderUnit (table s))) ⊎ Reaches puts (HeaderPlace s) → now (after_steps (header_steps puts) log) (HeaderPlace s) ≡ Some (HeaderUnit (table s))
 steps_shown table [] log all s (inl shown) = shown
 steps_shown table [] log all s (inr none) = absurd none
 steps_shown table (put ∷ puts) log all s either =

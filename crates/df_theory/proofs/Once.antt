@@ -23,11 +23,11 @@ pub was_base : (sh : Shape) (images : List Units) (v : View) (grows : Grows sh i
 was_base sh [] v grows a b was_a was_b same = absurd was_a
 was_base sh (image ∷ images) v (holds, inl begins) a b is_a is_b same = ap (λ (x : View). x.checkpoint) (is_a ∙ sym is_b)
 was_base sh (image ∷ images) v (holds, inr (history, (u, next, grows))) a b (inl is_a) (inl is_b) same = ap (λ (x : View). x.checkpoint) (is_a ∙ sym is_b)
-was_base sh (image ∷ images) v (holds, inr (history, (u, next, grows))) a b (inl is_a) (inr was_b) same = elim (next_grew sh u v (grows_sound sh images u grows) next).checkpoint [
+was_base sh (image ∷ images) v (holds, inr (history, (u, next, grows))) a b (inl is_a) (inr was_b) same = elim (next_grew sh u v (grows_sound sh images u grows) next.next).checkpoint [
   | inl base ↦ ap (λ (x : View). x.checkpoint) is_a ∙ sym base ∙ was_base sh images u grows u b (was_self sh images u grows) was_b (ap (λ (x : Checkpoint). rank_of x.content) base ∙ ap (λ (x : View). rank_of x.checkpoint.content) (sym is_a) ∙ same)
   | inr less ↦ absurd (omega (arith, was_low sh images u grows b was_b, ap (λ (x : View). rank_of x.checkpoint.content) is_a))
 ]
-was_base sh (image ∷ images) v (holds, inr (history, (u, next, grows))) a b (inr was_a) (inl is_b) same = elim (next_grew sh u v (grows_sound sh images u grows) next).checkpoint [
+was_base sh (image ∷ images) v (holds, inr (history, (u, next, grows))) a b (inr was_a) (inl is_b) same = elim (next_grew sh u v (grows_sound sh images u grows) next.next).checkpoint [
   | inl base ↦ was_base sh images u grows a u was_a (was_self sh images u grows) (same ∙ ap (λ (x : View). rank_of x.checkpoint.content) is_b ∙ ap (λ (x : Checkpoint). rank_of x.content) (sym base)) ∙ base ∙ ap (λ (x : View). x.checkpoint) (sym is_b)
   | inr less ↦ absurd (omega (arith, was_low sh images u grows a was_a, ap (λ (x : View). rank_of x.checkpoint.content) is_b))
 ]
@@ -54,11 +54,11 @@ pub was_reply : (sh : Shape) (images : List Units) (v : View) (grows : Grows sh 
 was_reply sh [] v grows a b k j r q was_a at_a was_b at_b same = absurd was_a
 was_reply sh (image ∷ images) v (holds, inl begins) a b k j r q is_a at_a is_b at_b same = one_stored sh v holds.bears.sound k j r q (ap (λ (x : View). x.stored k) (sym is_a) ∙ at_a) (ap (λ (x : View). x.stored j) (sym is_b) ∙ at_b) same
 was_reply sh (image ∷ images) v (holds, inr (history, (u, next, grows))) a b k j r q (inl is_a) at_a (inl is_b) at_b same = one_stored sh v holds.bears.sound k j r q (ap (λ (x : View). x.stored k) (sym is_a) ∙ at_a) (ap (λ (x : View). x.stored j) (sym is_b) ∙ at_b) same
-was_reply sh (image ∷ images) v (holds, inr (history, (u, next, grows))) a b k j r q (inl is_a) at_a (inr was_b) at_b same = elim (reply_here u v k r next (ap (λ (x : View). x.stored k) (sym is_a) ∙ at_a)) [
+was_reply sh (image ∷ images) v (holds, inr (history, (u, next, grows))) a b k j r q (inl is_a) at_a (inr was_b) at_b same = elim (reply_here u v k r next.next (ap (λ (x : View). x.stored k) (sym is_a) ∙ at_a)) [
   | inl old ↦ was_reply sh images u grows u b k j r q (was_self sh images u grows) old was_b at_b same
   | inr new ↦ absurd (omega (arith, new.3, stored_op sh b (was_sound sh images u grows b was_b) j q at_b, was_low sh images u grows b was_b))
 ]
-was_reply sh (image ∷ images) v (holds, inr (history, (u, next, grows))) a b k j r q (inr was_a) at_a (inl is_b) at_b same = elim (reply_here u v j q next (ap (λ (x : View). x.stored j) (sym is_b) ∙ at_b)) [
+was_reply sh (image ∷ images) v (holds, inr (history, (u, next, grows))) a b k j r q (inr was_a) at_a (inl is_b) at_b same = elim (reply_here u v j q next.next (ap (λ (x : View). x.stored j) (sym is_b) ∙ at_b)) [
   | inl old ↦ was_reply sh images u grows a u k j r q was_a at_a (was_self sh images u grows) old same
   | inr new ↦ absurd (omega (arith, new.3, stored_op sh a (was_sound sh images u grows a was_a) k r at_a, was_low sh images u grows a was_a))
 ]

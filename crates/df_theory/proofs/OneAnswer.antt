@@ -1,5 +1,5 @@
 -- An open gives one answer, and a state exactly where no step refuses.
-use Rattle.std.proofs.Common.{◌≡◌, ◌⊎◌, inl, inr, ℕ, ◌+◌, ◌-◌, ◌*◌, ◌<◌, ◌≤◌, List, [], ◌∷◌, ◌++◌, length, Some, refl, sym, ◌∙◌, ap, subst, arith, length-append}
+use Rattle.std.proofs.Common.{◌≡◌, ◌⊎◌, inl, inr, ℕ, ◌+◌, ◌-◌, ◌*◌, ◌%◌, ◌^◌, ◌<◌, ◌≤◌, List, [], ◌∷◌, ◌++◌, length, take, Some, refl, sym, ◌∙◌, ap, subst, arith, length-append}
 use Rattle.std.specs.List.{slice_get}
 use Rattle.std.proofs.lemmas.Bool.{cases_lt}
 use Rattle.std.proofs.Math.Nat.{mul-le-mul_left}
@@ -8,16 +8,17 @@ use Rattle.df_theory.specs.Sessions.{sessions_after}
 use Rattle.df_theory.specs.Shape.{Shape}
 use Rattle.df_theory.specs.Copies.{IsChosen}
 use Rattle.df_theory.specs.Trailer.{InChain, IsCount, Links}
-use Rattle.df_theory.specs.View.{Checkpoint, IsSoundCheckpoint, View, sessions}
+use Rattle.df_theory.specs.View.{Checkpoint, IsSoundCheckpoint, View, boot_of, sessions}
 use Rattle.df_theory.specs.Holds.{IsNamed}
-use Rattle.df_theory.specs.Found.{IsFound, IsReplies, IsStored, IsTail, NotBehind, NotLost, slot_behind}
-use Rattle.df_theory.specs.Opens.{Answer, Arrives, BadField, Damaged, Found, IsLowest, IsReadable, IsShown, LacksReply, NoQuorum, Opened, ReadsTo, Refused}
-use Rattle.df_theory.specs.ViewLaws.{FoundAnswerLaw, OneAnswerLaw}
+use Rattle.df_theory.specs.Found.{IsFound, IsReach, IsReplies, IsStored, IsTail, NotBehind, NotLost, slot_behind}
+use Rattle.df_theory.specs.Opens.{Answer, Arrives, BadField, BootSpent, Spent, Damaged, Found, IsLowest, IsReadable, IsShown, LacksReply, NoQuorum, Opened, ReadsTo, Refused}
+use Rattle.df_theory.specs.ViewLaws.{FoundAnswerLaw, OneAnswerLaw, SpentAnswerLaw}
 use Rattle.df_theory.proofs.Choices.{one_chosen}
 use Rattle.df_theory.proofs.OneView.{same_chain, same_parts}
-use Rattle.df_theory.proofs.OneFound.{one_tail, not_more, one_stored}
+use Rattle.df_theory.proofs.OneFound.{one_reach, one_tail, not_more, one_stored}
+use Rattle.df_theory.proofs.Knowns.{named_all, named_fit, none_lacking, not_further, one_lacking, tail_named}
 use Rattle.df_theory.proofs.Fields.{front_of}
-use Rattle.df_theory.proofs.Layers.{Answers, AnswersFields, AnswersReplies, AnswersTail, AnswersTraces, AnswersTrailer, answers_of}
+use Rattle.df_theory.proofs.Layers.{Answers, AnswersFields, AnswersKnown, AnswersLast, AnswersReplies, AnswersTail, AnswersTraces, AnswersTrailer, answers_of}
 
 -- ---- one number of pieces, one checkpoint
 
@@ -117,6 +118,12 @@ same_state image b tail n v w base_v base_w tail_v tail_w count_v count_w stored
     stored : (k : ℕ) → v.stored k ≡ w.stored k
     stored k = one_stored image v w stored_v stored_w sessions_are count k (v.stored k) (w.stored k) refl refl
 
+last_one : (v w : View) (x y : Answer) → v ≡ w → AnswersLast v x → AnswersLast w y → x ≡ y
+last_one v w x y same (inl p) (inl q) = p.1 ∙ ap Found same ∙ sym q.1
+last_one v w x y same (inl p) (inr q) = absurd (omega (arith, p.0, q.0, ap boot_of same))
+last_one v w x y same (inr p) (inl q) = absurd (omega (arith, p.0, q.0, ap boot_of same))
+last_one v w x y same (inr p) (inr q) = p.1 ∙ sym q.1
+
 replies_one : (image : Units) (b : Checkpoint) (tail : List Message) (x y : Answer) → AnswersReplies image b tail x → AnswersReplies image b tail y → x ≡ y
 replies_one image b tail x y one two = go one.2 two.2
   where
@@ -126,27 +133,50 @@ replies_one image b tail x y one two = go one.2 two.2
         let down = not_more image b.content tail two.0 one.0 two.1 one.1 in
         omega arith
 
-    go : (((k : ℕ) × LacksReply image b.content (sessions_after b.parts.sessions tail) one.0 k × (x ≡ Refused (Damaged (ReplyPlace k)))) ⊎ ((v : View) × (v.checkpoint ≡ b) × (v.tail ≡ tail) × (v.replies ≡ one.0) × IsStored image v × (x ≡ Found v)))
-        → (((k : ℕ) × LacksReply image b.content (sessions_after b.parts.sessions tail) two.0 k × (y ≡ Refused (Damaged (ReplyPlace k)))) ⊎ ((v : View) × (v.checkpoint ≡ b) × (v.tail ≡ tail) × (v.replies ≡ two.0) × IsStored image v × (y ≡ Found v))) → x ≡ y
+    go : (((k : ℕ) × LacksReply image b.content (sessions_after b.parts.sessions tail) one.0 k × (x ≡ Refused (Damaged (ReplyPlace k)))) ⊎ ((v : View) × (v.checkpoint ≡ b) × (v.tail ≡ tail) × (v.replies ≡ one.0) × IsStored image v × AnswersLast v x))
+        → (((k : ℕ) × LacksReply image b.content (sessions_after b.parts.sessions tail) two.0 k × (y ≡ Refused (Damaged (ReplyPlace k)))) ⊎ ((v : View) × (v.checkpoint ≡ b) × (v.tail ≡ tail) × (v.replies ≡ two.0) × IsStored image v × AnswersLast v y)) → x ≡ y
     go (inl p) (inl q) =
         let k = same_first image b.content (sessions_after b.parts.sessions tail) one.0 p.0 q.0 p.1 (subst (λ (n : ℕ). LacksReply image b.content (sessions_after b.parts.sessions tail) n q.0) same q.1) in
         p.2 ∙ ap (λ (n : ℕ). Refused (Damaged (ReplyPlace n))) k ∙ sym q.2
     go (inl p) (inr q) = absurd (none_lacks image b tail one.0 p.0 q.0 p.1 q.1 q.2 (q.3 ∙ same) q.4)
     go (inr p) (inl q) = absurd (none_lacks image b tail two.0 q.0 p.0 q.1 p.1 p.2 (p.3 ∙ sym same) p.4)
-    go (inr p) (inr q) = p.5 ∙ ap Found (same_state image b tail one.0 p.0 q.0 p.1 q.1 p.2 q.2 p.3 (q.3 ∙ same) p.4 q.4) ∙ sym q.5
+    go (inr p) (inr q) = last_one p.0 q.0 x y (same_state image b tail one.0 p.0 q.0 p.1 q.1 p.2 q.2 p.3 (q.3 ∙ same) p.4 q.4) p.5 q.5
 
 tail_one : (sh : Shape) (image : Units) (b : Checkpoint) (x y : Answer) → AnswersTail sh image b x → AnswersTail sh image b y → x ≡ y
-tail_one sh image b x y one two = go one.2 (subst (λ (l : List Message). ((NotLost image b.content (b.content.op + length l) → ⊥) × (y ≡ Refused (Damaged (PreparePlace (slot_behind sh b l))))) ⊎ (NotLost image b.content (b.content.op + length l) × AnswersReplies image b l y)) same two.2)
+tail_one sh image b x y one two = go one.2 (subst (λ (l : List Message). ((NotLost image b.content (b.content.op + length l) → ⊥) × ((more : List Message) × IsReach sh image b l more × (y ≡ Refused (Damaged (PreparePlace (slot_behind sh b l more)))))) ⊎ (NotLost image b.content (b.content.op + length l) × AnswersReplies image b l y)) same two.2)
   where
     same : two.0 ≡ one.0
     same = one_tail sh image b two.0 one.0 two.1 one.1
 
-    go : ((NotLost image b.content (b.content.op + length one.0) → ⊥) × (x ≡ Refused (Damaged (PreparePlace (slot_behind sh b one.0))))) ⊎ (NotLost image b.content (b.content.op + length one.0) × AnswersReplies image b one.0 x)
-        → ((NotLost image b.content (b.content.op + length one.0) → ⊥) × (y ≡ Refused (Damaged (PreparePlace (slot_behind sh b one.0))))) ⊎ (NotLost image b.content (b.content.op + length one.0) × AnswersReplies image b one.0 y) → x ≡ y
-    go (inl p) (inl q) = p.1 ∙ sym q.1
+    reach : (ps qs : List Message) → IsReach sh image b one.0 ps → IsReach sh image b one.0 qs → length ps ≡ length qs
+    reach ps qs a c = elim (cases_lt (length ps) (length qs)) [
+      | inl less ↦ absurd (one_reach sh image b one.0 ps qs a c less)
+      | inr more ↦ elim (cases_lt (length qs) (length ps)) [ inl less ↦ absurd (one_reach sh image b one.0 qs ps c a less) | inr is ↦ omega arith ]
+    ]
+
+    go : ((NotLost image b.content (b.content.op + length one.0) → ⊥) × ((more : List Message) × IsReach sh image b one.0 more × (x ≡ Refused (Damaged (PreparePlace (slot_behind sh b one.0 more)))))) ⊎ (NotLost image b.content (b.content.op + length one.0) × AnswersReplies image b one.0 x)
+        → ((NotLost image b.content (b.content.op + length one.0) → ⊥) × ((more : List Message) × IsReach sh image b one.0 more × (y ≡ Refused (Damaged (PreparePlace (slot_behind sh b one.0 more)))))) ⊎ (NotLost image b.content (b.content.op + length one.0) × AnswersReplies image b one.0 y) → x ≡ y
+    go (inl p) (inl q) = p.1.2 ∙ ap (λ (n : ℕ). Refused (Damaged (PreparePlace ((b.content.op + length one.0 + n + 1) % sh.layout.slots)))) (reach p.1.0 q.1.0 p.1.1 q.1.1) ∙ sym q.1.2
     go (inl p) (inr q) = absurd (p.0 q.0)
     go (inr p) (inl q) = absurd (q.0 p.0)
     go (inr p) (inr q) = replies_one image b one.0 x y p.1 q.1
+
+-- the prepares that the superblock names
+known_one : (sh : Shape) (image : Units) (b : Checkpoint) (x y : Answer) → b.content.op ≤ b.content.pin → AnswersKnown sh image b x → AnswersKnown sh image b y → x ≡ y
+known_one sh image b x y from (inl p) (inl q) = p.2 ∙ ap (λ (n : ℕ). Refused (Damaged (PreparePlace (n % sh.layout.slots)))) (one_lacking sh image b.content p.0 q.0 p.1 q.1) ∙ sym q.2
+known_one sh image b x y from (inl p) (inr (inl q)) = absurd (none_lacking sh image b.content.op (q.0 ++ q.1.next ∷ q.1.rest) b.content p.0 q.1.known q.1.count p.1.above p.1)
+known_one sh image b x y from (inl p) (inr (inr q)) = absurd (named_all sh image b (take (b.content.pin - b.content.op) q.0) (tail_named sh image b q.0 q.1 from) p.0 p.1)
+known_one sh image b x y from (inr (inl p)) (inl q) = absurd (none_lacking sh image b.content.op (p.0 ++ p.1.next ∷ p.1.rest) b.content q.0 p.1.known p.1.count q.1.above q.1)
+known_one sh image b x y from (inr (inl p)) (inr (inl q)) =
+    let size : length p.0 ≡ length q.0 = elim (cases_lt (length p.0) (length q.0)) [
+      | inl less ↦ absurd (not_further sh image b p.0 q.0 p.1 q.1 less)
+      | inr more ↦ elim (cases_lt (length q.0) (length p.0)) [ inl less ↦ absurd (not_further sh image b q.0 p.0 q.1 p.1 less) | inr same ↦ omega arith ]
+    ] in
+    p.2 ∙ ap (λ (n : ℕ). Refused (Damaged (PreparePlace ((b.content.op + n + 1) % sh.layout.slots)))) size ∙ sym q.2
+known_one sh image b x y from (inr (inl p)) (inr (inr q)) = absurd (named_fit sh image b (take (b.content.pin - b.content.op) q.0) p.0 (tail_named sh image b q.0 q.1 from) p.1)
+known_one sh image b x y from (inr (inr p)) (inl q) = absurd (named_all sh image b (take (b.content.pin - b.content.op) p.0) (tail_named sh image b p.0 p.1 from) q.0 q.1)
+known_one sh image b x y from (inr (inr p)) (inr (inl q)) = absurd (named_fit sh image b (take (b.content.pin - b.content.op) p.0) q.0 (tail_named sh image b p.0 p.1 from) q.1)
+known_one sh image b x y from (inr (inr p)) (inr (inr q)) = tail_one sh image b x y p q
 
 same_lowest : (image : Units) (c : Content) (n m : ℕ) → IsLowest image c n → IsLowest image c m → n ≡ m
 same_lowest image c n m one two = elim (cases_lt n m) [
@@ -154,11 +184,11 @@ same_lowest image c n m one two = elim (cases_lt n m) [
   | inr more ↦ elim (cases_lt m n) [ inl less ↦ absurd (one.lowest m less two.shows) | inr same ↦ omega arith ]
 ]
 
-traces_one : (sh : Shape) (image : Units) (b : Checkpoint) (x y : Answer) → AnswersTraces sh image b x → AnswersTraces sh image b y → x ≡ y
-traces_one sh image b x y (inl p) (inl q) = p.3 ∙ ap (λ (n : ℕ). Refused (Damaged (CopyPlace n))) (same_lowest image b.content p.0 q.0 p.2 q.2) ∙ sym q.3
-traces_one sh image b x y (inl p) (inr q) = absurd (p.1 q.0)
-traces_one sh image b x y (inr p) (inl q) = absurd (q.1 p.0)
-traces_one sh image b x y (inr p) (inr q) = tail_one sh image b x y p.1 q.1
+traces_one : (sh : Shape) (image : Units) (b : Checkpoint) (x y : Answer) → b.content.op ≤ b.content.pin → AnswersTraces sh image b x → AnswersTraces sh image b y → x ≡ y
+traces_one sh image b x y from (inl p) (inl q) = p.3 ∙ ap (λ (n : ℕ). Refused (Damaged (CopyPlace n))) (same_lowest image b.content p.0 q.0 p.2 q.2) ∙ sym q.3
+traces_one sh image b x y from (inl p) (inr q) = absurd (p.1 q.0)
+traces_one sh image b x y from (inr p) (inl q) = absurd (q.1 p.0)
+traces_one sh image b x y from (inr p) (inr q) = known_one sh image b x y from p.1 q.1
 
 trailer_one : (sh : Shape) (image : Units) (c : Content) (x y : Answer) → AnswersTrailer sh image c x → AnswersTrailer sh image c y → x ≡ y
 trailer_one sh image c x y (inl p) (inl q) = p.4 ∙ ap (λ (n : ℕ). Refused (Damaged (BlockPlace n))) (same_wanted image p.2.read q.2.read c.trailer c.trailer_checksum p.0 p.1 q.0 q.1 p.2.arrives q.2.arrives p.3 q.3) ∙ sym q.4
@@ -169,7 +199,7 @@ trailer_one sh image c x y (inr (inl p)) (inr (inl q)) = p.2 ∙ sym q.2
 trailer_one sh image c x y (inr (inl p)) (inr (inr q)) = absurd (p.1 q.0 q.1 q.2)
 trailer_one sh image c x y (inr (inr p)) (inl q) = absurd (q.3 (readable_reads sh image p.0 q.0 q.1 p.2 (subst (λ (d : Content). ReadsTo sh image d q.0 q.1) (sym p.1) q.2)))
 trailer_one sh image c x y (inr (inr p)) (inr (inl q)) = absurd (q.1 p.0 p.1 p.2)
-trailer_one sh image c x y (inr (inr p)) (inr (inr q)) = traces_one sh image p.0 x y p.3 (subst (λ (b : Checkpoint). AnswersTraces sh image b y) (readable_one sh image q.0 p.0 q.2 p.2) q.3)
+trailer_one sh image c x y (inr (inr p)) (inr (inr q)) = traces_one sh image p.0 x y p.2.sound.tests.pin.0 p.3 (subst (λ (b : Checkpoint). AnswersTraces sh image b y) (readable_one sh image q.0 p.0 q.2 p.2) q.3)
 
 fields_one : (sh : Shape) (image : Units) (c : Content) (x y : Answer) → AnswersFields sh image c x → AnswersFields sh image c y → x ≡ y
 fields_one sh image c x y (inl p) (inl q) = p.1 ∙ sym q.1
@@ -188,25 +218,55 @@ one_answer_law sh image x y one two = answers_one sh image x y (answers_of sh im
 
 -- ---- a state
 
-to_found : (sh : Shape) (image : Units) (v : View) → Answers sh image (Found v) → IsFound sh image v
+-- what is read up to the last step is found
+to_state : (sh : Shape) (image : Units) (b : Checkpoint) (tail : List Message) (n : ℕ) (w : View) → IsReadable sh image b → NotBehind sh image b.content → IsTail sh image b tail → NotLost image b.content (b.content.op + length tail) → IsReplies image b.content tail n → w.checkpoint ≡ b → w.tail ≡ tail → w.replies ≡ n → IsStored image w → IsFound sh image w
+to_state sh image b tail n w readable not_behind is_tail not_lost counted base same count stored = record {
+  chosen = subst (λ (d : Checkpoint). IsChosen image d.content) (sym base) readable.chosen;
+  checkpoint = subst (λ (d : Checkpoint). IsSoundCheckpoint sh d) (sym base) readable.sound;
+  chain_shown = subst (λ (d : Checkpoint). (a : ℕ) (x : Block) → InChain a x d.chain → image (BlockPlace a) ≡ Some (BlockUnit x)) (sym base) readable.shown;
+  not_behind = subst (λ (d : Checkpoint). NotBehind sh image d.content) (sym base) not_behind;
+  tail = subst (λ (d : Checkpoint). IsTail sh image d w.tail) (sym base) (subst (λ (l : List Message). IsTail sh image b l) (sym same) is_tail);
+  not_lost = subst (λ (d : Checkpoint). NotLost image d.content (d.content.op + length w.tail)) (sym base) (subst (λ (l : List Message). NotLost image b.content (b.content.op + length l)) (sym same) not_lost);
+  replies = subst (λ (d : Checkpoint). IsReplies image d.content w.tail w.replies) (sym base) (subst (λ (l : List Message). IsReplies image b.content l w.replies) (sym same) (subst (λ (m : ℕ). IsReplies image b.content tail m) (sym count) counted));
+  stored = stored;
+}
+
+to_found : (sh : Shape) (image : Units) (v : View) → Answers sh image (Found v) → IsFound sh image v × (boot_of v < 2 ^ 62)
 to_found sh image v (inl p) = absurd (let both : Found v ≡ Refused NoQuorum = p.1 in cc)
 to_found sh image v (inr (c, chosen, inl p)) = absurd (let both : Found v ≡ Refused BadField = p.1 in cc)
 to_found sh image v (inr (c, chosen, inr (tests, reference, inl p))) = absurd (let both : Found v ≡ Refused (Damaged (BlockPlace p.0)) = p.4 in cc)
 to_found sh image v (inr (c, chosen, inr (tests, reference, inr (inl p)))) = absurd (let both : Found v ≡ Refused BadField = p.2 in cc)
 to_found sh image v (inr (c, chosen, inr (tests, reference, inr (inr (b, content, readable, inl p))))) = absurd (let both : Found v ≡ Refused (Damaged (CopyPlace p.0)) = p.3 in cc)
-to_found sh image v (inr (c, chosen, inr (tests, reference, inr (inr (b, content, readable, inr (not_behind, (tail, is_tail, inl p))))))) = absurd (let both : Found v ≡ Refused (Damaged (PreparePlace (slot_behind sh b tail))) = p.1 in cc)
-to_found sh image v (inr (c, chosen, inr (tests, reference, inr (inr (b, content, readable, inr (not_behind, (tail, is_tail, inr (not_lost, (n, counted, inl p))))))))) = absurd (let both : Found v ≡ Refused (Damaged (ReplyPlace p.0)) = p.2 in cc)
-to_found sh image v (inr (c, chosen, inr (tests, reference, inr (inr (b, content, readable, inr (not_behind, (tail, is_tail, inr (not_lost, (n, counted, inr (w, base, same, count, stored, is))))))))))
-    = subst (λ (z : View). IsFound sh image z) (let both : Found v ≡ Found w = is in let one : w ≡ v = cc in one) (record {
-      chosen = subst (λ (d : Checkpoint). IsChosen image d.content) (sym base) readable.chosen;
-      checkpoint = subst (λ (d : Checkpoint). IsSoundCheckpoint sh d) (sym base) readable.sound;
-      chain_shown = subst (λ (d : Checkpoint). (a : ℕ) (x : Block) → InChain a x d.chain → image (BlockPlace a) ≡ Some (BlockUnit x)) (sym base) readable.shown;
-      not_behind = subst (λ (d : Checkpoint). NotBehind sh image d.content) (sym base) not_behind;
-      tail = subst (λ (d : Checkpoint). IsTail sh image d w.tail) (sym base) (subst (λ (l : List Message). IsTail sh image b l) (sym same) is_tail);
-      not_lost = subst (λ (d : Checkpoint). NotLost image d.content (d.content.op + length w.tail)) (sym base) (subst (λ (l : List Message). NotLost image b.content (b.content.op + length l)) (sym same) not_lost);
-      replies = subst (λ (d : Checkpoint). IsReplies image d.content w.tail w.replies) (sym base) (subst (λ (l : List Message). IsReplies image b.content l w.replies) (sym same) (subst (λ (m : ℕ). IsReplies image b.content tail m) (sym count) counted));
-      stored = stored;
-    })
+to_found sh image v (inr (c, chosen, inr (tests, reference, inr (inr (b, content, readable, inr (not_behind, inl p)))))) = absurd (let both : Found v ≡ Refused (Damaged (PreparePlace (p.0 % sh.layout.slots))) = p.2 in cc)
+to_found sh image v (inr (c, chosen, inr (tests, reference, inr (inr (b, content, readable, inr (not_behind, inr (inl p))))))) = absurd (let both : Found v ≡ Refused (Damaged (PreparePlace ((b.content.op + length p.0 + 1) % sh.layout.slots))) = p.2 in cc)
+to_found sh image v (inr (c, chosen, inr (tests, reference, inr (inr (b, content, readable, inr (not_behind, inr (inr (tail, is_tail, inl p)))))))) = absurd (let both : Found v ≡ Refused (Damaged (PreparePlace (slot_behind sh b tail p.1.0))) = p.1.2 in cc)
+to_found sh image v (inr (c, chosen, inr (tests, reference, inr (inr (b, content, readable, inr (not_behind, inr (inr (tail, is_tail, inr (not_lost, (n, counted, inl p)))))))))) = absurd (let both : Found v ≡ Refused (Damaged (ReplyPlace p.0)) = p.2 in cc)
+to_found sh image v (inr (c, chosen, inr (tests, reference, inr (inr (b, content, readable, inr (not_behind, inr (inr (tail, is_tail, inr (not_lost, (n, counted, inr (w, base, same, count, stored, is)))))))))))
+    = elim is [
+      | inl p ↦
+          let one : w ≡ v = (let both : Found v ≡ Found w = p.1 in let back : w ≡ v = cc in back) in
+          subst (λ (z : View). IsFound sh image z × (boot_of z < 2 ^ 62)) one (to_state sh image b tail n w readable not_behind is_tail not_lost counted base same count stored, p.0)
+      | inr p ↦ absurd (let both : Found v ≡ Refused BootSpent = p.1 in cc)
+    ]
 
 pub found_answer_law : FoundAnswerLaw
-found_answer_law sh image v = (λ opens. to_found sh image v (answers_of sh image (Found v) opens), λ found. Opened v found)
+found_answer_law sh image v = (λ opens. to_found sh image v (answers_of sh image (Found v) opens), λ found. Opened v found.0 found.1)
+
+to_spent : (sh : Shape) (image : Units) → Answers sh image (Refused BootSpent) → (v : View) × IsFound sh image v × (boot_of v ≡ 2 ^ 62)
+to_spent sh image (inl p) = absurd (let both : Refused BootSpent ≡ Refused NoQuorum = p.1 in cc)
+to_spent sh image (inr (c, chosen, inl p)) = absurd (let both : Refused BootSpent ≡ Refused BadField = p.1 in cc)
+to_spent sh image (inr (c, chosen, inr (tests, reference, inl p))) = absurd (let both : Refused BootSpent ≡ Refused (Damaged (BlockPlace p.0)) = p.4 in cc)
+to_spent sh image (inr (c, chosen, inr (tests, reference, inr (inl p)))) = absurd (let both : Refused BootSpent ≡ Refused BadField = p.2 in cc)
+to_spent sh image (inr (c, chosen, inr (tests, reference, inr (inr (b, content, readable, inl p))))) = absurd (let both : Refused BootSpent ≡ Refused (Damaged (CopyPlace p.0)) = p.3 in cc)
+to_spent sh image (inr (c, chosen, inr (tests, reference, inr (inr (b, content, readable, inr (not_behind, inl p)))))) = absurd (let both : Refused BootSpent ≡ Refused (Damaged (PreparePlace (p.0 % sh.layout.slots))) = p.2 in cc)
+to_spent sh image (inr (c, chosen, inr (tests, reference, inr (inr (b, content, readable, inr (not_behind, inr (inl p))))))) = absurd (let both : Refused BootSpent ≡ Refused (Damaged (PreparePlace ((b.content.op + length p.0 + 1) % sh.layout.slots))) = p.2 in cc)
+to_spent sh image (inr (c, chosen, inr (tests, reference, inr (inr (b, content, readable, inr (not_behind, inr (inr (tail, is_tail, inl p)))))))) = absurd (let both : Refused BootSpent ≡ Refused (Damaged (PreparePlace (slot_behind sh b tail p.1.0))) = p.1.2 in cc)
+to_spent sh image (inr (c, chosen, inr (tests, reference, inr (inr (b, content, readable, inr (not_behind, inr (inr (tail, is_tail, inr (not_lost, (n, counted, inl p)))))))))) = absurd (let both : Refused BootSpent ≡ Refused (Damaged (ReplyPlace p.0)) = p.2 in cc)
+to_spent sh image (inr (c, chosen, inr (tests, reference, inr (inr (b, content, readable, inr (not_behind, inr (inr (tail, is_tail, inr (not_lost, (n, counted, inr (w, base, same, count, stored, is)))))))))))
+    = elim is [
+      | inl p ↦ absurd (let both : Refused BootSpent ≡ Found w = p.1 in cc)
+      | inr p ↦ (w, to_state sh image b tail n w readable not_behind is_tail not_lost counted base same count stored, p.0)
+    ]
+
+pub spent_answer_law : SpentAnswerLaw
+spent_answer_law sh image = (λ opens. to_spent sh image (answers_of sh image (Refused BootSpent) opens), λ found. Spent found.0 found.1 found.2)

@@ -1,19 +1,22 @@
 -- An open finds one state.
-use Rattle.std.proofs.Common.{◌≡◌, inl, inr, ℕ, suc, ◌+◌, ◌-◌, ◌%◌, ◌<◌, ◌≤◌, List, [], ◌∷◌, length, Option, Some, None, refl, sym, ◌∙◌, ap, subst, arith}
+use Rattle.std.proofs.Common.{◌≡◌, inl, inr, ℕ, suc, ◌+◌, ◌-◌, ◌%◌, ◌<◌, ◌≤◌, List, [], ◌∷◌, ◌++◌, length, Option, Some, None, refl, sym, ◌∙◌, ap, subst, arith, length-append}
 use Rattle.std.specs.List.{slice_get}
 use Rattle.std.proofs.lemmas.Bool.{cases_lt}
 use Rattle.df_theory.specs.Units.{Content, Message, PreparePlace, PrepareUnit, ReplyUnit, Session, Units}
 use Rattle.df_theory.specs.Sessions.{noted, sessions_after}
-use Rattle.df_theory.specs.Tails.{Chain, Fits, In, last_checksum, last_mark}
+use Rattle.df_theory.specs.Tails.{AreGroups, Chain, Fits, FitsGroup, In, last_checksum, last_mark}
 use Rattle.df_theory.specs.Shape.{Shape, clients}
 use Rattle.df_theory.specs.Trailer.{Links}
 use Rattle.df_theory.specs.View.{Checkpoint, View, sessions}
 use Rattle.df_theory.specs.Cases.{Takes}
-use Rattle.df_theory.specs.Found.{IsReplies, IsStored, IsTail}
+use Rattle.df_theory.specs.Holds.{Holds}
+use Rattle.df_theory.specs.Found.{IsReach, IsReplies, IsStored, IsTail}
 use Rattle.df_theory.specs.ViewLaws.{FoundLaw, OneChosenLaw, OneFoundLaw, OneViewLaw}
+use Rattle.df_theory.proofs.Tails.{in_either, in_single}
 use Rattle.df_theory.proofs.Choices.{one_chosen}
 use Rattle.df_theory.proofs.Founds.{holds_found, found_holds}
-use Rattle.df_theory.proofs.OneView.{one_view, same_tail, same_chain, same_parts}
+use Rattle.df_theory.proofs.OneView.{same_tail, same_chain, same_parts}
+use Rattle.df_theory.proofs.Grouped.{groups_closed}
 
 -- of two chains that show the same, the longer one has a prepare that fits the shorter one's end
 abbrev pub HasNext : ℕ → ℕ → ℕ → ℕ → List Session → List Message → List Message → Type 0
@@ -32,14 +35,66 @@ next_of clients op parent mark ss (p ∷ ps) (q ∷ qs) one two same less =
     let more : op + 1 + length ps ≡ op + suc (length ps) = omega arith in
     (rest.0, inr rest.1, subst (λ (k : ℕ). Fits clients k (last_checksum p.header.checksum ps) (last_mark p.header.mark ps) (sessions_after (noted p.header ss) ps) rest.0.header) more rest.2)
 
+-- of two chains that show the same, the longer one goes on from the shorter one, with whole groups
+pub goes_on : (clients op parent mark f l low : ℕ) (ss : List Session) (ps qs : List Message) → Chain clients op parent mark ss ps → Chain clients op parent mark ss qs → ((p q : Message) → In p ps → In q qs → p.header.op ≡ q.header.op → p ≡ q) → length ps ≤ length qs
+    → AreGroups f l op qs → l < op + length ps → ((p : Message) → In p ps → p.header.group_last < op + length ps) → low < op + length ps
+    → (rest : List Message) × (length ps + length rest ≡ length qs) × ((q : Message) → In q rest → In q qs) × Chain clients (op + length ps) (last_checksum parent ps) (last_mark mark ps) (sessions_after ss ps) rest × AreGroups 0 low (op + length ps) rest
+goes_on clients op parent mark f l low ss [] qs one two same less groups ends each below =
+    let zero_more : op ≡ op + 0 = omega arith in
+    (qs, omega arith, λ q at. at, subst (λ (k : ℕ). Chain clients k parent mark ss qs) zero_more two, subst (λ (k : ℕ). AreGroups 0 low k qs) zero_more (groups_closed f 0 l low op qs (omega arith) (omega arith) groups))
+goes_on clients op parent mark f l low ss (p ∷ ps) [] one two same less groups ends each below = absurd (omega arith)
+goes_on clients op parent mark f l low ss (p ∷ ps) (q ∷ qs) one two same less groups ends each below =
+    let first : p ≡ q = same p q (inl refl) (inl refl) (one.0.op_is ∙ sym two.0.op_is) in
+    let chain : Chain clients (op + 1) p.header.checksum p.header.mark (noted p.header ss) qs = subst (λ (x : Message). Chain clients (op + 1) x.header.checksum x.header.mark (noted x.header ss) qs) (sym first) two.1 in
+    let grouped : AreGroups p.header.group p.header.group_last (op + 1) qs = subst (λ (x : Message). AreGroups x.header.group x.header.group_last (op + 1) qs) (sym first) groups.1 in
+    let rest = goes_on clients (op + 1) p.header.checksum p.header.mark p.header.group p.header.group_last low (noted p.header ss) ps qs one.1 chain (λ x y at there. same x y (inr at) (inr there)) (omega arith)
+    grouped (omega (arith, each p (inl refl))) (λ x at. omega (arith, each x (inr at))) (omega arith) in
+    let more : op + 1 + length ps ≡ op + suc (length ps) = omega arith in (
+      rest.0,
+      omega (arith, rest.1),
+      λ x at. inr (rest.2 x at),
+      subst (λ (k : ℕ). Chain clients k (last_checksum p.header.checksum ps) (last_mark p.header.mark ps) (sessions_after (noted p.header ss) ps) rest.0) more rest.3,
+      subst (λ (k : ℕ). AreGroups 0 low k rest.0) more rest.4,
+    )
+
+-- and so does its next prepare
+pub step_on : (clients op parent mark f l : ℕ) (ss : List Session) (ps qs : List Message) → Chain clients op parent mark ss ps → Chain clients op parent mark ss qs → ((p q : Message) → In p ps → In q qs → p.header.op ≡ q.header.op → p ≡ q) → AreGroups f l op qs → length ps < length qs
+    → (q : Message) × In q qs × Chain clients op parent mark ss (ps ++ q ∷ []) × AreGroups f l op (ps ++ q ∷ []) × (q.header.op ≡ op + length ps)
+step_on clients op parent mark f l ss [] [] one two same groups less = absurd (omega arith)
+step_on clients op parent mark f l ss [] (q ∷ qs) one two same groups less = (q, inl refl, (two.0, tt), (groups.0, tt), omega (arith, two.0.op_is))
+step_on clients op parent mark f l ss (p ∷ ps) [] one two same groups less = absurd (omega arith)
+step_on clients op parent mark f l ss (p ∷ ps) (q ∷ qs) one two same groups less =
+    let first : p ≡ q = same p q (inl refl) (inl refl) (one.0.op_is ∙ sym two.0.op_is) in
+    let chain : Chain clients (op + 1) p.header.checksum p.header.mark (noted p.header ss) qs = subst (λ (x : Message). Chain clients (op + 1) x.header.checksum x.header.mark (noted x.header ss) qs) (sym first) two.1 in
+    let grouped : AreGroups p.header.group p.header.group_last (op + 1) qs = subst (λ (x : Message). AreGroups x.header.group x.header.group_last (op + 1) qs) (sym first) groups.1 in
+    let rest = step_on clients (op + 1) p.header.checksum p.header.mark p.header.group p.header.group_last (noted p.header ss) ps qs one.1 chain (λ x y at there. same x y (inr at) (inr there)) grouped (omega arith) in
+    (rest.0, inr rest.1, (one.0, rest.2), (subst (λ (x : Message). FitsGroup f l op x.header) (sym first) groups.0, rest.3), omega (arith, rest.4))
+
 -- prepares of one op that are taken are one
 same_taken : (n : ℕ) (image : Units) (c : Content) (p q : Message) → Takes n image c p → Takes n image c q → p.header.op ≡ q.header.op → p ≡ q
 same_taken n image c p q one two op = let both : Some (PrepareUnit p) ≡ Some (PrepareUnit q) = sym one.shown ∙ ap (λ (o : ℕ). image (PreparePlace (o % n))) op ∙ two.shown in cc
 
 not_longer : (sh : Shape) (image : Units) (b : Checkpoint) (ps qs : List Message) → IsTail sh image b ps → IsTail sh image b qs → length ps < length qs → ⊥
 not_longer sh image b ps qs one two less =
-    let next = next_of sh.layout.clients (b.content.op + 1) b.content.op_checksum 0 b.parts.sessions ps qs one.chain two.chain (λ p q at there op. same_taken sh.layout.slots image b.content p q (one.takes p at) (two.takes q there) op) less in
-    one.longest next.0 (omega (arith, two.room)) (two.takes next.0 next.1) next.2
+    let more = goes_on sh.layout.clients (b.content.op + 1) b.content.op_checksum 0 0 b.content.op (b.content.op + length ps) b.parts.sessions ps qs one.chain two.chain (λ p q at there op. same_taken sh.layout.slots image b.content p q (one.takes p at) (two.takes q there) op) (omega arith)
+    two.grouped (omega arith) (λ p at. omega (arith, one.groups p at)) (omega arith) in
+    one.longest more.0 (record {
+      behind = record { room = omega (arith, more.1, two.room); shown = λ p at. two.takes p (more.2 p at); chain = more.3; grouped = more.4 };
+      some = omega (arith, more.1);
+      ends = λ p at. let low = two.groups p (more.2 p at) in omega (arith, more.1);
+    })
+
+-- prepares that are reached from one tail go as far
+pub one_reach : (sh : Shape) (image : Units) (b : Checkpoint) (tail ps qs : List Message) → IsReach sh image b tail ps → IsReach sh image b tail qs → length ps < length qs → ⊥
+one_reach sh image b tail ps qs one two less =
+    let next = step_on sh.layout.clients (b.content.op + 1 + length tail) (last_checksum b.content.op_checksum tail) (last_mark 0 tail) 0 (b.content.op + length tail) (sessions_after b.parts.sessions tail) ps qs one.behind.chain two.behind.chain
+    (λ p q at there op. same_taken sh.layout.slots image b.content p q (one.behind.shown p at) (two.behind.shown q there) op) two.behind.grouped less in
+    one.longest next.0 (record {
+      room = omega (arith, two.behind.room, length-append ps (next.0 ∷ []));
+      shown = λ p at. elim (in_either p ps (next.0 ∷ []) at) [ inl old ↦ one.behind.shown p old | inr new ↦ subst (λ (q : Message). Takes sh.layout.slots image b.content q) (sym (in_single p next.0 new)) (two.behind.shown next.0 next.1) ];
+      chain = next.2;
+      grouped = next.3;
+    })
 
 pub one_tail : (sh : Shape) (image : Units) (b : Checkpoint) (ps qs : List Message) → IsTail sh image b ps → IsTail sh image b qs → ps ≡ qs
 one_tail sh image b ps qs one two =
@@ -111,6 +166,10 @@ one_found_law sh image v u one two = λ i. record { checkpoint = base i; tail = 
 
     stored : (k : ℕ) → v.stored k ≡ u.stored k
     stored k = one_stored image v u one.stored two.stored ss replies k (v.stored k) (u.stored k) refl refl
+
+-- an image has one view: what it holds is what is found
+pub one_view : (sh : Shape) (image : Units) (v u : View) → Holds sh image v → Holds sh image u → v ≡ u
+one_view sh image v u one two = one_found_law sh image v u (holds_found sh image v one) (holds_found sh image u two)
 
 pub one_view_law : OneViewLaw
 one_view_law = one_view

@@ -13,16 +13,16 @@ use Rattle.df_theory.proofs.SampleEnds.{content2}
 abbrev pub prepare_other : Message
 prepare_other = record { header = record { checksum = 7; parent = 5; client = 8; op = 2; request = 1; mark = 0; checkpoint = 1; boot = 0; group = 2; group_last = 2 }; body = [] }
 
-abbrev header_with : ℕ → Header
+abbrev pub header_with : ℕ → Header
 header_with n = if n == 5 then prepare1.header else (if n == 7 then prepare_other.header else reserved)
 
-abbrev prepare_with : ℕ → Message
+abbrev pub prepare_with : ℕ → Message
 prepare_with n = if n == 7 then prepare_other else prepare1
 
-abbrev content_with : ℕ → Content
+abbrev pub content_with : ℕ → Content
 content_with n = if n == 22 then content2 else content1
 
-abbrev block_with : ℕ → Block
+abbrev pub block_with : ℕ → Block
 block_with n = if n == 11 then trailer else block
 
 abbrev pub IsOurs : AnyUnit → Type 0
@@ -32,7 +32,7 @@ IsOurs (PrepareUnit p) = (p ≡ prepare_with p.header.checksum) × (p.header ≡
 IsOurs (ReplyUnit r) = r ≡ reply1
 IsOurs (BlockUnit b) = b ≡ block_with b.checksum
 
-distinct : (x y : AnyUnit) → IsOurs x → IsOurs y → Distinct x y
+pub distinct : (x y : AnyUnit) → IsOurs x → IsOurs y → Distinct x y
 distinct (CopyUnit c) (CopyUnit d) one two = λ same. one ∙ ap content_with same ∙ sym two
 distinct (HeaderUnit h) (HeaderUnit g) one two = λ same. one ∙ ap header_with same ∙ sym two
 distinct (HeaderUnit h) (PrepareUnit q) one two = λ same. one ∙ ap header_with same ∙ sym two.1

@@ -3,18 +3,19 @@ use Rattle.std.proofs.Common.{◌≡◌, ◌⊎◌, inl, inr, ℕ, Option, Some,
 use Rattle.df_theory.specs.Units.{AnyUnit, BlockPlace, CopyPlace, HeaderPlace, Place, PreparePlace, ReplyPlace, Units, or_else, overlay}
 use Rattle.df_theory.specs.Shape.{Shape}
 use Rattle.df_theory.specs.Copies.{IsChosen}
-use Rattle.df_theory.specs.View.{Checkpoint, View}
+use Rattle.df_theory.specs.View.{Checkpoint, View, head}
 use Rattle.df_theory.specs.Shows.{Agrees, Needs}
 use Rattle.df_theory.specs.Holds.{Sound}
-use Rattle.df_theory.specs.Next.{Next, Same}
+use Rattle.df_theory.specs.Next.{Next}
 use Rattle.df_theory.specs.UnitLog.{PutsOne, UnitLog, now, settled, wrote}
 use Rattle.df_theory.specs.Chance.{InImages}
 use Rattle.df_theory.specs.Grown.{InView}
-use Rattle.df_theory.specs.Rests.{IsBlock, IsCalmPut, IsCopy, IsQuiet, RestsOn, Stepped}
+use Rattle.df_theory.specs.Rests.{IsBlock, IsCalmPut, IsCopy, IsPrepare, IsQuiet, RestsOn, Stepped}
+use Rattle.df_theory.specs.Groups.{IsShort}
 use Rattle.df_theory.proofs.Grew.{Grew, agrees_grew}
-use Rattle.df_theory.proofs.Images.{IsOpen, bears_open, chosen_same}
+use Rattle.df_theory.proofs.Images.{IsOpen, bears_open, chosen_same, short_same}
 use Rattle.df_theory.proofs.Torn.{Tear, Kept, Loose, Touched, Torn, TornView}
-use Rattle.df_theory.proofs.Steps.{step, calm_rest}
+use Rattle.df_theory.proofs.Steps.{step, calm_rest, goes_same}
 
 pub block_agrees : (sh : Shape) (v : View) (place : Place) (x : AnyUnit) → IsBlock place → Agrees sh v place x
 block_agrees sh v (CopyPlace n) x block = absurd block
@@ -63,9 +64,14 @@ module _ (sh : Shape) (log : UnitLog) (v : View) (put : Units) (rest : RestsOn s
   calm_copy j n (Loose wet place_calm shows) = absurd (place_calm.no_copy tt)
   calm_copy j n (Touched y is shows) = absurd ((calm (CopyPlace n) y is).0.no_copy tt)
 
+  calm_prepare : (j : Units) (s : ℕ) → Tear sh log v put j (PreparePlace s) → j (PreparePlace s) ≡ now log (PreparePlace s)
+  calm_prepare j s (Kept none same) = same
+  calm_prepare j s (Loose wet place_calm shows) = absurd (place_calm.no_prepare tt)
+  calm_prepare j s (Touched y is shows) = absurd ((calm (PreparePlace s) y is).0.no_prepare tt)
+
   pub calm_torn : (j : Units) → Torn sh log v put j → TornView sh log v put j v
   calm_torn j torn = record {
-    holds = record { bears = bears_open sh v (now log) j rest.holds.bears (λ place. calm_at j place (torn place)); chosen = chosen_same (now log) j v.checkpoint.content (λ n. calm_copy j n (torn (CopyPlace n))) rest.holds.chosen };
+    holds = record { bears = bears_open sh v (now log) j rest.holds.bears (λ place. calm_at j place (torn place)); chosen = chosen_same (now log) j v.checkpoint.content (λ n. calm_copy j n (torn (CopyPlace n))) rest.holds.chosen; short = short_same sh (now log) j v (λ s. calm_prepare j s (torn (PreparePlace s))) rest.holds.short };
     history = λ place y is shown. elim is [
       | inl may ↦ may.1.history
       | inr new ↦ (calm place y new).1.history
@@ -73,7 +79,7 @@ module _ (sh : Shape) (log : UnitLog) (v : View) (put : Units) (rest : RestsOn s
   }
 
   pub calm_step : Stepped sh log put v v
-  calm_step = step sh log v put rest v Same (λ j torn. inl (calm_torn j torn)) (calm_torn (overlay put (now log)) (overlay_torn sh log v put))
+  calm_step = step sh log v put rest v (goes_same (settled log) v) (λ j torn. inl (calm_torn j torn)) (calm_torn (overlay put (now log)) (overlay_torn sh log v put))
 
   -- it may stay loose
   pub calm_stays : RestsOn sh (wrote put log) v
@@ -86,7 +92,11 @@ pub record IsOneStep (sh : Shape) (v u : View) (place : Place) (x : AnyUnit) : T
   pub grew : Grew v u
   pub sound : Sound sh u
   pub checkpoint : u.checkpoint ≡ v.checkpoint
+  pub tail : u.tail ≡ v.tail
+  pub head_is : head u ≡ head v
+  pub short : (j : Units) → IsShort sh j v → IsShort sh j u
   pub no_copy : IsCopy place → ⊥
+  pub no_prepare : IsPrepare place → ⊥
   pub no_block : IsBlock place → ⊥
   pub needless : (y : AnyUnit) → Needs sh v place y → ⊥
   pub agrees : Agrees sh u place x
@@ -99,6 +109,14 @@ module _ (sh : Shape) (log : UnitLog) (v u : View) (put : Units) (place : Place)
   one_copy j n (Loose wet place_calm shows) = absurd (place_calm.no_copy tt)
   one_copy j n (Touched y is shows) = absurd (leads.no_copy (subst IsCopy (one.only (CopyPlace n) y is).0 tt))
 
+  one_prepare : (j : Units) (s : ℕ) → Tear sh log v put j (PreparePlace s) → j (PreparePlace s) ≡ now log (PreparePlace s)
+  one_prepare j s (Kept none same) = same
+  one_prepare j s (Loose wet place_calm shows) = absurd (place_calm.no_prepare tt)
+  one_prepare j s (Touched y is shows) = absurd (leads.no_prepare (subst IsPrepare (one.only (PreparePlace s) y is).0 tt))
+
+  one_short : (j : Units) → Torn sh log v put j → IsShort sh j v
+  one_short j torn = short_same sh (now log) j v (λ s. one_prepare j s (torn (PreparePlace s))) rest.holds.short
+
   -- it didn't take
   before_at : (j : Units) → ((y : AnyUnit) → j place ≡ Some y → Agrees sh v place y) → (other : Place) → Tear sh log v put j other → (j other ≡ now log other) ⊎ IsOpen sh v j other
   before_at j old other (Kept none same) = inl same
@@ -107,7 +125,7 @@ module _ (sh : Shape) (log : UnitLog) (v u : View) (put : Units) (place : Place)
 
   one_before : (j : Units) → Torn sh log v put j → ((y : AnyUnit) → j place ≡ Some y → InImages (settled log) place y × Agrees sh v place y) → TornView sh log v put j v
   one_before j torn old = record {
-    holds = record { bears = bears_open sh v (now log) j rest.holds.bears (λ other. before_at j (λ y shown. (old y shown).1) other (torn other)); chosen = chosen_same (now log) j v.checkpoint.content (λ n. one_copy j n (torn (CopyPlace n))) rest.holds.chosen };
+    holds = record { bears = bears_open sh v (now log) j rest.holds.bears (λ other. before_at j (λ y shown. (old y shown).1) other (torn other)); chosen = chosen_same (now log) j v.checkpoint.content (λ n. one_copy j n (torn (CopyPlace n))) rest.holds.chosen; short = one_short j torn };
     history = λ other y is shown. elim is [
       | inl may ↦ may.1.history
       | inr new ↦
@@ -118,10 +136,10 @@ module _ (sh : Shape) (log : UnitLog) (v u : View) (put : Units) (place : Place)
 
   -- it took
   after_agrees : (j : Units) (other : Place) (y : AnyUnit) → j other ≡ Some y → Tear sh log v put j other → Agrees sh u other y
-  after_agrees j other y shown (Kept none same) = agrees_grew sh v u leads.grew other y (rest.holds.bears.agrees other y (sym same ∙ shown))
+  after_agrees j other y shown (Kept none same) = agrees_grew sh v u leads.grew other y (inl leads.head_is) (rest.holds.bears.agrees other y (sym same ∙ shown))
   after_agrees j other y shown (Loose wet place_calm shows) = block_agrees sh u other y (quiet other wet)
   after_agrees j other y shown (Touched z is shows) = elim (shows y shown) [
-    | inl old ↦ agrees_grew sh v u leads.grew other y old.1
+    | inl old ↦ agrees_grew sh v u leads.grew other y (inl leads.head_is) old.1
     | inr new ↦
         let at = one.only other z is in
         subst (λ (p : Place). Agrees sh u p y) (sym at.0) (subst (λ (w : AnyUnit). Agrees sh u place w) (sym (new ∙ at.1)) leads.agrees)
@@ -143,6 +161,7 @@ module _ (sh : Shape) (log : UnitLog) (v u : View) (put : Units) (place : Place)
     holds = record {
       bears = record { sound = leads.sound; agrees = λ other y is. after_agrees j other y is (torn other); needs = after_needs j torn shown };
       chosen = subst (λ (c : Checkpoint). IsChosen j c.content) (sym leads.checkpoint) (chosen_same (now log) j v.checkpoint.content (λ n. one_copy j n (torn (CopyPlace n))) rest.holds.chosen);
+      short = leads.short j (one_short j torn);
     };
     history = λ other y is there. elim is [
       | inl may ↦ inr (block_in_view u other y (quiet other may.0))
@@ -168,4 +187,4 @@ module _ (sh : Shape) (log : UnitLog) (v u : View) (put : Units) (place : Place)
   ]
 
   pub one_step : Stepped sh log put v u
-  one_step = step sh log v put rest u leads.next one_torn (one_after (overlay put (now log)) (overlay_torn sh log v put) (ap (λ (o : Option AnyUnit). or_else o (now log place)) one.at))
+  one_step = step sh log v put rest u (record { next = leads.next; clear = inl (leads.checkpoint, leads.tail) }) one_torn (one_after (overlay put (now log)) (overlay_torn sh log v put) (ap (λ (o : Option AnyUnit). or_else o (now log place)) one.at))

@@ -43,7 +43,7 @@ first = record { checkpoint = record { content = content1; chain = []; parts = n
 pub is_first : IsFirst shape first
 is_first = record {
   content = record {
-    tests = record { version = refl; layout = refl; cluster = refl; sequence = (omega arith, omega arith); op_checksum = λ zero_is. refl; head = (omega arith, omega arith, omega arith); replies = (omega arith, omega arith); pin = (omega arith, omega arith); answered = omega arith; of = record { one = λ is. (refl, refl, refl, refl); two = λ is. absurd (omega arith) }; rest = λ i. refl };
+    tests = record { version = refl; layout = refl; cluster = refl; sequence = (omega arith, omega arith); boot = omega arith; op_checksum = λ zero_is. refl; head = (omega arith, omega arith, omega arith); replies = (omega arith, omega arith); pin = (omega arith, omega arith); pin_checksum = λ level. refl; answered = omega arith; spare = λ k low. refl; of = record { one = λ is. (refl, refl, refl, refl); two = λ is. absurd (omega arith) }; rest = λ i. refl };
     sequence = refl;
     numbers = (refl, refl, refl, refl);
     pin = (refl, refl, refl);

@@ -39,8 +39,9 @@ settled_content sh (image ∷ []) v (holds, inl begins) empty n c away at = absu
 settled_content sh (image ∷ before ∷ images) v (holds, inl begins) empty n c away (inl here) = (v, refl, let is = begins.1 (CopyPlace n) (CopyUnit c) here in cc)
 settled_content sh (image ∷ before ∷ images) v (holds, inl begins) empty n c away (inr there) = (v, refl, made_content v.checkpoint.content (before ∷ images) begins.2 n c there)
 settled_content sh (image ∷ images) v (holds, inr (history, (u, next, grows))) empty n c away (inl here) = elim (history (CopyPlace n) (CopyUnit c) here) [
-  | inl old ↦ let w = settled_content sh images u grows empty n c away old in (w.0, inr w.1, w.2)
-  | inr of ↦
+  | inl (inl old) ↦ let w = settled_content sh images u grows empty n c away old in (w.0, inr w.1, w.2)
+  | inr none ↦ absurd none
+  | inl (inr of) ↦
       let same : of.0 ≡ c = (let e = of.1 in cc) in
       elim of.2 [
         | inl base ↦ (v, inl refl, sym same ∙ base)
@@ -60,8 +61,9 @@ settled_reply sh (image ∷ []) v (holds, inl begins) empty k r at = absurd empt
 settled_reply sh (image ∷ before ∷ images) v (holds, inl begins) empty k r (inl here) = absurd (begins.1 (ReplyPlace k) (ReplyUnit r) here)
 settled_reply sh (image ∷ before ∷ images) v (holds, inl begins) empty k r (inr there) = absurd (made_reply v.checkpoint.content (before ∷ images) begins.2 k (ReplyUnit r) there)
 settled_reply sh (image ∷ images) v (holds, inr (history, (u, next, grows))) empty k r (inl here) = elim (history (ReplyPlace k) (ReplyUnit r) here) [
-  | inl old ↦ let w = settled_reply sh images u grows empty k r old in (w.0, inr w.1, w.2)
-  | inr of ↦
+  | inl (inl old) ↦ let w = settled_reply sh images u grows empty k r old in (w.0, inr w.1, w.2)
+  | inr none ↦ absurd none
+  | inl (inr of) ↦
       let same : of.0 ≡ r = (let e = of.1 in cc) in
       (v, inl refl, of.2 ∙ ap Some same)
 ]
@@ -88,7 +90,7 @@ pub after_append : (sh : Shape) (images : List Units) (v : View) (grows : Grows 
 after_append sh [] v grows empty w p was at = absurd was
 after_append sh (image ∷ []) v (holds, inl begins) empty w p is at = absurd empty
 after_append sh (image ∷ before ∷ images) v (holds, inl begins) empty w p is at = absurd (let none : In p [] = subst (λ (l : List Message). In p l) (ap (λ (x : View). x.tail) is ∙ begins.0.tail) at in none)
-after_append sh (image ∷ images) v (holds, inr (history, (u, next, grows))) empty w p (inl is) at = elim (append_here u v p next (subst (λ (x : View). In p x.tail) is at)) [
+after_append sh (image ∷ images) v (holds, inr (history, (u, next, grows))) empty w p (inl is) at = elim (append_here u v p next.next (subst (λ (x : View). In p x.tail) is at)) [
   | inl old ↦ let b = after_append sh images u grows empty u p (was_self sh images u grows) old in (b.0, inr b.1, b.2, b.3, b.4, b.5)
   | inr new ↦ (v, inl refl, new.0, new.1, new.2, new.3)
 ]
@@ -113,7 +115,7 @@ pub after_reply : (sh : Shape) (images : List Units) (v : View) (grows : Grows s
 after_reply sh [] v grows empty w k r was at = absurd was
 after_reply sh (image ∷ []) v (holds, inl begins) empty w k r is at = absurd empty
 after_reply sh (image ∷ before ∷ images) v (holds, inl begins) empty w k r is at = absurd (let both : None ≡ Some r = sym (begins.0.stored k) ∙ ap (λ (x : View). x.stored k) (sym is) ∙ at in cc)
-after_reply sh (image ∷ images) v (holds, inr (history, (u, next, grows))) empty w k r (inl is) at = elim (reply_here u v k r next (ap (λ (x : View). x.stored k) (sym is) ∙ at)) [
+after_reply sh (image ∷ images) v (holds, inr (history, (u, next, grows))) empty w k r (inl is) at = elim (reply_here u v k r next.next (ap (λ (x : View). x.stored k) (sym is) ∙ at)) [
   | inl old ↦ let b = after_reply sh images u grows empty u k r (was_self sh images u grows) old in (b.0, inr b.1, b.2, b.3, b.4, b.5)
   | inr new ↦ (v, inl refl, new.0, new.1, new.2, new.3)
 ]
@@ -134,7 +136,7 @@ after_base sh [] v grows empty w was = absurd was
 after_base sh (image ∷ []) v (holds, inl begins) empty w is = absurd empty
 after_base sh (image ∷ before ∷ images) v (holds, inl begins) empty w is =
     (v, refl, ap (λ (x : View). x.checkpoint) (sym is), omega (arith, begins.0.content.numbers, ap length begins.0.tail), omega (arith, begins.0.content.numbers, begins.0.replies))
-after_base sh (image ∷ images) v (holds, inr (history, (u, next, grows))) empty w (inl is) = elim (base_here u v next) [
+after_base sh (image ∷ images) v (holds, inr (history, (u, next, grows))) empty w (inl is) = elim (base_here u v next.next) [
   | inl same ↦ let a = after_base sh images u grows empty u (was_self sh images u grows) in (a.0, inr a.1, a.2 ∙ sym same ∙ ap (λ (x : View). x.checkpoint) (sym is), a.3, a.4)
   | inr new ↦ (v, inl refl, ap (λ (x : View). x.checkpoint) (sym is), new.0, new.1)
 ]

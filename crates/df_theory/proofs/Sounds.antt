@@ -4,14 +4,15 @@ use Rattle.std.proofs.lemmas.List.{length-take, take-append-le}
 use Rattle.std.specs.List.{slice_get}
 use Rattle.std.proofs.lemmas.Bool.{cases_eq}
 use Rattle.std.proofs.lemmas.Bool.Decides.{nat_tests}
-use Rattle.df_theory.specs.Units.{Message, Session}
+use Rattle.df_theory.specs.Units.{Layout, Message, Session}
 use Rattle.df_theory.specs.Sessions.{Answers, Tracks, sessions_after}
-use Rattle.df_theory.specs.Tails.{AreWholeGroups, Chain, In, last_checksum, last_mark}
+use Rattle.df_theory.specs.Tails.{AreGroups, AreWholeGroups, Chain, EndsAt, In, last_checksum, last_mark}
 use Rattle.df_theory.specs.Shape.{Shape}
 use Rattle.df_theory.specs.View.{Checkpoint, PassesTests, View, head, sessions}
 use Rattle.df_theory.specs.Holds.{IsNamed, Sound}
 use Rattle.df_theory.specs.Next.{IsFinish, IsReply, MayAppend, MayFinish, appended, checkpointed, kept, replied}
 use Rattle.df_theory.proofs.Tails.{in_either, in_dropped, turn_ops, turn_chain}
+use Rattle.df_theory.proofs.Grouped.{groups_append, groups_drop, turn_groups}
 use Rattle.df_theory.proofs.Sessions.{chain_append, last_mark-append, last_mark-each, after_get, sessions-append, chain_drop, last_mark-drop, sessions-drop, tracks_chain, chain_take, last_mark-take}
 use Rattle.df_theory.proofs.Appends.{kept_some}
 use Rattle.df_theory.proofs.Replies.{stored_at, stored_else}
@@ -82,6 +83,18 @@ module _ (sh : Shape) (v : View) (ps : List Message) (sound : Sound sh v) (may :
     | inr new ↦ omega (arith, (may.is.stamped p new).group_last, head_is)
   ]
 
+  grouped : AreGroups 0 v.checkpoint.content.op (v.checkpoint.content.op + 1) (v.tail ++ ps)
+  grouped =
+      let same : head v + 1 ≡ v.checkpoint.content.op + 1 + length v.tail = omega arith in
+      let new : AreGroups 0 (head v) (head v + 1) ps = turn_groups (head v + 1) (head v + length ps) (head v) ps (λ p at. let stamped = may.is.stamped p at in (stamped.group, stamped.group_last)) (omega arith) (omega arith) in
+      groups_append 0 v.checkpoint.content.op (v.checkpoint.content.op + 1) v.tail ps (head v) sound.grouped (omega arith) (λ p at. omega (arith, sound.groups p at)) (omega arith) (subst (λ (k : ℕ). AreGroups 0 (head v) k ps) same new)
+
+  pin_ends : EndsAt v.checkpoint.content.pin (v.tail ++ ps)
+  pin_ends p at low = elim (in_either p v.tail ps at) [
+    | inl old ↦ sound.pin_ends p old low
+    | inr new ↦ absurd (omega (arith, op_new p new, sound.records.pin_to))
+  ]
+
   pub append_sound : Sound sh u
   append_sound = record {
     chain = chain_append sh.layout.clients (v.checkpoint.content.op + 1) v.checkpoint.content.op_checksum 0 v.checkpoint.parts.sessions v.tail ps sound.chain (
@@ -91,7 +104,9 @@ module _ (sh : Shape) (v : View) (ps : List Message) (sound : Sound sh v) (may :
         (λ p at. let stamped = may.is.stamped p at in (stamped.mark, stamped.group_last)) sound.replies_from.1 (omega (arith, sound.pipeline.0)) (omega (arith, may.pipeline)) (omega arith) may.asks)
         );
     room = omega (arith, may.room, length-append v.tail ps);
+    grouped = grouped;
     groups = groups;
+    pin_ends = pin_ends;
     checkpoint = sound.checkpoint;
     head_from = omega (arith, sound.head_from, head_is);
     head_to = omega (arith, may.unspent, head_is);
@@ -133,7 +148,9 @@ module _ (sh : Shape) (v : View) (place : ℕ) (r : Message) (sound : Sound sh v
   reply_sound = record {
     chain = sound.chain;
     room = sound.room;
+    grouped = sound.grouped;
     groups = sound.groups;
+    pin_ends = sound.pin_ends;
     checkpoint = sound.checkpoint;
     head_from = sound.head_from;
     head_to = sound.head_to;
@@ -185,6 +202,13 @@ module _ (sh : Shape) (v : View) (c : Checkpoint) (sound : Sound sh v) (may : Ma
   head_same : head (checkpointed v c) ≡ head v
   head_same = omega (arith, length-drop n v.tail, is.op_from, is.op_to)
 
+  grouped_here : AreGroups 0 c.content.op (c.content.op + 1) (drop n v.tail)
+  grouped_here =
+      let op : v.checkpoint.content.op + 1 + n ≡ c.content.op + 1 = omega (arith, is.op_from) in
+      subst (λ (k : ℕ). AreGroups 0 c.content.op k (drop n v.tail)) op
+      (groups_drop n 0 v.checkpoint.content.op (v.checkpoint.content.op + 1) c.content.op v.tail sound.grouped (omega arith) (omega (arith, is.op_to, is.op_from))
+      (λ p at low. omega (arith, may.ends p at (omega (arith, is.op_from)), is.op_from)) sh.layout.clients v.checkpoint.content.op_checksum 0 v.checkpoint.parts.sessions sound.chain (omega (arith, is.op_from)))
+
   no_checksum : c.content.op ≡ 0 → c.content.op_checksum ≡ 0
   no_checksum zero_is =
       let none : n ≡ 0 = omega (arith, is.op_from) in
@@ -198,11 +222,16 @@ module _ (sh : Shape) (v : View) (c : Checkpoint) (sound : Sound sh v) (may : Ma
         cluster = is.file.1 ∙ tests.cluster;
         layout = is.file.2 ∙ tests.layout;
         sequence = (omega (arith, is.sequence), omega (arith, is.sequence, may.unspent));
+        boot = omega (arith, is.boot, tests.boot);
         op_checksum = no_checksum;
         head = (omega (arith, is.head, is.op_to), omega (arith, is.head, is.op_from, sound.room), omega (arith, is.head, sound.head_to));
         replies = (omega (arith, is.head, is.replies, sound.pipeline.0), omega (arith, is.head, is.replies, sound.pipeline.1));
         pin = (is.records.pin_from.1, omega (arith, is.records.pin_to, is.head));
+        pin_checksum = λ same.
+            let none : c.content.pin - c.content.op ≡ 0 = omega (arith, same) in
+            sym is.records.checksum ∙ ap (λ (k : ℕ). last_checksum c.content.op_checksum (take k (drop n v.tail))) none;
         answered = omega (arith, is.records.answered.1, is.replies);
+        spare = λ k low. is.records.spare k (omega (arith, low, ap (λ (l : Layout). l.clients) tests.layout));
         of = is.of;
         rest = λ i. ap (λ (l : List ℕ). slice_index l i) is.file.3 ∙ tests.rest i;
       }
@@ -211,7 +240,9 @@ module _ (sh : Shape) (v : View) (c : Checkpoint) (sound : Sound sh v) (may : Ma
   checkpoint_sound = record {
     chain = chain_here;
     room = omega (arith, length-drop n v.tail, sound.room);
+    grouped = grouped_here;
     groups = λ p at. omega (arith, sound.groups p (in_dropped n p v.tail at), head_same);
+    pin_ends = λ p at low. may.pin_ends p (in_dropped n p v.tail at) low;
     checkpoint = record { tests = tests_here; tracks = tracks_here; trailer = may.trailer };
     head_from = omega (arith, is.head, head_same);
     head_to = omega (arith, sound.head_to, head_same);

@@ -1,18 +1,18 @@
 -- Events, one after another, on logs that are quiet but for free blocks.
-use Rattle.std.proofs.Common.{◌≡◌, ◌⊎◌, inl, inr, arith, Bool, true, false, ◌||◌, List, [], ◌∷◌, Option, Some, None, refl, sym, ◌∙◌, ap}
-use Rattle.df_theory.specs.Units.{AnyUnit, BlockPlace, CopyPlace, HeaderPlace, Place, PreparePlace, ReplyPlace, Units, is_some, or_else, overlay}
+use Rattle.std.proofs.Common.{◌≡◌, ◌⊎◌, inl, inr, arith, Bool, true, false, ◌||◌, List, [], ◌∷◌, length, Option, Some, None, refl, sym, ◌∙◌, ap, subst}
+use Rattle.df_theory.specs.Units.{AnyUnit, BlockPlace, CopyPlace, HeaderPlace, Place, PreparePlace, PrepareUnit, ReplyPlace, Units, is_some, or_else, overlay}
 use Rattle.df_theory.specs.Shape.{Shape}
-use Rattle.df_theory.specs.View.{View}
+use Rattle.df_theory.specs.View.{Checkpoint, View}
 use Rattle.df_theory.specs.Shows.{Agrees}
 use Rattle.df_theory.specs.Holds.{Holds, Sound}
-use Rattle.df_theory.specs.Next.{Next, Same}
+use Rattle.df_theory.specs.Next.{Same}
 use Rattle.df_theory.specs.UnitLog.{IsLeftBy, Synced, UnitLog, add, loose, now, settled, wrote}
 use Rattle.df_theory.specs.Chance.{AreFair, EachLeft, InImages, InPool}
 use Rattle.df_theory.specs.First.{AreMade, IsMade}
-use Rattle.df_theory.specs.Grown.{Begins, Grows, HasGrown, IsSafe}
+use Rattle.df_theory.specs.Grown.{Begins, GoesOn, Grows, HasGrown, IsSafe}
 use Rattle.df_theory.specs.Rests.{IsCalm, IsCalmPut, RestsOn, Stepped}
-use Rattle.df_theory.proofs.Grew.{agrees_grew, next_grew}
-use Rattle.df_theory.proofs.Images.{bears_open, chosen_same}
+use Rattle.df_theory.proofs.Grew.{Stays, agrees_grew, next_grew}
+use Rattle.df_theory.proofs.Images.{bears_open, chosen_same, short_same}
 use Rattle.df_theory.proofs.Torn.{IsPooled, Outcome, Tear, Kept, Loose, Touched, Torn, TornView}
 
 pub grows_holds : (sh : Shape) (image : Units) (images : List Units) (v : View) → Grows sh (image ∷ images) v → Holds sh image v
@@ -51,13 +51,25 @@ pub grows_sound : (sh : Shape) (images : List Units) (u : View) → Grows sh ima
 grows_sound sh [] u grows = absurd grows
 grows_sound sh (image ∷ images) u grows = grows.0.bears.sound
 
+-- a step that keeps the head
+pub goes_same : (images : List Units) (v : View) → GoesOn images v v
+goes_same images v = record { next = Same; clear = inl (refl, refl) }
+
+-- what was settled before a step stays as the step needs it
+pub stays_on : (sh : Shape) (images : List Units) (u v : View) → Grows sh images u → GoesOn images u v → (place : Place) (x : AnyUnit) → InImages images place x → Stays u v place x
+stays_on sh images u v grows goes place x at = elim goes.clear [
+  | inl same ↦ inl (omega (arith, ap (λ (b : Checkpoint). b.content.op) same.0, ap length same.1))
+  | inr (inl more) ↦ inr (inl more)
+  | inr (inr clear) ↦ inr (inr (λ s p is unit own. clear s p (subst (λ (l : Place). InImages images l (PrepareUnit p)) is (subst (λ (y : AnyUnit). InImages images place y) unit at)) own))
+]
+
 -- every settled unit agrees with the newest view
 pub old_agrees : (sh : Shape) (images : List Units) (v : View) → Grows sh images v → (place : Place) (x : AnyUnit) → InImages images place x → Agrees sh v place x
 old_agrees sh [] v grows place x at = absurd at
 old_agrees sh (image ∷ images) v grows place x (inl here) = grows.0.bears.agrees place x here
 old_agrees sh (image ∷ images) v grows place x (inr there) = elim grows.1 [
   | inl begins ↦ begins_agrees sh v image images begins place x there
-  | inr later ↦ agrees_grew sh later.1.0 v (next_grew sh later.1.0 v (grows_sound sh images later.1.0 later.1.2) later.1.1) place x (old_agrees sh images later.1.0 later.1.2 place x there)
+  | inr later ↦ agrees_grew sh later.1.0 v (next_grew sh later.1.0 v (grows_sound sh images later.1.0 later.1.2) later.1.1.next) place x (stays_on sh images later.1.0 v later.1.2 later.1.1 place x there) (old_agrees sh images later.1.0 later.1.2 place x there)
 ]
 
 pub grows_more : (sh : Shape) (images : List Units) (v : View) (j : Units) → Grows sh images v → (o : Outcome sh images v j) → Grows sh (j ∷ images) o.view
@@ -96,7 +108,7 @@ cases_bool false = inr refl
 pub rests_left : (sh : Shape) (log : UnitLog) (v : View) → RestsOn sh log v → (j : Units) → IsLeftBy log j → IsPooled log j → Outcome sh (settled log) v j
 rests_left sh log v rest j left pooled = record {
   view = v;
-  next = Same;
+  next = goes_same (settled log) v;
   holds = record {
     bears = bears_open sh v (now log) j rest.holds.bears (λ place. elim (cases_bool (loose log place)) [
       | inl is ↦ inr (record {
@@ -112,11 +124,15 @@ rests_left sh log v rest j left pooled = record {
       | inl is ↦ absurd ((rest.calm (CopyPlace n) is).no_copy tt)
       | inr firm ↦ left (CopyPlace n) firm
     ]) rest.holds.chosen;
+    short = short_same sh (now log) j v (λ s. elim (cases_bool (loose log (PreparePlace s))) [
+      | inl is ↦ absurd ((rest.calm (PreparePlace s) is).no_prepare tt)
+      | inr firm ↦ left (PreparePlace s) firm
+    ]) rest.holds.short;
   };
-  history = λ place x is. elim (pooled place x is) [
+  history = λ place x is. inl (elim (pooled place x is) [
     | inl old ↦ inl old
     | inr new ↦ (rest.pending place x new).1.history
-  ];
+  ]);
 }
 
 pub rests_safe : (sh : Shape) (log : UnitLog) (v : View) → RestsOn sh log v → IsSafe sh log
@@ -157,28 +173,28 @@ module _ (sh : Shape) (log : UnitLog) (v : View) (put : Units) (rest : RestsOn s
   pub left_torn : (j : Units) → IsLeftBy (wrote put log) j → IsPooled (wrote put log) j → Torn sh log v put j
   left_torn j left pooled place = tear_at j left pooled place (put place) refl (loose log place) refl
 
-  pub torn_outcome : (j : Units) (u : View) → Next v u → IsPooled (wrote put log) j → TornView sh log v put j u → Outcome sh (settled log) v j
+  pub torn_outcome : (j : Units) (u : View) → GoesOn (settled log) v u → IsPooled (wrote put log) j → TornView sh log v put j u → Outcome sh (settled log) v j
   torn_outcome j u next pooled t = record {
     view = u;
     next = next;
     holds = t.holds;
-    history = λ place x is. elim (pooled place x is) [
+    history = λ place x is. inl (elim (pooled place x is) [
       | inl old ↦ inl old
       | inr (inl new) ↦ t.history place x (inr new) is
       | inr (inr pending) ↦ t.history place x (inl (rest.pending place x pending)) is
-    ];
+    ]);
   }
 
   -- the log after the write and a sync is at rest
-  pub write_synced : (u : View) → Next v u → TornView sh log v put (overlay put (now log)) u → RestsOn sh (add Synced (wrote put log)) u
+  pub write_synced : (u : View) → GoesOn (settled log) v u → TornView sh log v put (overlay put (now log)) u → RestsOn sh (add Synced (wrote put log)) u
   unfolding torn_outcome
   write_synced u next t = synced_rests sh (wrote put log) u (record { fair = rest.fair; grows = grows_more sh (settled log) v (now (wrote put log)) rest.grows (torn_outcome (overlay put (now log)) u next wrote_pooled t) })
 
-  pub step : (u : View) → Next v u → ((j : Units) → Torn sh log v put j → TornView sh log v put j v ⊎ TornView sh log v put j u) → TornView sh log v put (overlay put (now log)) u → Stepped sh log put v u
+  pub step : (u : View) → GoesOn (settled log) v u → ((j : Units) → Torn sh log v put j → TornView sh log v put j v ⊎ TornView sh log v put j u) → TornView sh log v put (overlay put (now log)) u → Stepped sh log put v u
   step u next each done = record {
     good = record {
       safe = safe_if sh (wrote put log) v rest.fair rest.grows wrote_pooled (λ j left pooled. elim (each j (left_torn j left pooled)) [
-        | inl before ↦ torn_outcome j v Same pooled before
+        | inl before ↦ torn_outcome j v (goes_same (settled log) v) pooled before
         | inr after ↦ torn_outcome j u next pooled after
       ]);
       left = λ j left chance. elim (each j (left_torn j left chance.pooled)) [

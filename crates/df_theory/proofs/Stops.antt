@@ -40,7 +40,7 @@ may2 = record {
 }
 
 stepped : Stepped shape log1 put2 view1 view2
-stepped = prepare_steps shape log1 view1 put2 prepare_other leads1.0.leads.rests (λ place wet. absurd (let no_unit : false ≡ true = wet in cc)) may2 (put_one_law (PreparePlace 2) (PrepareUnit prepare_other))
+stepped = prepare_steps shape log1 view1 put2 prepare_other leads1.0.leads.rests (λ place wet. absurd (let no_unit : false ≡ true = wet in cc)) leads1.0.tidy.clear may2 (put_one_law (PreparePlace 2) (PrepareUnit prepare_other))
 
 before_left : IsLeftBy log2 (now log1)
 before_left place firm = go (put2 place) refl

@@ -40,6 +40,15 @@ chain_ops clients op parent mark ss (x ∷ ps) p chain (inr there) =
     let rest = chain_ops clients (op + 1) x.header.checksum x.header.mark (noted x.header ss) ps p chain.1 there in
     (omega (arith, rest.0), omega (arith, rest.1))
 
+-- and each is at most the last of its group
+pub chain_last : (clients op parent mark : ℕ) (ss : List Session) (ps : List Message) (p : Message) → Chain clients op parent mark ss ps → In p ps → p.header.op ≤ p.header.group_last
+chain_last clients op parent mark ss [] p chain at = absurd at
+chain_last clients op parent mark ss (x ∷ ps) p chain (inl here) =
+    let is : p.header.op ≡ x.header.op = ap (λ (w : Message). w.header.op) here in
+    let last : p.header.group_last ≡ x.header.group_last = ap (λ (w : Message). w.header.group_last) here in
+    omega (arith, chain.0.op_is, chain.0.group)
+chain_last clients op parent mark ss (x ∷ ps) p chain (inr there) = chain_last clients (op + 1) x.header.checksum x.header.mark (noted x.header ss) ps p chain.1 there
+
 -- those from an op on
 pub in_drop : (n clients op parent mark : ℕ) (ss : List Session) (ps : List Message) (p : Message) → Chain clients op parent mark ss ps → In p ps → op + n ≤ p.header.op → In p (drop n ps)
 in_drop zero clients op parent mark ss ps p chain at high = at

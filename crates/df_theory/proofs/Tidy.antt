@@ -1,16 +1,18 @@
 -- Each command begins and ends in a tidy file.
-use Rattle.std.proofs.Common.{◌≡◌, inl, ℕ, ◌%◌, List, [], ◌∷◌, ◌++◌, ◌||◌, false, Option, Some, None, refl, sym, ◌∙◌, ap, subst, true}
-use Rattle.df_theory.specs.Units.{AnyUnit, Block, BlockPlace, BlockUnit, Content, CopyPlace, CopyUnit, Header, PreparePlace, PrepareUnit, ReplyPlace, ReplyUnit, Units, is_some}
-use Rattle.df_theory.specs.View.{View}
-use Rattle.df_theory.specs.Next.{checkpointed, replied}
-use Rattle.df_theory.specs.UnitLog.{PutsOne, Synced, UnitLog, add, loose, now, wrote}
+use Rattle.std.proofs.Common.{◌≡◌, inl, ℕ, ◌+◌, ◌-◌, ◌%◌, List, [], ◌∷◌, ◌++◌, ◌||◌, false, Option, Some, None, refl, sym, ◌∙◌, ap, subst, true, arith, length-append, length-drop}
+use Rattle.df_theory.specs.Units.{AnyUnit, Block, BlockPlace, BlockUnit, Content, CopyPlace, CopyUnit, Header, Message, PreparePlace, PrepareUnit, ReplyPlace, ReplyUnit, Units, is_some}
+use Rattle.df_theory.specs.View.{View, boot_of, head}
+use Rattle.df_theory.specs.Next.{appended, checkpointed, replied}
+use Rattle.df_theory.specs.Grown.{IsClear}
+use Rattle.df_theory.proofs.Clear.{clear_steps, low_append, low_copies, low_headers, low_one, low_update}
+use Rattle.df_theory.specs.UnitLog.{PutsOne, Synced, UnitLog, add, loose, now, settled, wrote}
 use Rattle.df_theory.specs.Rests.{IsBlock, IsQuiet}
 use Rattle.df_theory.specs.Runs.{Leads, Puts, Step, Syncs, after_steps}
 use Rattle.df_theory.specs.MakingLaws.{all_puts}
 use Rattle.df_theory.specs.MendLaws.{AllPutCopy, AllPutTable, copy_steps, header_steps, mend_steps}
 use Rattle.df_theory.specs.WholeLaws.{AllSpare, IsStanding, Spares}
 use Rattle.df_theory.specs.TidyLaws.{TidyAppendLaw, TidyBlockLaw, TidyFinishLaw, TidyMendLaw, TidyReplyLaw, TidySyncLaw, TidyIdleLaw}
-use Rattle.df_theory.specs.Commands.{append_command, block_command, mend_command, reply_command, sync_command, idle_command}
+use Rattle.df_theory.specs.Commands.{append_command, block_command, finish_command, mend_command, reply_command, sync_command, idle_command}
 use Rattle.df_theory.specs.CopyPuts.{update_steps}
 use Rattle.df_theory.proofs.Writes.{append_law, reply_law, block_law, update_law, write_law, good_rests, quiet_synced}
 use Rattle.df_theory.proofs.Steps.{rests_safe, rests_holds}
@@ -25,12 +27,17 @@ pub tidy_append_law : TidyAppendLaw
 tidy_append_law sh log v p prepare headers tidy may one sector there =
     let spare_prepare : Spares v prepare = spares_one v prepare (PreparePlace (p.header.op % sh.layout.slots)) (PrepareUnit p) one (λ a same. cc (same)) in
     let spare_headers : Spares v headers = spares_headers v headers (λ place y is. let e = sector.each place y is in (e.0, e.2)) in
-    let leads = (append_law sh log v p prepare headers tidy.rests tidy.quiet may one sector).leads in (
+    let top : head (appended v (p ∷ [])) ≡ head v + 1 = omega (arith, length-append v.tail (p ∷ [])) in
+    let leads = (append_law sh log v p prepare headers tidy.rests tidy.quiet tidy.clear may one sector).leads in (
       record {
         leads = leads;
         tidy = record {
           rests = leads.rests;
           quiet = quiet_synced (wrote headers (add Synced (wrote prepare log)));
+          clear = clear_steps sh log v (appended v (p ∷ [])) (append_command v p prepare headers).steps tidy.rests tidy.quiet tidy.clear refl (omega (arith, top)) (
+            (λ s q is own. let at = (one.only (PreparePlace s) (PrepareUnit q) is).1 in let same : q ≡ p = cc in omega (arith, ap (λ (w : Message). w.header.op) same, may.is.turn.0, top)),
+            ((λ s q is own. absurd (let at = (sector.each (PreparePlace s) (PrepareUnit q) is).2 in cc)), tt),
+          );
           whole = whole_append_law sh (now log) v p prepare headers tidy.rests.holds.bears.sound may one sector there tidy.whole;
         };
       },
@@ -41,7 +48,7 @@ pub tidy_reply_law : TidyReplyLaw
 tidy_reply_law sh log v put place r tidy may one =
     let spare : Spares v put = spares_one v put (ReplyPlace place) (ReplyUnit r) one (λ a same. cc (same)) in
     let leads = write_law sh log put v (replied v place r) tidy.rests (reply_law sh log v put place r tidy.rests tidy.quiet may one) in (
-      record { leads = leads; tidy = record { rests = leads.rests; quiet = quiet_synced (wrote put log); whole = whole_reply_law sh (now log) put v place r one tidy.whole } },
+      record { leads = leads; tidy = record { rests = leads.rests; quiet = quiet_synced (wrote put log); clear = clear_steps sh log v (replied v place r) (reply_command v place r put).steps tidy.rests tidy.quiet tidy.clear refl (omega arith) (low_one (boot_of v) (head v) put (ReplyPlace place) (ReplyUnit r) one (λ prepare. prepare), tt); whole = whole_reply_law sh (now log) put v place r one tidy.whole } },
       keeps_standing sh log v (reply_command v place r put) refl leads (spare, tt),
     )
 
@@ -57,7 +64,7 @@ pub tidy_block_law : TidyBlockLaw
 tidy_block_law sh log v put a b tidy no_chain one =
     let kept = block_law sh log v put a b tidy.rests no_chain one in
     let leads : Leads sh log v (block_command v put) = record { moments = (good_rests sh log v v v tidy.rests (inl refl), kept.1.good); rests = kept.0 } in (
-      record { leads = leads; tidy = record { rests = kept.0; quiet = quiet_block log put a b tidy.quiet one; whole = whole_block_law sh (now log) put v a b one tidy.whole } },
+      record { leads = leads; tidy = record { rests = kept.0; quiet = quiet_block log put a b tidy.quiet one; clear = tidy.clear; whole = whole_block_law sh (now log) put v a b one tidy.whole } },
       λ standing no_reference. keeps_standing sh log v (block_command v put) refl leads
           (λ e c is. miss put (BlockPlace a) (BlockPlace e) (BlockUnit b) one (λ same. no_reference c (ap v.checkpoint.parts.references (let at : a ≡ e = cc (same) in at) ∙ is)), tt) standing,
     )
@@ -71,7 +78,7 @@ pub tidy_sync_law : TidySyncLaw
 tidy_sync_law sh log v tidy =
     let after = synced_after sh v log tidy.rests in
     let leads : Leads sh log v (sync_command v) = record { moments = (good_rests sh log v v v tidy.rests (inl refl), good_rests sh (add Synced log) v v v after (inl refl)); rests = after } in (
-      record { leads = leads; tidy = record { rests = after; quiet = quiet_synced log; whole = tidy.whole } },
+      record { leads = leads; tidy = record { rests = after; quiet = quiet_synced log; clear = clear_steps sh log v v (Syncs ∷ []) tidy.rests tidy.quiet tidy.clear refl (omega arith) tt; whole = tidy.whole } },
       keeps_standing sh log v (sync_command v) refl leads tt,
     )
 
@@ -79,7 +86,7 @@ pub tidy_finish_law : TidyFinishLaw
 tidy_finish_law sh log v c puts tidy may chain = (
   record {
     leads = record { moments = (good_rests sh log v u v tidy.rests (inl refl), update.moments); rests = update.rests };
-    tidy = record { rests = update.rests; quiet = λ place wet. absurd (let no_unit : false ≡ true = wet in cc); whole = whole_update_law sh (now log) v c puts tidy.whole };
+    tidy = record { rests = update.rests; quiet = λ place wet. absurd (let no_unit : false ≡ true = wet in cc); clear = clear_steps sh log v u (finish_command v c puts).steps tidy.rests tidy.quiet tidy.clear may.is.boot (omega (arith, top)) (low_update (boot_of u) (head u) c.content puts); whole = whole_update_law sh (now log) v c puts tidy.whole };
   },
   λ standing references.
       let old : IsStanding log0 v = record { shown = standing.shown; firm = λ a d is. refl } in
@@ -96,11 +103,17 @@ tidy_finish_law sh log v c puts tidy may chain = (
     u : View
     u = checkpointed v c
 
+    top : head u ≡ head v
+    top = omega (arith, length-drop (c.content.op - v.checkpoint.content.op) v.tail, may.is.op_from, may.is.op_to)
+
     log0 : UnitLog
     log0 = add Synced log
 
+    clear0 : IsClear (settled log0) v
+    clear0 = clear_steps sh log v v (Syncs ∷ []) tidy.rests tidy.quiet tidy.clear refl (omega arith) tt
+
     update : Leads sh log0 v (record { steps = update_steps puts; view = checkpointed v c })
-    update = (update_law sh log0 v c puts (synced_after sh v log tidy.rests) (λ place. refl) may tidy.whole.copies chain).leads
+    update = (update_law sh log0 v c puts (synced_after sh v log tidy.rests) (λ place. refl) clear0 may tidy.whole.copies chain).leads
 
     spare : (w : View) → AllSpare w (update_steps puts)
     spare w = (
@@ -113,12 +126,12 @@ tidy_finish_law sh log v c puts tidy may chain = (
 
 -- ---- mending
 
-spare_append : (v : View) (ss ts : List Step) → AllSpare v ss → AllSpare v ts → AllSpare v (ss ++ ts)
+pub spare_append : (v : View) (ss ts : List Step) → AllSpare v ss → AllSpare v ts → AllSpare v (ss ++ ts)
 spare_append v [] ts one two = two
 spare_append v ((Puts put) ∷ ss) ts one two = (one.0, spare_append v ss ts one.1 two)
 spare_append v (Syncs ∷ ss) ts one two = spare_append v ss ts one two
 
-spare_table : (v : View) (table : ℕ → Header) (puts : List Units) → AllPutTable table puts → AllSpare v (all_puts puts)
+pub spare_table : (v : View) (table : ℕ → Header) (puts : List Units) → AllPutTable table puts → AllSpare v (all_puts puts)
 spare_table v table [] all = tt
 spare_table v table (put ∷ puts) all = (spares_headers v put (λ place y is. let e = all.0 place y is in (e.0, e.1)), spare_table v table puts all.1)
 
@@ -140,7 +153,7 @@ quiet_headers [] log quiet = quiet
 quiet_headers (put ∷ puts) log quiet = subst IsQuiet (sym (after_append (all_puts (put ∷ puts)) (Syncs ∷ []) log)) (quiet_synced (after_steps (all_puts (put ∷ puts)) log))
 
 pub tidy_mend_law : TidyMendLaw
-tidy_mend_law sh log v table headers copies may =
+tidy_mend_law sh log v table headers copies may clear =
     let mended = mend_law sh log v table headers copies may in
     let spare : AllSpare v (mend_steps headers copies) = spare_append v (header_steps headers) (copy_steps copies) (spare_header_steps v table headers may.puts_headers) (spare_copies v v.checkpoint.content may.agreed.first may.agreed.second copies may.puts_copies) in
     let leads : Leads sh log v (mend_command v headers copies) = record { moments = mended.0; rests = mended.1 } in (
@@ -149,6 +162,8 @@ tidy_mend_law sh log v table headers copies may =
         tidy = record {
           rests = mended.1;
           quiet = subst IsQuiet (sym (after_append (header_steps headers) (copy_steps copies) log)) (quiet_copies copies (after_steps (header_steps headers) log) (quiet_headers headers log may.quiet));
+          clear = clear_steps sh log v v (mend_steps headers copies) may.rests may.quiet clear refl (omega arith)
+              (low_append (boot_of v) (head v) (header_steps headers) (copy_steps copies) (low_headers (boot_of v) (head v) table headers may.puts_headers) (low_copies (boot_of v) (head v) v.checkpoint.content may.agreed.first may.agreed.second copies may.puts_copies));
           whole = mends_whole_law sh log v table headers copies may;
         };
       },

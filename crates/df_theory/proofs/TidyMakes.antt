@@ -13,6 +13,7 @@ use Rattle.df_theory.specs.MakingLaws.{AllReserved, PutsReserved, all_puts, form
 use Rattle.df_theory.specs.MendLaws.{Reaches}
 use Rattle.df_theory.specs.TidyLaws.{TidyFormatLaw}
 use Rattle.df_theory.specs.CopyPuts.{PutsCopies, update_steps}
+use Rattle.df_theory.proofs.Clear.{clear_one}
 use Rattle.df_theory.proofs.Writes.{put_else}
 use Rattle.df_theory.proofs.Runs.{after_append}
 use Rattle.df_theory.proofs.Births.{format_law}
@@ -91,6 +92,7 @@ tidy_format_law sh log v headers puts making first reserved reached =
       record {
         rests = made.1;
         quiet = subst IsQuiet (sym same) (λ place wet. absurd (let no_unit : false ≡ true = wet in cc));
+        clear = clear_one sh (after_steps (format_steps headers puts) log) v made.1 first.content.pin.0;
         whole = subst (λ (l : UnitLog). IsWhole sh (now l) v) (sym same) (over_whole sh v (now under) puts first (λ s below. all_reached headers log s reserved (inr (reached s below))));
       },
       record { shown = λ a c is. absurd (unreferenced a c is); firm = λ a c is. absurd (unreferenced a c is) },

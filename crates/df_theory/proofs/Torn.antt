@@ -5,10 +5,9 @@ use Rattle.df_theory.specs.Shape.{Shape}
 use Rattle.df_theory.specs.View.{View}
 use Rattle.df_theory.specs.Shows.{Agrees}
 use Rattle.df_theory.specs.Holds.{Holds}
-use Rattle.df_theory.specs.Next.{Next}
 use Rattle.df_theory.specs.UnitLog.{UnitLog, loose, now, settled}
 use Rattle.df_theory.specs.Chance.{InImages, InPool}
-use Rattle.df_theory.specs.Grown.{AllInHistory, InView}
+use Rattle.df_theory.specs.Grown.{AllInHistory, GoesOn, InView}
 use Rattle.df_theory.specs.Rests.{IsCalm, MaySettle}
 
 -- each unit shown is of the pool
@@ -18,7 +17,7 @@ IsPooled log image = (place : Place) (x : AnyUnit) → image place ≡ Some x �
 -- an image that may be settled next
 pub record Outcome (sh : Shape) (images : List Units) (v : View) (j : Units) : Type 0 where
   pub view : View
-  pub next : Next v view
+  pub next : GoesOn images v view
   pub holds : Holds sh j view
   pub history : AllInHistory images j view
 

@@ -5,21 +5,22 @@ use Rattle.df_theory.specs.Units.{AnyUnit, Block, BlockPlace, BlockUnit, Content
 use Rattle.df_theory.specs.Shape.{Shape}
 use Rattle.df_theory.specs.Copies.{Agree, IsNextContent, rank_of}
 use Rattle.df_theory.specs.Trailer.{InChain}
-use Rattle.df_theory.specs.View.{View}
+use Rattle.df_theory.specs.View.{View, boot_of, head}
 use Rattle.df_theory.specs.Shows.{Agrees, AgreesCopy, Needs}
 use Rattle.df_theory.specs.Holds.{Bears, Sound}
-use Rattle.df_theory.specs.Next.{Next, Same}
+use Rattle.df_theory.specs.Next.{Next}
 use Rattle.df_theory.specs.UnitLog.{PutsOne, UnitLog, loose, now, settled}
 use Rattle.df_theory.specs.Chance.{InImages}
-use Rattle.df_theory.specs.Grown.{InView}
+use Rattle.df_theory.specs.Grown.{InView, IsClear}
 use Rattle.df_theory.specs.Rests.{AgreeBeside, IsQuiet, RestsOn, MaySettle, Stepped}
 use Rattle.df_theory.specs.Tails.{In}
+use Rattle.df_theory.specs.Groups.{IsShort}
 use Rattle.df_theory.proofs.Grew.{Grew, agrees_grew, next_grew}
 use Rattle.df_theory.proofs.Choices.{chosen_above}
 use Rattle.df_theory.proofs.Torn.{Tear, Kept, Loose, Touched, Torn, TornView}
-use Rattle.df_theory.proofs.Images.{IsOpen, bears_open}
+use Rattle.df_theory.proofs.Images.{IsClearIn, IsOpen, bears_open, short_clear, short_same}
 use Rattle.df_theory.proofs.Puts.{block_agrees, block_in_view, overlay_torn}
-use Rattle.df_theory.proofs.Steps.{step}
+use Rattle.df_theory.proofs.Steps.{goes_same, step}
 use Rattle.df_theory.proofs.CopyVotes.{IsStage, agree_at, chosen_first, chosen_last, chosen_not_yet, chosen_second}
 
 -- ---- one copy, torn
@@ -35,6 +36,15 @@ module _ (sh : Shape) (log : UnitLog) (w : View) (put : Units) (k : ℕ) (old ne
     low = λ n less. other_copy j n (λ same. omega arith) (torn (CopyPlace n)) ∙ stage.low n less;
     high = λ n more below. other_copy j n (λ same. omega arith) (torn (CopyPlace n)) ∙ stage.high n more below;
   }
+
+  -- the prepares stay
+  copy_prepare : (j : Units) (s : ℕ) → Tear sh log w put j (PreparePlace s) → j (PreparePlace s) ≡ now log (PreparePlace s)
+  copy_prepare j s (Kept none same) = same
+  copy_prepare j s (Loose wet place_calm shows) = absurd (place_calm.no_prepare tt)
+  copy_prepare j s (Touched y is shows) = absurd (let at = (one.only (PreparePlace s) y is).0 in cc)
+
+  pub copy_short : (j : Units) (u : View) → Torn sh log w put j → IsShort sh (now log) u → IsShort sh j u
+  copy_short j u torn short = short_same sh (now log) j u (λ s. copy_prepare j s (torn (PreparePlace s))) short
 
   copy_open : (j : Units) → ((x : AnyUnit) → j (CopyPlace k) ≡ Some x → Agrees sh w (CopyPlace k) x) → (place : Place) → Tear sh log w put j place → (j place ≡ now log place) ⊎ IsOpen sh w j place
   copy_open j here place (Kept none same) = inl same
@@ -81,6 +91,7 @@ pub record IsRaise (sh : Shape) (v u : View) : Type 0 where
   pub content : IsNextContent v.checkpoint.content u.checkpoint.content
   pub higher : rank_of v.checkpoint.content < rank_of u.checkpoint.content
   pub sound : Sound sh u
+  pub head_is : head u ≡ head v
   pub tail : (p : Message) → In p u.tail → In p v.tail
   pub stored : (k : ℕ) → u.stored k ≡ v.stored k
 
@@ -88,7 +99,7 @@ pub record IsRaise (sh : Shape) (v u : View) : Type 0 where
 pub checkpoint_rests : (sh : Shape) (j : Units) (v u : View) → Bears sh j v → IsRaise sh v u → ((a : ℕ) (b : Block) → InChain a b u.checkpoint.chain → j (BlockPlace a) ≡ Some (BlockUnit b)) → Bears sh j u
 checkpoint_rests sh j v u bears raise there = record {
   sound = raise.sound;
-  agrees = λ place x shown. agrees_grew sh v u (next_grew sh v u bears.sound raise.next) place x (bears.agrees place x shown);
+  agrees = λ place x shown. agrees_grew sh v u (next_grew sh v u bears.sound raise.next) place x (inl raise.head_is) (bears.agrees place x shown);
   needs = needs;
 }
   where
@@ -101,11 +112,11 @@ checkpoint_rests sh j v u bears raise there = record {
 
 -- ---- the four steps of an update
 
-torn_later : (sh : Shape) (log : UnitLog) (v u : View) (put j : Units) → Grew v u → ((place : Place) → loose log place ≡ false) → (place : Place) → Tear sh log v put j place → Tear sh log u put j place
-torn_later sh log v u put j grew dry place (Kept none same) = Kept none same
-torn_later sh log v u put j grew dry place (Loose wet place_calm shows) = absurd (cc (wet, dry place))
-torn_later sh log v u put j grew dry place (Touched y is shows) = Touched y is (λ x shown. elim (shows x shown) [
-  | inl old ↦ inl (old.0, agrees_grew sh v u grew place x old.1)
+torn_later : (sh : Shape) (log : UnitLog) (v u : View) (put j : Units) → Grew v u → head u ≡ head v → ((place : Place) → loose log place ≡ false) → (place : Place) → Tear sh log v put j place → Tear sh log u put j place
+torn_later sh log v u put j grew level dry place (Kept none same) = Kept none same
+torn_later sh log v u put j grew level dry place (Loose wet place_calm shows) = absurd (cc (wet, dry place))
+torn_later sh log v u put j grew level dry place (Touched y is shows) = Touched y is (λ x shown. elim (shows x shown) [
+  | inl old ↦ inl (old.0, agrees_grew sh v u grew place x (inl level) old.1)
   | inr after ↦ inr after
 ])
 
@@ -133,21 +144,22 @@ module _ (sh : Shape) (log : UnitLog) (v u : View) (put : Units) (raise : IsRais
 
   -- copy 0: the view stays
   pub update_first : RestsOn sh log v → IsQuiet log → PutsOne put (CopyPlace 0) (CopyUnit u.checkpoint.content) → IsStage (now log) v.checkpoint.content u.checkpoint.content 0 → Stepped sh log put v v
-  update_first rest quiet one stage = step sh log v put rest v Same (λ j torn. inl (view j torn)) (view (overlay put (now log)) (overlay_torn sh log v put))
+  update_first rest quiet one stage = step sh log v put rest v (goes_same (settled log) v) (λ j torn. inl (view j torn)) (view (overlay put (now log)) (overlay_torn sh log v put))
     where
       view : (j : Units) → Torn sh log v put j → TornView sh log v put j v
       view j torn = record {
         holds = record {
           bears = copy_rests sh log v put 0 v.checkpoint.content u.checkpoint.content rest.holds.bears quiet one j torn (copy_here sh log v put 0 v.checkpoint.content u.checkpoint.content rest.holds.bears quiet one agrees_first j torn);
           chosen = chosen_first j v.checkpoint.content u.checkpoint.content raise.higher (stage_torn sh log v put 0 v.checkpoint.content u.checkpoint.content rest.holds.bears quiet one j torn stage);
+          short = copy_short sh log v put 0 v.checkpoint.content u.checkpoint.content rest.holds.bears quiet one j v torn rest.holds.short;
         };
         history = copy_history sh log v put 0 v.checkpoint.content u.checkpoint.content rest.holds.bears quiet one j v (λ shown. (u.checkpoint.content, refl, inr (refl, raise.content)));
       }
 
   -- copy 1: the old view or the new one
   pub update_second : RestsOn sh log v → ((place : Place) → loose log place ≡ false) → PutsOne put (CopyPlace 1) (CopyUnit u.checkpoint.content) → IsStage (now log) v.checkpoint.content u.checkpoint.content 1
-      → ((a : ℕ) (b : Block) → InChain a b u.checkpoint.chain → now log (BlockPlace a) ≡ Some (BlockUnit b)) → Stepped sh log put v u
-  update_second rest dry one stage there = step sh log v put rest u raise.next each (after (overlay put (now log)) (overlay_torn sh log v put) (shown_over 1 one))
+      → ((a : ℕ) (b : Block) → InChain a b u.checkpoint.chain → now log (BlockPlace a) ≡ Some (BlockUnit b)) → IsClearIn (now log) u → (boot_of v < boot_of u) ⊎ IsClear (settled log) v → Stepped sh log put v u
+  update_second rest dry one stage there clear rises = step sh log v put rest u (record { next = raise.next; clear = inr rises }) each (after (overlay put (now log)) (overlay_torn sh log v put) (shown_over 1 one))
     where
       quiet : IsQuiet log
       quiet place wet = absurd (cc (wet, dry place))
@@ -170,6 +182,7 @@ module _ (sh : Shape) (log : UnitLog) (v u : View) (put : Units) (raise : IsRais
         holds = record {
           bears = copy_rests sh log v put 1 v.checkpoint.content u.checkpoint.content rest.holds.bears quiet one j torn (λ x shown. (old x shown).1);
           chosen = chosen_not_yet j v.checkpoint.content u.checkpoint.content raise.higher (staged j torn) (not_new j old);
+          short = copy_short sh log v put 1 v.checkpoint.content u.checkpoint.content rest.holds.bears quiet one j v torn rest.holds.short;
         };
         history = copy_history sh log v put 1 v.checkpoint.content u.checkpoint.content rest.holds.bears quiet one j v (λ shown. absurd (not_new j old shown));
       }
@@ -179,11 +192,12 @@ module _ (sh : Shape) (log : UnitLog) (v u : View) (put : Units) (raise : IsRais
 
       after : (j : Units) → Torn sh log v put j → j (CopyPlace 1) ≡ Some (CopyUnit u.checkpoint.content) → TornView sh log v put j u
       after j torn shown =
-          let torn_u : Torn sh log u put j = λ place. torn_later sh log v u put j (next_grew sh v u rest.holds.bears.sound raise.next) dry place (torn place) in
+          let torn_u : Torn sh log u put j = λ place. torn_later sh log v u put j (next_grew sh v u rest.holds.bears.sound raise.next) raise.head_is dry place (torn place) in
           record {
             holds = record {
               bears = copy_rests sh log u put 1 v.checkpoint.content u.checkpoint.content now_rests quiet one j torn_u (copy_here sh log u put 1 v.checkpoint.content u.checkpoint.content now_rests quiet one (agrees_later 1) j torn_u);
               chosen = chosen_second j v.checkpoint.content u.checkpoint.content raise.higher (staged j torn) shown;
+              short = copy_short sh log v put 1 v.checkpoint.content u.checkpoint.content rest.holds.bears quiet one j u torn (short_clear sh (now log) u clear);
             };
             history = copy_history sh log v put 1 v.checkpoint.content u.checkpoint.content rest.holds.bears quiet one j u (λ shown. (u.checkpoint.content, refl, inl refl));
           }
@@ -196,13 +210,14 @@ module _ (sh : Shape) (log : UnitLog) (v u : View) (put : Units) (raise : IsRais
 
   -- copies 2 and 3: the new view stays
   pub update_later : (k : ℕ) → 1 < k → RestsOn sh log u → IsQuiet log → PutsOne put (CopyPlace k) (CopyUnit u.checkpoint.content) → IsStage (now log) v.checkpoint.content u.checkpoint.content k → Stepped sh log put u u
-  update_later k above rest quiet one stage = step sh log u put rest u Same (λ j torn. inl (view j torn)) (view (overlay put (now log)) (overlay_torn sh log u put))
+  update_later k above rest quiet one stage = step sh log u put rest u (goes_same (settled log) u) (λ j torn. inl (view j torn)) (view (overlay put (now log)) (overlay_torn sh log u put))
     where
       view : (j : Units) → Torn sh log u put j → TornView sh log u put j u
       view j torn = record {
         holds = record {
           bears = copy_rests sh log u put k v.checkpoint.content u.checkpoint.content rest.holds.bears quiet one j torn (copy_here sh log u put k v.checkpoint.content u.checkpoint.content rest.holds.bears quiet one (agrees_later k) j torn);
           chosen = chosen_last j v.checkpoint.content u.checkpoint.content raise.higher k above (stage_torn sh log u put k v.checkpoint.content u.checkpoint.content rest.holds.bears quiet one j torn stage);
+          short = copy_short sh log u put k v.checkpoint.content u.checkpoint.content rest.holds.bears quiet one j u torn rest.holds.short;
         };
         history = copy_history sh log u put k v.checkpoint.content u.checkpoint.content rest.holds.bears quiet one j u (λ shown. (u.checkpoint.content, refl, inl refl));
       }
@@ -236,9 +251,10 @@ module _ (sh : Shape) (log : UnitLog) (v : View) (put : Units) (k : ℕ) (rest :
       chosen = chosen_above j v.checkpoint.content
           (agree_at j v.checkpoint.content spare.agreed.first spare.agreed.second spare.agreed.apart spare.agreed.inside (mend_copy j spare.agreed.first torn spare.no_first ∙ spare.agreed.at_first) (mend_copy j spare.agreed.second torn spare.no_second ∙ spare.agreed.at_second))
           (mend_lower j torn);
+      short = copy_short sh log v put k v.checkpoint.content v.checkpoint.content rest.holds.bears quiet one j v torn rest.holds.short;
     };
     history = copy_history sh log v put k v.checkpoint.content v.checkpoint.content rest.holds.bears quiet one j v (λ shown. (v.checkpoint.content, refl, inl refl));
   }
 
   pub mend_step : Stepped sh log put v v
-  mend_step = step sh log v put rest v Same (λ j torn. inl (mend_view j torn)) (mend_view (overlay put (now log)) (overlay_torn sh log v put))
+  mend_step = step sh log v put rest v (goes_same (settled log) v) (λ j torn. inl (mend_view j torn)) (mend_view (overlay put (now log)) (overlay_torn sh log v put))

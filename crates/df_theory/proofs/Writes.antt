@@ -1,26 +1,29 @@
 -- The laws of the writers.
-use Rattle.std.proofs.Common.{◌≡◌, ◌⊎◌, inl, inr, ℕ, ◌+◌, ◌-◌, ◌<◌, ◌%◌, ◌≤◌, List, [], ◌∷◌, ◌++◌, true, false, Option, Some, None, refl, sym, ◌∙◌, ap, subst, arith}
+use Rattle.std.proofs.Common.{◌≡◌, ◌⊎◌, inl, inr, ℕ, ◌+◌, ◌-◌, ◌<◌, ◌%◌, ◌≤◌, List, [], ◌∷◌, ◌++◌, true, false, Option, Some, None, refl, sym, ◌∙◌, ap, subst, arith, length-drop}
 use Rattle.df_theory.specs.CopyPuts.{PutsCopies}
 use Rattle.df_theory.specs.Units.{AnyUnit, Block, BlockPlace, BlockUnit, Content, CopyPlace, CopyUnit, Header, HeaderPlace, HeaderUnit, Message, Place, PreparePlace, PrepareUnit, Units, or_else, overlay, IsReserved}
 use Rattle.df_theory.specs.Tails.{In}
 use Rattle.df_theory.specs.Shape.{Shape}
 use Rattle.df_theory.specs.Copies.{Agree}
 use Rattle.df_theory.specs.Trailer.{InChain}
-use Rattle.df_theory.specs.View.{View, head}
+use Rattle.df_theory.specs.View.{View, boot_of, head}
 use Rattle.df_theory.specs.Holds.{Holds}
 use Rattle.df_theory.specs.Next.{Boot, Finish, MayAppend, appended, booted, checkpointed, replied}
 use Rattle.df_theory.specs.UnitLog.{PutsOne, Stopped, Synced, UnitLog, add, now, settled, wrote}
 use Rattle.df_theory.specs.First.{AreMade}
+use Rattle.df_theory.specs.Grown.{IsClear}
 use Rattle.df_theory.specs.Rests.{IsCalm, IsCalmPut, IsDry, IsGoodLog, IsQuiet, RestsOn, MaySettle, Stepped}
 use Rattle.df_theory.specs.WriterLaws.{AnewLaw, AppendLaw, BlockLaw, BootLaw, CalmLaw, CopyLaw, HeaderLaw, ReplyLaw, RestLaw, StopLaw, SyncLaw, UpdateLaw, Updates, WriteLaw}
-use Rattle.df_theory.proofs.Tails.{in_back, in_dropped}
+use Rattle.df_theory.proofs.Tails.{chain_ops, in_back, in_dropped}
 use Rattle.df_theory.proofs.Choices.{boot_higher, boot_next, finish_higher, finish_next}
-use Rattle.df_theory.proofs.OneView.{one_view}
+use Rattle.df_theory.proofs.OneFound.{one_view}
 use Rattle.df_theory.proofs.Steps.{grows_holds, old_agrees, synced_rests, rests_safe, rests_holds}
 use Rattle.df_theory.proofs.Puts.{calm_step, calm_stays, one_step}
-use Rattle.df_theory.proofs.Appends.{append_step}
+use Rattle.df_theory.proofs.Flushes.{prepare_step}
 use Rattle.df_theory.proofs.Replies.{reply_step}
-use Rattle.df_theory.proofs.Sounds.{append_sound, reply_sound, checkpoint_sound}
+use Rattle.df_theory.proofs.Sounds.{reply_sound, checkpoint_sound}
+use Rattle.df_theory.proofs.Images.{IsClearIn}
+use Rattle.df_theory.proofs.Agreeing.{prepare_agrees}
 use Rattle.df_theory.proofs.BootSounds.{boot_sound}
 use Rattle.df_theory.proofs.Updates.{IsRaise, update_first, update_second, update_later, stage_next, mend_step}
 use Rattle.df_theory.proofs.CopyVotes.{IsStage}
@@ -92,10 +95,8 @@ good_both sh log v u good = record { safe = good.safe; left = λ j left chance. 
 pub good_first : (sh : Shape) (log : UnitLog) (v u : View) → IsGoodLog sh v v log → IsGoodLog sh v u log
 good_first sh log v u good = record { safe = good.safe; left = λ j left chance. elim (good.left j left chance) [ inl is ↦ inl is | inr is ↦ inl is ] }
 
-pub prepare_steps : (sh : Shape) (log : UnitLog) (v : View) (put : Units) (p : Message) → RestsOn sh log v → IsQuiet log → MayAppend sh v (p ∷ []) → PutsOne put (PreparePlace (p.header.op % sh.layout.slots)) (PrepareUnit p) → Stepped sh log put v (appended v (p ∷ []))
-prepare_steps sh log v put p rests quiet may one =
-    let sound = rests.holds.bears.sound in
-    one_step sh log v (appended v (p ∷ [])) put _ _ rests quiet one (append_step sh v p sound (append_sound sh v (p ∷ []) sound may) may)
+pub prepare_steps : (sh : Shape) (log : UnitLog) (v : View) (put : Units) (p : Message) → RestsOn sh log v → IsQuiet log → IsClear (settled log) v → MayAppend sh v (p ∷ []) → PutsOne put (PreparePlace (p.header.op % sh.layout.slots)) (PrepareUnit p) → Stepped sh log put v (appended v (p ∷ []))
+prepare_steps sh log v put p rests quiet clear may one = prepare_step sh log v put p rests quiet clear may one
 
 pub reply_law : ReplyLaw
 reply_law sh log v put place r rests quiet may one =
@@ -106,7 +107,7 @@ block_calm : (sh : Shape) (log : UnitLog) (v : View) (put : Units) (a : ℕ) (b 
 block_calm sh log v put a c free one place y is =
     let at = (one.only place y is).0 in
     subst (λ (p : Place). IsCalm sh v p × MaySettle sh (settled log) v p y) (sym at) (
-      record { no_copy = λ copy. copy; needless = λ x need. free need.0 need.1 },
+      record { no_copy = λ copy. copy; no_prepare = λ prepare. prepare; needless = λ x need. free need.0 need.1 },
       record { agrees = tt; history = inr tt },
     )
 
@@ -124,7 +125,7 @@ header_law sh log v put rests mend = calm_law sh log v put rests (λ place y is.
     let e = mend.each place y is in
     subst (λ (p : Place). IsCalm sh v p × MaySettle sh (settled log) v p y) (sym e.2)
     (subst (λ (x : AnyUnit). IsCalm sh v (HeaderPlace e.0) × MaySettle sh (settled log) v (HeaderPlace e.0) x) (sym e.3)
-    (record { no_copy = λ copy. copy; needless = λ x need. need }, may e.0 e.1 e.4)))
+    (record { no_copy = λ copy. copy; no_prepare = λ prepare. prepare; needless = λ x need. need }, may e.0 e.1 e.4)))
   where
     may : (s : ℕ) (h : Header) → (now log (HeaderPlace s) ≡ Some (HeaderUnit h)) ⊎ ((p : Message) × In p v.tail × (p.header ≡ h) × (s ≡ h.op % sh.layout.slots)) ⊎ IsReserved h → MaySettle sh (settled log) v (HeaderPlace s) (HeaderUnit h)
     may s h (inl shown) = record {
@@ -141,7 +142,7 @@ header_law sh log v put rests mend = calm_law sh log v put rests (λ place y is.
             h,
             refl,
             record {
-              op = subst (λ (x : Header). x.boot ≡ v.checkpoint.content.boot → x.op ≤ head v) same a.2.op;
+              op = λ own. let ops = chain_ops sh.layout.clients (v.checkpoint.content.op + 1) v.checkpoint.content.op_checksum 0 v.checkpoint.parts.sessions v.tail of.0 rests.holds.bears.sound.chain of.1 in omega (arith, ops.1, ap (λ (x : Header). x.op) of.2);
               ring = subst (λ (x : Header). x.op ≤ v.checkpoint.content.op + sh.layout.slots) same a.2.ring;
               checkpoint = subst (λ (x : Header). x.checkpoint ≤ v.checkpoint.content.sequence) same a.2.checkpoint;
               boot = subst (λ (x : Header). x.boot ≤ v.checkpoint.content.boot) same a.2.boot;
@@ -168,7 +169,7 @@ put_else put image place other x one away = go (put other) refl
     go (Some y) some = absurd (away (one.only other y some).0)
 
 pub append_law : AppendLaw
-append_law sh log v p prepare headers rests quiet may one sector =
+append_law sh log v p prepare headers rests quiet clear may one sector =
     let u : View = appended v (p ∷ []) in
     let mid : UnitLog = add Synced (wrote prepare log) in
     record {
@@ -192,7 +193,7 @@ append_law sh log v p prepare headers rests quiet may one sector =
     }
   where
     first : Stepped sh log prepare v (appended v (p ∷ []))
-    first = prepare_steps sh log v prepare p rests quiet may one
+    first = prepare_steps sh log v prepare p rests quiet clear may one
 
     second : RestsOn sh (wrote headers (add Synced (wrote prepare log))) (appended v (p ∷ [])) × Stepped sh (add Synced (wrote prepare log)) headers (appended v (p ∷ [])) (appended v (p ∷ []))
     second = header_law sh (add Synced (wrote prepare log)) (appended v (p ∷ [])) headers first.rests (record { each = mends })
@@ -211,13 +212,20 @@ append_law sh log v p prepare headers rests quiet may one sector =
               ],
             )
 
+-- where nothing of the boot survived in what was settled, nothing is shown
+pub clear_in : (sh : Shape) (log : UnitLog) (v : View) → RestsOn sh log v → IsQuiet log → IsClear (settled log) v → IsClearIn (now log) v
+clear_in sh log v rests quiet clear s p is own = elim (rests.pooled (PreparePlace s) (PrepareUnit p) is) [
+  | inl old ↦ clear s p old own
+  | inr pending ↦ absurd (quiet (PreparePlace s) (rests.pending (PreparePlace s) (PrepareUnit p) pending).0)
+]
+
 -- four copies of the next content, one after the other
 raise_law : (sh : Shape) (log : UnitLog) (v u : View) (puts : PutsCopies u.checkpoint.content)
-    → RestsOn sh log v → IsDry log → IsRaise sh v u
+    → RestsOn sh log v → IsDry log → IsRaise sh v u → IsClearIn (now log) u → (boot_of v < boot_of u) ⊎ IsClear (settled log) v
     → ((n : ℕ) → n < 4 → now log (CopyPlace n) ≡ Some (CopyUnit v.checkpoint.content))
     → ((a : ℕ) (b : Block) → InChain a b u.checkpoint.chain → now log (BlockPlace a) ≡ Some (BlockUnit b))
     → Updates sh log v u puts
-raise_law sh log v u puts rests dry raise copies held =
+raise_law sh log v u puts rests dry raise clear rises copies held =
     let quiet : IsQuiet log = dry_quiet log dry in
     let log1 : UnitLog = add Synced (wrote puts.put0 log) in
     let log2 : UnitLog = add Synced (wrote puts.put1 log1) in
@@ -228,7 +236,15 @@ raise_law sh log v u puts rests dry raise copies held =
     let first : Stepped sh log puts.put0 v v = update_first sh log v u puts.put0 raise rests quiet puts.one0 stage0 in
     let stage1 : IsStage (now log1) v.checkpoint.content u.checkpoint.content 1 = stage_next sh log v u puts.put0 raise 0 v rests quiet puts.one0 stage0 in
     let there : (a : ℕ) (b : Block) → InChain a b u.checkpoint.chain → now log1 (BlockPlace a) ≡ Some (BlockUnit b) = λ a b at. put_else puts.put0 (now log) (CopyPlace 0) (BlockPlace a) (CopyUnit u.checkpoint.content) puts.one0 (λ same. cc (same)) ∙ held a b at in
-    let second : Stepped sh log1 puts.put1 v u = update_second sh log1 v u puts.put1 raise first.rests (λ place. refl) puts.one1 stage1 there in
+    let clear1 : IsClearIn (now log1) u = λ s p is own. clear s p (sym (put_else puts.put0 (now log) (CopyPlace 0) (PreparePlace s) (CopyUnit u.checkpoint.content) puts.one0 (λ same. cc (same))) ∙ is) own in
+    let rises1 : (boot_of v < boot_of u) ⊎ IsClear (settled log1) v = elim rises [
+      | inl more ↦ inl more
+      | inr old ↦ inr (λ s p at own. elim at [
+        | inl here ↦ clear_in sh log v rests quiet old s p (sym (put_else puts.put0 (now log) (CopyPlace 0) (PreparePlace s) (CopyUnit u.checkpoint.content) puts.one0 (λ same. cc (same))) ∙ here) own
+        | inr before ↦ old s p before own
+      ])
+    ] in
+    let second : Stepped sh log1 puts.put1 v u = update_second sh log1 v u puts.put1 raise first.rests (λ place. refl) puts.one1 stage1 there clear1 rises1 in
     let stage2 : IsStage (now log2) v.checkpoint.content u.checkpoint.content 2 = stage_next sh log1 v u puts.put1 raise 1 v first.rests quiet1 puts.one1 stage1 in
     let third : Stepped sh log2 puts.put2 u u = update_later sh log2 v u puts.put2 raise 2 (omega arith) second.rests (quiet_synced (wrote puts.put1 log1)) puts.one2 stage2 in
     let stage3 : IsStage (now log3) v.checkpoint.content u.checkpoint.content 3 = stage_next sh log2 v u puts.put2 raise 2 u second.rests (quiet_synced (wrote puts.put1 log1)) puts.one2 stage2 in
@@ -263,16 +279,23 @@ raise_law sh log v u puts rests dry raise copies held =
     }
 
 pub update_law : UpdateLaw
-update_law sh log v c puts rests dry may copies held =
+update_law sh log v c puts rests dry clear may copies held =
     raise_law sh log v (checkpointed v c) puts rests dry
     (record {
       next = Finish c may.is;
       content = finish_next v c may.is;
       higher = finish_higher v c may.is;
       sound = checkpoint_sound sh v c rests.holds.bears.sound may;
+      head_is = head_is;
       tail = λ p at. in_dropped (c.content.op - v.checkpoint.content.op) p v.tail at;
       stored = λ k. refl;
-    }) copies held
+    }) clear_now (inr clear) copies held
+  where
+    head_is : head (checkpointed v c) ≡ head v
+    head_is = omega (arith, length-drop (c.content.op - v.checkpoint.content.op) v.tail, may.is.op_from, may.is.op_to)
+
+    clear_now : IsClearIn (now log) (checkpointed v c)
+    clear_now s p is own = omega (arith, clear_in sh log v rests (dry_quiet log dry) clear s p is (own ∙ may.is.boot), head_is)
 
 pub boot_law : BootLaw
 boot_law sh log v d puts rests dry may copies = (
@@ -282,9 +305,10 @@ boot_law sh log v d puts rests dry may copies = (
         content = boot_next v d may.is;
         higher = boot_higher v d may.is;
         sound = boot_sound sh v d rests.holds.bears.sound may;
+        head_is = omega (arith, may.is.same.op.0);
         tail = λ p at. at;
         stored = λ k. refl;
-      }) copies (λ a b at. rests.holds.bears.needs (BlockPlace a) (BlockUnit b) (b, at, refl)),
+      }) (λ s p is own. absurd (omega (arith, (prepare_agrees sh (now log) v rests.holds.bears.sound rests.holds.bears.agrees s p is).boot, may.is.boot))) (inl (omega (arith, may.is.boot))) copies (λ a b at. rests.holds.bears.needs (BlockPlace a) (BlockUnit b) (b, at, refl)),
   record { content = may.is.same; chain = refl; parts = refl; tail = refl; replies = refl; stored = λ k. refl },
 )
 

@@ -48,6 +48,23 @@ seen_prepare b o x = Nothing
 abbrev pub decision : ℕ → ℕ → Units → ℕ → Decision
 decision n b image o = case (seen_header b o (image (HeaderPlace (o % n)))) (seen_prepare b o (image (PreparePlace (o % n))))
 
+abbrev pub is_nothing : Seen → Bool
+is_nothing Nothing = true
+is_nothing Old = false
+is_nothing (Current a) = false
+is_nothing Far = false
+
+-- a prepare above the head that would be taken is cut: its slot is empty
+abbrev pub cut : Seen → Decision → Decision
+cut header (Take mend) = if mend then Empty (is_nothing header) else Take false
+cut header Behind = Behind
+cut header Lost = Lost
+cut header (Empty mend) = Empty mend
+
+-- the decision on a slot once the head is known
+abbrev pub decided : ℕ → ℕ → ℕ → Units → ℕ → Decision
+decided n b top image o = if nat_lt top o then cut (seen_header b o (image (HeaderPlace (o % n)))) (decision n b image o) else decision n b image o
+
 abbrev pub IsTake : Decision → Type 0
 IsTake (Take mend) = Unit {0}
 IsTake d = ⊥

@@ -1,5 +1,5 @@
 -- What damage can do to a file at rest: sectors hurt, lost or swapped, so long as no unit comes about by chance.
-use Rattle.std.specs.Prelude.{◌≡◌, ◌⊎◌, ◌<◌, ◌≤◌, ◌+◌, ◌-◌, ◌%◌, ℕ, length, List, ◌++◌, Some}
+use Rattle.std.specs.Prelude.{◌≡◌, ◌⊎◌, ◌<◌, ◌≤◌, ◌+◌, ◌-◌, ◌%◌, ◌^◌, ℕ, length, List, ◌++◌, Some}
 use Rattle.std.specs.List.{slice_get}
 use Rattle.df_theory.specs.Units.{AnyUnit, Block, BlockPlace, Content, CopyPlace, Header, HeaderPlace, HeaderUnit, Message, Place, PreparePlace, ReplyPlace, ReplyUnit, Session, Units}
 use Rattle.df_theory.specs.Sessions.{Answers, sessions_after}
@@ -14,8 +14,8 @@ use Rattle.df_theory.specs.UnitLog.{UnitLog, now}
 use Rattle.df_theory.specs.Chance.{Distinct, InPool, InPools, NoChance}
 use Rattle.df_theory.specs.Grown.{Grows}
 use Rattle.df_theory.specs.Rests.{RestsOn}
-use Rattle.df_theory.specs.Found.{AreOfPlaces, IsFound, IsReplies, IsTail, NotBehind, NotLost, slot_behind}
-use Rattle.df_theory.specs.Opens.{Arrives, BadField, Damaged, NoQuorum, Opens, Refusal, Refused}
+use Rattle.df_theory.specs.Found.{AreOfPlaces, IsFound, IsReach, IsReplies, IsTail, NotBehind, NotLost, slot_behind}
+use Rattle.df_theory.specs.Opens.{Arrives, BadField, BootSpent, Damaged, NoQuorum, Opens, Refusal, Refused}
 use Rattle.df_theory.specs.Past.{FromEmpty, Was}
 use Rattle.df_theory.specs.HistoryLaws.{AreDistinct, ShowsSettled}
 
@@ -56,15 +56,19 @@ TailIsFrontLaw =
 -- where the slot behind the tail that is found shows what it should, nothing was lost: a lost prepare is blamed on a slot that is hurt
 abbrev pub LostIsHurtLaw : Type 0
 LostIsHurtLaw =
-    (sh : Shape) (log : UnitLog) (v : View) (shown : Units) (tail : List Message) → RestsOn sh log v → NoChance log shown → Agree shown v.checkpoint.content → IsTail sh shown v.checkpoint tail
-    → shown (PreparePlace (slot_behind sh v.checkpoint tail)) ≡ now log (PreparePlace (slot_behind sh v.checkpoint tail))
+    (sh : Shape) (log : UnitLog) (v : View) (shown : Units) (tail more : List Message) → RestsOn sh log v → NoChance log shown → Agree shown v.checkpoint.content → IsTail sh shown v.checkpoint tail → IsReach sh shown v.checkpoint tail more
+    → shown (PreparePlace (slot_behind sh v.checkpoint tail more)) ≡ now log (PreparePlace (slot_behind sh v.checkpoint tail more))
     → NotLost shown v.checkpoint.content (v.checkpoint.content.op + length tail)
 
--- a prepare that the found tail lacks, and of which no trace is left, stood in a slot that is hurt
+-- each prepare of the group of this one shows what it should
+abbrev pub IsGroupUnhurt : Shape → UnitLog → View → Units → Message → Type 0
+IsGroupUnhurt sh log v shown p = (q : Message) → In q v.tail → q.header.group ≡ p.header.group → shown (PreparePlace (q.header.op % slots sh)) ≡ now log (PreparePlace (q.header.op % slots sh))
+
+-- of the group of a prepare that the found tail lacks, and that left no trace, one slot is hurt
 abbrev pub MissingIsHurtLaw : Type 0
 MissingIsHurtLaw =
-    (sh : Shape) (log : UnitLog) (v : View) (shown : Units) (top : ℕ) → RestsOn sh log v → NotLost shown v.checkpoint.content top
-    → (p : Message) → In p v.tail → top < p.header.op → shown (PreparePlace (p.header.op % slots sh)) ≡ now log (PreparePlace (p.header.op % slots sh)) → ⊥
+    (sh : Shape) (log : UnitLog) (v : View) (shown : Units) (tail : List Message) → RestsOn sh log v → NoChance log shown → IsTail sh shown v.checkpoint tail → NotLost shown v.checkpoint.content (v.checkpoint.content.op + length tail)
+    → (p : Message) → In p v.tail → v.checkpoint.content.op + length tail < p.header.op → IsGroupUnhurt sh log v shown p → ⊥
 
 -- a stored reply that is not shown as it should be: its slot is hurt, or that of a later prepare of the same client is
 abbrev pub ReplyIsHurtLaw : Type 0
@@ -91,17 +95,18 @@ NoBadFieldLaw =
 abbrev pub IsHurt : UnitLog → Units → Place → Type 0
 IsHurt log shown place = shown place ≡ now log place → ⊥
 
--- a refusal that blames what is hurt: a block of the grid or a slot of the prepare ring that is hurt; for a reply its slot, or the slot of a prepare of the same client and of a later op than the tail that is found reaches
+-- a refusal that blames what is hurt: a block of the grid or a slot of the prepare ring that is hurt; for a reply its slot, or a slot of the group of a prepare of the same client and of a later op than the tail that is found reaches. A file whose boot is spent is refused without blame
 abbrev pub BlamesHurt : Shape → UnitLog → View → Units → Refusal → Type 0
 BlamesHurt sh log v shown NoQuorum = ⊥
 BlamesHurt sh log v shown BadField = ⊥
+BlamesHurt sh log v shown BootSpent = boot_of v ≡ 2 ^ 62
 BlamesHurt sh log v shown (Damaged (CopyPlace n)) = ⊥
 BlamesHurt sh log v shown (Damaged (HeaderPlace s)) = ⊥
 BlamesHurt sh log v shown (Damaged (PreparePlace s)) = IsHurt log shown (PreparePlace s)
 BlamesHurt sh log v shown (Damaged (BlockPlace a)) = IsHurt log shown (BlockPlace a)
 BlamesHurt sh log v shown (Damaged (ReplyPlace k)) =
     shown (ReplyPlace k) ≡ now log (ReplyPlace k)
-    → (s : Session) × (p : Message) × (tail : List Message) × (slice_get (sessions v) k ≡ Some s) × In p v.tail × (p.header.client ≡ s.client) × IsTail sh shown v.checkpoint tail × (v.checkpoint.content.op + length tail < p.header.op) × IsHurt log shown (PreparePlace (p.header.op % slots sh))
+    → (s : Session) × (p : Message) × (tail : List Message) × (slice_get (sessions v) k ≡ Some s) × In p v.tail × (p.header.client ≡ s.client) × IsTail sh shown v.checkpoint tail × (v.checkpoint.content.op + length tail < p.header.op) × (IsGroupUnhurt sh log v shown p → ⊥)
 
 -- at rest, while two copies show the choice, each refusal of an open blames what is hurt
 abbrev pub BlameLaw : Type 0

@@ -1,10 +1,10 @@
 -- What an open finds in an image, whatever was done to it: the state, where no step refuses.
-use Rattle.std.specs.Prelude.{◌≡◌, ◌⊎◌, ◌<◌, ◌≤◌, ◌+◌, ◌-◌, ◌%◌, ◌^◌, ℕ, List, length, take, Some}
+use Rattle.std.specs.Prelude.{◌≡◌, ◌⊎◌, ◌<◌, ◌≤◌, ◌+◌, ◌-◌, ◌%◌, ◌^◌, ℕ, List, [], ◌∷◌, ◌++◌, length, take, Some}
 use Rattle.std.specs.List.{slice_get}
 use Rattle.df_base.specs.Fields.{AreBytes}
 use Rattle.df_theory.specs.Units.{Place, CopyPlace, HeaderPlace, PreparePlace, ReplyPlace, BlockPlace, Header, Message, Session, Content, Block, AnyUnit, CopyUnit, HeaderUnit, PrepareUnit, ReplyUnit, BlockUnit, Units, IsAlone}
-use Rattle.df_theory.specs.Sessions.{sessions_after, Answers}
-use Rattle.df_theory.specs.Tails.{In, Chain, Fits, last_mark, last_checksum, AreWholeGroups}
+use Rattle.df_theory.specs.Sessions.{Answers}
+use Rattle.df_theory.specs.Tails.{In, Chain, last_mark, last_checksum, AreGroups, AreWholeGroups, BindsHead, EndsAt}
 use Rattle.df_theory.specs.Shape.{Shape, slots, clients}
 use Rattle.df_theory.specs.Copies.{IsChosen}
 use Rattle.df_theory.specs.Trailer.{InChain}
@@ -12,6 +12,7 @@ use Rattle.df_theory.specs.View.{Checkpoint, View, head, sessions, IsSoundCheckp
 use Rattle.df_theory.specs.Shows.{AgreesCopy}
 use Rattle.df_theory.specs.Holds.{IsNamed}
 use Rattle.df_theory.specs.Cases.{Takes}
+use Rattle.df_theory.specs.Groups.{AreBehind, AreMore}
 
 -- the fields of a prepare or of a reply are in their ranges
 pub record IsInRange (h : Header) : Type 0 where
@@ -31,22 +32,27 @@ IsOfPlace sh (BlockPlace a) x = (b : Block) × (x ≡ BlockUnit b) × (b.checksu
 abbrev pub AreOfPlaces : Shape → Units → Type 0
 AreOfPlaces sh image = (place : Place) (x : AnyUnit) → image place ≡ Some x → IsOfPlace sh place x
 
--- no taken prepare fits behind this tail, where the ring has room for one
+-- no taken prepares that end a group fit behind this tail, where the ring has room for them
 abbrev pub IsLongest : Shape → Units → Checkpoint → List Message → Type 0
-IsLongest sh image b tail =
-    (p : Message) → length tail < slots sh → Takes (slots sh) image b.content p
-    → Fits (clients sh) (b.content.op + 1 + length tail) (last_checksum b.content.op_checksum tail) (last_mark 0 tail) (sessions_after b.parts.sessions tail) p.header → ⊥
+IsLongest sh image b tail = (ps : List Message) → AreMore sh (Takes (slots sh) image b.content) b tail ps → ⊥
 
--- the slot of the op behind this tail: the one that is blamed where later ops left traces
-abbrev pub slot_behind : Shape → Checkpoint → List Message → ℕ
-slot_behind sh b tail = (b.content.op + length tail + 1) % slots sh
+-- how far taken prepares go on behind this tail, the part of a group that was cut off included
+pub record IsReach (sh : Shape) (image : Units) (b : Checkpoint) (tail more : List Message) : Type 0 where
+  pub behind : AreBehind sh (Takes (slots sh) image b.content) b tail more
+  pub longest : (p : Message) → AreBehind sh (Takes (slots sh) image b.content) b tail (more ++ p ∷ []) → ⊥
 
--- the longest list of taken prepares, each of which fits what precedes it; its last one ends a group
+-- the slot of the op behind all of these: the one that is blamed where later ops left traces
+abbrev pub slot_behind : Shape → Checkpoint → List Message → List Message → ℕ
+slot_behind sh b tail more = (b.content.op + length tail + length more + 1) % slots sh
+
+-- the longest list of taken prepares that ends a group, each of which fits what precedes it
 pub record IsTail (sh : Shape) (image : Units) (b : Checkpoint) (tail : List Message) : Type 0 where
   pub chain : Chain (clients sh) (b.content.op + 1) b.content.op_checksum 0 b.parts.sessions tail
   pub takes : (p : Message) → In p tail → Takes (slots sh) image b.content p
   pub room : length tail ≤ slots sh
+  pub grouped : AreGroups 0 b.content.op (b.content.op + 1) tail
   pub groups : AreWholeGroups (b.content.op + length tail) tail
+  pub pin_ends : EndsAt b.content.pin tail
   pub reaches : b.content.pin ≤ b.content.op + length tail
   pub pinned : last_checksum b.content.op_checksum (take (b.content.pin - b.content.op) tail) ≡ b.content.pin_checksum
   pub longest : IsLongest sh image b tail
@@ -57,13 +63,9 @@ pub record NotBehind (sh : Shape) (image : Units) (c : Content) : Type 0 where
   pub prepare : (s : ℕ) (p : Message) → image (PreparePlace s) ≡ Some (PrepareUnit p) → (p.header.checkpoint ≤ c.sequence) × (p.header.op ≤ c.op + slots sh) × (p.header.boot ≤ c.boot)
   pub reply : (k : ℕ) (r : Message) → image (ReplyPlace k) ≡ Some (ReplyUnit r) → (r.header.checkpoint ≤ c.sequence) × (r.header.boot ≤ c.boot)
 
--- what a prepare that is shown says of the head: its op isn't above it
-abbrev pub BindsHead : ℕ → Header → Type 0
-BindsHead top h = h.op ≤ top
-
--- no trace of this boot of an op above the head
+-- no trace of this boot of an op above the head, but for what survived of a group that was cut off
 pub record NotLost (image : Units) (c : Content) (top : ℕ) : Type 0 where
-  pub header : (s : ℕ) (h : Header) → image (HeaderPlace s) ≡ Some (HeaderUnit h) → h.boot ≡ c.boot → BindsHead top h
+  pub header : (s : ℕ) (h : Header) → image (HeaderPlace s) ≡ Some (HeaderUnit h) → h.boot ≡ c.boot → h.op ≤ top
   pub prepare : (s : ℕ) (p : Message) → image (PreparePlace s) ≡ Some (PrepareUnit p) → p.header.boot ≡ c.boot → BindsHead top p.header
   pub superblock : c.head ≤ top
   pub reply : (k : ℕ) (r : Message) → image (ReplyPlace k) ≡ Some (ReplyUnit r) → r.header.boot ≡ c.boot → (r.header.op ≤ top) × (r.header.mark ≤ top)

@@ -10,11 +10,11 @@ use Rattle.df_theory.specs.Grown.{Grows, HasGrown}
 use Rattle.df_theory.specs.Found.{IsFound}
 use Rattle.df_theory.specs.Past.{FromEmpty, Was}
 
--- the settled prepares of one op are one
+-- the settled prepares of one op and one boot are one
 abbrev pub OnePrepareLaw : Type 0
 OnePrepareLaw =
     (sh : Shape) (images : List Units) (v : View) (grows : Grows sh images v) → FromEmpty sh images v grows → (s t : ℕ) (p q : Message)
-    → InImages images (PreparePlace s) (PrepareUnit p) → InImages images (PreparePlace t) (PrepareUnit q) → p.header.op ≡ q.header.op → p ≡ q
+    → InImages images (PreparePlace s) (PrepareUnit p) → InImages images (PreparePlace t) (PrepareUnit q) → p.header.op ≡ q.header.op → p.header.boot ≡ q.header.boot → p ≡ q
 
 -- the settled replies of one op are one
 abbrev pub OneReplyLaw : Type 0

@@ -3,11 +3,12 @@ use Rattle.std.specs.Prelude.{◌≡◌, ◌<◌, ◌≤◌, ◌+◌, ◌-◌, �
 use Rattle.std.specs.List.{slice_get}
 use Rattle.df_theory.specs.Units.{Place, CopyPlace, HeaderPlace, BlockPlace, Header, Message, Session, Content, Block, AnyUnit, CopyUnit, HeaderUnit, BlockUnit, Units}
 use Rattle.df_theory.specs.Sessions.{Answers}
-use Rattle.df_theory.specs.Tails.{In, Chain, last_checksum, last_mark, AreWholeGroups}
+use Rattle.df_theory.specs.Tails.{In, Chain, last_checksum, last_mark, AreGroups, AreWholeGroups, EndsAt}
 use Rattle.df_theory.specs.Shape.{Shape, slots, clients}
 use Rattle.df_theory.specs.Copies.{IsChosen}
 use Rattle.df_theory.specs.View.{View, boot_of, head, sessions, IsSoundCheckpoint}
 use Rattle.df_theory.specs.Shows.{Needs, Agrees}
+use Rattle.df_theory.specs.Groups.{IsShort}
 
 -- a reply that the content names is the one with the named checksum; each later one is of this boot
 pub record IsNamed (c : Content) (k : ℕ) (r : Message) : Type 0 where
@@ -25,7 +26,9 @@ pub record IsRecorded (v : View) : Type 0 where
 pub record Sound (sh : Shape) (v : View) : Type 0 where
   pub chain : Chain (clients sh) (v.checkpoint.content.op + 1) v.checkpoint.content.op_checksum 0 v.checkpoint.parts.sessions v.tail
   pub room : length v.tail ≤ slots sh
+  pub grouped : AreGroups 0 v.checkpoint.content.op (v.checkpoint.content.op + 1) v.tail
   pub groups : AreWholeGroups (head v) v.tail
+  pub pin_ends : EndsAt v.checkpoint.content.pin v.tail
   pub checkpoint : IsSoundCheckpoint sh v.checkpoint
   pub head_from : v.checkpoint.content.head ≤ head v
   pub head_to : head v ≤ 2 ^ 62
@@ -41,10 +44,11 @@ pub record Bears (sh : Shape) (image : Units) (v : View) : Type 0 where
   pub agrees : (place : Place) (x : AnyUnit) → image place ≡ Some x → Agrees sh v place x
   pub needs : (place : Place) (x : AnyUnit) → Needs sh v place x → image place ≡ Some x
 
--- and its copies choose the view's checkpoint
+-- and its copies choose the view's checkpoint, and no whole group is shown above its head
 pub record Holds (sh : Shape) (image : Units) (v : View) : Type 0 where
   pub bears : Bears sh image v
   pub chosen : IsChosen image v.checkpoint.content
+  pub short : IsShort sh image v
 
 -- what an image that a stop left has of a view: it holds it
 abbrev pub Held : Shape → Units → View → Type 0

@@ -3,7 +3,7 @@ use Rattle.std.specs.Prelude.{◌≡◌, ◌<◌, ◌≤◌, ◌+◌, ◌-◌, �
 use Rattle.std.specs.List.{slice_get}
 use Rattle.df_theory.specs.Units.{Content, Header, Message, Session, IsAlone}
 use Rattle.df_theory.specs.Sessions.{noted, sessions_after, MayAsk, Answers}
-use Rattle.df_theory.specs.Tails.{In, last_checksum}
+use Rattle.df_theory.specs.Tails.{EndsAt, In, last_checksum}
 use Rattle.df_theory.specs.Shape.{Shape, slots, clients}
 use Rattle.df_theory.specs.Trailer.{IsTrailer}
 use Rattle.df_theory.specs.View.{Checkpoint, IsOfVersion, View, boot_of, head, sequence, sessions}
@@ -60,6 +60,7 @@ pub record Records (v : View) (d : Content) : Type 0 where
   pub checksum : last_checksum d.op_checksum (take (d.pin - d.op) (drop (d.op - v.checkpoint.content.op) v.tail)) ≡ d.pin_checksum
   pub answered : (v.checkpoint.content.answered ≤ d.answered) × (d.answered ≤ v.replies + 1)
   pub stored : (k : ℕ) (r : Message) → v.stored k ≡ Some r → r.header.op < d.answered → slice_index d.reply_checksums k ≡ r.header.checksum
+  pub spare : (k : ℕ) → v.checkpoint.content.layout.clients ≤ k → slice_index d.reply_checksums k ≡ 0
 
 -- a checkpoint of the file is finished: of any op that the tail reaches, with the counters as they are
 pub record IsFinish (v : View) (c : Checkpoint) : Type 0 where
@@ -137,8 +138,10 @@ pub record MayReply (v : View) (place : ℕ) (r : Message) : Type 0 where
   pub is : IsReply v place r
   pub waits : v.replies < head v
 
--- a checkpoint that isn't refused, with its trailer
+-- a checkpoint that isn't refused, with its trailer: it and its pin end groups
 pub record MayFinish (sh : Shape) (v : View) (c : Checkpoint) : Type 0 where
   pub is : IsFinish v c
   pub trailer : IsTrailer sh c.content c.chain c.parts
+  pub ends : EndsAt c.content.op v.tail
+  pub pin_ends : EndsAt c.content.pin v.tail
   pub unspent : sequence v < 2 ^ 62

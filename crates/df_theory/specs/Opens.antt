@@ -1,20 +1,22 @@
 -- The answer of an open: the first step that refuses, and what it names, or the state that is found.
-use Rattle.std.specs.Prelude.{◌≡◌, ◌<◌, ◌≤◌, ◌+◌, ◌-◌, ℕ, List, [], ◌∷◌, length, Some}
+use Rattle.std.specs.Prelude.{◌≡◌, ◌<◌, ◌≤◌, ◌+◌, ◌-◌, ◌%◌, ◌^◌, ℕ, List, [], ◌∷◌, ◌++◌, length, Some}
 use Rattle.std.specs.List.{slice_get}
-use Rattle.df_theory.specs.Units.{Block, BlockPlace, BlockUnit, Content, CopyPlace, CopyUnit, Message, Place, PreparePlace, ReplyPlace, ReplyUnit, Session, Units}
+use Rattle.df_theory.specs.Units.{Block, BlockPlace, BlockUnit, Content, CopyPlace, CopyUnit, Message, Place, PreparePlace, PrepareUnit, ReplyPlace, ReplyUnit, Session, Units}
 use Rattle.df_theory.specs.Sessions.{Answers, sessions_after}
-use Rattle.df_theory.specs.Shape.{Shape}
+use Rattle.df_theory.specs.Tails.{AreGroups, Chain, In}
+use Rattle.df_theory.specs.Shape.{Shape, slots, clients}
 use Rattle.df_theory.specs.Copies.{IsChosen, IsSplit}
 use Rattle.df_theory.specs.Trailer.{InChain, IsCount, IsReference, piece_size}
-use Rattle.df_theory.specs.View.{Checkpoint, IsSoundCheckpoint, PassesTests, View}
+use Rattle.df_theory.specs.View.{Checkpoint, IsSoundCheckpoint, PassesTests, View, boot_of}
 use Rattle.df_theory.specs.Holds.{IsNamed}
-use Rattle.df_theory.specs.Found.{IsFound, IsReplies, IsTail, NotBehind, NotLost, slot_behind}
+use Rattle.df_theory.specs.Found.{IsFound, IsReach, IsReplies, IsTail, NotBehind, NotLost, slot_behind}
 
--- no two copies agree, as in a blank file; a test of the superblock, of its layout or of its trailer fails; a place is damaged or shows what cannot be
+-- no two copies agree, as in a blank file; a test of the superblock, of its layout or of its trailer fails; a place is damaged or shows what cannot be; no boot is left
 pub data Refusal : Type 0 where
   NoQuorum : Refusal
   BadField : Refusal
   Damaged : (place : Place) → Refusal
+  BootSpent : Refusal
 
 pub data Answer : Type 0 where
   Refused : (refusal : Refusal) → Answer
@@ -91,6 +93,41 @@ pub record ReachesTail (sh : Shape) (image : Units) (b : Checkpoint) (tail : Lis
   pub not_behind : NotBehind sh image b.content
   pub tail_is : IsTail sh image b tail
 
+-- ---- the prepares that the superblock names
+
+-- the checksum that is named before these prepares: the parent of the first, or this one where there is none
+abbrev pub named_by : ℕ → List Message → ℕ
+named_by checksum [] = checksum
+named_by checksum (p ∷ ps) = p.header.parent
+
+-- prepares that are shown from this op on, each with the checksum that the next one names, and the last with this one
+abbrev pub AreKnown : ℕ → Units → ℕ → ℕ → List Message → Type 0
+AreKnown n image op checksum [] = Unit {0}
+AreKnown n image op checksum (p ∷ ps) = (image (PreparePlace (op % n)) ≡ Some (PrepareUnit p)) × (p.header.checksum ≡ named_by checksum ps) × AreKnown n image (op + 1) checksum ps
+
+-- the greatest op that is named and not shown as it is named
+pub record LacksKnown (sh : Shape) (image : Units) (c : Content) (a : ℕ) : Type 0 where
+  pub read : List Message
+  pub known : AreKnown (slots sh) image (a + 1) c.pin_checksum read
+  pub count : a + length read ≡ c.pin
+  pub above : c.op < a
+  pub lacks : (p : Message) → image (PreparePlace (a % slots sh)) ≡ Some (PrepareUnit p) → p.header.checksum ≡ named_by c.pin_checksum read → ⊥
+
+-- named prepares, each of which fits what precedes it; the last one of all ends its group
+pub record AreFitting (sh : Shape) (b : Checkpoint) (ps : List Message) : Type 0 where
+  pub chain : Chain (clients sh) (b.content.op + 1) b.content.op_checksum 0 b.parts.sessions ps
+  pub grouped : AreGroups 0 b.content.op (b.content.op + 1) ps
+  pub ends : (p : Message) → In p ps → p.header.op ≡ b.content.pin → p.header.group_last ≤ b.content.pin
+
+-- all that is named is shown, and the one behind this front is the first that doesn't fit
+pub record IsUnfit (sh : Shape) (image : Units) (b : Checkpoint) (front : List Message) : Type 0 where
+  pub next : Message
+  pub rest : List Message
+  pub known : AreKnown (slots sh) image (b.content.op + 1) b.content.pin_checksum (front ++ next ∷ rest)
+  pub count : b.content.op + length (front ++ next ∷ rest) ≡ b.content.pin
+  pub fits : AreFitting sh b front
+  pub fails : AreFitting sh b (front ++ next ∷ []) → ⊥
+
 -- nothing above the tail left a trace, and this is the number of replies
 pub record ReachesReplies (sh : Shape) (image : Units) (b : Checkpoint) (tail : List Message) (n : ℕ) : Type 0 where
   pub reaches : ReachesTail sh image b tail
@@ -109,9 +146,14 @@ pub data Opens (sh : Shape) (image : Units) : Answer → Type 0 where
   BadTrailer : (c : Content) → IsUsable sh image c → ((a k : ℕ) → ReadsTo sh image c a k → IsShown image a k) → ((b : Checkpoint) → b.content ≡ c → IsReadable sh image b → ⊥) → Opens sh image (Refused BadField)
   -- a unit is of a later checkpoint
   Behind : (b : Checkpoint) (n : ℕ) → IsReadable sh image b → (NotBehind sh image b.content → ⊥) → IsLowest image b.content n → Opens sh image (Refused (Damaged (CopyPlace n)))
+  -- a prepare that the superblock names isn't shown, or doesn't fit
+  Unknown : (b : Checkpoint) (a : ℕ) → IsReadable sh image b → NotBehind sh image b.content → LacksKnown sh image b.content a → Opens sh image (Refused (Damaged (PreparePlace (a % slots sh))))
+  Unfit : (b : Checkpoint) (front : List Message) → IsReadable sh image b → NotBehind sh image b.content → IsUnfit sh image b front → Opens sh image (Refused (Damaged (PreparePlace ((b.content.op + length front + 1) % slots sh))))
   -- an op above the tail left a trace
-  Lost : (b : Checkpoint) (tail : List Message) → ReachesTail sh image b tail → (NotLost image b.content (b.content.op + length tail) → ⊥) → Opens sh image (Refused (Damaged (PreparePlace (slot_behind sh b tail))))
+  Lost : (b : Checkpoint) (tail more : List Message) → ReachesTail sh image b tail → IsReach sh image b tail more → (NotLost image b.content (b.content.op + length tail) → ⊥) → Opens sh image (Refused (Damaged (PreparePlace (slot_behind sh b tail more))))
   -- a reply is stored and not shown
   Unanswered : (b : Checkpoint) (tail : List Message) (n k : ℕ) → ReachesReplies sh image b tail n → LacksReply image b.content (sessions_after b.parts.sessions tail) n k → Opens sh image (Refused (Damaged (ReplyPlace k)))
+  -- a state is found, and its boot can't be raised
+  Spent : (v : View) → IsFound sh image v → boot_of v ≡ 2 ^ 62 → Opens sh image (Refused BootSpent)
   -- no step refuses
-  Opened : (v : View) → IsFound sh image v → Opens sh image (Found v)
+  Opened : (v : View) → IsFound sh image v → boot_of v < 2 ^ 62 → Opens sh image (Found v)

@@ -1,6 +1,6 @@
 -- Logs of which nothing that is loose matters to the view, and what a write makes of them.
 use Rattle.std.specs.Prelude.{◌≡◌, ◌⊎◌, ℕ, true, false, List, Some}
-use Rattle.df_theory.specs.Units.{Place, CopyPlace, BlockPlace, Content, AnyUnit, Units}
+use Rattle.df_theory.specs.Units.{Place, CopyPlace, PreparePlace, BlockPlace, Content, AnyUnit, Units}
 use Rattle.df_theory.specs.Shape.{Shape}
 use Rattle.df_theory.specs.View.{View}
 use Rattle.df_theory.specs.Shows.{Needs, Agrees}
@@ -14,13 +14,18 @@ abbrev pub IsCopy : Place → Type 0
 IsCopy (CopyPlace n) = Unit {0}
 IsCopy place = ⊥
 
+abbrev pub IsPrepare : Place → Type 0
+IsPrepare (PreparePlace s) = Unit {0}
+IsPrepare place = ⊥
+
 abbrev pub IsBlock : Place → Type 0
 IsBlock (BlockPlace a) = Unit {0}
 IsBlock place = ⊥
 
--- a place that the view doesn't depend on: it needs nothing there, and it is no superblock copy
+-- a place that the view doesn't depend on: it needs nothing there, and it is no superblock copy and no slot of the prepare ring
 pub record IsCalm (sh : Shape) (v : View) (place : Place) : Type 0 where
   pub no_copy : IsCopy place → ⊥
+  pub no_prepare : IsPrepare place → ⊥
   pub needless : (x : AnyUnit) → Needs sh v place x → ⊥
 
 -- a unit that may be settled there with this view

@@ -1,6 +1,7 @@
 -- Files that meet every premise: one is made and each kind of command done to it, one is stopped within an append, one within an update and mended, and one has a hurt place.
 use Rattle.std.specs.Prelude.{◌≡◌, ◌<◌, ◌+◌, ℕ, List, [], length, Some, None}
-use Rattle.df_theory.specs.Units.{Units, CopyPlace, CopyUnit, Header, Place, PreparePlace}
+use Rattle.df_theory.specs.Units.{Units, Content, CopyPlace, CopyUnit, Header, Message, Place, PreparePlace, PrepareUnit}
+use Rattle.df_theory.specs.Tails.{In}
 use Rattle.df_theory.specs.Shape.{Shape}
 use Rattle.df_theory.specs.View.{View, head, sequence}
 use Rattle.df_theory.specs.Holds.{Holds}
@@ -9,10 +10,13 @@ use Rattle.df_theory.specs.Chance.{NoChance}
 use Rattle.df_theory.specs.Grown.{IsSafe}
 use Rattle.df_theory.specs.Rests.{RestsOn}
 use Rattle.df_theory.specs.Runs.{AtEach, Command, Step, after_steps, view_after}
-use Rattle.df_theory.specs.Copies.{Agree}
+use Rattle.df_theory.specs.Copies.{Agree, rank_of}
 use Rattle.df_theory.specs.Opens.{Damaged, Opens, Refused}
 use Rattle.df_theory.specs.MendLaws.{MayMend}
 use Rattle.df_theory.specs.MakingLaws.{blank_log}
+use Rattle.df_theory.specs.Next.{booted}
+use Rattle.df_theory.specs.Found.{IsClean, IsFound}
+use Rattle.df_theory.specs.Upgrades.{MayRaise, of_version}
 use Rattle.df_theory.specs.WholeLaws.{IsStanding}
 use Rattle.df_theory.specs.TidyLaws.{IsTidy, KeepStanding, LeadTidily}
 
@@ -67,3 +71,37 @@ pub record HurtSampleLaw : Type 0 where
   pub agreed : Agree shown view.checkpoint.content
   pub hurt : (place : Place) → (place ≡ PreparePlace 1 → ⊥) → shown place ≡ now log place
   pub refuses : Opens shape shown (Refused (Damaged (PreparePlace 1)))
+
+-- and a stop within a group of two: what it leaves shows the second one above the head and holds the view before the group; the boot is raised, and a group writes that op anew
+pub record SurvivorSampleLaw : Type 0 where
+  pub shape : Shape
+  pub log : UnitLog
+  pub view : View
+  pub image : Units
+  pub survivor : Message
+  pub safe : IsSafe shape log
+  pub left : IsLeftBy log image × NoChance log image × Holds shape image view
+  pub shows : (image (PreparePlace 2) ≡ Some (PrepareUnit survivor)) × (head view < survivor.header.op)
+  pub rests : RestsOn shape (add (Stopped image) log) view
+  pub commands : List Command
+  pub lead : LeadTidily shape (add (Stopped image) log) view commands
+  pub anew : (p : Message) × In p (view_after view commands).tail × (p.header.op ≡ survivor.header.op) × (survivor.header.boot < p.header.boot)
+
+-- and a file of version 1 of which copy 2 shows a later content without a second vote: it may be upgraded. A stop within copy 2 of the update may leave that content there once more: the view is found, by version 2, and the next log doesn't begin clean
+pub record UpgradeSampleLaw : Type 0 where
+  pub shape : Shape
+  pub image : Units
+  pub view : View
+  pub above : Content
+  pub next : Content
+  pub table : ℕ → Header
+  pub mends : List (ℕ × Units)
+  pub version : shape.version ≡ 1
+  pub may : MayRaise shape 2 image view table [] mends next
+  pub shows : (image (CopyPlace 2) ≡ Some (CopyUnit above)) × (rank_of view.checkpoint.content < rank_of above)
+  pub unclean : IsClean image view → ⊥
+  pub log : UnitLog
+  pub left : Units
+  pub is_left : IsLeftBy log left × NoChance log left
+  pub found : IsFound (of_version 2 shape) left (booted view next)
+  pub dirty : (left (CopyPlace 2) ≡ Some (CopyUnit above)) × (IsClean left (booted view next) → ⊥)

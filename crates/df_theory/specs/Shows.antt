@@ -2,7 +2,7 @@
 use Rattle.std.specs.Prelude.{◌≡◌, ◌⊎◌, ◌<◌, ◌≤◌, ◌+◌, ◌%◌, ℕ, Some}
 use Rattle.df_theory.specs.Units.{Place, CopyPlace, HeaderPlace, PreparePlace, ReplyPlace, BlockPlace, Header, Message, Content, Block, AnyUnit, CopyUnit, HeaderUnit, PrepareUnit, ReplyUnit, BlockUnit, IsAlone}
 use Rattle.df_theory.specs.Shape.{Shape, slots}
-use Rattle.df_theory.specs.Tails.{In}
+use Rattle.df_theory.specs.Tails.{In, BindsHead}
 use Rattle.df_theory.specs.Trailer.{InChain}
 use Rattle.df_theory.specs.Copies.{rank_of}
 use Rattle.df_theory.specs.View.{View, boot_of, head, sequence}
@@ -24,15 +24,15 @@ pub record AgreesHeader (sh : Shape) (v : View) (s : ℕ) (h : Header) : Type 0 
   pub slot : 0 < h.op → s ≡ h.op % slots sh
   pub in_tail : h.boot ≡ boot_of v → v.checkpoint.content.pin < h.op → (p : Message) × In p v.tail × (p.header.op ≡ h.op) × (p.header.checksum ≡ h.checksum)
 
--- a prepare agrees: it is no newer than the view, and one of its boot above the pin is of the tail
+-- a prepare agrees: it is no newer than the view, and one of its boot above the pin is of the tail, or survived of a group that was cut off
 pub record AgreesPrepare (sh : Shape) (v : View) (s : ℕ) (p : Message) : Type 0 where
   pub some : 0 < p.header.op
-  pub op : p.header.boot ≡ boot_of v → p.header.op ≤ head v
+  pub op : p.header.boot ≡ boot_of v → BindsHead (head v) p.header
   pub ring : p.header.op ≤ v.checkpoint.content.op + slots sh
   pub checkpoint : p.header.checkpoint ≤ sequence v
   pub boot : p.header.boot ≤ boot_of v
   pub slot : s ≡ p.header.op % slots sh
-  pub in_tail : p.header.boot ≡ boot_of v → v.checkpoint.content.pin < p.header.op → In p v.tail
+  pub in_tail : p.header.boot ≡ boot_of v → v.checkpoint.content.pin < p.header.op → p.header.op ≤ head v → In p v.tail
 
 -- a reply agrees: it is no newer than the view
 pub record AgreesReply (v : View) (r : Message) : Type 0 where

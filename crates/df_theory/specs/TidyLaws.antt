@@ -7,10 +7,10 @@ use Rattle.df_theory.specs.Trailer.{InChain}
 use Rattle.df_theory.specs.View.{Checkpoint, View}
 use Rattle.df_theory.specs.Holds.{Held, IsWhole, Stands}
 use Rattle.df_theory.specs.Next.{MayAppend, MayFinish, MayReply, checkpointed}
-use Rattle.df_theory.specs.UnitLog.{PutsOne, UnitLog, now}
+use Rattle.df_theory.specs.UnitLog.{PutsOne, UnitLog, now, settled}
 use Rattle.df_theory.specs.Chance.{EachLeft}
 use Rattle.df_theory.specs.First.{IsFirst}
-use Rattle.df_theory.specs.Grown.{IsSafe}
+use Rattle.df_theory.specs.Grown.{IsClear, IsSafe}
 use Rattle.df_theory.specs.Rests.{IsQuiet, RestsOn}
 use Rattle.df_theory.specs.Runs.{AtEach, Command, Leads, after_steps, steps_of, view_after}
 use Rattle.df_theory.specs.CopyPuts.{PutsCopies}
@@ -21,10 +21,11 @@ use Rattle.df_theory.specs.Commands.{append_command, block_command, finish_comma
 use Rattle.df_theory.specs.WholeLaws.{IsStanding}
 use Rattle.df_theory.specs.HeadlineLaws.{Survives, SurvivesEach}
 
--- the file is tidy, with this view
+-- the file is tidy, with this view: nothing of its boot survived above its head
 pub record IsTidy (sh : Shape) (log : UnitLog) (v : View) : Type 0 where
   pub rests : RestsOn sh log v
   pub quiet : IsQuiet log
+  pub clear : IsClear (settled log) v
   pub whole : IsWhole sh (now log) v
 
 -- a moment at which each image left has one of two views, with each block that it references
@@ -82,7 +83,7 @@ TidyFinishLaw =
 -- the mending of an open
 abbrev pub TidyMendLaw : Type 0
 TidyMendLaw =
-    (sh : Shape) (log : UnitLog) (v : View) (table : ℕ → Header) (headers : List Units) (copies : List (ℕ × Units)) → MayMend sh log v table headers copies
+    (sh : Shape) (log : UnitLog) (v : View) (table : ℕ → Header) (headers : List Units) (copies : List (ℕ × Units)) → MayMend sh log v table headers copies → IsClear (settled log) v
     → LeadsTidily sh log v (mend_command v headers copies) × (IsStanding log v → KeepsStanding sh log v (mend_command v headers copies))
 
 -- a format that writes each header; its first view references no block

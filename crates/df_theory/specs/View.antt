@@ -42,11 +42,14 @@ pub record PassesTests (sh : Shape) (c : Content) : Type 0 where
   pub layout : c.layout ≡ sh.layout
   pub cluster : c.cluster ≡ sh.cluster
   pub sequence : (0 < c.sequence) × (c.sequence ≤ 2 ^ 62)
+  pub boot : c.boot ≤ 2 ^ 62
   pub op_checksum : c.op ≡ 0 → c.op_checksum ≡ 0
   pub head : (c.op ≤ c.head) × (c.head ≤ c.op + sh.layout.slots) × (c.head ≤ 2 ^ 62)
   pub replies : (c.replies ≤ c.head) × (c.head ≤ c.replies + 8)
   pub pin : (c.op ≤ c.pin) × (c.pin ≤ c.head)
+  pub pin_checksum : c.pin ≡ c.op → c.pin_checksum ≡ c.op_checksum
   pub answered : c.answered ≤ c.replies + 1
+  pub spare : (k : ℕ) → sh.layout.clients ≤ k → slice_index c.reply_checksums k ≡ 0
   pub of : IsOfVersion c
   pub rest : (i : ℕ) → slice_index c.rest i ≡ 0
 

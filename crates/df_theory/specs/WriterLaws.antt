@@ -1,18 +1,19 @@
 -- What each writer owes, and what it then has at every moment.
-use Rattle.std.specs.Prelude.{◌≡◌, ◌⊎◌, ◌<◌, ◌%◌, ℕ, List, [], ◌∷◌, Some}
+use Rattle.std.specs.Prelude.{◌≡◌, ◌⊎◌, ◌<◌, ◌%◌, ℕ, length, List, [], ◌∷◌, ◌++◌, Some}
 use Rattle.df_theory.specs.CopyPuts.{PutsCopies, update_steps}
 use Rattle.df_theory.specs.Units.{AnyUnit, Block, BlockPlace, BlockUnit, Content, CopyPlace, CopyUnit, Header, HeaderPlace, HeaderUnit, Message, Place, PreparePlace, PrepareUnit, ReplyPlace, ReplyUnit, Units, IsReserved}
 use Rattle.df_theory.specs.Tails.{In}
 use Rattle.df_theory.specs.Shape.{Shape, slots}
 use Rattle.df_theory.specs.Trailer.{InChain}
-use Rattle.df_theory.specs.View.{Checkpoint, View}
+use Rattle.df_theory.specs.View.{Checkpoint, View, boot_of}
 use Rattle.df_theory.specs.Holds.{Holds}
 use Rattle.df_theory.specs.Next.{IsSameBare, MayAppend, MayBoot, MayFinish, MayReply, appended, booted, checkpointed, replied}
 use Rattle.df_theory.specs.UnitLog.{PutsOne, Stopped, Synced, UnitLog, add, now, put_one, settled, wrote}
 use Rattle.df_theory.specs.Chance.{EachLeft}
-use Rattle.df_theory.specs.Grown.{Grown, IsSafe}
+use Rattle.df_theory.specs.Grown.{Grown, IsClear, IsSafe}
 use Rattle.df_theory.specs.Rests.{AgreeBeside, IsCalmPut, IsDry, IsGoodLog, IsQuiet, RestsOn, Stepped}
-use Rattle.df_theory.specs.Runs.{AtEach, Command, IsPartWay, LeadOn, Leads, Puts, Syncs, after_steps, steps_of, view_after}
+use Rattle.df_theory.specs.Runs.{AtEach, Command, IsPartWay, LeadOn, Leads, Puts, Step, Syncs, after_steps, steps_of, view_after}
+use Rattle.df_theory.specs.MakingLaws.{all_puts}
 
 -- a log that rests on a view is safe, and each image that a stop leaves holds that view
 abbrev pub RestLaw : Type 0
@@ -58,8 +59,49 @@ pub record Appends (sh : Shape) (log : UnitLog) (v u : View) (prepare headers : 
 abbrev pub AppendLaw : Type 0
 AppendLaw =
     (sh : Shape) (log : UnitLog) (v : View) (p : Message) (prepare headers : Units)
-    → RestsOn sh log v → IsQuiet log → MayAppend sh v (p ∷ []) → PutsOne prepare (PreparePlace (p.header.op % slots sh)) (PrepareUnit p) → IsHeaderSector sh (now log) p headers
+    → RestsOn sh log v → IsQuiet log → IsClear (settled log) v → MayAppend sh v (p ∷ []) → PutsOne prepare (PreparePlace (p.header.op % slots sh)) (PrepareUnit p) → IsHeaderSector sh (now log) p headers
     → Appends sh log v (appended v (p ∷ [])) prepare headers
+
+-- a write for each prepare of a group, in any order
+abbrev pub AllPutPrepare : Shape → List Message → List Units → Type 0
+AllPutPrepare sh [] [] = Unit {0}
+AllPutPrepare sh (p ∷ ps) (put ∷ puts) = PutsOne put (PreparePlace (p.header.op % slots sh)) (PrepareUnit p) × AllPutPrepare sh ps puts
+AllPutPrepare sh [] (put ∷ puts) = ⊥
+AllPutPrepare sh (p ∷ ps) [] = ⊥
+
+-- the same prepares, in some order
+pub record AreSame (ps qs : List Message) : Type 0 where
+  pub there : (p : Message) → In p ps → In p qs
+  pub back : (p : Message) → In p qs → In p ps
+
+-- the header sectors of a group: what the ring shows, and the new headers
+pub record IsGroupSector (sh : Shape) (image : Units) (ps : List Message) (put : Units) : Type 0 where
+  pub each : (place : Place) (y : AnyUnit) → put place ≡ Some y → (s : ℕ) × (h : Header) × (place ≡ HeaderPlace s) × (y ≡ HeaderUnit h)
+      × ((image (HeaderPlace s) ≡ Some (HeaderUnit h)) ⊎ ((p : Message) × In p ps × (s ≡ p.header.op % slots sh) × (h ≡ p.header)))
+
+abbrev pub AreGroupSectors : Shape → Units → List Message → List Units → Type 0
+AreGroupSectors sh image ps [] = Unit {0}
+AreGroupSectors sh image ps (put ∷ puts) = IsGroupSector sh image ps put × AreGroupSectors sh image ps puts
+
+-- a group: its prepares in any order, one sync, its header sectors, a sync
+abbrev pub flush_steps : List Units → List Units → List Step
+flush_steps prepares headers = all_puts prepares ++ Syncs ∷ (all_puts headers ++ Syncs ∷ [])
+
+-- until the first sync each image left has nothing of the group or all of it, from then on all
+pub record Flushes (sh : Shape) (log : UnitLog) (v u : View) (prepares headers : List Units) : Type 0 where
+  pub loose : AtEach (IsGoodLog sh v u) log (all_puts prepares)
+  pub synced : RestsOn sh (add Synced (after_steps (all_puts prepares) log)) u
+  pub after : AtEach (IsGoodLog sh u u) (add Synced (after_steps (all_puts prepares) log)) (all_puts headers ++ Syncs ∷ [])
+  pub clear : IsClear (settled (after_steps (flush_steps prepares headers) log)) u
+  pub leads : Leads sh log v (record { steps = flush_steps prepares headers; view = u })
+
+-- groups of several are appended in a file with boots alone
+abbrev pub FlushLaw : Type 0
+FlushLaw =
+    (sh : Shape) (log : UnitLog) (v : View) (ps qs : List Message) (prepares headers : List Units)
+    → RestsOn sh log v → IsQuiet log → IsClear (settled log) v → MayAppend sh v ps → (1 < length ps → 0 < boot_of v)
+    → AreSame qs ps → AllPutPrepare sh qs prepares → AreGroupSectors sh (now log) ps headers
+    → Flushes sh log v (appended v ps) prepares headers
 
 -- a reply: one write into the session's slot, and a sync
 abbrev pub ReplyLaw : Type 0
@@ -103,7 +145,7 @@ pub record Updates (sh : Shape) (log : UnitLog) (v u : View) (puts : PutsCopies 
 abbrev pub UpdateLaw : Type 0
 UpdateLaw =
     (sh : Shape) (log : UnitLog) (v : View) (c : Checkpoint) (puts : PutsCopies c.content)
-    → RestsOn sh log v → IsDry log → MayFinish sh v c
+    → RestsOn sh log v → IsDry log → IsClear (settled log) v → MayFinish sh v c
     → ((n : ℕ) → n < 4 → now log (CopyPlace n) ≡ Some (CopyUnit v.checkpoint.content))
     → ((a : ℕ) (b : Block) → InChain a b c.chain → now log (BlockPlace a) ≡ Some (BlockUnit b))
     → Updates sh log v (checkpointed v c) puts

@@ -1,6 +1,6 @@
 // What an image holds and what an open finds in it are one.
 
-ghost use Rattle.df_theory.specs.ViewLaws.{OneChosenLaw, OneViewLaw, FoundLaw, SlotLaw, DecisionLaw, OneFoundLaw, OneAnswerLaw, FoundAnswerLaw};
+ghost use Rattle.df_theory.specs.ViewLaws.{OneChosenLaw, OneViewLaw, FoundLaw, SlotLaw, DecisionLaw, OneFoundLaw, AnAnswerLaw, OneAnswerLaw, FoundAnswerLaw, SpentAnswerLaw};
 
 /// Four copies choose one content.
 pub fn one_is_chosen()
@@ -40,4 +40,14 @@ pub fn one_answer_is_given()
 /// The answer is a state exactly where no step refuses.
 pub fn found_is_answered()
     ensures { FoundAnswerLaw }
+{}
+
+/// Where a state is found, the only refusal is of a boot that can't be raised.
+pub fn spent_boots_are_refused()
+    ensures { SpentAnswerLaw }
+{}
+
+/// An open of any image has an answer.
+pub fn an_answer_is_given()
+    ensures { AnAnswerLaw }
 {}

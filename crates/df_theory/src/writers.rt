@@ -1,6 +1,6 @@
 // What each write does at every moment, and how commands follow one another.
 
-ghost use Rattle.df_theory.specs.WriterLaws.{PutOneLaw, RestLaw, SyncLaw, StopLaw, AnewLaw, CalmLaw, WriteLaw, AppendLaw, ReplyLaw, BlockLaw, HeaderLaw, CopyLaw, UpdateLaw, BootLaw, CommandsLaw};
+ghost use Rattle.df_theory.specs.WriterLaws.{PutOneLaw, RestLaw, SyncLaw, StopLaw, AnewLaw, CalmLaw, WriteLaw, AppendLaw, ReplyLaw, BlockLaw, HeaderLaw, CopyLaw, UpdateLaw, BootLaw, FlushLaw, CommandsLaw};
 ghost use Rattle.df_theory.specs.HeadlineLaws.{HeadlineLaw, BarrierLaw, CleanStartLaw};
 
 /// The write of one unit puts one unit.
@@ -71,6 +71,11 @@ pub fn update_leads()
 /// Each moment of a boot update, which keeps the bare view.
 pub fn boot_leads()
     ensures { BootLaw }
+{}
+
+/// Each moment of a group of prepares: the prepares, one sync, their header sectors, one sync.
+pub fn flush_leads()
+    ensures { FlushLaw }
 {}
 
 /// Each moment of a run of commands.

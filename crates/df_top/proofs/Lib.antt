@@ -13,11 +13,15 @@ mod CheckpointTurns
 mod ScrubTurns
 mod Checks
 mod Tours
+mod Untouched
 mod Kept
+mod Resulted
 mod Acknowledged
+mod Spared
 mod Served
 mod Reported
 mod OneReport
+mod Texted
 mod ReadTurns
 mod Causes
 mod RunCalls

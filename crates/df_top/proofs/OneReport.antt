@@ -46,7 +46,7 @@ same_of_pair n m e x = subst (λ (k : Layout × ℕ). (y : 0 < k.1) → of_pair 
 same_pair : (a b : Layout) (c d : ℕ) → a ≡ b → c ≡ d → let x : Layout × ℕ = (a, c) in x ≡ (b, d)
 same_pair a b c d one two = cc (one, two)
 
-same_file : (a b : DataFile) → a.layout ≡ b.layout → a.cluster ≡ b.cluster → a ≡ b
+pub same_file : (a b : DataFile) → a.layout ≡ b.layout → a.cluster ≡ b.cluster → a ≡ b
 unfolding of_pair
 same_file a b one two = same_of_pair (a.layout, a.cluster) (b.layout, b.cluster) (same_pair a.layout b.layout a.cluster b.cluster one two) a.named b.named
 

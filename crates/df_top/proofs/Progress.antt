@@ -1,5 +1,5 @@
 -- A session goes on by one line, or ends.
-use Rattle.std.proofs.Common.{◌≡◌, ℕ, ◌+◌, true, false, List, [], ◌∷◌, ◌++◌, map, Option, Some, None, refl, sym, subst, arith, length-append}
+use Rattle.std.proofs.Common.{◌≡◌, ℕ, suc, ◌+◌, true, false, List, [], ◌∷◌, ◌++◌, length, map, Option, Some, None, refl, sym, ap, subst, arith, length-append}
 use Rattle.std.proofs.lemmas.List.{append-nil}
 use Rattle.df_base.specs.Streams.{Appends, AppendsPart}
 use Rattle.df_disk.specs.Told.{Told}
@@ -26,6 +26,13 @@ calls_join s t u old mid new [] more [] others calls rest =
 calls_join s t u old mid new [] more (y ∷ answers) others calls rest = absurd calls
 calls_join s t u old mid new (b ∷ acts) more [] others calls rest = absurd calls
 calls_join s t u old mid new (b ∷ acts) more (y ∷ answers) others calls rest = (calls.0, calls.1, calls.2, calls_join calls.0 t u calls.1 mid new acts more answers others calls.3 rest)
+
+-- each of them has its answer
+answered_each : (s t : Replica) (old new : Option Told) (acts : List Act) (answers : List Answer) → AreCalls s old acts answers t new → length answers ≡ length acts
+answered_each s t old new [] [] calls = refl
+answered_each s t old new [] (x ∷ answers) calls = absurd calls
+answered_each s t old new (a ∷ acts) [] calls = absurd calls
+answered_each s t old new (a ∷ acts) (x ∷ answers) calls = ap suc (answered_each calls.0 t calls.1 new acts answers calls.3)
 
 -- ---- on
 
@@ -77,7 +84,7 @@ module _ (bound : ℕ) (old new : State) (said : Said) (takes : Takes bound old 
     line,
     record {
       text = said_on;
-      are = are_more turns line so_far.are are;
+      are = are_more turns line so_far.are (are, answered_each old.replica new.replica old.outside.told new.outside.told acts answers calls);
       written =
           subst (λ (l : List ℕ). Appends origin.outside.written new.outside.written l) (sym (text_more turns line))
           (appends_more origin.outside.written old.outside.written new.outside.written (all_text turns) (line_text said answers) so_far.written wrote);
@@ -99,7 +106,7 @@ module _ (bound : ℕ) (old new : State) (said : Said) (takes : Takes bound old 
           subst (λ (l : List Said). Begins bound origin.budget text l new.budget more.0) (sym (append-nil (map said_in (turns ++ line ∷ [])))) more.2,
           record { refused = λ no. absurd (cc); finished = λ no. absurd (cc) },
         );
-    are = are_more turns line so_far.are are;
+    are = are_more turns line so_far.are (are, answered_each old.replica new.replica old.outside.told new.outside.told acts answers calls);
     written =
         subst (λ (l : List ℕ). AppendsPart origin.outside.written new.outside.written l) (sym (text_more turns line))
         (appends_part origin.outside.written old.outside.written new.outside.written (all_text turns) (line_text said answers) so_far.written wrote);

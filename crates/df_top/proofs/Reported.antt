@@ -2,7 +2,6 @@
 use Rattle.std.proofs.Common.{◌≡◌, ◌⊎◌, inl, inr, ℕ, true, List, [], ◌∷◌, Option, Some, None, refl, sym, ◌∙◌, ap, subst, Ok, Err}
 use Rattle.df_base.specs.Image.{Image, IsImage}
 use Rattle.df_base.specs.Log.{Sync}
-use Rattle.df_base.specs.Moments.{EachMoment}
 use Rattle.df_disk.specs.Adds.{AddsPart}
 use Rattle.df_disk.specs.Told.{Told, after, did}
 use Rattle.df_inspect.specs.Reports.{inspection_text, summary_text}
@@ -17,14 +16,14 @@ use Rattle.df_model.proofs.Laws.{tour_law}
 use Rattle.df_model.specs.declared.answers.Summary.{Summary}
 use Rattle.df_model.specs.declared.errors.OpenError.{OpenError}
 use Rattle.df_model.specs.declared.errors.OpenError.TheVariants as opens
-use Rattle.df_replica.specs.Below.{Syncs, IsOpened, State as Replica, shape}
+use Rattle.df_replica.specs.Below.{Syncs, IsOpened, State as Replica, shape, told_after}
 use Rattle.df_sessions.specs.declared.session.Session.{Session}
 use Rattle.df_replica.specs.Following.{MayOpen}
-use Rattle.df_replica.specs.Opened.{ToldBy}
+use Rattle.df_replica.specs.Opened.{MendsAll, ToldBy}
 use Rattle.df_replica.specs.Reading.{shown_of}
 use Rattle.df_replica.specs.Replica.{Survey, summary_of}
 use Rattle.df_replica.specs.Scrubbing.{IsMachineTour, at_start}
-use Rattle.df_replica.specs.Serving.{Grade, IsGoodFor, IsKept, StandsFor, format}
+use Rattle.df_replica.specs.Serving.{Grade, StandsFor}
 use Rattle.df_replica.specs.Surveying.{TellsMends, TellsSurvey}
 use Rattle.df_top.specs.Keeping.{KeepsFile}
 use Rattle.df_top.specs.Opening.{RefusesFile}
@@ -34,7 +33,7 @@ use Rattle.df_top.specs.Reporting.{FailsToSurvey, Inspects, Recovers, report_of,
 use Rattle.df_top.specs.Scrubs.{PrintsTour, ScrubsFile}
 use Rattle.df_top.specs.declared.status.Status.{Status}
 use Rattle.df_top.specs.declared.status.Status.TheVariants.{Done}
-use Rattle.df_top.proofs.Kept.{goes_told, keeps_file}
+use Rattle.df_top.proofs.Kept.{goes_told, keeps_over, opened_over}
 use Rattle.df_top.proofs.Served.{by_fault, refuses}
 
 -- ---- the barrier
@@ -101,25 +100,18 @@ machine_tour s image codec w work rep =
     (tour_law (shape s.file) codec (shown_of s.file image) (at_start w) refl work.few)
 
 module _ (layout : Layout) (t : Told) (old new : Outside) (status : Status) (s : Replica) (told : old.told ≡ Some t) (unread : new.left ≡ old.left) (live : s.live ≡ true) (is_opened : IsOpened layout t.shown s)
-    (by : ToldBy (after Sync old.told) new.told)
-    (kept_for : (n : Told) → new.told ≡ Some n → (g : Grade) (view : View) → MayOpen s.file view t → StandsFor g (unit_at s.file.layout s.file.cluster t.shown) view
-    → IsKept g s (opened (shape s.file) (unit_at s.file.layout s.file.cluster t.shown) view) n.log)
-    (good : (n : Told) → new.told ≡ Some n → (g : Grade) (view : View) → MayOpen s.file view t → StandsFor g (unit_at s.file.layout s.file.cluster t.shown) view
-    → EachMoment (did Sync t).log n.log (IsGoodFor g (format s.file) (shape s.file) view view)) where
-  synced : ToldBy (Some (did Sync t)) new.told
-  synced = subst (λ (o : Option Told). ToldBy (after Sync o) new.told) told by
+    (over : MendsAll t s new.told) where
+  abbrev synced : ToldBy (Some (did Sync t)) new.told
+  synced = (over.mending, over.told)
 
-  keeps : (g : Grade) (view : View) → MayOpen s.file view t → StandsFor g (unit_at s.file.layout s.file.cluster t.shown) view
-      → KeepsFile s.file g (opened (shape s.file) (unit_at s.file.layout s.file.cluster t.shown) view) t [] [] None new.told
-  keeps g view may stands =
-      let goes = goes_told (did Sync t) new.told synced in
-      let n = goes.0 in
-      subst (λ (o : Option Told). KeepsFile s.file g (opened (shape s.file) (unit_at s.file.layout s.file.cluster t.shown) view) t [] [] None o) (sym goes.1)
-      (keeps_file g s (opened (shape s.file) (unit_at s.file.layout s.file.cluster t.shown) view) t n live (kept_for n goes.1 g view may stands)
-      (goes.2.honest (record { shows = may.honest.shows })) goes.2.grew (good n goes.1 g view may stands) s (Some n) [] [] None (refl, refl))
+  keeps : (g : Grade) (view : View) (base : Told) → base.shown ≡ t.shown → MayOpen s.file view base → StandsFor g (unit_at s.file.layout s.file.cluster t.shown) view
+      → KeepsFile s.file g (opened (shape s.file) (unit_at s.file.layout s.file.cluster t.shown) view) base [] [] None (Some (told_after over.mending (did Sync base)))
+  keeps g view base same may stands =
+      let n : Told = told_after over.mending (did Sync base) in
+      keeps_over g s (opened (shape s.file) (unit_at s.file.layout s.file.cluster t.shown) view) base n live (opened_over t s new.told over g view base same may stands) s (Some n) (Some n) [] [] None (refl, refl)
 
   pub recovers : PrintsLine (summary_text (summary_of s)) Done old.written new.written status → Recovers layout t old new status
-  recovers prints = record { replica = s; is_opened = is_opened; prints = prints; unread = unread; keeps = keeps }
+  recovers prints = record { replica = s; is_opened = is_opened; prints = prints; unread = unread; barrier = synced; keeps = keeps }
 
   -- its tour is at the start
   first : s.tour ≡ first_tour
@@ -136,5 +128,6 @@ module _ (layout : Layout) (t : Told) (old new : Outside) (status : Status) (s :
         prints = tours goes.0 goes.1 first;
         machine = machine_tour s goes.0.shown;
         unread = unread;
+        barrier = synced;
         keeps = keeps;
       }

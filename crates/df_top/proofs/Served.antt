@@ -2,20 +2,17 @@
 use Rattle.std.proofs.Common.{◌≡◌, ◌⊎◌, inl, inr, ℕ, Bool, true, List, [], Option, Some, None, refl, sym, ◌∙◌, ap, subst, Err}
 use Rattle.df_base.specs.Image.{IsImage}
 use Rattle.df_base.specs.Log.{Sync}
-use Rattle.df_base.specs.Moments.{EachMoment}
 use Rattle.df_disk.specs.Told.{Told, after, did}
 use Rattle.df_layout.specs.declared.layout.Layout.{Layout}
 use Rattle.df_lines.specs.Room.{IsFresh, line_bound}
 use Rattle.df_lines.specs.Text.{Reading, unread}
-use Rattle.df_theory.specs.View.{View}
 use Rattle.df_units.specs.Bytes.{unit_at}
 use Rattle.df_model.specs.Work.{opened}
 use Rattle.df_model.specs.declared.errors.OpenError.{OpenError}
 use Rattle.df_model.specs.declared.errors.OpenError.TheVariants as opens
-use Rattle.df_replica.specs.Below.{State as Replica, shape, IsOpened}
-use Rattle.df_replica.specs.Following.{MayOpen}
-use Rattle.df_replica.specs.Opened.{StopsOpening, ToldBy}
-use Rattle.df_replica.specs.Serving.{Firm, Grade, IsGoodFor, IsKept, Keeps, StandsFor, format}
+use Rattle.df_replica.specs.Below.{State as Replica, shape, IsOpened, told_after}
+use Rattle.df_replica.specs.Opened.{MendsAll, StopsOpening, ToldBy}
+use Rattle.df_replica.specs.Serving.{Firm}
 use Rattle.df_replica.specs.Surveying.{TellsSurvey}
 use Rattle.df_replica.proofs.Laws.{found_keeps}
 use Rattle.df_top.specs.Acknowledging.{script_calls}
@@ -25,12 +22,14 @@ use Rattle.df_top.specs.Refusing.{PrintsError}
 use Rattle.df_top.specs.Run.{ServesScript, start}
 use Rattle.df_replica.specs.Session.{Act}
 use Rattle.df_top.specs.Lines.{Turned, all_acts, all_answers}
-use Rattle.df_top.specs.Session.{Ended, EndsCalls, EndsWith, State, act_of, state}
+use Rattle.df_top.specs.Session.{Ended, EndsWith, State, act_of, state}
 use Rattle.df_top.specs.declared.session.Session.{Session}
 use Rattle.df_top.specs.declared.status.Status.{Status}
 use Rattle.df_top.specs.declared.status.Status.TheVariants.{Refused}
 use Rattle.df_top.proofs.Acknowledged.{keeps_answered}
-use Rattle.df_top.proofs.Kept.{answers_alone, ends_told, goes_told, keeps_file}
+use Rattle.df_top.proofs.Kept.{answers_alone, ends_add, ends_told, goes_told, keeps_over, opened_over}
+use Rattle.df_top.proofs.Resulted.{opened_prints}
+use Rattle.df_top.proofs.Spared.{spares_blocks}
 
 -- ---- a session that was just opened
 
@@ -66,17 +65,13 @@ refused_never n old new turns (Some a) cut u is ends = untold_is_none u (sym end
 -- ---- it is served
 
 module _ (layout : Layout) (t : Told) (old new : Outside) (status : Status) (s : Replica) (mended : Option Told) (whole : IsImage t.shown) (told : old.told ≡ Some t) (live : s.live ≡ true) (of : s.file.layout ≡ layout) (is_opened : IsOpened layout t.shown s)
-    (by : ToldBy (after Sync old.told) mended)
-    (kept_for : (n : Told) → mended ≡ Some n → (g : Grade) (view : View) → MayOpen s.file view t → StandsFor g (unit_at s.file.layout s.file.cluster t.shown) view
-    → IsKept g s (opened (shape s.file) (unit_at s.file.layout s.file.cluster t.shown) view) n.log)
-    (good : (n : Told) → mended ≡ Some n → (g : Grade) (view : View) → MayOpen s.file view t → StandsFor g (unit_at s.file.layout s.file.cluster t.shown) view
-    → EachMoment (did Sync t).log n.log (IsGoodFor g (format s.file) (shape s.file) view view))
+    (over : MendsAll t s mended)
     (last : State) (last_is : last.outside ≡ new) (ended : Ended (line_bound layout) (start mended old s) last status) where
   last_told : last.outside.told ≡ new.told
   last_told = ap (λ (o : Outside). o.told) last_is
 
-  synced : ToldBy (Some (did Sync t)) mended
-  synced = subst (λ (o : Option Told). ToldBy (after Sync o) mended) told by
+  abbrev synced : ToldBy (Some (did Sync t)) mended
+  synced = (over.mending, over.told)
 
   opened_here : IsOpened s.file.layout t.shown s
   opened_here = subst (λ (l : Layout). IsOpened l t.shown s) (sym of) is_opened
@@ -107,16 +102,18 @@ module _ (layout : Layout) (t : Told) (old new : Outside) (status : Status) (s :
     answered = λ view found.
         answers_alone Firm (opened (shape s.file) (unit_at s.file.layout s.file.cluster t.shown) view) s last.replica mended last.outside.told (all_acts ended.turns) (all_answers ended.turns) (act_of ended.failing) live
         (found_keeps s t.shown view whole opened_here found) ended.calls;
-    keeps = λ g view may stands.
-        let goes = goes_told (did Sync t) mended synced in
-        let n = goes.0 in
-        let calls = subst (λ (o : Option Told). EndsCalls s last.replica (Some n) o (all_acts ended.turns) (all_answers ended.turns) (act_of ended.failing)) last_told (subst (λ (o : Option Told). EndsCalls s last.replica o last.outside.told (all_acts ended.turns) (all_answers ended.turns) (act_of ended.failing)) goes.1 ended.calls) in
-        keeps_file g s (opened (shape s.file) (unit_at s.file.layout s.file.cluster t.shown) view) t n live (kept_for n goes.1 g view may stands) (goes.2.honest (record { shows = may.honest.shows })) goes.2.grew
-        (good n goes.1 g view may stands) last.replica new.told (all_acts ended.turns) (all_answers ended.turns) (act_of ended.failing) calls;
-    acknowledged = λ g view may stands.
-        let goes = goes_told (did Sync t) mended synced in
-        let w = opened (shape s.file) (unit_at s.file.layout s.file.cluster t.shown) view in
-        keeps_answered s.file g w (script_calls ended) refl live (subst (λ (o : Option Told). Keeps g s w o) (sym goes.1) (kept_for goes.0 goes.1 g view may stands));
+    result = λ view shown found agree.
+        opened_prints s t mended over whole (opened (shape s.file) (unit_at s.file.layout s.file.cluster t.shown) view) (found_keeps s t.shown view whole opened_here found) last.replica last.outside.told (act_of ended.failing) shown agree ended.turns
+        ended.are ended.calls;
+    adds = sym last_told ∙ ends_add s last.replica mended last.outside.told (all_acts ended.turns) (all_answers ended.turns) (act_of ended.failing) ended.calls;
+    kept = λ g view base same may stands. (opened_over t s mended over g view base same may stands).kept_for;
+    keeps = λ g view base same may stands.
+        keeps_over g s (opened (shape s.file) (unit_at s.file.layout s.file.cluster t.shown) view) base (told_after over.mending (did Sync base)) live (opened_over t s mended over g view base same may stands)
+        last.replica mended last.outside.told (all_acts ended.turns) (all_answers ended.turns) (act_of ended.failing) ended.calls;
+    acknowledged = λ g view base same may stands.
+        keeps_answered s.file g (opened (shape s.file) (unit_at s.file.layout s.file.cluster t.shown) view) (Some (told_after over.mending (did Sync base))) (script_calls ended) refl live
+        (opened_over t s mended over g view base same may stands).kept_for;
+    spares = λ view found. spares_blocks (opened (shape s.file) (unit_at s.file.layout s.file.cluster t.shown) view) (script_calls ended) live (found_keeps s t.shown view whole opened_here found);
     undamaged = undamaged;
   }
 

@@ -3,8 +3,7 @@ use Rattle.std.proofs.Common.{◌≡◌, inl, inr, ℕ, true, List, Option, Some
 use Rattle.df_base.specs.Causes.{HasCause}
 use Rattle.df_base.specs.Image.{IsImage}
 use Rattle.df_base.specs.Log.{Sync}
-use Rattle.df_base.specs.Moments.{EachMoment}
-use Rattle.df_disk.specs.Told.{Told, after, did}
+use Rattle.df_disk.specs.Told.{Told, did}
 use Rattle.df_inspect.specs.Prints.{Prints}
 use Rattle.df_inspect.specs.Reports.{workload_text}
 use Rattle.df_inspect.specs.declared.counts.Workload.{Workload}
@@ -12,20 +11,17 @@ use Rattle.df_layout.specs.declared.damage.Class.{Class}
 use Rattle.df_layout.specs.declared.places.Place.{Place}
 use Rattle.df_script_model.specs.Texts.{damaged_text}
 use Rattle.df_layout.specs.declared.layout.Layout.{Layout}
-use Rattle.df_theory.specs.View.{View}
 use Rattle.df_units.specs.Bytes.{unit_at}
 use Rattle.df_model.specs.Work.{opened}
-use Rattle.df_replica.specs.Below.{IsOpened, State as Replica, shape}
-use Rattle.df_replica.specs.Following.{MayOpen}
-use Rattle.df_replica.specs.Opened.{ToldBy}
-use Rattle.df_replica.specs.Serving.{Firm, Grade, IsGoodFor, IsKept, Keeps, StandsFor, format}
+use Rattle.df_replica.specs.Below.{IsOpened, State as Replica, shape, told_after}
+use Rattle.df_replica.specs.Opened.{MendsAll, ToldBy}
+use Rattle.df_replica.specs.Serving.{Firm}
 use Rattle.df_replica.specs.Session.{Act}
 use Rattle.df_replica.proofs.Laws.{found_keeps}
 use Rattle.df_workload.specs.Rounds.{start}
 use Rattle.df_workload.specs.declared.state.State.{State as Run}
 use Rattle.df_top.specs.Acknowledging.{run_calls}
 use Rattle.df_top.specs.Outside.{Blames, HasCauses, Outside, PrintsLine}
-use Rattle.df_top.specs.Session.{EndsCalls}
 use Rattle.df_top.specs.Working.{WorksThrough}
 use Rattle.df_top.specs.Works.{BlamesFault, PrintsFault, PrintsRun, Writes, status_or, workload_of}
 use Rattle.df_top.specs.declared.works.Fault.{Fault}
@@ -34,8 +30,10 @@ use Rattle.df_top.specs.declared.status.Status.{Status}
 use Rattle.df_top.specs.declared.status.Status.TheVariants.{Done, Words, Refused, DiskFault, ReadFault, WriteFault, Memory}
 use Rattle.df_top.proofs.Causes.{calm_done, calm_refused, disk_blame, line_ends, never_printed, no_blame}
 use Rattle.df_top.proofs.Acknowledged.{keeps_answered}
-use Rattle.df_top.proofs.Kept.{answers_alone, ends_told, goes_told, keeps_file}
+use Rattle.df_top.proofs.Kept.{answers_alone, ends_add, ends_told, goes_told, keeps_over, opened_over}
 use Rattle.df_top.proofs.Runs.{EndsRun}
+use Rattle.df_top.proofs.Resulted.{opened_answers}
+use Rattle.df_top.proofs.Spared.{spares_blocks}
 
 -- ---- what is printed
 
@@ -101,14 +99,10 @@ damaged_never run t told (Some a) old new u is writes = untold_is_none u (sym wr
 -- ---- it is carried out
 
 module _ (seed count : ℕ) (layout : Layout) (t : Told) (old new : Outside) (status : Status) (s : Replica) (mended : Option Told) (image : IsImage t.shown) (told : old.told ≡ Some t) (unread : new.left ≡ old.left) (live : s.live ≡ true)
-    (of : s.file.layout ≡ layout) (is_opened : IsOpened layout t.shown s) (by : ToldBy (after Sync old.told) mended)
-    (kept_for : (n : Told) → mended ≡ Some n → (g : Grade) (view : View) → MayOpen s.file view t → StandsFor g (unit_at s.file.layout s.file.cluster t.shown) view
-    → IsKept g s (opened (shape s.file) (unit_at s.file.layout s.file.cluster t.shown) view) n.log)
-    (good : (n : Told) → mended ≡ Some n → (g : Grade) (view : View) → MayOpen s.file view t → StandsFor g (unit_at s.file.layout s.file.cluster t.shown) view
-    → EachMoment (did Sync t).log n.log (IsGoodFor g (format s.file) (shape s.file) view view))
+    (of : s.file.layout ≡ layout) (is_opened : IsOpened layout t.shown s) (over : MendsAll t s mended)
     (run : Run) (last : Replica) (ended : EndsRun (start seed count layout.clients) s mended run last new.told old.written new.written status) where
-  synced : ToldBy (Some (did Sync t)) mended
-  synced = subst (λ (o : Option Told). ToldBy (after Sync o) mended) told by
+  abbrev synced : ToldBy (Some (did Sync t)) mended
+  synced = (over.mending, over.told)
 
   opened_here : IsOpened s.file.layout t.shown s
   opened_here = subst (λ (l : Layout). IsOpened l t.shown s) (sym of) is_opened
@@ -139,15 +133,18 @@ module _ (seed count : ℕ) (layout : Layout) (t : Told) (old new : Outside) (st
     answered = λ view found.
         answers_alone Firm (opened (shape s.file) (unit_at s.file.layout s.file.cluster t.shown) view) s last mended new.told ended.worked.acts ended.worked.answers ended.worked.failed live
         (found_keeps s t.shown view image opened_here found) ended.worked.calls;
-    keeps = λ g view may stands.
-        let goes = goes_told (did Sync t) mended synced in
-        let n = goes.0 in
-        let calls = subst (λ (o : Option Told). EndsCalls s last o new.told ended.worked.acts ended.worked.answers ended.worked.failed) goes.1 ended.worked.calls in
-        keeps_file g s (opened (shape s.file) (unit_at s.file.layout s.file.cluster t.shown) view) t n live (kept_for n goes.1 g view may stands) (goes.2.honest (record { shows = may.honest.shows })) goes.2.grew
-        (good n goes.1 g view may stands) last new.told ended.worked.acts ended.worked.answers ended.worked.failed calls;
-    acknowledged = λ g view may stands.
-        let goes = goes_told (did Sync t) mended synced in
-        let w = opened (shape s.file) (unit_at s.file.layout s.file.cluster t.shown) view in
-        keeps_answered s.file g w (run_calls ended.worked) refl live (subst (λ (o : Option Told). Keeps g s w o) (sym goes.1) (kept_for goes.0 goes.1 g view may stands));
+    barrier = synced;
+    result = λ view shown found agree.
+        opened_answers s t mended over image (opened (shape s.file) (unit_at s.file.layout s.file.cluster t.shown) view) (found_keeps s t.shown view image opened_here found) last new.told ended.worked.failed shown agree ended.worked.acts
+        ended.worked.answers ended.worked.calls;
+    adds = ends_add s last mended new.told ended.worked.acts ended.worked.answers ended.worked.failed ended.worked.calls;
+    kept = λ g view base same may stands. (opened_over t s mended over g view base same may stands).kept_for;
+    keeps = λ g view base same may stands.
+        keeps_over g s (opened (shape s.file) (unit_at s.file.layout s.file.cluster t.shown) view) base (told_after over.mending (did Sync base)) live (opened_over t s mended over g view base same may stands)
+        last mended new.told ended.worked.acts ended.worked.answers ended.worked.failed ended.worked.calls;
+    acknowledged = λ g view base same may stands.
+        keeps_answered s.file g (opened (shape s.file) (unit_at s.file.layout s.file.cluster t.shown) view) (Some (told_after over.mending (did Sync base))) (run_calls ended.worked) refl live
+        (opened_over t s mended over g view base same may stands).kept_for;
+    spares = λ view found. spares_blocks (opened (shape s.file) (unit_at s.file.layout s.file.cluster t.shown) view) (run_calls ended.worked) live (found_keeps s t.shown view image opened_here found);
     undamaged = undamaged;
   }

@@ -3,6 +3,7 @@ pub mod Mode
 pub mod Usage
 pub mod Outside
 pub mod Lines
+pub mod Resulting
 pub mod Session
 pub mod Step
 pub mod Turning
@@ -11,6 +12,7 @@ pub mod Opening
 pub mod Keeping
 pub mod Works
 pub mod Acknowledging
+pub mod Sparing
 pub mod Working
 pub mod Reporting
 pub mod Scrubs
@@ -18,4 +20,5 @@ pub mod Touring
 pub mod Run
 pub mod Hurting
 pub mod Formats
+pub mod OneText
 pub mod Completeness

@@ -35,8 +35,9 @@ pub record Turned : Type 0 where
   pub acts : List Act
   pub answers : List Answer
 
+-- the calls are those that the line asks for, and each was answered
 abbrev pub IsTurned : Turned → Type 0
-IsTurned t = map command_in t.acts ≡ commands_of t.said
+IsTurned t = (map command_in t.acts ≡ commands_of t.said) × (length t.answers ≡ length t.acts)
 
 abbrev pub AreTurned : List Turned → Type 0
 AreTurned [] = Unit {0}

@@ -12,10 +12,11 @@ use Rattle.df_units.specs.Bytes.{unit_at}
 use Rattle.df_model.specs.Work.{opened}
 use Rattle.df_replica.specs.Below.{IsOpened, State as Replica, shape}
 use Rattle.df_replica.specs.Following.{MayOpen}
+use Rattle.df_replica.specs.Opened.{ToldBy}
 use Rattle.df_replica.specs.Replica.{Survey, summary_of}
 use Rattle.df_replica.specs.Serving.{Grade, StandsFor}
 use Rattle.df_replica.specs.Surveying.{IsMendable}
-use Rattle.df_top.specs.Keeping.{KeepsFile}
+use Rattle.df_top.specs.Keeping.{KeepsFile, over}
 use Rattle.df_top.specs.Opening.{IsSilent}
 use Rattle.df_top.specs.Outside.{Outside, PrintsLine}
 use Rattle.df_top.specs.declared.status.Status.{Status}
@@ -55,11 +56,12 @@ pub record FailsToSurvey (t : Told) (old new : Outside) (status : Status) : Type
 
 -- ---- recover
 
--- the file that the disk shows is opened, and its summary is printed; over an honest disk whose log is safe, the view that was found is kept
+-- the file that the disk shows is opened, and its summary is printed; by each log that shows what the disk showed, and by which the file may be opened, the view that was found is kept
 pub record Recovers (layout : Layout) (t : Told) (old new : Outside) (status : Status) : Type 0 where
   pub replica : Replica
   pub is_opened : IsOpened layout t.shown replica
   pub prints : PrintsLine (summary_text (summary_of replica)) Done old.written new.written status
   pub unread : new.left ≡ old.left
-  pub keeps : (g : Grade) (view : View) → MayOpen replica.file view t → StandsFor g (unit_at replica.file.layout replica.file.cluster t.shown) view
-      → KeepsFile replica.file g (opened (shape replica.file) (unit_at replica.file.layout replica.file.cluster t.shown) view) t [] [] None new.told
+  pub barrier : ToldBy (Some (did Sync t)) new.told
+  pub keeps : (g : Grade) (view : View) (base : Told) → base.shown ≡ t.shown → MayOpen replica.file view base → StandsFor g (unit_at replica.file.layout replica.file.cluster t.shown) view
+      → KeepsFile replica.file g (opened (shape replica.file) (unit_at replica.file.layout replica.file.cluster t.shown) view) base [] [] None (over barrier.0 [] base)

@@ -1,8 +1,9 @@
 -- What the word `scrub` promises of a file.
 use Rattle.std.specs.Prelude.{◌≡◌, ◌⊎◌, ℕ, zero, suc, List, [], ◌++◌, length, None, Option, Some}
 use Rattle.df_base.specs.Image.{Image}
+use Rattle.df_base.specs.Log.{Sync}
 use Rattle.df_base.specs.Streams.{Appends}
-use Rattle.df_disk.specs.Told.{Told}
+use Rattle.df_disk.specs.Told.{Told, did}
 use Rattle.df_inspect.specs.Reports.{failing_texts}
 use Rattle.df_layout.specs.declared.damage.Finding.{Finding}
 use Rattle.df_layout.specs.declared.layout.Layout.{Layout}
@@ -14,9 +15,10 @@ use Rattle.df_model.specs.declared.answers.Scrubbed.TheVariants.{TourEnd}
 use Rattle.df_replica.specs.Below.{IsOpened, failing_in, State as Replica, grid_with, memory, shape}
 use Rattle.df_script_model.specs.Texts.{scrubbed_text}
 use Rattle.df_replica.specs.Following.{MayOpen}
+use Rattle.df_replica.specs.Opened.{ToldBy}
 use Rattle.df_replica.specs.Scrubbing.{IsMachineTour}
 use Rattle.df_replica.specs.Serving.{Grade, StandsFor}
-use Rattle.df_top.specs.Keeping.{KeepsFile}
+use Rattle.df_top.specs.Keeping.{KeepsFile, over}
 use Rattle.df_top.specs.Outside.{Outside, PrintsLine}
 use Rattle.df_top.specs.declared.status.Status.{Status}
 use Rattle.df_top.specs.declared.status.Status.TheVariants.{DiskFault, Done, Found}
@@ -50,8 +52,8 @@ PrintsTour s image old new status = PrintsLine (tour_report s image) (tour_statu
 
 -- ---- the word
 
--- The file that the disk shows is opened, and a whole tour over what the disk shows from then on is printed; it is the machine's. Over an honest disk whose log
--- is safe, the view that was found is kept.
+-- The file that the disk shows is opened, and a whole tour over what the disk shows from then on is printed; it is the machine's. By each log that shows what
+-- the disk showed, and by which the file may be opened, the view that was found is kept.
 pub record ScrubsFile (layout : Layout) (t : Told) (old new : Outside) (status : Status) : Type 0 where
   pub replica : Replica
   pub is_opened : IsOpened layout t.shown replica
@@ -60,5 +62,6 @@ pub record ScrubsFile (layout : Layout) (t : Told) (old new : Outside) (status :
   pub prints : PrintsTour replica after.shown old.written new.written status
   pub machine : IsMachineTour replica after.shown
   pub unread : new.left ≡ old.left
-  pub keeps : (g : Grade) (view : View) → MayOpen replica.file view t → StandsFor g (unit_at replica.file.layout replica.file.cluster t.shown) view
-      → KeepsFile replica.file g (opened (shape replica.file) (unit_at replica.file.layout replica.file.cluster t.shown) view) t [] [] None new.told
+  pub barrier : ToldBy (Some (did Sync t)) new.told
+  pub keeps : (g : Grade) (view : View) (base : Told) → base.shown ≡ t.shown → MayOpen replica.file view base → StandsFor g (unit_at replica.file.layout replica.file.cluster t.shown) view
+      → KeepsFile replica.file g (opened (shape replica.file) (unit_at replica.file.layout replica.file.cluster t.shown) view) base [] [] None (over barrier.0 [] base)

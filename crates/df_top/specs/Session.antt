@@ -1,5 +1,6 @@
 -- How far a session has come, and what it has done when it ends.
 use Rattle.std.specs.Prelude.{◌≡◌, ◌+◌, ℕ, Bool, true, false, IsTrue, List, [], ◌∷◌, ◌++◌, length, map, Option, Some, None}
+use Rattle.df_base.specs.Log.{Event}
 use Rattle.df_base.specs.Streams.{Appends, AppendsPart}
 use Rattle.df_disk.specs.Told.{Told}
 use Rattle.df_layout.specs.declared.damage.Class.{Class}
@@ -38,7 +39,7 @@ EndedIsEnd s left = IsTrue s.lines.ended → IsAtEnd left
 
 -- ---- calls
 
--- one call: what it was supplied with is right, and what the disk tells changed by events alone
+-- one call: what it was supplied with is right, and what the disk tells changed by its events alone
 pub record Calls (a : Act) (s t : Replica) (old new : Option Told) (answer : Option Answer) : Type 0 where
   pub call : IsCall a.given a.command s t old new answer
   pub told : ToldBy old new
@@ -50,6 +51,13 @@ AreCalls s old [] (x ∷ answers) t new = ⊥
 AreCalls s old (a ∷ acts) [] t new = ⊥
 AreCalls s old (a ∷ acts) (x ∷ answers) t new = (u : Replica) × (mid : Option Told) × Calls a s u old mid (Some x) × AreCalls u mid acts answers t new
 
+-- the events that they added
+abbrev pub events_of : (s : Replica) → (old : Option Told) → (acts : List Act) → (answers : List Answer) → (t : Replica) → (new : Option Told) → AreCalls s old acts answers t new → List Event
+events_of s old [] [] t new calls = []
+events_of s old [] (x ∷ answers) t new calls = []
+events_of s old (a ∷ acts) [] t new calls = []
+events_of s old (a ∷ acts) (x ∷ answers) t new calls = calls.2.call.events ++ events_of calls.0 calls.1 acts answers t new calls.3
+
 -- the act that was not answered, if there is one
 abbrev pub list_of : Option Act → List Act
 list_of None = []
@@ -59,6 +67,11 @@ list_of (Some a) = a ∷ []
 abbrev pub EndsCalls : (s t : Replica) → (old new : Option Told) → List Act → List Answer → Option Act → Type 0
 EndsCalls s t old new acts answers None = AreCalls s old acts answers t new
 EndsCalls s t old new acts answers (Some a) = (u : Replica) × (mid : Option Told) × AreCalls s old acts answers u mid × Calls a u t mid new None
+
+-- what all of them added
+abbrev pub events_to : (s t : Replica) → (old new : Option Told) → (acts : List Act) → (answers : List Answer) → (failed : Option Act) → EndsCalls s t old new acts answers failed → List Event
+events_to s t old new acts answers None calls = events_of s old acts answers t new calls
+events_to s t old new acts answers (Some a) calls = events_of s old acts answers calls.0 calls.1 calls.2 ++ calls.3.call.events
 
 -- ---- executed, and ended
 

@@ -112,7 +112,7 @@ pub fn run<D: Disk, S: Source, W: Sink>(
 
     // The other words refuse a file by the first reason of the order of open. `run` serves the script as the machine does, and
     // keeps what it answered at every moment and at its end; `recover` mends the file and prints its summary; `inspect` prints
-    // the report of what it finds, and adds nothing on any disk but the sync of its barrier; `scrub` mends the file, and prints
+    // the report of what it finds, and adds nothing but the sync of its barrier; `scrub` mends the file, and prints
     // the referenced blocks that fail; `workload` carries out a generated run as the machine does, keeps what was answered, and
     // prints what it did.
     ensures runs { (mode : Mode) → IsOfFile mode → Means (map string_bytes words.now) mode → Runs mode

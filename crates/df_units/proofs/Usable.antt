@@ -22,11 +22,14 @@ usable_passes layout cluster named parse c of is = (
     layout = λ i. record { slots = of.slots i; message_size = of.message_size i; clients = of.clients i; block_size = of.block_size i; blocks = of.blocks i };
     cluster = of.cluster_is;
     sequence = is.sequence;
+    boot = omega arith;
     op_checksum = λ none. ap number_of (is.op_checksum none) ∙ no_number;
     head = (is.head.0, omega (arith, is.head.1, of.slots), is.head.2);
     replies = is.replies;
     pin = (omega arith, is.head.0);
+    pin_checksum = λ level. refl;
     answered = omega arith;
+    spare = λ k low. refl;
     of = record { one = λ version. (refl, refl, refl, refl); two = λ version. absurd (omega (arith, version, is.version)) };
     rest = zero_rest c.fields.boot c.fields.first_nonzero is.boot is.zero;
   },

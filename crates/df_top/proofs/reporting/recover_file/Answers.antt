@@ -19,8 +19,7 @@ returns-in-Ok-clause-recovers g c = λ left t told whole.
     let old : Outside = record { told = g.D.Disk.told c.args.disk.now; left = left; written = g.W.Sink.written c.args.sink.now } in
     let new : Outside = record { told = g.D.Disk.told c.open.new.disk; left = left; written = g.W.Sink.written c.summarise.new.sink } in
     inr (inr (recovers c.args.rooms.layout t old new c.summarise.result c.in-Ok.replica told refl c.in-Ok.ensures.live
-    ((subst (λ (o : Option Told). TellsSurvey c.args.rooms.layout o (Ok c.in-Ok.replica)) told c.in-Ok.ensures.answer) whole) c.in-Ok.ensures.told
-    (λ n is. c.in-Ok.ensures.kept_for t n told is) (λ n is. c.in-Ok.ensures.moments t n told is) c.summarise.ensures.prints))
+    ((subst (λ (o : Option Told). TellsSurvey c.args.rooms.layout o (Ok c.in-Ok.replica)) told c.in-Ok.ensures.answer) whole) (c.in-Ok.ensures.opened t told) c.summarise.ensures.prints))
 
 pub returns-clause-recovers : goal.returns-clause-recovers
 returns-clause-recovers g c = λ left t told whole.

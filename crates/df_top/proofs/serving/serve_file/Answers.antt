@@ -16,8 +16,7 @@ returns-in-Ok-clause-serves g c = λ t told whole.
     let old : Outside = record { told = g.D.Disk.told c.args.disk.now; left = g.S.Source.left c.args.source.now; written = g.W.Sink.written c.args.sink.now } in
     let new : Outside = record { told = g.D.Disk.told c.serve_script.new.disk; left = g.S.Source.left c.serve_script.new.source; written = g.W.Sink.written c.serve_script.new.sink } in
     inr (inr (serves c.args.rooms.layout t old new c.serve_script.result c.in-Ok.replica (g.D.Disk.told c.open.new.disk) whole told c.in-Ok.ensures.live c.in-Ok.ensures.kept
-    ((subst (λ (o : Option Told). TellsSurvey c.args.rooms.layout o (Ok c.in-Ok.replica)) told c.in-Ok.ensures.answer) whole) c.in-Ok.ensures.told
-    (λ n is. c.in-Ok.ensures.kept_for t n told is) (λ n is. c.in-Ok.ensures.moments t n told is)
+    ((subst (λ (o : Option Told). TellsSurvey c.args.rooms.layout o (Ok c.in-Ok.replica)) told c.in-Ok.ensures.answer) whole) (c.in-Ok.ensures.opened t told)
     (state new c.serve_script.new.session) refl (from_start (g.D.Disk.told c.open.new.disk) old _ c.args.rooms.layout (state new c.serve_script.new.session) c.serve_script.result c.requires.lines refl c.serve_script.ensures.session)))
 
 pub returns-in-Err-clause-serves : goal.returns-in-Err-clause-serves

@@ -28,8 +28,7 @@ returns-in-Ok-clause-works g c = λ left t told whole.
     let begins : c.new-generator.result ≡ start c.args.seed c.args.count layout.clients = c.new-generator.ensures ∙ ap (λ (n : ℕ). start c.args.seed c.args.count n) clients in
     let comes = subst (λ (r : Run). Comes r s (g.D.Disk.told c.open.new.disk) c.work-worked.new.generator c.work-worked.new.replica (g.D.Disk.told c.work-worked.new.disk) c.work-worked.result) begins c.work-worked.ensures.comes in
     inr (inr (works_through c.args.seed c.args.count layout t old new status s (g.D.Disk.told c.open.new.disk) whole told refl c.in-Ok.ensures.live c.in-Ok.ensures.kept
-    ((subst (λ (o : Option Told). TellsSurvey layout o (Ok s)) told c.in-Ok.ensures.answer) whole) c.in-Ok.ensures.told
-    (λ n is. c.in-Ok.ensures.kept_for t n told is) (λ n is. c.in-Ok.ensures.moments t n told is) c.work-worked.new.generator c.work-worked.new.replica
+    ((subst (λ (o : Option Told). TellsSurvey layout o (Ok s)) told c.in-Ok.ensures.answer) whole) (c.in-Ok.ensures.opened t told) c.work-worked.new.generator c.work-worked.new.replica
     (ends_run (start c.args.seed c.args.count layout.clients) s (g.D.Disk.told c.open.new.disk) c.work-worked.new.generator c.work-worked.new.replica (g.D.Disk.told c.work-worked.new.disk) (g.W.Sink.written c.args.sink.now) (g.W.Sink.written c.tell.new.sink) status c.work-worked.result comes
     c.work-worked.ensures.over c.tell.ensures.prints)))
 

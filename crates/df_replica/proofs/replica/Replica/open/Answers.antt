@@ -1,35 +1,25 @@
 -- What was surveyed behind the barrier is mended, and the replica is that of the survey.
-use Rattle.std.proofs.Common.{◌≡◌, ◌∙◌, Option, Some, inr, refl, ap, subst, sym}
+use Rattle.std.proofs.Common.{◌≡◌, ◌∙◌, List, Option, Some, inr, refl, ap, subst, sym}
 use Rattle.std.specs.Prelude.{Ok}
-use Rattle.df_base.specs.Log.{Sync}
-use Rattle.df_base.specs.Moments.{EachMoment}
+use Rattle.df_base.specs.Image.{Image}
+use Rattle.df_base.specs.Log.{Event, Sync}
 use Rattle.df_disk.specs.Adds.{after_all}
 use Rattle.df_disk.specs.Told.{Told, after, did}
-use Rattle.df_theory.specs.View.{View}
+use Rattle.df_damage.specs.Anew.{told_after}
+use Rattle.df_damage.proofs.Laws.{added_is_told}
 use Rattle.df_units.specs.Bytes.{unit_at}
 use Rattle.df_model.specs.Work.{opened}
 use Rattle.df_state.specs.State.{State, shape}
-use Rattle.df_replica.specs.Following.{MayOpen}
-use Rattle.df_replica.specs.Mending.{IsMended, mending_events}
-use Rattle.df_replica.specs.Serving.{Grade, IsGoodFor, IsKept, StandsFor, format}
+use Rattle.df_replica.specs.Mending.{live_state, mending_events}
+use Rattle.df_replica.specs.Opened.{MendsAll}
+use Rattle.df_replica.specs.Serving.{IsGoodFor, StandsFor, format}
 use Rattle.df_replica.specs.Surveying.{TellsSurvey}
 use Rattle.df_replica.proofs.Barriers.{barrier_rests}
 use Rattle.df_replica.proofs.Hurts.{tells_hurt}
-use Rattle.df_replica.proofs.Opens.{live_kept, mend_stops, open_keeps, survey_opened}
+use Rattle.df_replica.proofs.MendShows.{mending_spares}
+use Rattle.df_replica.proofs.Opens.{front_moments, live_kept, mend_stops, open_keeps, open_settles, planned_same, survey_opened}
 use Rattle.df_replica.proofs.SurveyPlans.{live_answers}
 use Rattle.df_replica.proofs.replica.Replica.open.Goals as goal
-
-pub returns-in-Ok-mend-clause-moments : goal.returns-in-Ok-mend-clause-moments
-returns-in-Ok-mend-clause-moments g c = λ before last first told.
-    let synced : g.D.Disk.told c.survey.new.disk ≡ Some (did Sync before) = c.in-Ok.ensures.barrier ∙ ap (after Sync) first in
-    subst (λ (r : State). (grade : Grade) (view : View) → MayOpen r.file view before → StandsFor grade (unit_at r.file.layout r.file.cluster before.shown) view → EachMoment (did Sync before).log last.log (IsGoodFor grade (format r.file) (shape r.file) view view)) (sym c.in-Ok-mend.ensures.state)
-    (λ grade view may stands. c.in-Ok-mend.ensures.moments (did Sync before) last synced told grade view (c.in-Ok.ensures.planned (did Sync before) synced) (barrier_rests grade c.in-Ok.surveyed.state.file view before may stands))
-
-pub returns-in-Ok-mend-clause-mended : goal.returns-in-Ok-mend-clause-mended
-returns-in-Ok-mend-clause-mended g c = λ before last first told.
-    let synced : g.D.Disk.told c.survey.new.disk ≡ Some (did Sync before) = c.in-Ok.ensures.barrier ∙ ap (after Sync) first in
-    subst (λ (r : State). (grade : Grade) (view : View) → MayOpen r.file view before → StandsFor grade (unit_at r.file.layout r.file.cluster before.shown) view → IsMended grade r.file view r.headers last) (sym c.in-Ok-mend.ensures.state)
-    (λ grade view may stands. c.in-Ok-mend.ensures.mended (did Sync before) last synced told grade view (c.in-Ok.ensures.planned (did Sync before) synced) (barrier_rests grade c.in-Ok.surveyed.state.file view before may stands))
 
 pub returns-in-Ok-mend-clause-answer : goal.returns-in-Ok-mend-clause-answer
 returns-in-Ok-mend-clause-answer g c = live_answers c.args.rooms.layout (g.D.Disk.told c.args.disk.now) c.in-Ok.surveyed.state c.in-Ok-mend.replica c.in-Ok-mend.ensures.state c.in-Ok.ensures.answer
@@ -40,28 +30,47 @@ returns-in-Ok-mend-clause-hurt g c = tells_hurt c.args.rooms.layout (g.D.Disk.to
 pub returns-in-Err-mend-clause-hurt : goal.returns-in-Err-mend-clause-hurt
 returns-in-Err-mend-clause-hurt g c = λ file view t is same may other. absurd (other refl)
 
-pub returns-in-Ok-mend-clause-kept_for : goal.returns-in-Ok-mend-clause-kept_for
-returns-in-Ok-mend-clause-kept_for g c = λ before last first told.
-    let synced : g.D.Disk.told c.survey.new.disk ≡ Some (did Sync before) = c.in-Ok.ensures.barrier ∙ ap (after Sync) first in
+pub returns-in-Ok-mend-clause-opened : goal.returns-in-Ok-mend-clause-opened
+returns-in-Ok-mend-clause-opened g c = λ t is.
     let s = c.in-Ok.surveyed in
-    let all : Some last ≡ after_all (mending_events s.state.file.layout s.state.headers s.mends s.state.fields s.chosen.members) (Some (did Sync before)) =
-    sym told ∙ c.in-Ok-mend.ensures.events ∙ ap (after_all (mending_events s.state.file.layout s.state.headers s.mends s.state.fields s.chosen.members)) synced in
-    subst (λ (r : State). (grade : Grade) (view : View) → MayOpen r.file view before → StandsFor grade (unit_at r.file.layout r.file.cluster before.shown) view
-    → IsKept grade r (opened (shape r.file) (unit_at r.file.layout r.file.cluster before.shown) view) last.log) (sym c.in-Ok-mend.ensures.state)
-    (λ grade view may stands.
-    let plan = c.in-Ok.ensures.planned (did Sync before) synced in
-    let on = barrier_rests grade s.state.file view before may stands in
-    live_kept grade s.state (opened (shape s.state.file) (unit_at s.state.file.layout s.state.file.cluster before.shown) view) last.log
-    (open_keeps grade s.state s.mends s.chosen.members view before last may (survey_opened c.args.rooms.layout (g.D.Disk.told c.args.disk.now) before s.state first view may c.in-Ok.ensures.kept c.in-Ok.ensures.answer) c.in-Ok-mend.ensures.steps all
-    (c.in-Ok-mend.ensures.moments (did Sync before) last synced told grade view plan on) (c.in-Ok-mend.ensures.mended (did Sync before) last synced told grade view plan on)))
+    let es : List Event = mending_events s.state.file.layout s.state.headers s.mends s.state.fields s.chosen.members in
+    let synced : g.D.Disk.told c.survey.new.disk ≡ Some (did Sync t) = c.in-Ok.ensures.barrier ∙ ap (after Sync) is in
+    let answer : TellsSurvey c.args.rooms.layout (Some t) (Ok s.state) = subst (λ (o : Option Told). TellsSurvey c.args.rooms.layout o (Ok s.state)) is c.in-Ok.ensures.answer in
+    let plan = c.in-Ok.ensures.planned (did Sync t) synced in
+    let all : MendsAll t (live_state s.state) (g.D.Disk.told c.mend.new.disk) = record {
+      mending = es;
+      told = c.in-Ok-mend.ensures.events ∙ ap (after_all es) synced;
+      spares = mending_spares s.state.file s.state.headers s.mends s.state.fields s.chosen.members c.in-Ok-mend.ensures.steps;
+      over = λ grade view base same may stands.
+          let n : Told = told_after es (did Sync base) in
+          let planned = planned_same s.state.file s.state.headers s.mends s.state.fields s.chosen.members (did Sync t) (did Sync base) same plan in
+          let on = barrier_rests grade s.state.file view base may (subst (λ (m : Image). StandsFor grade (unit_at s.state.file.layout s.state.file.cluster m) view) (sym same) stands) in
+          let moments = c.in-Ok-mend.ensures.moments (did Sync base) grade view planned on in
+          let mended = c.in-Ok-mend.ensures.mended (did Sync base) grade view planned on in
+          record {
+            moments = moments;
+            mended = mended;
+            kept_for =
+                live_kept grade s.state (opened (shape s.state.file) (unit_at s.state.file.layout s.state.file.cluster base.shown) view) n.log
+                (open_keeps grade s.state s.mends s.chosen.members view base n may (survey_opened c.args.rooms.layout t base s.state same view may c.in-Ok.ensures.kept answer) c.in-Ok-mend.ensures.steps
+                (sym (added_is_told es (did Sync base))) moments mended);
+            settled = open_settles s.state s.mends s.chosen.members base (opened (shape s.state.file) (unit_at s.state.file.layout s.state.file.cluster base.shown) view) c.in-Ok-mend.ensures.steps;
+          };
+    } in
+    subst (λ (r : State). MendsAll t r (g.D.Disk.told c.mend.new.disk)) (sym c.in-Ok-mend.ensures.state) all
 
 pub returns-in-Err-mend-clause-stopped : goal.returns-in-Err-mend-clause-stopped
 returns-in-Err-mend-clause-stopped g c = λ t is whole fault.
     let s = c.in-Ok.surveyed in
     let synced : g.D.Disk.told c.survey.new.disk ≡ Some (did Sync t) = c.in-Ok.ensures.barrier ∙ ap (after Sync) is in
+    let part = mend_stops (mending_events s.state.file.layout s.state.headers s.mends s.state.fields s.chosen.members) (g.D.Disk.told c.survey.new.disk) (g.D.Disk.told c.mend.new.disk) (did Sync t) synced c.in-Err-mend.ensures.events in
     inr (inr (record {
       state = s.state;
       opened = (subst (λ (o : Option Told). TellsSurvey c.args.rooms.layout o (Ok s.state)) is c.in-Ok.ensures.answer) whole;
-      told = mend_stops (mending_events s.state.file.layout s.state.headers s.mends s.state.fields s.chosen.members) (g.D.Disk.told c.survey.new.disk) (g.D.Disk.told c.mend.new.disk) (did Sync t) synced c.in-Err-mend.ensures.events;
-      moments = λ n grade view told may stands. c.in-Err-mend.ensures.moments (did Sync t) n synced told grade view (c.in-Ok.ensures.planned (did Sync t) synced) (barrier_rests grade s.state.file view t may stands);
+      told = (part.part, part.is);
+      moments = λ grade view base same may stands.
+          let es : List Event = mending_events s.state.file.layout s.state.headers s.mends s.state.fields s.chosen.members in
+          let planned = planned_same s.state.file s.state.headers s.mends s.state.fields s.chosen.members (did Sync t) (did Sync base) same (c.in-Ok.ensures.planned (did Sync t) synced) in
+          let on = barrier_rests grade s.state.file view base may (subst (λ (m : Image). StandsFor grade (unit_at s.state.file.layout s.state.file.cluster m) view) (sym same) stands) in
+          front_moments es (did Sync base) part.part part.again (IsGoodFor grade (format s.state.file) (shape s.state.file) view view) (c.in-Err-mend.ensures.moments (did Sync base) grade view planned on);
     }))

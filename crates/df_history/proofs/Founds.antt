@@ -1,0 +1,264 @@
+-- What is found in any image of units that a history settled was the view of a settled image of an awake log.
+use Rattle.std.proofs.Common.{◌≡◌, ◌⊎◌, inl, inr, ℕ, ◌+◌, ◌-◌, ◌%◌, ◌<◌, ◌≤◌, List, length, take, slice_index, Option, Some, None, refl, sym, ◌∙◌, ap, subst, arith}
+use Rattle.std.specs.List.{slice_get}
+use Rattle.std.proofs.lemmas.Bool.{cases_lt}
+use Rattle.df_theory.specs.Units.{BlockPlace, BlockUnit, Content, CopyPlace, CopyUnit, Message, PreparePlace, PrepareUnit, ReplyPlace, ReplyUnit, Session, Units}
+use Rattle.df_theory.specs.Sessions.{sessions_after}
+use Rattle.df_theory.specs.Tails.{Chain, In, last_checksum, last_mark}
+use Rattle.df_theory.specs.Shape.{Shape}
+use Rattle.df_theory.specs.Copies.{rank_of}
+use Rattle.df_theory.specs.Trailer.{Links}
+use Rattle.df_theory.specs.View.{View, boot_of, head, sessions}
+use Rattle.df_theory.specs.Holds.{IsNamed, Sound}
+use Rattle.df_theory.specs.HistoryLaws.{AreDistinct, ShowsSettled}
+use Rattle.df_theory.specs.Found.{IsFound}
+use Rattle.df_theory.proofs.Laws.{chain_at, chain_ops, take_boot, rank_low, same_parts as parts_same, same_links, same_chains, last_of, no_mark, same_named, HasGap, group_from, group_holds, same_group, chain_last}
+use Rattle.df_theory.specs.Chance.{InImages}
+use Rattle.df_history.specs.Lives.{Awake, Lived, Lives, Turn, first_of}
+use Rattle.df_history.specs.Laws.{FoundLivedLaw, OneContentLaw, OnePrepareLaw, OneReplyLaw}
+use Rattle.df_history.proofs.Steps.{first_low, lived_base, lived_needs, lived_sound}
+use Rattle.df_history.proofs.Born.{Appended, Stored, after_base, awake_content, born_prepare, born_reply, settled_content, settled_one}
+use Rattle.df_history.proofs.Stamps.{HasAll, one_of_stored, stamps}
+
+module _ (sh : Shape) (images : List Units) (v : View) (t : Turn) (lives : Lives sh images v t) (distinct : AreDistinct images)
+    (shown : Units) (of : ShowsSettled images shown) (w : View) (f : IsFound sh shown w) (young : rank_of (first_of sh images v t lives).checkpoint.content ≤ rank_of w.checkpoint.content) where
+  abbrev WasAwake : View → Type 0
+  WasAwake z = Lived sh images v t lives z Awake
+
+  -- the awake view just after the superblock came
+  pub checkpoint_event : (a : View) × WasAwake a × (a.checkpoint.content ≡ w.checkpoint.content) × (head a ≡ w.checkpoint.content.head) × (a.replies ≡ w.checkpoint.content.replies)
+  checkpoint_event = elim (settled_content sh images v t lives f.chosen.agreed.second w.checkpoint.content (λ zero_is. omega (arith, f.chosen.agreed.apart)) (of (CopyPlace f.chosen.agreed.second) (CopyUnit w.checkpoint.content) f.chosen.agreed.at_second)) [
+    | inl z ↦
+        let b = awake_content sh images v t lives z.0 z.1 z.2 in
+        let a = after_base sh images v t lives b.0 b.1 in
+        let same : a.0.checkpoint.content ≡ w.checkpoint.content = a.2 ∙ b.2 ∙ sym z.3 in
+        (a.0, a.1, same, a.3 ∙ ap (λ (c : Content). c.head) same, a.4 ∙ ap (λ (c : Content). c.replies) same)
+    | inr older ↦ absurd (omega arith)
+  ]
+
+  first_boot : boot_of (first_of sh images v t lives) ≤ boot_of w
+  first_boot = let a = checkpoint_event in omega (arith, (first_low sh images v t lives a.0 Awake a.1).1, ap (λ (c : Content). c.boot) a.2)
+
+  settled_at : (p : Message) → In p w.tail → InImages images (PreparePlace (p.header.op % sh.layout.slots)) (PrepareUnit p)
+  settled_at p at = of (PreparePlace (p.header.op % sh.layout.slots)) (PrepareUnit p) (f.tail.takes p at).shown
+
+  -- whole groups are found: of the group of a prepare above the pin none lacks
+  no_gap : (p : Message) → In p w.tail → p.header.group ≤ p.header.op → w.checkpoint.content.pin < p.header.op → HasGap images p → ⊥
+  no_gap p at holds_op above gap =
+      let ops = chain_ops sh.layout.clients (w.checkpoint.content.op + 1) w.checkpoint.content.op_checksum 0 w.checkpoint.parts.sessions w.tail p f.tail.chain at in
+      let last = f.tail.groups p at in
+      let begins : w.checkpoint.content.op < p.header.group = elim (cases_lt w.checkpoint.content.op p.header.group) [
+        | inl yes_above ↦ yes_above
+        | inr not ↦ absurd (omega (arith, ops.0, (group_from sh.layout.clients 0 w.checkpoint.content.op (w.checkpoint.content.op + 1) w.checkpoint.content.op_checksum 0 w.checkpoint.parts.sessions w.tail p f.tail.chain f.tail.grouped at (omega arith)).2))
+      ] in
+      let q = chain_at sh.layout.clients (w.checkpoint.content.op + 1) w.checkpoint.content.op_checksum 0 w.checkpoint.parts.sessions w.tail gap.missing f.tail.chain (omega (arith, gap.from)) (omega (arith, gap.to)) in
+      let group = same_group sh.layout.clients 0 w.checkpoint.content.op (w.checkpoint.content.op + 1) w.checkpoint.content.op_checksum 0 w.checkpoint.parts.sessions w.tail p q.0 f.tail.chain f.tail.grouped at q.1 (omega (arith, q.2, gap.from)) (omega (arith, q.2, gap.to)) in
+      let q_above : w.checkpoint.content.pin < q.0.header.op = elim (cases_lt w.checkpoint.content.pin q.0.header.op) [
+        | inl yes_above ↦ yes_above
+        | inr not ↦ absurd (let q_last = f.tail.pin_ends q.0 q.1 (omega arith) in let p_last = last_op p at in omega (arith, q_last, group.1, p_last, above))
+      ] in
+      let own_p = take_boot sh.layout.slots shown w.checkpoint.content p (f.tail.takes p at) above in
+      let own_q = take_boot sh.layout.slots shown w.checkpoint.content q.0 (f.tail.takes q.0 q.1) q_above in
+      gap.lacks (q.0.header.op % sh.layout.slots) q.0 (settled_at q.0 q.1) q.2 (own_q ∙ sym own_p) group.0
+    where
+      last_op : (p : Message) → In p w.tail → p.header.op ≤ p.header.group_last
+      last_op p at = chain_last sh.layout.clients (w.checkpoint.content.op + 1) w.checkpoint.content.op_checksum 0 w.checkpoint.parts.sessions w.tail p f.tail.chain at
+
+  -- a prepare of this boot that is found was appended by an awake log
+  appended_here : (q : Message) → In q w.tail → w.checkpoint.content.pin < q.header.op → Appended sh images v t lives q × (q.header.boot ≡ boot_of w)
+  appended_here q at above =
+      let boot = take_boot sh.layout.slots shown w.checkpoint.content q (f.tail.takes q at) above in
+      let holds_op = group_holds sh.layout.clients 0 w.checkpoint.content.op (w.checkpoint.content.op + 1) w.checkpoint.content.op_checksum 0 w.checkpoint.parts.sessions w.tail q f.tail.chain f.tail.grouped (omega arith) at in
+      elim (born_prepare sh images v t lives (q.header.op % sh.layout.slots) q (settled_at q at) holds_op) [
+        | inl older ↦ absurd (omega (arith, first_boot))
+        | inr (inl b) ↦ (b, boot)
+        | inr (inr gap) ↦ absurd (no_gap q at holds_op above gap)
+      ]
+
+  stored_here : (k : ℕ) (r : Message) → shown (ReplyPlace k) ≡ Some (ReplyUnit r) → r.header.boot ≡ boot_of w → Stored sh images v t lives k r
+  stored_here k r at own = elim (born_reply sh images v t lives k r (of (ReplyPlace k) (ReplyUnit r) at)) [
+    | inl older ↦ absurd (omega (arith, first_boot))
+    | inr b ↦ b
+  ]
+
+  -- up to the pin the tail is that of each view with this superblock
+  pub same_known : (z : View) → WasAwake z → z.checkpoint.content ≡ w.checkpoint.content → (p q : Message) → In p z.tail → In q w.tail → p.header.op ≡ q.header.op → q.header.op ≤ w.checkpoint.content.pin → p ≡ q
+  same_known z was same p q at there ops known =
+      let sound = lived_sound sh images v t lives z Awake was in
+      let from : w.checkpoint.content.op ≤ w.checkpoint.content.pin = f.checkpoint.tests.pin.0 in
+      let chain_z : Chain sh.layout.clients (w.checkpoint.content.op + 1) w.checkpoint.content.op_checksum 0 z.checkpoint.parts.sessions z.tail =
+      subst (λ (c : Content). Chain sh.layout.clients (c.op + 1) c.op_checksum 0 z.checkpoint.parts.sessions z.tail) same sound.chain in
+      let ends_z : last_checksum w.checkpoint.content.op_checksum (take (w.checkpoint.content.pin - w.checkpoint.content.op) z.tail) ≡ w.checkpoint.content.pin_checksum =
+      subst (λ (c : Content). last_checksum c.op_checksum (take (c.pin - c.op) z.tail) ≡ c.pin_checksum) same sound.records.checksum in
+      same_named sh.layout.clients (w.checkpoint.content.op + 1) w.checkpoint.content.op_checksum 0 0 z.checkpoint.parts.sessions w.checkpoint.parts.sessions z.tail w.tail (w.checkpoint.content.pin - w.checkpoint.content.op) chain_z f.tail.chain
+      (omega (arith, sound.records.pin_to, ap (λ (c : Content). c.pin) same, ap (λ (c : Content). c.op) same)) (omega (arith, f.tail.reaches)) (ends_z ∙ sym f.tail.pinned)
+      (λ x y in_x in_y sums. distinct (PreparePlace (x.header.op % sh.layout.slots)) (PreparePlace (y.header.op % sh.layout.slots)) (PrepareUnit x) (PrepareUnit y)
+      (lived_needs sh images v t lives z Awake was (PreparePlace (x.header.op % sh.layout.slots)) (PrepareUnit x) (x, in_x, refl, refl)) (of (PreparePlace (y.header.op % sh.layout.slots)) (PrepareUnit y) (f.tail.takes y in_y).shown) sums)
+      (w.checkpoint.content.pin - q.header.op) p q at there ops (omega arith)
+
+  abbrev Event : (View → Type 0) → Type 0
+  Event Says = (b : View) × WasAwake b × (rank_of b.checkpoint.content ≤ rank_of w.checkpoint.content) × (boot_of b ≡ boot_of w) × Says b
+
+  -- the awake view just after the last prepare came, where it is above the pin
+  append_event : w.checkpoint.content.pin < head w → Event (λ b. (head b ≡ head w) × (b.replies ≡ last_mark 0 w.tail))
+  append_event above =
+      let p = last_of sh.layout.clients (w.checkpoint.content.op + 1) w.checkpoint.content.op_checksum 0 0 w.checkpoint.parts.sessions w.tail f.tail.chain (omega (arith, f.checkpoint.tests.pin.0)) in
+      let here = appended_here p.0 p.1 (omega (arith, p.2)) in
+      let b = here.0 in
+      let low = f.not_behind.prepare (p.0.header.op % sh.layout.slots) p.0 (f.tail.takes p.0 p.1).shown in
+      (b.0, b.1, rank_low b.0.checkpoint.content w.checkpoint.content (omega (arith, b.5, low.0)) (omega (arith, b.6, low.2)), b.6 ∙ here.1, (omega (arith, b.3, p.2, p.4, f.tail.groups p.0 p.1), b.4 ∙ p.3))
+
+  reply_event : (k : ℕ) (x : Message) → shown (ReplyPlace k) ≡ Some (ReplyUnit x) → x.header.boot ≡ w.checkpoint.content.boot → Event (λ b. (head b ≤ head w) × (b.replies ≡ x.header.op))
+  reply_event k x at own =
+      let b = stored_here k x at own in
+      let low = f.not_behind.reply k x at in
+      (b.0, b.1, rank_low b.0.checkpoint.content w.checkpoint.content (omega (arith, b.5, low.0)) (omega (arith, b.6, low.1)), b.6 ∙ own, (omega (arith, b.4, (f.not_lost.reply k x at own).1), b.3))
+
+  -- where the tail ends at the pin, its last mark is no more than the superblock's replies
+  known_mark : (a : View) → WasAwake a → a.checkpoint.content ≡ w.checkpoint.content → head a ≡ w.checkpoint.content.head → a.replies ≡ w.checkpoint.content.replies → head w ≤ w.checkpoint.content.pin → last_mark 0 w.tail ≤ w.checkpoint.content.replies
+  known_mark a was same top replies known = elim (cases_lt 0 (length w.tail)) [
+    | inl some ↦
+        let sound = lived_sound sh images v t lives a Awake was in
+        let ops : a.checkpoint.content.op ≡ w.checkpoint.content.op = ap (λ (c : Content). c.op) same in
+        let heads : head a ≡ head w = omega (arith, top, f.not_lost.superblock, f.checkpoint.tests.pin.1) in
+        let p = last_of sh.layout.clients (w.checkpoint.content.op + 1) w.checkpoint.content.op_checksum 0 0 w.checkpoint.parts.sessions w.tail f.tail.chain some in
+        let q = last_of sh.layout.clients (a.checkpoint.content.op + 1) a.checkpoint.content.op_checksum 0 0 a.checkpoint.parts.sessions a.tail sound.chain (omega (arith, ops, heads)) in
+        let one : q.0 ≡ p.0 = same_known a was same q.0 p.0 q.1 p.1 (omega (arith, p.2, q.2, ops, heads)) (omega (arith, p.2)) in
+        omega (arith, p.3, q.3, ap (λ (x : Message). x.header.mark) one, sound.replies_from.1, replies)
+    | inr none ↦ omega (arith, no_mark w.tail (omega arith))
+  ]
+
+  all_three : HasAll sh images v t lives (rank_of w.checkpoint.content) (head w) w.replies
+  all_three =
+      let a = checkpoint_event in
+      let s : rank_of a.0.checkpoint.content ≡ rank_of w.checkpoint.content = ap rank_of a.2 in
+      let boot : boot_of a.0 ≡ boot_of w = ap (λ (c : Content). c.boot) a.2 in
+      let b = top_event a.0 a.1 s boot a.3 a.4 in
+      let c = replies_event a.0 a.1 a.2 s boot a.3 a.4 f.replies.reached in
+      stamps sh images v t lives (rank_of w.checkpoint.content) (head w) w.replies (boot_of w) a.0 b.0 c.0
+      a.1 (s, omega (arith, a.3, f.not_lost.superblock), omega (arith, a.4, f.replies.superblock), boot)
+      b.1 (b.2, b.4.0, b.4.1, b.3)
+      c.1 (c.2, c.4.0, c.4.1, c.3)
+    where
+      top_event : (a : View) → WasAwake a → rank_of a.checkpoint.content ≡ rank_of w.checkpoint.content → boot_of a ≡ boot_of w → head a ≡ w.checkpoint.content.head → a.replies ≡ w.checkpoint.content.replies → Event (λ b. (head b ≡ head w) × (b.replies ≤ w.replies))
+      top_event a was s boot top replies = elim (cases_lt w.checkpoint.content.pin (head w)) [
+        | inl above ↦ let b = append_event above in (b.0, b.1, b.2, b.3, (b.4.0, omega (arith, b.4.1, f.replies.mark)))
+        | inr not ↦ (a, was, omega arith, boot, (omega (arith, f.checkpoint.tests.pin.1, f.not_lost.superblock), omega (arith, f.replies.superblock)))
+      ]
+
+      replies_event : (a : View) → WasAwake a → a.checkpoint.content ≡ w.checkpoint.content → rank_of a.checkpoint.content ≡ rank_of w.checkpoint.content → boot_of a ≡ boot_of w → head a ≡ w.checkpoint.content.head → a.replies ≡ w.checkpoint.content.replies
+          → (w.checkpoint.content.replies ≡ w.replies) ⊎ (last_mark 0 w.tail ≡ w.replies) ⊎ ((k : ℕ) × (r : Message) × (shown (ReplyPlace k) ≡ Some (ReplyUnit r)) × (r.header.op ≡ w.replies) × (r.header.boot ≡ w.checkpoint.content.boot))
+          → Event (λ c. (head c ≤ head w) × (c.replies ≡ w.replies))
+      replies_event a was same s boot top replies (inl base) = (a, was, omega arith, boot, (omega (arith, f.not_lost.superblock), replies ∙ base))
+      replies_event a was same s boot top replies (inr (inl mark)) = elim (cases_lt w.checkpoint.content.pin (head w)) [
+        | inl above ↦ let b = append_event above in (b.0, b.1, b.2, b.3, (omega (arith, b.4.0), b.4.1 ∙ mark))
+        | inr not ↦ (a, was, omega arith, boot, (omega (arith, f.not_lost.superblock), omega (arith, known_mark a was same top replies (omega arith), f.replies.superblock)))
+      ]
+      replies_event a was same s boot top replies (inr (inr reply)) = let b = reply_event reply.0 reply.1 reply.2 reply.4 in (b.0, b.1, b.2, b.3, (b.4.0, b.4.1 ∙ reply.3))
+
+  module _ (z : View) (was : Lived sh images v t lives z Awake) (s : rank_of z.checkpoint.content ≡ rank_of w.checkpoint.content) (top : head z ≡ head w) (r : z.replies ≡ w.replies) where
+    pub sound : Sound sh z
+    sound = lived_sound sh images v t lives z Awake was
+
+    pub same_content : z.checkpoint.content ≡ w.checkpoint.content
+    same_content =
+        let a = checkpoint_event in
+        lived_base sh images v t lives z Awake a.0 Awake was a.1 (s ∙ ap rank_of (sym a.2)) ∙ a.2
+
+    pub same_chain : z.checkpoint.chain ≡ w.checkpoint.chain
+    same_chain = same_links (sh.layout.block_size - 256) w.checkpoint.content z.checkpoint.chain w.checkpoint.chain w.checkpoint.content.trailer w.checkpoint.content.trailer_checksum
+        (subst (λ (c : Content). Links (sh.layout.block_size - 256) c z.checkpoint.chain c.trailer c.trailer_checksum) same_content sound.checkpoint.trailer.links) f.checkpoint.trailer.links
+        (λ a e b d at there checksum. distinct (BlockPlace a) (BlockPlace e) (BlockUnit b) (BlockUnit d) (lived_needs sh images v t lives z Awake was (BlockPlace a) (BlockUnit b) (b, at, refl)) (of (BlockPlace e) (BlockUnit d) (f.chain_shown e d there)) checksum)
+
+    pub same_parts : z.checkpoint.parts ≡ w.checkpoint.parts
+    same_parts = parts_same sh z.checkpoint.content w.checkpoint.content z.checkpoint.chain w.checkpoint.chain z.checkpoint.parts w.checkpoint.parts same_content same_chain sound.checkpoint.trailer.says f.checkpoint.trailer.says
+
+    same_prepare : (p q : Message) → In p z.tail → In q w.tail → p.header.op ≡ q.header.op → p ≡ q
+    same_prepare p q at there same = elim (cases_lt w.checkpoint.content.pin q.header.op) [
+      | inl above ↦
+          let own_q = take_boot sh.layout.slots shown w.checkpoint.content q (f.tail.takes q there) above in
+          let own_p = sound.records.tail p at (omega (arith, above, same, ap (λ (c : Content). c.pin) same_content)) in
+          settled_one sh images v t lives (p.header.op % sh.layout.slots) (q.header.op % sh.layout.slots) p q (lived_needs sh images v t lives z Awake was (PreparePlace (p.header.op % sh.layout.slots)) (PrepareUnit p) (p, at, refl, refl)) (settled_at q there)
+          (omega (arith, first_boot, own_p, ap (λ (c : Content). c.boot) same_content)) same (own_p ∙ ap (λ (c : Content). c.boot) same_content ∙ sym own_q)
+      | inr not ↦ same_known z was same_content p q at there same (omega arith)
+    ]
+
+    pub same_tail : z.tail ≡ w.tail
+    same_tail =
+        let op : z.checkpoint.content.op ≡ w.checkpoint.content.op = ap (λ (c : Content). c.op) same_content in
+        same_chains sh.layout.clients (z.checkpoint.content.op + 1) z.checkpoint.content.op_checksum w.checkpoint.content.op_checksum 0 0 z.checkpoint.parts.sessions w.checkpoint.parts.sessions z.tail w.tail sound.chain
+        (subst (λ (n : ℕ). Chain sh.layout.clients (n + 1) w.checkpoint.content.op_checksum 0 w.checkpoint.parts.sessions w.tail) (sym op) f.tail.chain) (omega arith) same_prepare
+
+    pub same_sessions : sessions z ≡ sessions w
+    same_sessions = λ i. sessions_after (same_parts i).sessions (same_tail i)
+
+    same_reply : (k : ℕ) (x q : Message) → z.stored k ≡ Some x → shown (ReplyPlace k) ≡ Some (ReplyUnit q) → IsNamed w.checkpoint.content k q → x.header.op ≡ q.header.op → x ≡ q
+    same_reply k x q is at named ops = elim (cases_lt q.header.op w.checkpoint.content.answered) [
+      | inl old ↦
+          let first : slice_index w.checkpoint.content.reply_checksums k ≡ x.header.checksum =
+          subst (λ (c : Content). slice_index c.reply_checksums k ≡ x.header.checksum) same_content ((sound.records.stored k x is).old (omega (arith, ap (λ (c : Content). c.answered) same_content))) in
+          distinct (ReplyPlace k) (ReplyPlace k) (ReplyUnit x) (ReplyUnit q) (lived_needs sh images v t lives z Awake was (ReplyPlace k) (ReplyUnit x) (x, is, refl)) (of (ReplyPlace k) (ReplyUnit q) at) (sym first ∙ named.old old)
+      | inr not ↦
+          let own = named.new (omega arith) in
+          let b = stored_here k q at own in
+          one_of_stored sh images v t lives z b.0 k k x q was b.1 (ap (λ (c : Content). c.boot) same_content ∙ sym own ∙ sym b.6) is b.2 ops
+    ]
+
+    stored_cases : (k : ℕ) (o p : Option Message) → z.stored k ≡ o → w.stored k ≡ p → o ≡ p
+    stored_cases k None None is at = refl
+    stored_cases k (Some x) (Some q) is at =
+        let n = f.stored.no_more k q at in
+        let there = f.stored.shown k n.0 n.1 n.2 in
+        let q_is : there.0 ≡ q = (let both : Some there.0 ≡ Some q = sym there.1 ∙ at in cc) in
+        let m = sound.answered k x is in
+        let one : m.0 ≡ n.0 = (let both : Some m.0 ≡ Some n.0 = sym m.1 ∙ ap (λ (l : List Session). slice_get l k) same_sessions ∙ n.1 in cc) in
+        let ops : x.header.op ≡ there.0.header.op = m.3.op ∙ ap (λ (u : Session). u.op) one ∙ sym there.3.op in
+        ap Some (same_reply k x there.0 is there.2 there.4 ops ∙ q_is)
+    stored_cases k (Some x) None is at =
+        let m = sound.answered k x is in
+        let there = f.stored.shown k m.0 (ap (λ (l : List Session). slice_get l k) (sym same_sessions) ∙ m.1) (omega (arith, m.2)) in
+        absurd (let both : Some there.0 ≡ None = sym there.1 ∙ at in cc)
+    stored_cases k None (Some q) is at =
+        let n = f.stored.no_more k q at in
+        let there = sound.stores k n.0 (ap (λ (l : List Session). slice_get l k) same_sessions ∙ n.1) (omega (arith, n.2)) in
+        absurd (let both : Some there.0 ≡ None = sym there.1 ∙ is in cc)
+
+    pub same_stored : (k : ℕ) → z.stored k ≡ w.stored k
+    same_stored k = stored_cases k (z.stored k) (w.stored k) refl refl
+
+    pub same_view : z ≡ w
+    same_view = λ i. record { checkpoint = record { content = same_content i; chain = same_chain i; parts = same_parts i }; tail = same_tail i; replies = r i; stored = λ k. same_stored k i }
+
+  pub found_lived : Lived sh images v t lives w Awake
+  found_lived =
+      let z = all_three in
+      subst (λ (x : View). Lived sh images v t lives x Awake) (same_view z.0 z.1 z.2 z.3 z.4) z.1
+
+pub found_lived_law : FoundLivedLaw
+found_lived_law sh images v t lives distinct shown of w f young = found_lived sh images v t lives distinct shown of w f young
+
+-- ---- one unit
+
+pub one_prepare_law : OnePrepareLaw
+one_prepare_law sh images v t lives i j p q at_p at_q young boots ops = settled_one sh images v t lives i j p q at_p at_q young ops boots
+
+pub one_reply_law : OneReplyLaw
+one_reply_law sh images v t lives j k r q at_r at_q young boots ops = elim (born_reply sh images v t lives j r at_r) [
+  | inl older ↦ absurd (omega arith)
+  | inr a ↦ elim (born_reply sh images v t lives k q at_q) [
+    | inl older ↦ absurd (omega arith)
+    | inr b ↦ one_of_stored sh images v t lives a.0 b.0 j k r q a.1 b.1 (a.6 ∙ boots ∙ sym b.6) a.2 b.2 ops
+  ]
+]
+
+pub one_content_law : OneContentLaw
+one_content_law sh images v t lives m n c d away at_c other at_d young = elim (settled_content sh images v t lives m c away at_c) [
+  | inl x ↦ (
+    (x.0, x.1, x.2, sym x.3),
+    λ same. elim (settled_content sh images v t lives n d other at_d) [
+      | inl y ↦ x.3 ∙ lived_base sh images v t lives x.0 x.1 y.0 y.1 x.2 y.2 (ap rank_of (sym x.3) ∙ same ∙ ap rank_of y.3) ∙ sym y.3
+      | inr older ↦ absurd (omega arith)
+    ],
+  )
+  | inr older ↦ absurd (omega arith)
+]

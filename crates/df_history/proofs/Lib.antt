@@ -1,0 +1,13 @@
+pub mod Steps
+pub mod Born
+pub mod Stamps
+pub mod Founds
+pub mod Joins
+pub mod Mores
+pub mod Since
+pub mod Moments
+pub mod Mendings
+pub mod Samples
+pub mod Passed
+pub mod Thrice
+pub mod Upgraded

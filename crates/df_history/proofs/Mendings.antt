@@ -1,0 +1,136 @@
+-- An open at each of its moments.
+use Rattle.std.proofs.Common.{◌≡◌, inl, inr, ℕ, ◌+◌, ◌<◌, List, [], ◌∷◌, ◌++◌, Some, refl, sym, ◌∙◌, ap, subst, arith}
+use Rattle.df_theory.specs.CopyPuts.{update_steps}
+use Rattle.df_theory.specs.Units.{CopyPlace, CopyUnit, Header, Units}
+use Rattle.df_theory.specs.Shape.{Shape}
+use Rattle.df_theory.specs.View.{View, boot_of}
+use Rattle.df_theory.specs.Holds.{Holds}
+use Rattle.df_theory.specs.Next.{IsSameBare, booted}
+use Rattle.df_theory.specs.UnitLog.{Synced, UnitLog, add, now, settled, wrote}
+use Rattle.df_theory.specs.Grown.{Grows, IsSafe}
+use Rattle.df_theory.specs.Rests.{IsDry, IsGoodLog, IsQuiet, RestsOn}
+use Rattle.df_theory.specs.Runs.{AtEach, Puts, Step, Syncs, after_steps}
+use Rattle.df_theory.specs.MakingLaws.{all_puts}
+use Rattle.df_theory.specs.MendLaws.{AllPutCopy, AllPutTable, IsTable, MayMend, copy_steps, header_steps, mend_steps}
+use Rattle.df_theory.proofs.Laws.{after_append, copy_law, each_append, each_weaker, good_rests, header_law, mend_law, mends_whole_law, put_else, quiet_synced, synced_after, one_view, IsUnderWay, header_steps_miss, is_mend, missed, under_way_still}
+use Rattle.df_history.specs.Histories.{GrowsOn, IsBegunAnew, IsLived, IsLivedMoment, all_settled}
+use Rattle.df_history.proofs.Joins.{on_holds}
+use Rattle.df_history.specs.OpenLaws.{MendLivedLaw, OpenLivedLaw}
+use Rattle.df_history.proofs.Moments.{none_mend, IsAsleepMoment, asleep_steps, awake_steps, begins_law, boot_lived_law, one_bare, rests_asleep}
+
+-- ---- the mending: at each moment each image left has the view, and the image as it is now has it
+
+abbrev GoodNow : Shape → View → UnitLog → Type 0
+GoodNow sh v log = IsGoodLog sh v v log × Holds sh (now log) v
+
+good_now : (sh : Shape) (log : UnitLog) (v : View) → RestsOn sh log v → GoodNow sh v log
+good_now sh log v rests = (good_rests sh log v v v rests (inl refl), rests.holds)
+
+headers_now : (sh : Shape) (v : View) (table : ℕ → Header) (puts : List Units) (log : UnitLog) → RestsOn sh log v → IsUnderWay sh (now log) v table → AllPutTable table puts → AtEach (GoodNow sh v) log (all_puts puts) × RestsOn sh (after_steps (all_puts puts) log) v
+headers_now sh v table [] log rests way all = (good_now sh log v rests, rests)
+headers_now sh v table (put ∷ puts) log rests way all =
+    let one = header_law sh log v put rests (is_mend sh v table put (now log) all.0 way) in
+    let rest = headers_now sh v table puts (wrote put log) one.0 (under_way_still sh v table put (now log) all.0 way) all.1 in
+    ((good_now sh log v rests, rest.0), rest.1)
+
+copies_now : (sh : Shape) (v : View) (m n : ℕ) (ks : List (ℕ × Units)) (log : UnitLog) → m < n → n < 4 → now log (CopyPlace m) ≡ Some (CopyUnit v.checkpoint.content) → now log (CopyPlace n) ≡ Some (CopyUnit v.checkpoint.content)
+    → RestsOn sh log v → IsQuiet log → AllPutCopy v.checkpoint.content m n ks → AtEach (GoodNow sh v) log (copy_steps ks)
+copies_now sh v m n [] log apart inside one two rests quiet all = good_now sh log v rests
+copies_now sh v m n (k ∷ ks) log apart inside one two rests quiet all =
+    let stepped = copy_law sh log v k.1 k.0 rests quiet all.0 (record { agreed = record { first = m; second = n; apart = apart; inside = inside; at_first = one; at_second = two }; no_first = all.1; no_second = all.2 }) in
+    let next : UnitLog = add Synced (wrote k.1 log) in
+    let first : now next (CopyPlace m) ≡ Some (CopyUnit v.checkpoint.content) = put_else k.1 (now log) (CopyPlace k.0) (CopyPlace m) (CopyUnit v.checkpoint.content) all.0 (λ same. all.1 (let at : CopyPlace m ≡ CopyPlace k.0 = same in cc)) ∙ one in
+    let second : now next (CopyPlace n) ≡ Some (CopyUnit v.checkpoint.content) = put_else k.1 (now log) (CopyPlace k.0) (CopyPlace n) (CopyUnit v.checkpoint.content) all.0 (λ same. all.2 (let at : CopyPlace n ≡ CopyPlace k.0 = same in cc)) ∙ two in
+    (good_now sh log v rests, ((stepped.good, stepped.rests.holds), copies_now sh v m n ks next apart inside first second stepped.rests (quiet_synced (wrote k.1 log)) all.3))
+
+record IsHalf (sh : Shape) (log : UnitLog) (v : View) (headers : List Units) : Type 0 where
+  pub moments : AtEach (GoodNow sh v) log (header_steps headers)
+  pub rests : RestsOn sh (after_steps (header_steps headers) log) v
+  pub quiet : IsQuiet (after_steps (header_steps headers) log)
+
+half : (sh : Shape) (log : UnitLog) (v : View) (table : ℕ → Header) (headers : List Units) → RestsOn sh log v → IsQuiet log → IsTable sh (now log) v table → AllPutTable table headers → IsHalf sh log v headers
+half sh log v table [] rests quiet is all = record { moments = good_now sh log v rests; rests = rests; quiet = quiet }
+half sh log v table (put ∷ puts) rests quiet is all =
+    let written = headers_now sh v table (put ∷ puts) log rests (record { each = λ s. (is s).from }) all in
+    let after : UnitLog = after_steps (all_puts (put ∷ puts)) log in
+    let synced : RestsOn sh (add Synced after) v = synced_after sh v after written.1 in
+    let same : after_steps (header_steps (put ∷ puts)) log ≡ add Synced after = after_append (all_puts (put ∷ puts)) (Syncs ∷ []) log in
+    record {
+      moments = each_append (GoodNow sh v) (all_puts (put ∷ puts)) (Syncs ∷ []) log written.0 (good_now sh after v written.1, good_now sh (add Synced after) v synced);
+      rests = subst (λ (l : UnitLog). RestsOn sh l v) (sym same) synced;
+      quiet = subst IsQuiet (sym same) (quiet_synced after);
+    }
+
+pub mend_now : (sh : Shape) (log : UnitLog) (v : View) (table : ℕ → Header) (headers : List Units) (copies : List (ℕ × Units)) → MayMend sh log v table headers copies → AtEach (GoodNow sh v) log (mend_steps headers copies)
+mend_now sh log v table headers copies may =
+    let done = half sh log v table headers may.rests may.quiet may.tells may.puts_headers in
+    let mid : UnitLog = after_steps (header_steps headers) log in
+    let stays : (n : ℕ) → now mid (CopyPlace n) ≡ now log (CopyPlace n) = λ n. missed (CopyPlace n) (header_steps headers) log (header_steps_miss table headers may.puts_headers n) in
+    let agreed = may.agreed in
+    each_append (GoodNow sh v) (header_steps headers) (copy_steps copies) log done.moments
+    (copies_now sh v agreed.first agreed.second copies mid agreed.apart agreed.inside (stays agreed.first ∙ agreed.at_first) (stays agreed.second ∙ agreed.at_second) done.rests done.quiet may.puts_copies)
+
+pub mend_lived_law : MendLivedLaw
+mend_lived_law sh log before logs w table headers copies lived may =
+    let bare : (x y : View) → x ≡ w → y ≡ w → boot_of x ≡ boot_of lived.0.view → IsSameBare x y = λ x y is_x is_y boot. one_bare w x y is_x is_y in
+    let of : (l : UnitLog) → GoodNow sh w l → IsAsleepMoment sh before logs lived.1 (boot_of lived.0.view) (λ x. x ≡ w) bare l =
+    λ l good. record { safe = good.0.safe; left = λ image left chance. elim (good.0.left image left chance) [ inl is ↦ (w, refl, is) | inr is ↦ (w, refl, is) ]; has = (w, refl, good.1) } in
+    asleep_steps sh before logs lived.1 (boot_of lived.0.view) (λ x. x ≡ w) bare (mend_steps headers copies) log (none_mend table headers w.checkpoint.content may.agreed.first may.agreed.second copies may.puts_headers may.puts_copies) (rests_asleep sh log before logs lived (λ x. x ≡ w) bare w may.rests refl)
+    (each_weaker (GoodNow sh w) (IsAsleepMoment sh before logs lived.1 (boot_of lived.0.view) (λ x. x ≡ w) bare) of (mend_steps headers copies) log (mend_now sh log w table headers copies may))
+
+-- ---- both
+
+pub each_last : (P : UnitLog → Type 0) (ss : List Step) (log : UnitLog) → AtEach P log ss → P (after_steps ss log)
+each_last P [] log at = at
+each_last P ((Puts put) ∷ ss) log at = each_last P ss (wrote put log) at.1
+each_last P (Syncs ∷ ss) log at = each_last P ss (add Synced log) at.1
+
+dry_synced : (log : UnitLog) → IsDry (add Synced log)
+dry_synced log place = refl
+
+dry_copies : (ks : List (ℕ × Units)) (log : UnitLog) → IsDry log → IsDry (after_steps (copy_steps ks) log)
+dry_copies [] log dry = dry
+dry_copies (k ∷ ks) log dry = dry_copies ks (add Synced (wrote k.1 log)) (dry_synced (wrote k.1 log))
+
+dry_headers : (hs : List Units) (log : UnitLog) → IsDry log → IsDry (after_steps (header_steps hs) log)
+dry_headers [] log dry = dry
+dry_headers (h ∷ hs) log dry = subst IsDry (sym (after_append (all_puts (h ∷ hs)) (Syncs ∷ []) log)) (dry_synced (after_steps (all_puts (h ∷ hs)) log))
+
+dry_mend : (hs : List Units) (ks : List (ℕ × Units)) (log : UnitLog) → IsDry log → IsDry (after_steps (mend_steps hs ks) log)
+dry_mend hs ks log dry = subst IsDry (sym (after_append (header_steps hs) (copy_steps ks) log)) (dry_copies ks (after_steps (header_steps hs) log) (dry_headers hs log dry))
+
+start_same : (ss : List Step) (log : UnitLog) → (after_steps ss log).start ≡ log.start
+start_same [] log = refl
+start_same ((Puts put) ∷ ss) log = start_same ss (wrote put log)
+start_same (Syncs ∷ ss) log = start_same ss (add Synced log)
+
+pub open_lived_law : OpenLivedLaw
+open_lived_law sh log logs shown w lived may places f table headers copies d puts opening =
+    let new : UnitLog = record { start = shown; events = [] } in
+    let begins = begins_law sh log logs shown w lived may places f in
+    let mends = mend_law sh new w table headers copies opening.may_mend in
+    let mended : UnitLog = after_steps (mend_steps headers copies) new in
+    let moments = mend_lived_law sh new log logs w table headers copies begins.1.lived opening.may_mend in
+    let lived_mended : IsLived sh (mended ∷ log ∷ logs) = (each_last (IsLivedMoment sh (log ∷ logs)) (mend_steps headers copies) new moments).lived in
+    let boots = boot_lived_law sh mended log logs w d puts lived_mended mends.1 (dry_mend headers copies new (λ place. refl)) opening.may_boot (mends_whole_law sh new w table headers copies opening.may_mend).copies in
+    let done : UnitLog = after_steps (update_steps puts) mended in
+    let same : after_steps (mend_steps headers copies ++ update_steps puts) new ≡ done = after_append (mend_steps headers copies) (update_steps puts) new in
+    let lived_done : IsLived sh (done ∷ log ∷ logs) = (each_last (IsLivedMoment sh (log ∷ logs)) (update_steps puts) mended boots.0).lived in (
+      each_append (IsLivedMoment sh (log ∷ logs)) (mend_steps headers copies) (update_steps puts) new moments boots.0,
+      subst (λ (l : UnitLog). RestsOn sh l (booted w d)) (sym same) boots.1,
+      boots.2,
+      λ ss at. subst (λ (l : UnitLog). AtEach (IsLivedMoment sh (log ∷ logs)) l ss) (sym same) (awake_steps sh log logs lived ss done (record {
+        begun = lived_done.0;
+        above = above done (booted w d) lived_done.0 boots.1 (start_boot done lived_done.0 (start_same (update_steps puts) mended ∙ start_same (mend_steps headers copies) new) begins.0.holds) (sym opening.may_boot.is.boot);
+      }) (subst (λ (l : UnitLog). AtEach (IsSafe sh) l ss) same at)),
+    )
+  where
+    head_is : (images : List Units) (x y : View) → GrowsOn sh (all_settled (log ∷ logs)) images x → Grows sh images y → x ≡ y
+    head_is [] x y one two = absurd one
+    head_is (i ∷ images) x y one two = one_view sh i x y (on_holds sh (all_settled (log ∷ logs)) i images x one) two.0
+
+    start_boot : (l : UnitLog) (begun : IsBegunAnew sh l log logs) → l.start ≡ shown → Holds sh shown w → boot_of begun.view ≡ boot_of w
+    start_boot l begun is holds = ap boot_of (one_view sh shown begun.view w (subst (λ (i : Units). Holds sh i begun.view) is begun.holds) holds)
+
+    above : (l : UnitLog) (u : View) (begun : IsBegunAnew sh l log logs) → RestsOn sh l u → boot_of begun.view ≡ boot_of w → boot_of w + 1 ≡ boot_of u → boot_of begun.view < boot_of begun.newest
+    above l u begun rests from raised = omega (arith, ap boot_of (head_is (settled l) begun.newest u begun.grows rests.grows))

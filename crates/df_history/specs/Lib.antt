@@ -1,0 +1,6 @@
+pub mod Lives
+pub mod Laws
+pub mod Histories
+pub mod OpenLaws
+pub mod Sample
+pub mod Upgraded

@@ -1,0 +1,57 @@
+-- What opens find in two images that show the same is the same: the file, its superblock, the view, and all that is in memory.
+use Rattle.std.proofs.Common.{◌≡◌, ℕ, Option, sym, ◌∙◌, ap, subst}
+use Rattle.df_base.specs.Image.{Image}
+use Rattle.df_format.specs.Copies.{Content, content_at}
+use Rattle.df_format.specs.declared.superblock.SuperFields.{SuperFields}
+use Rattle.df_layout.specs.declared.layout.Layout.{Layout}
+use Rattle.df_quorum.specs.Quorum.{IsChosen}
+use Rattle.df_theory.specs.Found.{IsFound}
+use Rattle.df_theory.specs.Units.{AnyUnit, BlockPlace, Place, PreparePlace, ReplyPlace}
+use Rattle.df_theory.specs.View.{View}
+use Rattle.df_theory.proofs.Laws.{one_found_law}
+use Rattle.df_units.specs.Bytes.{unit_at}
+use Rattle.df_model.specs.Memory.{Memory, memory_of}
+use Rattle.df_model.specs.Work.{opened}
+use Rattle.df_replica.specs.Below.{DataFile, IsOpened, State as Replica, memory, shape, spelling}
+use Rattle.df_replica.specs.Reading.{shown_of}
+use Rattle.df_replica.proofs.Laws.{one_super}
+use Rattle.df_result.specs.Agreeing.{AgreeShown}
+use Rattle.df_top.specs.OneText.{ShowSame}
+use Rattle.df_lifetime.proofs.Files.{same_file}
+
+module _ (layout : Layout) (a b : Image) (same : ShowSame layout a b) where
+  pub units_alike : (cluster : ℕ) → unit_at layout cluster a ≡ unit_at layout cluster b
+  units_alike cluster i place = same.units cluster place i
+
+  module _ (s u : Replica) (one : IsOpened layout a s) (other : IsOpened layout b u) where
+    chosen : IsChosen (content_at b) one.has.super.content
+    chosen = subst (λ (shown : ℕ → Option Content). IsChosen shown one.has.super.content) (λ i n. same.copies n i) one.has.super.chosen
+
+    pub fields_alike : s.fields ≡ u.fields
+    fields_alike = one_super b s.fields u.fields (record { content = one.has.super.content; chosen = chosen; fields = one.has.super.fields; usable = one.has.super.usable }) other.has.super
+
+    pub file_alike : s.file ≡ u.file
+    file_alike = same_file s.file u.file (one.of ∙ sym other.of) (sym one.has.cluster ∙ ap (λ (f : SuperFields). f.cluster) fields_alike ∙ other.has.cluster)
+
+    pub view_alike : one.view ≡ other.view
+    view_alike =
+        one_found_law (shape u.file) (unit_at layout u.file.cluster b) one.view other.view
+        (subst (λ (f : DataFile). IsFound (shape f) (unit_at layout f.cluster b) one.view) file_alike (subst (λ (image : Place → Option AnyUnit). IsFound (shape s.file) image one.view) (units_alike s.file.cluster) one.found)) other.found
+
+    first : DataFile → (Place → Option AnyUnit) → View → Memory
+    first f image v = memory_of (shape f) (spelling f) (opened (shape f) image v)
+
+    pub memory_alike : memory s ≡ memory u
+    unfolding first
+    memory_alike =
+        one.stands ∙ ap (λ (image : Place → Option AnyUnit). first s.file image one.view) (units_alike s.file.cluster) ∙ ap (λ (v : View). first s.file (unit_at layout s.file.cluster b) v) view_alike
+        ∙ ap (λ (f : DataFile). first f (unit_at layout f.cluster b) other.view) file_alike ∙ sym other.stands
+
+-- over the file what they show agrees
+pub agree_there : (layout : Layout) (a b : Image) → ShowSame layout a b → (file : DataFile) → file.layout ≡ layout → AgreeShown file.layout (shown_of file a) (shown_of file b)
+agree_there layout a b same file of =
+    let here : ShowSame file.layout a b = subst (λ (l : Layout). ShowSame l a b) (sym of) same in
+    record {
+      units = record { prepare = λ k. here.units file.cluster (PreparePlace k); reply = λ k. here.units file.cluster (ReplyPlace k); block = λ k. here.units file.cluster (BlockPlace k) };
+      classes = λ place read none. here.classes file.cluster place read none;
+    }

@@ -1,0 +1,220 @@
+-- However a session ends, what is written is a front of the text of its script.
+use Rattle.std.proofs.Common.{◌≡◌, ◌⊎◌, inl, inr, ℕ, ◌+◌, ◌-◌, suc, Bool, true, false, List, [], ◌∷◌, ◌++◌, append_assoc, length, length-append, map, Option, Some, None, refl, sym, ◌∙◌, ap, subst, arith}
+use Rattle.std.specs.Prelude.{take}
+use Rattle.std.proofs.Math.Seq.{take-length}
+use Rattle.std.proofs.lemmas.List.{append-nil, take-append-le}
+use Rattle.df_base.specs.Streams.{Appends, AppendsPart}
+use Rattle.df_base.specs.Log.{Sync}
+use Rattle.df_disk.specs.Adds.{after_all}
+use Rattle.df_disk.specs.Told.{Told, did}
+use Rattle.df_inspect.specs.Opening.{script_text}
+use Rattle.df_layout.specs.declared.layout.Layout.{Layout}
+use Rattle.df_lines.specs.Grammar.{Said, Says}
+use Rattle.df_lines.specs.Room.{line_bound}
+use Rattle.df_lines.specs.Script.{Begins, IsLine, IsRefused, IsScript}
+use Rattle.df_lines.specs.Text.{after_line, line_of as first_line, taken}
+use Rattle.df_lines.proofs.Laws.{nothing_said, one_said, one_script}
+use Rattle.df_theory.specs.Shape.{Shape}
+use Rattle.df_model.specs.Memory.{memory_of}
+use Rattle.df_model.specs.Supply.{Codec, Shown, next, shown_after}
+use Rattle.df_model.specs.Work.{Work, opened}
+use Rattle.df_units.specs.Bytes.{unit_at}
+use Rattle.df_replica.specs.Below.{DataFile, shape, told_after}
+use Rattle.df_replica.specs.Reading.{shown_of}
+use Rattle.df_replica.proofs.Laws.{added_is_told}
+use Rattle.df_result.specs.Agreeing.{AgreeShown}
+use Rattle.df_result.specs.Codec.{codec}
+use Rattle.df_script_model.specs.Script.{Call, Line, Ring, answer_text, printed}
+use Rattle.df_script_model.specs.Texts.{recent_text}
+use Rattle.df_top.specs.Acknowledging.{events_made, script_calls}
+use Rattle.df_top.specs.Lines.{Turned, all_text, printed as prints, said_in}
+use Rattle.df_top.specs.OneText.{text_by}
+use Rattle.df_top.specs.Outside.{Outside}
+use Rattle.df_top.specs.Resulting.{joined, line_of, text_over}
+use Rattle.df_top.specs.Run.{ServesScript, script_budget, start}
+use Rattle.df_top.specs.Session.{EndsWith, Failing, act_of, said_of}
+use Rattle.df_top.specs.declared.status.Status.{Status}
+use Rattle.df_top.specs.declared.status.Status.TheVariants.{Done, Script, Words, Refused, Memory, DiskFault, ReadFault, WriteFault, Found}
+use Rattle.df_lifetime.specs.Printed.{FrontIsWritten, Scripted, whole_text}
+
+-- ---- fronts
+
+-- one list begins with the other
+abbrev IsFront : {A : Type 0} → List A → List A → Type 0
+IsFront xs ys = (more : List _) × (ys ≡ xs ++ more)
+
+part_is_front : (old new : Option (List ℕ)) (xs ys : List ℕ) → AppendsPart old new xs → IsFront xs ys → AppendsPart old new ys
+part_is_front old new xs ys (n, few, wrote) (more, is) =
+    let same : take n xs ≡ take n ys = sym (ap (take n) is ∙ take-append-le n xs more few) in
+    let count : length ys ≡ length xs + length more = ap length is ∙ length-append xs more in
+    (n, omega (arith, few, count), subst (Appends old new) same wrote)
+
+all_is_part : (old new : Option (List ℕ)) (xs : List ℕ) → Appends old new xs → AppendsPart old new xs
+all_is_part old new xs wrote = (length xs, omega arith, subst (Appends old new) (sym (take-length xs)) wrote)
+
+-- ---- the lines that were executed
+
+-- no line stands where the script ends
+no_line : (bound budget left : ℕ) (text rest : List ℕ) (said : Said) → IsLine bound budget text said → left ≡ budget → rest ≡ text → (rest ≡ []) ⊎ IsRefused bound left rest → ⊥
+no_line bound budget left text rest said line same_left same_rest (inl none) =
+    nothing_said said (subst (λ (t : List ℕ). Says (first_line t) said) (sym same_rest ∙ none) line.says)
+no_line bound budget left text rest said line same_left same_rest (inr refused) =
+    refused.none said (subst (λ (n : ℕ). IsLine bound n rest said) (sym same_left) (subst (λ (t : List ℕ). IsLine bound budget t said) (sym same_rest) line))
+
+-- lines with which a text begins are the first ones of its script
+lines_front : (bound budget : ℕ) (text : List ℕ) (lines says : List Said) (left last : ℕ) (rest end : List ℕ) → Begins bound budget text lines left rest → Begins bound budget text says last end → (end ≡ []) ⊎ IsRefused bound last end → IsFront lines says
+lines_front bound budget text [] says left last rest end first all ends = (says, refl)
+lines_front bound budget text (a ∷ lines) [] left last rest end first all ends = absurd (no_line bound budget last text end a first.0 all.0 all.1 ends)
+lines_front bound budget text (a ∷ lines) (b ∷ says) left last rest end first all ends =
+    let more = lines_front bound (budget - taken text) (after_line text) lines says left last rest end first.1 all.1 ends in
+    let same : b ≡ a = one_said (first_line text) b a all.0.says first.0.says in
+    (more.0, (λ i. same i ∷ more.1 i))
+
+begins_one : (bound budget : ℕ) (text : List ℕ) (says : List Said) (left other : ℕ) (rest more : List ℕ) → Begins bound budget text says left rest → Begins bound budget text says other more → rest ≡ more
+begins_one bound budget text [] left other rest more one two = one.1 ∙ sym two.1
+begins_one bound budget text (said ∷ says) left other rest more one two = begins_one bound (budget - taken text) (after_line text) says left other rest more one.1 two.1
+
+begins_first : (bound budget : ℕ) (text : List ℕ) (lines more : List Said) (left : ℕ) (rest : List ℕ) → Begins bound budget text (lines ++ more) left rest → (n : ℕ) × (end : List ℕ) × Begins bound budget text lines n end
+begins_first bound budget text [] more left rest begins = (budget, text, (refl, refl))
+begins_first bound budget text (said ∷ lines) more left rest begins =
+    let first = begins_first bound (budget - taken text) (after_line text) lines more left rest begins.1 in
+    (first.0, first.1, (begins.0, first.2))
+
+-- of a text that is cut: what its lines print, and the line that refuses the next one
+cut_text : (bound budget : ℕ) (text : List ℕ) (lines says : List Said) (script : IsScript bound budget text says) (left : ℕ) (rest : List ℕ) → Begins bound budget text lines left rest → IsRefused bound left rest
+    → (lines ≡ says) × ((n : ℕ) (line : List ℕ) → text_by script.ends n line ≡ line ++ script_text (n + 1))
+cut_text bound budget text lines says script left rest begins refused = (same, λ n line. by script.ends n line)
+  where
+    same : lines ≡ says
+    same = one_script bound budget text lines says (record { left = left; rest = rest; begins = begins; ends = inr refused }) script
+
+    by : (e : (script.rest ≡ []) ⊎ IsRefused bound script.left script.rest) (n : ℕ) (line : List ℕ) → text_by e n line ≡ line ++ script_text (n + 1)
+    by (inl none) n line = absurd (refused.some (begins_one bound budget text says left script.left rest script.rest (subst (λ (l : List Said). Begins bound budget text l left rest) same begins) script.begins ∙ none))
+    by (inr other) n line = refl
+
+-- ---- what they print
+
+-- the first lines print a front
+over_front : (sh : Shape) (by : Codec) (shown : Shown) (w : Work) (xs ys : List Line) → IsFront (joined (printed sh by shown w xs)) (joined (printed sh by shown w (xs ++ ys)))
+over_front sh by shown w [] ys = (joined (printed sh by shown w ys), refl)
+over_front sh by shown w ((Call c) ∷ xs) ys =
+    let line : List ℕ = answer_text c (next sh by shown w c).1 in
+    let then : Shown = shown_after by shown (memory_of sh by.spell w) c in
+    let more = over_front sh by then (next sh by shown w c).0 xs ys in
+    (more.0, ap (λ (l : List ℕ). line ++ l) more.1 ∙ sym (append_assoc line (joined (printed sh by then (next sh by shown w c).0 xs)) more.0))
+over_front sh by shown w (Ring ∷ xs) ys =
+    let more = over_front sh by shown w xs ys in
+    (more.0, ap (λ (l : List ℕ). recent_text w.findings ++ l) more.1 ∙ sym (append_assoc (recent_text w.findings) (joined (printed sh by shown w xs)) more.0))
+
+map_append : {A B : Type 0} (f : A → B) (xs ys : List A) → map f (xs ++ ys) ≡ map f xs ++ map f ys
+map_append f [] ys = refl
+map_append f (x ∷ xs) ys = ap (λ (l : List _). f x ∷ l) (map_append f xs ys)
+
+count_map : {A B : Type 0} (f : A → B) (xs : List A) → length (map f xs) ≡ length xs
+count_map f [] = refl
+count_map f (x ∷ xs) = ap suc (count_map f xs)
+
+text_front : (file : DataFile) (shown : Shown) (w : Work) (lines says : List Said) → IsFront lines says → IsFront (text_over file shown w lines) (text_over file shown w says)
+text_front file shown w lines says (more, is) =
+    let front = over_front (shape file) (codec file) shown w (map line_of lines) (map line_of more) in
+    (front.0, ap (λ (l : List Line). joined (printed (shape file) (codec file) shown w l)) (ap (map line_of) is ∙ map_append line_of lines more) ∙ front.1)
+
+by_front : {A B : Type 0} (e : A ⊎ B) (n : ℕ) (line : List ℕ) → IsFront line (text_by e n line)
+by_front (inl none) n line = ([], sym (append-nil line))
+by_front (inr refused) n line = (script_text (n + 1), refl)
+
+front_on : (xs ys zs : List ℕ) → IsFront xs ys → IsFront ys zs → IsFront xs zs
+front_on xs ys zs (a, one) (b, two) = (a ++ b, two ∙ ap (λ (l : List ℕ). l ++ b) one ∙ append_assoc xs a b)
+
+-- ---- a session
+
+module _ (layout : Layout) (t : Told) (old new : Outside) (status : Status) (s : Scripted layout t old new status) where
+  abbrev serves : ServesScript layout t old new status
+  serves = s.serves
+
+  abbrev file : DataFile
+  file = serves.replica.file
+
+  abbrev turns : List Turned
+  turns = serves.session.turns
+
+  abbrev says_over : List Said → List ℕ
+  says_over says = text_over file (shown_of file t.shown) (opened (shape file) (unit_at file.layout file.cluster t.shown) s.view) says
+
+  agree_self : AgreeShown file.layout (shown_of file t.shown) (shown_of file t.shown)
+  agree_self = record { units = record { prepare = λ k. refl; reply = λ k. refl; block = λ k. refl }; classes = λ place read none. refl }
+
+  lines_text : all_text turns ≡ says_over (map said_in turns)
+  lines_text = (serves.result s.view (shown_of file t.shown) s.found agree_self).text
+
+  -- the disk tells what it shows up to the end
+  untold : new.told ≡ None → ⊥
+  untold none =
+      let mended = serves.barrier.1 ∙ added_is_told serves.barrier.0 (did Sync t) in
+      let told = serves.adds ∙ ap (after_all (events_made (script_calls serves.session))) mended ∙ added_is_told (events_made (script_calls serves.session)) (told_after serves.barrier.0 (did Sync t)) in
+      let no : None ≡ Some (told_after (events_made (script_calls serves.session)) (told_after serves.barrier.0 (did Sync t))) = sym none ∙ told in
+      cc
+
+  -- the lines that were executed print a front of the text
+  printed_front : (left : ℕ) (rest : List ℕ) → Begins (line_bound layout) script_budget s.text (map said_in turns) left rest → (cut : Bool) → (cut ≡ true → IsRefused (line_bound layout) left rest) → IsFront (prints 0 turns cut) (whole_text s)
+  printed_front left rest begins false refused =
+      let lines = lines_front (line_bound layout) script_budget s.text (map said_in turns) s.says left s.script.left rest s.script.rest begins s.script.begins s.script.ends in
+      let text = text_front file (shown_of file t.shown) (opened (shape file) (unit_at file.layout file.cluster t.shown) s.view) (map said_in turns) s.says lines in
+      front_on (all_text turns) (says_over s.says) (whole_text s) (subst (λ (l : List ℕ). IsFront l (says_over s.says)) (sym lines_text) text) (by_front s.script.ends (length s.says) (says_over s.says))
+  printed_front left rest begins true refused =
+      let cut = cut_text (line_bound layout) script_budget s.text (map said_in turns) s.says s.script left rest begins (refused refl) in
+      let count : length s.says + 1 ≡ 0 + length turns + 1 = omega (arith, sym (ap length cut.0) ∙ count_map said_in turns) in
+      let line : says_over s.says ≡ all_text turns = sym (lines_text ∙ ap says_over cut.0) in (
+        [],
+        cut.1 (length s.says) (says_over s.says) ∙ (λ i. line i ++ script_text (count i)) ∙ sym (append-nil (prints 0 turns true)),
+      )
+
+  module _ (left : ℕ) (rest : List ℕ) where
+    abbrev Writes : Type 0
+    Writes = AppendsPart old.written new.written (whole_text s)
+
+    abbrev Ends : Option Failing → Bool → Status → Type 0
+    Ends failing cut how = EndsWith 0 (start serves.mended old serves.replica).outside new turns (act_of failing) cut how
+
+    all_written : (cut : Bool) → IsFront (prints 0 turns cut) (whole_text s) → Appends old.written new.written (prints 0 turns cut) → Writes
+    all_written cut front wrote = part_is_front old.written new.written (prints 0 turns cut) (whole_text s) (all_is_part old.written new.written (prints 0 turns cut) wrote) front
+
+    -- each line was answered
+    none_written : (cut : Bool) (how : Status) → IsFront (prints 0 turns cut) (whole_text s) → Ends None cut how → Writes
+    none_written cut Done front ends = all_written cut front ends.1
+    none_written cut Script front ends = all_written cut front ends.1
+    none_written cut ReadFault front ends = all_written cut front ends.1
+    none_written cut WriteFault front ends = part_is_front old.written new.written (prints 0 turns cut) (whole_text s) ends front
+    none_written cut DiskFault front ends = absurd ends
+    none_written cut Refused front ends = absurd ends
+    none_written cut Words front ends = absurd ends
+    none_written cut Memory front ends = absurd ends
+    none_written cut Found front ends = absurd ends
+
+    -- the disk failed in the last one
+    some_written : (f : Failing) (cut : Bool) (how : Status) → IsFront (prints 0 turns false) (whole_text s) → Ends (Some f) cut how → Writes
+    some_written f cut DiskFault front ends = all_written false front (subst (λ (b : Bool). Appends old.written new.written (prints 0 turns b)) ends.0 ends.1)
+    some_written f cut WriteFault front ends = absurd (untold ends.2.untold)
+    some_written f cut Refused front ends = absurd (untold ends.2.untold)
+    some_written f cut Done front ends = absurd ends
+    some_written f cut Script front ends = absurd ends
+    some_written f cut ReadFault front ends = absurd ends
+    some_written f cut Words front ends = absurd ends
+    some_written f cut Memory front ends = absurd ends
+    some_written f cut Found front ends = absurd ends
+
+    written : (failing : Option Failing) (cut : Bool) → Begins (line_bound layout) script_budget s.text (map said_in turns ++ said_of failing) left rest → (cut ≡ true → IsRefused (line_bound layout) left rest) → Ends failing cut status → Writes
+    written None cut begins refused ends =
+        none_written cut status (printed_front left rest (subst (λ (l : List Said). Begins (line_bound layout) script_budget s.text l left rest) (append-nil (map said_in turns)) begins) cut refused) ends
+    written (Some f) cut begins refused ends =
+        let some = begins_first (line_bound layout) script_budget s.text (map said_in turns) (said_of (Some f)) left rest begins in
+        some_written f cut status (printed_front some.0 some.1 some.2 false (λ is. absurd (cc))) ends
+
+  all_is_front : AppendsPart old.written new.written (whole_text s)
+  all_is_front =
+      let ended = serves.session.text s.text s.left in
+      written ended.0 ended.1 serves.session.failing serves.session.cut ended.2 ended.3.refused
+      (subst (λ (o : Outside). EndsWith 0 (start serves.mended old serves.replica).outside o turns (act_of serves.session.failing) serves.session.cut status) serves.last_is serves.session.written)
+
+pub front_is_written : FrontIsWritten
+front_is_written layout t old new status s = all_is_front layout t old new status s

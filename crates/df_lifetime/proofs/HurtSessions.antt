@@ -1,0 +1,189 @@
+-- A session keeps its file by any base, and the next open by that base goes on from there.
+use Rattle.std.proofs.Common.{◌≡◌, inl, inr, ℕ, zero, suc, List, [], ◌∷◌, ◌++◌, append_assoc, Option, Some, None, refl, sym, ◌∙◌, ap, subst}
+use Rattle.std.specs.Prelude.{take, drop}
+use Rattle.std.proofs.lemmas.List.{append-nil}
+use Rattle.df_base.specs.Image.{Image, IsImage, changed}
+use Rattle.df_base.specs.Log.{AreLoose, Event, IsLeft, IsLog, Log, Stop, Sync, now}
+use Rattle.df_base.specs.Moments.{EachMoment, Extends, IsMoment}
+use Rattle.df_base.proofs.Laws.{extends_self, now_is_image}
+use Rattle.df_disk.specs.Adds.{after_all}
+use Rattle.df_disk.specs.Told.{IsHonest, Told, did}
+use Rattle.df_theory.specs.Device.{IsSafeDisk, NoChanceOf}
+use Rattle.df_theory.specs.Found.{IsFound}
+use Rattle.df_theory.specs.Holds.{Held}
+use Rattle.df_theory.specs.Shape.{Shape}
+use Rattle.df_theory.specs.Units.{Units}
+use Rattle.df_theory.specs.View.{View}
+use Rattle.df_theory.proofs.Laws.{found_law}
+use Rattle.df_units.specs.Bytes.{unit_at}
+use Rattle.df_model.specs.Commands.{Answer}
+use Rattle.df_model.specs.Sense.{IsWork}
+use Rattle.df_model.specs.Work.{Work, kept}
+use Rattle.df_replica.specs.Below.{DataFile, begun, shape, spelling, told_after}
+use Rattle.df_replica.specs.Following.{MayOpen}
+use Rattle.df_replica.specs.HeldBlocks.{AreInputs}
+use Rattle.df_replica.specs.Serving.{Firm, Grade, StandsFor, Whole, format}
+use Rattle.df_replica.specs.Session.{Act, HasView, HoldsFor, IsMidway, answers_of, work_after}
+use Rattle.df_replica.proofs.Laws.{added_is_told, begun_may_open, same_goes_on, safe_is_not_refused, stopped_may_open}
+use Rattle.df_top.specs.Acknowledging.{CallsMade, IsUntil, KeepsAnswered, events_made, run_calls, script_calls}
+use Rattle.df_top.specs.Keeping.{KeepsFile, LeavesAll, over}
+use Rattle.df_top.specs.Outside.{Outside}
+use Rattle.df_top.specs.Session.{list_of}
+use Rattle.df_lifetime.specs.Acknowledged.{AreThere}
+use Rattle.df_lifetime.specs.Hurt.{AreAnswered, HurtRunsKeep, HurtScriptsKeep, KeepsOn, NextFinds, RunsKeepOn, ScriptsKeepOn, at_end}
+use Rattle.df_lifetime.specs.Life.{start_of}
+use Rattle.df_lifetime.proofs.Acts.{ends_inputs, first_answers, front_and_rest, has_front, work_on}
+use Rattle.df_lifetime.proofs.Bases.{AnsweredOver, KeepsOver, told_over}
+use Rattle.df_lifetime.proofs.Files.{one_file, one_told}
+use Rattle.df_lifetime.proofs.Found.{front_inputs, front_there, start_makes_sense}
+use Rattle.df_lifetime.proofs.Lives.{left_by}
+
+-- ---- what an image has
+
+held_for : (g : Grade) (sh : Shape) (u : Units) (v : View) → HoldsFor g sh u v → Held sh u v × StandsFor g u v
+held_for Firm sh u v has = (has, tt)
+held_for Whole sh u v has = (has.0, has.1)
+
+now_left : (log : Log) → IsLog log → IsLeft log (now log)
+now_left log is = record { whole = now_is_image log.start log.events is.start is.events; kept = λ sector firm. refl }
+
+take_inputs : (k : ℕ) (acts more : List Act) → AreInputs (acts ++ more) → AreInputs (take k acts ++ (drop k acts ++ more))
+take_inputs k acts more inputs = subst AreInputs (sym (front_and_rest k acts more)) inputs
+
+-- ---- the next open
+
+module _ (file : DataFile) (g : Grade) (w : Work) (work : IsWork (shape file) (spelling file) w) where
+  -- what was answered is in the view behind it
+  answers_there : (acts : List Act) (answers : List Answer) (more rest : List Act) → answers ≡ answers_of file w acts → AreInputs (acts ++ (more ++ rest)) → AreThere (kept (work_after file w (acts ++ more))) acts answers
+  answers_there acts answers more rest are inputs =
+      subst (λ (l : List Answer). AreThere (kept (work_after file w (acts ++ more))) acts l) (sym are)
+      (front_there file acts more w work (front_inputs file (acts ++ more) rest (subst AreInputs (sym (append_assoc acts more rest)) inputs)))
+
+  module _ (acts : List Act) (answers : List Answer) (are : answers ≡ answers_of file w acts) (perhaps : List Act) (inputs : AreInputs (acts ++ perhaps)) where
+    -- behind no stop
+    next_now : (more rest : List Act) (n : Told) → perhaps ≡ more ++ rest → IsSafeDisk (format file) (shape file) n.log → IsHonest n → NoChanceOf (format file) n.log (now n.log) → HasView file g (work_after file w (acts ++ more)) (now n.log)
+        → NextFinds file g w acts answers perhaps n
+    next_now more rest n some safe honest chance has =
+        let view : View = kept (work_after file w (acts ++ more)) in
+        let both = held_for g (shape file) ((format file).unit_at (now n.log)) view has in
+        let shows : now n.log ≡ n.shown = λ i sector. sym (honest.shows sector) i in
+        record {
+          more = more;
+          rest = rest;
+          some = some;
+          may = record { safe = safe; honest = honest; found = (found_law (shape file) ((format file).unit_at (now n.log)) view).0 both.0; no_chance = chance };
+          there = answers_there acts answers more rest are (subst (λ (l : List Act). AreInputs (acts ++ l)) some inputs);
+          stands = subst (λ (image : Image). StandsFor g (unit_at file.layout file.cluster image) view) shows both.1;
+        }
+
+    -- behind one
+    next_stopped : (m : Told) (changes : List (ℕ × List ℕ)) → IsMidway file g (work_after file w acts) perhaps m.log → IsHonest m → AreLoose m.log.events changes → NoChanceOf (format file) m.log (changed changes (now m.log))
+        → NextFinds file g w acts answers perhaps (did (Stop changes) m)
+    next_stopped m changes mid honest loose chance =
+        let image : Image = changed changes (now m.log) in
+        let some = has_front file g (work_after file w acts) perhaps image (mid.left image (left_by m.log changes mid.safe.is_log loose) chance) in
+        let view : View = kept (work_after file w (acts ++ some.front)) in
+        let has : HasView file g (work_after file w (acts ++ some.front)) image = subst (λ (u : Work). HasView file g u image) (sym (work_on file w acts some.front)) some.has in
+        let both = held_for g (shape file) ((format file).unit_at image) view has in
+        let shows : now m.log ≡ m.shown = λ i sector. sym (honest.shows sector) i in
+        record {
+          more = some.front;
+          rest = some.rest;
+          some = some.are;
+          may = stopped_may_open file view m changes mid.safe honest loose chance both.0;
+          there = answers_there acts answers some.front some.rest are (subst (λ (l : List Act). AreInputs (acts ++ l)) some.are inputs);
+          stands = subst (λ (now_shown : Image). StandsFor g (unit_at file.layout file.cluster (changed changes now_shown)) view) shows both.1;
+        }
+
+  -- at the end of a session
+  next_ended : (acts : List Act) (answers : List Answer) (failed : Option Act) (n : Told) → IsSafeDisk (format file) (shape file) n.log → IsHonest n → LeavesAll file g w acts failed n → answers ≡ answers_of file w acts → AreInputs (acts ++ list_of failed)
+      → NoChanceOf (format file) n.log (now n.log) → NextFinds file g w acts answers (list_of failed) n
+  next_ended acts answers None n safe honest left are inputs chance =
+      next_now acts answers are [] inputs [] [] n refl safe honest chance
+      (subst (λ (l : List Act). HasView file g (work_after file w l) (now n.log)) (sym (append-nil acts)) (left (now n.log) (now_left n.log safe.is_log) chance))
+  next_ended acts answers (Some a) n safe honest left are inputs chance = elim (left (now n.log) (now_left n.log safe.is_log) chance) [
+    | inl before ↦
+        next_now acts answers are (a ∷ []) inputs [] (a ∷ []) n refl safe honest chance (subst (λ (l : List Act). HasView file g (work_after file w l) (now n.log)) (sym (append-nil acts)) before)
+    | inr after ↦ next_now acts answers are (a ∷ []) inputs (a ∷ []) [] n refl safe honest chance after
+  ]
+
+-- ---- a session
+
+module _ (file : DataFile) (g : Grade) (view : View) (t base : Told) (same : base.shown ≡ t.shown) (may : MayOpen file view base) where
+  found_shown : IsFound (shape file) (unit_at file.layout file.cluster t.shown) view
+  found_shown =
+      let shows : now base.log ≡ base.shown = λ i sector. sym (may.honest.shows sector) i in
+      subst (λ (image : Image). IsFound (shape file) (unit_at file.layout file.cluster image) view) (shows ∙ same) may.found
+
+  abbrev start : Work
+  start = start_of file t.shown view
+
+  work : IsWork (shape file) (spelling file) start
+  work = start_makes_sense file t.shown view (subst IsImage same (safe_is_not_refused file view base may).0) found_shown
+
+  module _ (mending : List Event) (c : CallsMade) (keeps : KeepsFile file g start base c.acts c.answers c.failed (over mending (events_made c) base)) (answered : KeepsAnswered file g start (over mending [] base) c)
+      (from : c.old ≡ after_all mending (Some (did Sync t))) (to : c.new ≡ after_all (events_made c) c.old) where
+    inputs : AreInputs (c.acts ++ list_of c.failed)
+    inputs = ends_inputs c.from c.to c.old c.new c.acts c.answers c.failed c.calls
+
+    abbrev last : Told
+    last = at_end mending c base
+
+    after_is : keeps.after ≡ last
+    after_is = one_told (over mending (events_made c) base) keeps.after last keeps.is refl
+
+    moments : EachMoment (did Sync base).log last.log (IsMidway file g start (c.acts ++ list_of c.failed))
+    moments = subst (λ (x : Told). EachMoment (did Sync base).log x.log (IsMidway file g start (c.acts ++ list_of c.failed))) after_is keeps.moments
+
+    grew : Extends last.log (did Sync base).log
+    grew = subst (λ (x : Told). Extends x.log (did Sync base).log) after_is keeps.barrier
+
+    ended : NoChanceOf (format file) last.log (now last.log) → NextFinds file g start c.acts c.answers (list_of c.failed) last
+    ended chance =
+        next_ended file g start work c.acts c.answers c.failed last (moments last.log (record { since = grew; until = extends_self last.log })).safe (subst IsHonest after_is keeps.honest)
+        (subst (λ (x : Told). LeavesAll file g start c.acts c.failed x) after_is keeps.left) keeps.answered inputs chance
+
+    midway : (k : ℕ) (m : Told) → IsMoment (did Sync base).log last.log m.log → AreAnswered k mending base m.log c → IsMidway file g (work_after file start (take k c.acts)) (drop k c.acts ++ list_of c.failed) m.log
+    midway zero m moment none = moments m.log moment
+    midway (suc k) m moment were =
+        answered (suc k) m.log were (subst (λ (o : Option Told). IsUntil o m.log) (sym (added_is_told (events_made c) (told_after mending (did Sync base)))) moment.until)
+
+    stopped : (k : ℕ) (m : Told) (changes : List (ℕ × List ℕ)) → IsMoment (did Sync base).log last.log m.log → AreAnswered k mending base m.log c → IsHonest m → AreLoose m.log.events changes → NoChanceOf (format file) m.log (changed changes (now m.log))
+        → NextFinds file g start (take k c.acts) (take k c.answers) (drop k c.acts ++ list_of c.failed) (did (Stop changes) m)
+    stopped k m changes moment were honest loose chance =
+        next_stopped file g start work (take k c.acts) (take k c.answers) (ap (take k) keeps.answered ∙ first_answers file k start c.acts) (drop k c.acts ++ list_of c.failed) (take_inputs k c.acts (list_of c.failed) inputs)
+        m changes (midway k m moment were) honest loose chance
+
+    -- the disk shows what the base tells
+    shows : (n : Told) → c.new ≡ Some n → last.shown ≡ n.shown
+    shows n is =
+        let told : Told = at_end mending c t in
+        let one : told ≡ n = one_told c.new told n (told_over mending (events_made c) t c.old c.new from to) is in
+        same_goes_on (events_made c) (told_after mending (did Sync t)) (told_after mending (did Sync base)) (same_goes_on mending (did Sync t) (did Sync base) same) ∙ ap (λ (x : Told). x.shown) one
+
+    keeps_on : KeepsOn file g start base mending c
+    keeps_on = record { keeps = keeps; acknowledged = answered; shows = shows; ended = ended; stopped = stopped }
+
+-- ---- the laws
+
+pub scripts_keep_on : ScriptsKeepOn
+scripts_keep_on g file view t base old new status serves same may stands =
+    let c : CallsMade = script_calls serves.session in
+    let one : serves.replica.file ≡ file = one_file file file.layout t.shown view serves.replica refl (found_shown file g view t base same may) serves.is_opened in
+    keeps_on file g view t base same may serves.barrier.0 c (subst (λ (f : DataFile). KeepsOver f t c.acts c.answers c.failed serves.barrier.0 (events_made c)) one serves.keeps g view base same may stands)
+    (subst (λ (f : DataFile). AnsweredOver f t serves.barrier.0 c) one serves.acknowledged g view base same may stands) serves.barrier.1 (ap (λ (o : Outside). o.told) serves.last_is ∙ serves.adds)
+
+pub runs_keep_on : RunsKeepOn
+runs_keep_on g file view t base old new status seed count works same may stands =
+    let c : CallsMade = run_calls works.worked in
+    let one : works.replica.file ≡ file = one_file file file.layout t.shown view works.replica refl (found_shown file g view t base same may) works.is_opened in
+    keeps_on file g view t base same may works.barrier.0 c (subst (λ (f : DataFile). KeepsOver f t c.acts c.answers c.failed works.barrier.0 (events_made c)) one works.keeps g view base same may stands)
+    (subst (λ (f : DataFile). AnsweredOver f t works.barrier.0 c) one works.acknowledged g view base same may stands) works.barrier.1 works.adds
+
+pub hurt_scripts_keep : HurtScriptsKeep
+hurt_scripts_keep g file view t old new status serves had same stands =
+    scripts_keep_on g file had.found t (begun t) old new status serves refl (begun_may_open file had.found t (had.begins same)) stands
+
+pub hurt_runs_keep : HurtRunsKeep
+hurt_runs_keep g file view t old new status seed count works had same stands =
+    runs_keep_on g file had.found t (begun t) old new status seed count works refl (begun_may_open file had.found t (had.begins same)) stands

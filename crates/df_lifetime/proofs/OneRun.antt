@@ -1,0 +1,286 @@
+-- A generated run over what is shown goes one way, and the numbers of its file follow from its answers.
+use Rattle.std.proofs.Common.{◌≡◌, ℕ, ◌+◌, List, [], ◌∷◌, map, Option, Some, None, Ok, refl, sym, ◌∙◌, ap, subst}
+use Rattle.df_base.specs.Image.{Image, IsImage}
+use Rattle.df_base.specs.Streams.{Appends}
+use Rattle.df_disk.specs.Told.{Told}
+use Rattle.df_inspect.specs.Reports.{workload_text}
+use Rattle.df_inspect.specs.declared.counts.Workload.{Workload}
+use Rattle.df_layout.specs.declared.layout.Layout.{Layout}
+use Rattle.df_theory.specs.Found.{IsFound}
+use Rattle.df_theory.specs.Shape.{Shape}
+use Rattle.df_theory.specs.Units.{AnyUnit, Message, Parts, Place}
+use Rattle.df_theory.specs.View.{View}
+use Rattle.df_units.specs.Bytes.{unit_at}
+use Rattle.df_model.specs.After.{after_running, after_step_of, outcome, to_check, with_prepare, with_reply}
+use Rattle.df_model.specs.Changing.{appended_in, begun_in, checked_in, course_on, memory_after, replied_in, step_in, unless_refused}
+use Rattle.df_model.specs.Commands.{Advance, Answer, Append, Begin, Command, Given, ReadBlock, ReadPrepare, ReadReply, Recent, Release, Reply, Scrub, ToAdvance, ToAppend, ToReply, WriteBlock, after}
+use Rattle.df_model.specs.Making.{needed_of, place_of_reply, prepare_of, reply_of}
+use Rattle.df_model.specs.Memory.{Course, Memory, course, course_of, memory_of}
+use Rattle.df_model.specs.Refusals.{append_refusals, begin_refusals, first_refusal, reply_refusals}
+use Rattle.df_model.specs.Supply.{Codec, Shown, next, result, shown_after}
+use Rattle.df_model.specs.Work.{Running, Work, opened}
+use Rattle.df_model.specs.declared.errors.AppendError.{AppendError}
+use Rattle.df_model.specs.declared.errors.BeginError.{BeginError}
+use Rattle.df_model.specs.declared.errors.ReplyError.{ReplyError}
+use Rattle.df_model.specs.declared.answers.Progress.TheVariants.{Done as Ended}
+use Rattle.df_model.specs.declared.answers.Verdict.{Verdict}
+use Rattle.df_model.specs.declared.answers.Verdict.TheVariants.{Sound, Failing}
+use Rattle.df_model.proofs.Laws.{change_law}
+use Rattle.df_replica.specs.Below.{DataFile, IsOpened, State as Replica, memory, shape, spelling}
+use Rattle.df_replica.specs.Reading.{shown_of}
+use Rattle.df_replica.specs.Serving.{Firm, Keeps, next as next_work}
+use Rattle.df_replica.specs.Session.{Act}
+use Rattle.df_replica.proofs.Laws.{found_keeps}
+use Rattle.df_result.specs.Agreeing.{AgreeShown}
+use Rattle.df_result.specs.Codec.{codec}
+use Rattle.df_workload.specs.Asking.{asks}
+use Rattle.df_workload.specs.Following.{Follows}
+use Rattle.df_workload.specs.Hearing.{heard}
+use Rattle.df_workload.specs.Rounds.{start}
+use Rattle.df_workload.specs.declared.state.State.{State as Run}
+use Rattle.df_top.specs.Lines.{command_in}
+use Rattle.df_top.specs.Outside.{Outside}
+use Rattle.df_top.specs.Session.{AreCalls, EndsCalls}
+use Rattle.df_top.specs.Working.{WorksThrough}
+use Rattle.df_top.specs.Works.{Writes, asked_by, workload_of}
+use Rattle.df_top.specs.declared.status.Status.{Status}
+use Rattle.df_top.specs.declared.status.Status.TheVariants.{Done, Script, Words, Refused, Memory as NoMemory, DiskFault, ReadFault, WriteFault, Found}
+use Rattle.df_lifetime.specs.Printed.{HasEnded, PrintsOne, Twice, WorkloadHasOneText}
+use Rattle.df_lifetime.proofs.Alike.{agree_there, file_alike, memory_alike, units_alike, view_alike}
+
+-- ---- one way
+
+no_command : (c : Command) → None ≡ Some c → ⊥
+no_command c is = cc
+
+module _ (sh : Shape) (by : Codec) where
+  -- two runs that go on from one state ask for the same, and so are answered the same
+  pub same_run : (shown : Shown) (w : Work) (s e f : Run) (cs ds : List Command) (xs ys : List Answer) → Follows s cs xs e → Follows s ds ys f → asks e ≡ None → asks f ≡ None → xs ≡ result sh by shown w cs → ys ≡ result sh by shown w ds
+      → (e ≡ f) × (xs ≡ ys)
+  same_run shown w s e f [] ds (x ∷ xs) ys one two ends ending are same = absurd one
+  same_run shown w s e f (c ∷ cs) ds [] ys one two ends ending are same = absurd one
+  same_run shown w s e f [] [] [] (y ∷ ys) one two ends ending are same = absurd two
+  same_run shown w s e f [] (d ∷ ds) [] [] one two ends ending are same = absurd two
+  same_run shown w s e f [] [] [] [] one two ends ending are same = (one ∙ sym two, refl)
+  same_run shown w s e f [] (d ∷ ds) [] (y ∷ ys) one two ends ending are same = absurd (no_command d (sym ends ∙ ap asks one ∙ two.0))
+  same_run shown w s e f (c ∷ cs) [] (x ∷ xs) (y ∷ ys) one two ends ending are same = absurd two
+  same_run shown w s e f (c ∷ cs) (d ∷ ds) (x ∷ xs) [] one two ends ending are same = absurd two
+  same_run shown w s e f (c ∷ cs) [] (x ∷ xs) [] one two ends ending are same = absurd (no_command c (sym ending ∙ ap asks two ∙ one.0))
+  same_run shown w s e f (c ∷ cs) (d ∷ ds) (x ∷ xs) (y ∷ ys) one two ends ending are same =
+      let both : Some c ≡ Some d = sym one.0 ∙ two.0 in
+      let asked : d ≡ c = cc both in
+      let here : x ≡ (next sh by shown w c).1 = cc are in
+      let there : y ≡ (next sh by shown w d).1 = cc same in
+      let answer : y ≡ x = there ∙ ap (λ (k : Command). (next sh by shown w k).1) asked ∙ sym here in
+      let more : xs ≡ result sh by (shown_after by shown (memory_of sh by.spell w) c) (next sh by shown w c).0 cs = cc are in
+      let others : ys ≡ result sh by (shown_after by shown (memory_of sh by.spell w) d) (next sh by shown w d).0 ds = cc same in
+      let rest =
+      same_run (shown_after by shown (memory_of sh by.spell w) c) (next sh by shown w c).0 (heard x s) e f cs ds xs ys one.1 (subst (λ (a : Answer). Follows (heard a s) ds ys f) answer two.1) ends ending more
+      (subst (λ (k : Command). ys ≡ result sh by (shown_after by shown (memory_of sh by.spell w) k) (next sh by shown w k).0 ds) asked others) in
+      (rest.0, (λ i. sym answer i ∷ rest.1 i))
+
+-- ---- the numbers of a file
+
+-- its head, its replies and its sequence
+abbrev pub Numbers : Type 0
+Numbers = ℕ × ℕ × ℕ
+
+abbrev pub numbers_in : Memory → Numbers
+numbers_in m = (m.head, m.replies, m.content.sequence)
+
+-- what an answer makes of them, and what answers do
+abbrev pub after_answer : Answer → Numbers → Numbers
+after_answer (ToAppend (Ok receipt)) n = (n.0 + 1, n.1, n.2)
+after_answer (ToReply (Ok sum)) n = (n.0, n.1 + 1, n.2)
+after_answer (ToAdvance (Ok (Ended sequence))) n = (n.0, n.1, n.2 + 1)
+after_answer x n = n
+
+abbrev pub after_answers : List Answer → Numbers → Numbers
+after_answers [] n = n
+after_answers (x ∷ xs) n = after_answers xs (after_answer x n)
+
+append_counts : (o : Option AppendError) (w u : Work) (m : Memory) (p : Message) (r : ℕ × ℕ) → numbers_in (unless_refused o m (appended_in m p)) ≡ after_answer (ToAppend (outcome o w u r).1) (numbers_in m)
+append_counts (Some e) w u m p r = refl
+append_counts None w u m p r = refl
+
+reply_counts : (o : Option ReplyError) (w u : Work) (m : Memory) (sum : ℕ) → numbers_in (unless_refused o m (replied_in m sum)) ≡ after_answer (ToReply (outcome o w u sum).1) (numbers_in m)
+reply_counts (Some e) w u m sum = refl
+reply_counts None w u m sum = refl
+
+begin_counts : (o : Option BeginError) (m : Memory) (r : Option Course) → numbers_in (unless_refused o m (record m { running = r })) ≡ numbers_in m
+begin_counts (Some e) m r = refl
+begin_counts None m r = refl
+
+module _ (sh : Shape) (spell : Parts → List ℕ) (w : Work) (given : Given) where
+  abbrev m : Memory
+  m = memory_of sh spell w
+
+  left_counts : (r : Running) (l : List ℕ) → numbers_in (course_on m given.checksum (course spell r) l) ≡ after_answer (ToAdvance (after_running sh spell w given.checksum r l).1) (numbers_in m)
+  left_counts r [] = refl
+  left_counts r (a ∷ more) = refl
+
+  step_counts : (o : Option Running) → numbers_in (step_in m given.checksum (course_of spell o)) ≡ after_answer (ToAdvance (after_step_of sh spell w given.checksum o).1) (numbers_in m)
+  step_counts None = refl
+  step_counts (Some r) = left_counts r r.left
+
+  check_counts : (v : Verdict) (xs : List (ℕ × ℕ)) → numbers_in (checked_in m v xs) ≡ numbers_in m
+  check_counts v [] = refl
+  check_counts Sound (x ∷ more) = refl
+  check_counts (Failing class) (x ∷ more) = refl
+
+  pub counted_one : (c : Command) → numbers_in (memory_after spell m given c) ≡ after_answer (after sh spell w given c).1 (numbers_in m)
+  counted_one (Append client request body) =
+      let p = prepare_of m given.checksum client request body in
+      append_counts (first_refusal (append_refusals m client request body)) w (with_prepare w p) m p (p.header.op, given.checksum)
+  counted_one (Reply op body) = reply_counts (first_refusal (reply_refusals m op body)) w (with_reply w (place_of_reply m) (reply_of m given.checksum body)) m given.checksum
+  counted_one (WriteBlock kind body) = refl
+  counted_one (Release address) = refl
+  counted_one (Begin root) = begin_counts (first_refusal (begin_refusals m (needed_of spell m root) root)) m (Some (begun_in spell m root))
+  counted_one Advance = step_counts w.running
+  counted_one (ReadPrepare op) = refl
+  counted_one (ReadReply client) = refl
+  counted_one (ReadBlock address) = refl
+  counted_one Scrub = check_counts given.verdict (to_check m)
+  counted_one (Recent place) = refl
+
+-- behind calls they are what the answers make of them
+pub calls_count : (s u : Replica) (old new : Option Told) (acts : List Act) (answers : List Answer) (w : Work) → AreCalls s old acts answers u new → Keeps Firm s w None → numbers_in (memory u) ≡ after_answers answers (numbers_in (memory s))
+calls_count s u old new [] [] w calls k = ap (λ (x : Replica). numbers_in (memory x)) calls.0
+calls_count s u old new [] (x ∷ answers) w calls k = absurd calls
+calls_count s u old new (a ∷ acts) [] w calls k = absurd calls
+calls_count s u old new (a ∷ acts) (x ∷ answers) w calls k =
+    let v : Replica = calls.0 in
+    let on = calls.2.call.answers Firm w k in
+    let then : Work = (next_work s.file w a.given a.command).0 in
+    let known : memory v ≡ memory_of (shape s.file) (spelling s.file) then = on.1.1 ∙ ap (λ (f : DataFile). memory_of (shape f) (spelling f) then) calls.2.call.file in
+    let one : numbers_in (memory v) ≡ after_answer x (numbers_in (memory s)) =
+    ap numbers_in (known ∙ change_law (shape s.file) (spelling s.file) w a.given a.command k.0) ∙ counted_one (shape s.file) (spelling s.file) w a.given a.command
+    ∙ ap (λ (y : Answer). after_answer y (numbers_in (memory_of (shape s.file) (spelling s.file) w))) (sym on.0) ∙ ap (λ (m : Memory). after_answer x (numbers_in m)) (sym k.1) in
+    calls_count v u calls.1 new acts answers then calls.3 on.1 ∙ ap (after_answers answers) one
+
+-- ---- a run that came to its end
+
+-- it has no call without an answer, and printed what it counted
+run_ended : (run : Run) (t : Replica) (told : Option Told) (failed : Option Act) (old new : Option (List ℕ)) (status : Status) → HasEnded status → Writes run t told failed old new status → (failed ≡ None) × (status ≡ Done) × Appends old new (workload_text (workload_of run t))
+run_ended run t told None old new Done ended wrote = (refl, refl, wrote)
+run_ended run t told None old new Found ended wrote = absurd wrote
+run_ended run t told (Some a) old new Done ended wrote = absurd wrote
+run_ended run t told (Some a) old new Found ended wrote = absurd wrote
+run_ended run t told failed old new Script ended wrote = absurd ended
+run_ended run t told failed old new Words ended wrote = absurd ended
+run_ended run t told failed old new Refused ended wrote = absurd ended
+run_ended run t told failed old new NoMemory ended wrote = absurd ended
+run_ended run t told failed old new DiskFault ended wrote = absurd ended
+run_ended run t told failed old new ReadFault ended wrote = absurd ended
+run_ended run t told failed old new WriteFault ended wrote = absurd ended
+
+found_here : (layout : Layout) (image : Image) (s : Replica) (is : IsOpened layout image s) → IsFound (shape s.file) (unit_at s.file.layout s.file.cluster image) is.view
+found_here layout image s is = subst (λ (l : Layout). IsFound (shape s.file) (unit_at l s.file.cluster image) is.view) (sym is.of) is.found
+
+pub agree_self : (layout : Layout) (shown : Shown) → AgreeShown layout shown shown
+agree_self layout shown = record { units = record { prepare = λ k. refl; reply = λ k. refl; block = λ k. refl }; classes = λ place read none. refl }
+
+module _ (seed count : ℕ) (layout : Layout) (t : Told) (old new : Outside) (status : Status) (works : WorksThrough seed count layout t old new status) (whole : IsImage t.shown) (ended : HasEnded status) where
+  pub by_end : (works.worked.failed ≡ None) × (status ≡ Done) × Appends old.written new.written (workload_text (workload_of works.run works.last))
+  by_end = run_ended works.run works.last new.told works.worked.failed old.written new.written status ended works.written
+
+  pub asks_none : asks works.run ≡ None
+  asks_none = works.worked.asked ∙ ap asked_by by_end.0
+
+  found : IsFound (shape works.replica.file) (unit_at works.replica.file.layout works.replica.file.cluster t.shown) works.is_opened.view
+  found = found_here layout t.shown works.replica works.is_opened
+
+  pub opened_here : IsOpened works.replica.file.layout t.shown works.replica
+  opened_here = subst (λ (l : Layout). IsOpened l t.shown works.replica) (sym works.is_opened.of) works.is_opened
+
+  pub last_numbers : numbers_in (memory works.last) ≡ after_answers works.worked.answers (numbers_in (memory works.replica))
+  last_numbers =
+      calls_count works.replica works.last works.mended new.told works.worked.acts works.worked.answers
+      (opened (shape works.replica.file) (unit_at works.replica.file.layout works.replica.file.cluster t.shown) works.is_opened.view)
+      (subst (λ (o : Option Act). EndsCalls works.replica works.last works.mended new.told works.worked.acts works.worked.answers o) by_end.0 works.worked.calls)
+      (found_keeps works.replica t.shown works.is_opened.view whole opened_here found)
+
+  -- its answers over what is shown
+  pub answers_over : (shown : Shown) → AgreeShown works.replica.file.layout (shown_of works.replica.file t.shown) shown
+      → works.worked.answers ≡ result (shape works.replica.file) (codec works.replica.file) shown (opened (shape works.replica.file) (unit_at works.replica.file.layout works.replica.file.cluster t.shown) works.is_opened.view) (map command_in works.worked.acts)
+  answers_over shown agree = works.result works.is_opened.view shown found agree
+
+-- ---- two of them
+
+module _ (seed count : ℕ) (layout : Layout) (runs : Twice layout (WorksThrough seed count layout)) (whole : IsImage runs.one.told.shown) (entire : IsImage runs.other.told.shown) where
+  abbrev a : Image
+  a = runs.one.told.shown
+
+  abbrev b : Image
+  b = runs.other.told.shown
+
+  abbrev one : WorksThrough seed count layout runs.one.told runs.one.old runs.one.new runs.one.status
+  one = runs.one.does
+
+  abbrev other : WorksThrough seed count layout runs.other.told runs.other.old runs.other.new runs.other.status
+  other = runs.other.does
+
+  abbrev s : Replica
+  s = one.replica
+
+  abbrev u : Replica
+  u = other.replica
+
+  -- what commands answer over the second image
+  abbrev over : DataFile → (Place → Option AnyUnit) → View → List Command → List Answer
+  over f image v cs = result (shape f) (codec f) (shown_of f b) (opened (shape f) image v) cs
+
+  over_alike : (cs : List Command) → over s.file (unit_at s.file.layout s.file.cluster a) one.is_opened.view cs ≡ over u.file (unit_at u.file.layout u.file.cluster b) other.is_opened.view cs
+  over_alike cs =
+      let there : unit_at s.file.layout s.file.cluster a ≡ unit_at s.file.layout s.file.cluster b =
+      subst (λ (l : Layout). unit_at l s.file.cluster a ≡ unit_at l s.file.cluster b) (sym one.is_opened.of) (units_alike layout a b runs.same s.file.cluster) in
+      ap (λ (image : Place → Option AnyUnit). over s.file image one.is_opened.view cs) there
+      ∙ ap (λ (v : View). over s.file (unit_at s.file.layout s.file.cluster b) v cs) (view_alike layout a b runs.same s u one.is_opened other.is_opened)
+      ∙ ap (λ (f : DataFile). over f (unit_at f.layout f.cluster b) other.is_opened.view cs) (file_alike layout a b runs.same s u one.is_opened other.is_opened)
+
+  alike : (one.run ≡ other.run) × (one.worked.answers ≡ other.worked.answers)
+  alike =
+      let w : Work = opened (shape u.file) (unit_at u.file.layout u.file.cluster b) other.is_opened.view in
+      let first =
+      answers_over seed count layout runs.one.told runs.one.old runs.one.new runs.one.status one whole runs.ended.0 (shown_of s.file b) (agree_there layout a b runs.same s.file one.is_opened.of)
+      ∙ over_alike (map command_in one.worked.acts) in
+      let second =
+      answers_over seed count layout runs.other.told runs.other.old runs.other.new runs.other.status other entire runs.ended.1 (shown_of u.file b) (agree_self u.file.layout (shown_of u.file b)) in
+      same_run (shape u.file) (codec u.file) (shown_of u.file b) w (start seed count layout.clients) one.run other.run (map command_in one.worked.acts) (map command_in other.worked.acts) one.worked.answers other.worked.answers one.worked.follows
+      other.worked.follows (asks_none seed count layout runs.one.told runs.one.old runs.one.new runs.one.status one whole runs.ended.0) (asks_none seed count layout runs.other.told runs.other.old runs.other.new runs.other.status other entire runs.ended.1)
+      first second
+
+  numbers_alike : numbers_in (memory one.last) ≡ numbers_in (memory other.last)
+  numbers_alike =
+      last_numbers seed count layout runs.one.told runs.one.old runs.one.new runs.one.status one whole runs.ended.0
+      ∙ ap (λ (m : Memory). after_answers one.worked.answers (numbers_in m)) (memory_alike layout a b runs.same s u one.is_opened other.is_opened)
+      ∙ ap (λ (xs : List Answer). after_answers xs (numbers_in (memory u))) alike.1
+      ∙ sym (last_numbers seed count layout runs.other.told runs.other.old runs.other.new runs.other.status other entire runs.ended.1)
+
+  workload_alike : workload_of one.run one.last ≡ workload_of other.run other.last
+  workload_alike = λ i. record {
+    appended = (alike.0 i).counts.appended;
+    replied = (alike.0 i).counts.replied;
+    wrote = (alike.0 i).counts.wrote;
+    released = (alike.0 i).counts.released;
+    checkpoints = (alike.0 i).counts.checkpoints;
+    refused = (alike.0 i).counts.refused;
+    bytes = (alike.0 i).counts.bytes;
+    head = (numbers_alike i).0;
+    replies = (numbers_alike i).1;
+    sequence = (numbers_alike i).2;
+  }
+
+  prints_one : PrintsOne runs.one runs.other
+  prints_one =
+      let first = by_end seed count layout runs.one.told runs.one.old runs.one.new runs.one.status one whole runs.ended.0 in
+      let second = by_end seed count layout runs.other.told runs.other.old runs.other.new runs.other.status other entire runs.ended.1 in
+      record {
+        status = first.1 ∙ sym second.1;
+        text = workload_text (workload_of other.run other.last);
+        first = subst (λ (x : Workload). Appends runs.one.old.written runs.one.new.written (workload_text x)) workload_alike first.2;
+        second = second.2;
+      }
+
+pub workload_has_one_text : WorkloadHasOneText
+workload_has_one_text seed count layout runs whole entire = prints_one seed count layout runs whole entire

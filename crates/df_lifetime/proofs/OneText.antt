@@ -1,0 +1,69 @@
+-- A word that is carried out twice, over disks that show the same, prints one text.
+use Rattle.std.proofs.Common.{◌≡◌, inl, inr, ℕ, suc, List, [], ◌∷◌, length, Option, refl, sym, ◌∙◌, ap, subst}
+use Rattle.df_base.specs.Image.{Image}
+use Rattle.df_base.specs.Streams.{Appends}
+use Rattle.df_disk.specs.Told.{Told}
+use Rattle.df_inspect.specs.Reports.{summary_text}
+use Rattle.df_layout.specs.declared.layout.Layout.{Layout}
+use Rattle.df_sessions.specs.Requests.{sessions_of}
+use Rattle.df_sessions.specs.declared.session.Session.{Session}
+use Rattle.df_model.specs.Memory.{Memory}
+use Rattle.df_replica.specs.Below.{IsOpened, State as Replica, memory}
+use Rattle.df_replica.specs.Replica.{summary_of}
+use Rattle.df_top.specs.OneText.{ShowSame}
+use Rattle.df_top.specs.Outside.{Outside, PrintsLine}
+use Rattle.df_top.specs.Reporting.{Recovers}
+use Rattle.df_top.specs.declared.status.Status.{Status}
+use Rattle.df_top.specs.declared.status.Status.TheVariants.{Done}
+use Rattle.df_lifetime.specs.Printed.{Carried, HasEnded, PrintsOne, RecoverHasOneText}
+use Rattle.df_lifetime.proofs.Alike.{fields_alike, file_alike, memory_alike}
+
+-- ---- a text that is printed
+
+-- the sink didn't fail
+ended_whole : (line : List ℕ) (given status : Status) (old new : Option (List ℕ)) → HasEnded status → PrintsLine line given old new status → (status ≡ given) × Appends old new line
+ended_whole line given status old new ended (inl whole) = whole
+ended_whole line given status old new ended (inr part) = absurd (subst HasEnded part.0 ended)
+
+-- where one text with one status is printed twice
+pub same_prints : (line text : List ℕ) (given wanted : Status) (Word : Told → Outside → Outside → Status → Type 0) (one other : Carried Word) → line ≡ text → given ≡ wanted → HasEnded one.status → HasEnded other.status
+    → PrintsLine line given one.old.written one.new.written one.status → PrintsLine text wanted other.old.written other.new.written other.status → PrintsOne one other
+same_prints line text given wanted Word one other same is ended ending first second =
+    let here = ended_whole line given one.status one.old.written one.new.written ended first in
+    let there = ended_whole text wanted other.status other.old.written other.new.written ending second in
+    record { status = here.0 ∙ is ∙ sym there.0; text = text; first = subst (λ (l : List ℕ). Appends one.old.written one.new.written l) same here.1; second = there.1 }
+
+-- ---- the summary
+
+count_is : (ss : List Session) → length (sessions_of ss) ≡ length ss
+count_is [] = refl
+count_is (s ∷ ss) = ap suc (count_is ss)
+
+module _ (layout : Layout) (a b : Image) (same : ShowSame layout a b) (s u : Replica) (one : IsOpened layout a s) (other : IsOpened layout b u) where
+  fields : s.fields ≡ u.fields
+  fields = fields_alike layout a b same s u one other
+
+  known : memory s ≡ memory u
+  known = memory_alike layout a b same s u one other
+
+  sessions_alike : length s.table.sessions ≡ length u.table.sessions
+  sessions_alike = sym (count_is s.table.sessions) ∙ ap (λ (m : Memory). length m.sessions) known ∙ count_is u.table.sessions
+
+  summary_alike : summary_of s ≡ summary_of u
+  summary_alike = λ i. record {
+    cluster = (file_alike layout a b same s u one other i).cluster;
+    layout = (file_alike layout a b same s u one other i).layout;
+    sequence = (fields i).sequence;
+    checkpoint_op = (fields i).op;
+    head = (known i).head;
+    replies = (known i).replies;
+    sessions = sessions_alike i;
+    references = length (known i).blocks.durable;
+  }
+
+pub recover_has_one_text : RecoverHasOneText
+recover_has_one_text layout runs =
+    let one : Recovers layout runs.one.told runs.one.old runs.one.new runs.one.status = runs.one.does in
+    let other : Recovers layout runs.other.told runs.other.old runs.other.new runs.other.status = runs.other.does in
+    same_prints (summary_text (summary_of one.replica)) (summary_text (summary_of other.replica)) Done Done (Recovers layout) runs.one runs.other
+    (ap summary_text (summary_alike layout runs.one.told.shown runs.other.told.shown runs.same one.replica other.replica one.is_opened other.is_opened)) refl runs.ended.0 runs.ended.1 one.prints other.prints

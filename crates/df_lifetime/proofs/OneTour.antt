@@ -1,0 +1,124 @@
+-- Two tours of the scrubber over what agrees list the same blocks.
+use Rattle.std.proofs.Common.{◌≡◌, inl, inr, ℕ, zero, suc, ◌+◌, ◌≤◌, List, ◌++◌, length, Option, Some, None, refl, sym, ◌∙◌, ap, subst, arith}
+use Rattle.std.specs.List.{range_with_len}
+use Rattle.std.proofs.lemmas.Bool.{and_from, le-leb}
+use Rattle.df_base.specs.Image.{Image}
+use Rattle.df_inspect.specs.Reports.{failing_texts}
+use Rattle.df_layout.specs.declared.damage.Finding.{Finding}
+use Rattle.df_layout.specs.declared.layout.Layout.{Layout}
+use Rattle.df_theory.specs.Units.{AnyUnit, BlockPlace, CopyPlace, HeaderPlace, Place, PreparePlace, ReplyPlace}
+use Rattle.df_units.specs.Bytes.{unit_at}
+use Rattle.df_model.specs.Blocks.{entries, entry, reference_in}
+use Rattle.df_model.specs.Memory.{Memory, referenced_of}
+use Rattle.df_model.specs.Reading.{failing, with_finding}
+use Rattle.df_model.specs.Supply.{Shown, block_given, check_of, class_at, class_or, verdict_of}
+use Rattle.df_model.specs.declared.answers.Scrubbed.TheVariants.{TourEnd}
+use Rattle.df_replica.specs.Below.{DataFile, State as Replica, failing_in, grid_with, memory}
+use Rattle.df_replica.specs.Leaving.{IsReadPlace, SparesReads}
+use Rattle.df_replica.specs.Reading.{shown_of}
+use Rattle.df_result.specs.Agreeing.{AgreeShown}
+use Rattle.df_script_model.specs.Texts.{scrubbed_text}
+use Rattle.df_top.specs.Outside.{PrintsLine}
+use Rattle.df_top.specs.Scrubs.{PrintsTour, ScrubsFile, failing_blocks, tour_report, tour_status}
+use Rattle.df_top.specs.declared.status.Status.{Status}
+use Rattle.df_lifetime.specs.Printed.{HasEnded, PrintsOne, ScrubHasOneText, SparedScrubHasOneText, Twice}
+use Rattle.df_lifetime.proofs.Alike.{agree_there, file_alike, memory_alike}
+use Rattle.df_lifetime.proofs.OneText.{same_prints}
+
+-- ---- a check
+
+module _ (layout : Layout) (one other : Shown) (agree : AgreeShown layout one other) where
+  class_case : (a : ℕ) → 1 ≤ a → a ≤ layout.blocks → (o : Option AnyUnit) → one.units (BlockPlace a) ≡ o → class_or o (one.damage (BlockPlace a)) ≡ class_or o (other.damage (BlockPlace a))
+  class_case a from to None is = agree.classes (BlockPlace a) (and_from _ _ (le-leb 1 a from) (le-leb a layout.blocks to)) is
+  class_case a from to (Some x) is = refl
+
+  check_alike : (a c : ℕ) → 1 ≤ a → a ≤ layout.blocks → check_of one (a, c) ≡ check_of other (a, c)
+  check_alike a c from to =
+      let class : class_at one (BlockPlace a) ≡ class_at other (BlockPlace a) =
+      class_case a from to (one.units (BlockPlace a)) refl ∙ ap (λ (o : Option AnyUnit). class_or o (other.damage (BlockPlace a))) (agree.units.block a) in
+      λ i. verdict_of (block_given (Some c) (agree.units.block a i) (class i))
+
+  one_alike : (a : ℕ) (known : Option ℕ) (rest : List (ℕ × ℕ)) → 1 ≤ a → a ≤ layout.blocks → failing one rest ≡ failing other rest → failing one (entry a known rest) ≡ failing other (entry a known rest)
+  one_alike a None rest from to more = more
+  one_alike a (Some c) rest from to more = λ i. with_finding a (check_alike a c from to i) (more i)
+
+  -- what fails among the blocks at these addresses
+  failing_alike : (f : ℕ → Option ℕ) (a n : ℕ) → 1 ≤ a → a + n ≤ layout.blocks + 1 → failing one (entries f (range_with_len a n)) ≡ failing other (entries f (range_with_len a n))
+  failing_alike f a zero from to = refl
+  failing_alike f a (suc n) from to =
+      one_alike a (f a) (entries f (range_with_len (a + 1) n)) from (omega (arith, to)) (failing_alike f (a + 1) n (omega arith) (omega (arith, to)))
+
+-- ---- a tour
+
+tour_ended : (s : Replica) (image : Image) (old new : Option (List ℕ)) (status : Status) → HasEnded status → PrintsTour s image old new status → PrintsLine (tour_report s image) (tour_status (length (failing_blocks s image))) old new status
+tour_ended s image old new status ended (inl prints) = prints
+tour_ended s image old new status ended (inr stops) = absurd (subst HasEnded stops.fault ended)
+
+module _ (layout : Layout) (runs : Twice layout (ScrubsFile layout)) (agree : AgreeShown layout (shown_of runs.one.does.replica.file runs.one.does.after.shown) (shown_of runs.one.does.replica.file runs.other.does.after.shown)) where
+  abbrev one : ScrubsFile layout runs.one.told runs.one.old runs.one.new runs.one.status
+  one = runs.one.does
+
+  abbrev other : ScrubsFile layout runs.other.told runs.other.old runs.other.new runs.other.status
+  other = runs.other.does
+
+  abbrev s : Replica
+  s = one.replica
+
+  abbrev u : Replica
+  u = other.replica
+
+  known : memory s ≡ memory u
+  known = memory_alike layout runs.one.told.shown runs.other.told.shown runs.same s u one.is_opened other.is_opened
+
+  here : AgreeShown s.file.layout (shown_of s.file one.after.shown) (shown_of s.file other.after.shown)
+  here = subst (λ (l : Layout). AgreeShown l (shown_of s.file one.after.shown) (shown_of s.file other.after.shown)) (sym one.is_opened.of) agree
+
+  listed : failing_blocks s one.after.shown ≡ failing_blocks u other.after.shown
+  listed =
+      failing_alike s.file.layout (shown_of s.file one.after.shown) (shown_of s.file other.after.shown) here (reference_in s.blocks) 1 s.file.layout.blocks (omega arith) (omega arith)
+      ∙ ap (λ (m : Memory). failing_in (grid_with s.file m.blocks) other.after.shown) known
+      ∙ ap (λ (f : DataFile). failing_in (grid_with f u.blocks) other.after.shown) (file_alike layout runs.one.told.shown runs.other.told.shown runs.same s u one.is_opened other.is_opened)
+
+  report : tour_report s one.after.shown ≡ tour_report u other.after.shown
+  report = λ i. failing_texts (listed i) ++ scrubbed_text (TourEnd (length (referenced_of (known i))) (length (listed i)))
+
+  tours_print_one : PrintsOne runs.one runs.other
+  tours_print_one =
+      same_prints (tour_report s one.after.shown) (tour_report u other.after.shown) (tour_status (length (failing_blocks s one.after.shown))) (tour_status (length (failing_blocks u other.after.shown))) (ScrubsFile layout) runs.one runs.other
+      report (ap (λ (l : List Finding). tour_status (length l)) listed) runs.ended.0 runs.ended.1
+      (tour_ended s one.after.shown runs.one.old.written runs.one.new.written runs.one.status runs.ended.0 one.prints)
+      (tour_ended u other.after.shown runs.other.old.written runs.other.new.written runs.other.status runs.ended.1 other.prints)
+
+pub scrub_has_one_text : ScrubHasOneText
+scrub_has_one_text layout runs agree = tours_print_one layout runs agree
+
+-- ---- what a mending left
+
+-- it agrees with what was there, both ways
+spared_unit : (file : DataFile) (before after : Image) → SparesReads file before after → (place : Place) → IsReadPlace file.layout place → unit_at file.layout file.cluster after place ≡ unit_at file.layout file.cluster before place
+spared_unit file before after spares (CopyPlace k) read = absurd read
+spared_unit file before after spares (HeaderPlace k) read = absurd read
+spared_unit file before after spares (PreparePlace k) read = spares.units.prepare k
+spared_unit file before after spares (ReplyPlace k) read = spares.units.reply k
+spared_unit file before after spares (BlockPlace k) read = spares.units.block k
+
+-- two images that agree, each behind its mending
+spared_agree : (file : DataFile) (a b before after : Image) → SparesReads file a before → SparesReads file b after → AgreeShown file.layout (shown_of file a) (shown_of file b) → AgreeShown file.layout (shown_of file before) (shown_of file after)
+spared_agree file a b before after one other agree = record {
+  units = record {
+    prepare = λ k. one.units.prepare k ∙ agree.units.prepare k ∙ sym (other.units.prepare k);
+    reply = λ k. one.units.reply k ∙ agree.units.reply k ∙ sym (other.units.reply k);
+    block = λ k. one.units.block k ∙ agree.units.block k ∙ sym (other.units.block k);
+  };
+  classes = λ place read none. one.classes place read ∙ agree.classes place read (sym (spared_unit file a before one place read) ∙ none) ∙ sym (other.classes place read);
+}
+
+pub spared_scrub_has_one_text : SparedScrubHasOneText
+spared_scrub_has_one_text layout runs one other =
+    let s : Replica = runs.one.does.replica in
+    let u : Replica = runs.other.does.replica in
+    let of : s.file.layout ≡ layout = runs.one.does.is_opened.of in
+    let file : s.file ≡ u.file = file_alike layout runs.one.told.shown runs.other.told.shown runs.same s u runs.one.does.is_opened runs.other.does.is_opened in
+    let here : SparesReads s.file runs.other.told.shown runs.other.does.after.shown = subst (λ (f : DataFile). SparesReads f runs.other.told.shown runs.other.does.after.shown) (sym file) other in
+    let agree = spared_agree s.file runs.one.told.shown runs.other.told.shown runs.one.does.after.shown runs.other.does.after.shown one here (agree_there layout runs.one.told.shown runs.other.told.shown runs.same s.file of) in
+    tours_print_one layout runs (subst (λ (l : Layout). AgreeShown l (shown_of s.file runs.one.does.after.shown) (shown_of s.file runs.other.does.after.shown)) of agree)

@@ -1,0 +1,236 @@
+-- What a generated run prints: its counts count its answers, and so they say how far the numbers of the file went on.
+use Rattle.std.proofs.Common.{◌≡◌, ℕ, ◌+◌, Bool, true, false, if◌then◌else◌, List, [], ◌∷◌, map, Some, None, Result, Ok, Err, refl, sym, ◌∙◌, ap, subst, arith}
+use Rattle.std.specs.Prelude.{slice_index}
+use Rattle.df_base.specs.Image.{IsImage}
+use Rattle.df_base.specs.Streams.{Appends}
+use Rattle.df_disk.specs.Told.{Told}
+use Rattle.df_inspect.specs.Reports.{workload_text}
+use Rattle.df_inspect.specs.declared.counts.Workload.{Workload}
+use Rattle.df_layout.specs.declared.layout.Layout.{Layout}
+use Rattle.df_theory.specs.Found.{IsFound}
+use Rattle.df_theory.specs.Shape.{Shape}
+use Rattle.df_theory.specs.View.{View, head, sequence}
+use Rattle.df_units.specs.Bytes.{unit_at}
+use Rattle.df_model.specs.After.{after_advance, after_begin, after_block, after_release}
+use Rattle.df_model.specs.Commands.{Advance, Answer, Command, ToAdvance, ToAppend, ToBegin, ToReadBlock, ToReadPrepare, ToReadReply, ToRecent, ToRelease, ToReply, ToScrub, ToWriteBlock, WriteBlock}
+use Rattle.df_model.specs.Memory.{memory_of}
+use Rattle.df_model.specs.Supply.{Codec, Shown, checksum_given, next, result, shown_after}
+use Rattle.df_model.specs.Work.{Work, opened}
+use Rattle.df_model.specs.declared.answers.Progress.{Progress}
+use Rattle.df_model.specs.declared.answers.Progress.TheVariants.{Done as Ended, Working}
+use Rattle.df_model.specs.declared.errors.AppendError.{AppendError}
+use Rattle.df_model.specs.declared.errors.BeginError.{BeginError}
+use Rattle.df_model.specs.declared.errors.BlockError.{BlockError}
+use Rattle.df_model.specs.declared.errors.NotLive.{NotLive}
+use Rattle.df_model.specs.declared.errors.ReplyError.{ReplyError}
+use Rattle.df_model.specs.declared.errors.StepError.{StepError}
+use Rattle.df_replica.specs.Below.{DataFile, memory, shape}
+use Rattle.df_replica.specs.Reading.{shown_of}
+use Rattle.df_replica.proofs.Laws.{found_keeps}
+use Rattle.df_result.specs.Codec.{codec}
+use Rattle.df_workload.specs.Asking.{asks_at, number_body}
+use Rattle.df_workload.specs.Draw.{drawn_body}
+use Rattle.df_workload.specs.Following.{Follows}
+use Rattle.df_workload.specs.Hearing.{appended, begun, heard, outcome_of, released, replied, stepped, told_at, wrote}
+use Rattle.df_workload.specs.Rounds.{after_reply, start, to_begin, to_block, to_next, to_release, to_replies, to_step}
+use Rattle.df_workload.specs.declared.state.Point.{Point}
+use Rattle.df_workload.specs.declared.state.Point.TheVariants.{Appending, Replying, Stepping, Writing, Releasing, Beginning, Ending}
+use Rattle.df_workload.specs.declared.state.State.{State as Run}
+use Rattle.df_top.specs.Lines.{command_in}
+use Rattle.df_top.specs.Outside.{Outside}
+use Rattle.df_top.specs.Working.{WorksThrough}
+use Rattle.df_top.specs.Works.{workload_of}
+use Rattle.df_top.specs.declared.status.Status.{Status}
+use Rattle.df_top.specs.declared.status.Status.TheVariants.{Done}
+use Rattle.df_lifetime.specs.Printed.{HasEnded, IsRun, OneRun, RunTextIsResult, run_text, workload_by}
+use Rattle.df_lifetime.proofs.OneRun.{Numbers, after_answer, after_answers, agree_self, asks_none, by_end, last_numbers, numbers_in, opened_here, same_run}
+
+-- ---- what is counted
+
+abbrev counted : Run → Numbers
+counted s = (s.counts.appended, s.counts.replied, s.counts.checkpoints)
+
+-- where a run goes on counts nothing
+either_counts : (b : Bool) (n : Numbers) (s u : Run) → counted s ≡ n → counted u ≡ n → counted (if b then s else u) ≡ n
+either_counts true n s u one other = one
+either_counts false n s u one other = other
+
+next_counts : (s : Run) → counted (to_next s) ≡ counted s
+next_counts s = either_counts _ (counted s) _ _ refl refl
+
+begin_counts : (s : Run) → counted (to_begin s) ≡ counted s
+begin_counts s = either_counts _ (counted s) _ _ refl (next_counts s)
+
+release_counts : (s : Run) → counted (to_release s) ≡ counted s
+release_counts s = either_counts _ (counted s) _ _ refl (begin_counts s)
+
+block_counts : (s : Run) → counted (to_block s) ≡ counted s
+block_counts s = either_counts _ (counted s) _ _ refl (begin_counts s)
+
+step_counts : (s : Run) → counted (to_step s) ≡ counted s
+step_counts s = either_counts _ (counted s) _ _ refl (block_counts s)
+
+replies_counts : (s : Run) → counted (to_replies s) ≡ counted s
+replies_counts s = either_counts _ (counted s) _ _ refl (step_counts s)
+
+reply_counts : (op : ℕ) (s : Run) → counted (after_reply op s) ≡ counted s
+reply_counts op s = either_counts _ (counted s) _ _ refl (step_counts s)
+
+-- an answer to what is asked for counts as it does for the file
+heard_append : (s : Run) (r : Result (ℕ × ℕ) AppendError) → counted (to_replies (appended (outcome_of (ToAppend r)) s)) ≡ after_answer (ToAppend r) (counted s)
+heard_append s (Ok receipt) = replies_counts (appended (outcome_of (ToAppend (Ok receipt))) s)
+heard_append s (Err e) = replies_counts (appended (outcome_of (ToAppend (Err e))) s)
+
+heard_reply : (op : ℕ) (s : Run) (r : Result ℕ ReplyError) → counted (after_reply op (replied (outcome_of (ToReply r)) s)) ≡ after_answer (ToReply r) (counted s)
+heard_reply op s (Ok sum) = reply_counts op (replied (outcome_of (ToReply (Ok sum))) s)
+heard_reply op s (Err e) = reply_counts op (replied (outcome_of (ToReply (Err e))) s)
+
+heard_step : (s : Run) (r : Result Progress StepError) → counted (stepped (outcome_of (ToAdvance r)) s) ≡ after_answer (ToAdvance r) (counted s)
+heard_step s (Ok (Working left)) = refl
+heard_step s (Ok (Ended sequence)) = refl
+heard_step s (Err e) = refl
+
+heard_write : (s : Run) (r : Result (ℕ × ℕ) BlockError) → counted (to_release (wrote (outcome_of (ToWriteBlock r)) s)) ≡ counted s
+heard_write s (Ok reference) = release_counts (wrote (outcome_of (ToWriteBlock (Ok reference))) s)
+heard_write s (Err e) = release_counts (wrote (outcome_of (ToWriteBlock (Err e))) s)
+
+heard_release : (s : Run) (r : Result (Unit {0}) NotLive) → counted (to_begin (released (outcome_of (ToRelease r)) s)) ≡ counted s
+heard_release s (Ok done) = begin_counts (released (outcome_of (ToRelease (Ok done))) s)
+heard_release s (Err e) = begin_counts (released (outcome_of (ToRelease (Err e))) s)
+
+heard_begin : (s : Run) (r : Result ℕ BeginError) → counted (to_next (begun (outcome_of (ToBegin r)) s)) ≡ counted s
+heard_begin s (Ok blocks) = next_counts (begun (outcome_of (ToBegin (Ok blocks))) s)
+heard_begin s (Err e) = next_counts (begun (outcome_of (ToBegin (Err e))) s)
+
+same_command : (a c : Command) → Some a ≡ Some c → a ≡ c
+same_command a c is = cc is
+
+is_step : (b : Bool) (c : Command) → (if b then Some Advance else None) ≡ Some c → Advance ≡ c
+is_step true c is = cc is
+is_step false c is = absurd (cc)
+
+module _ (sh : Shape) (by : Codec) (shown : Shown) (w : Work) where
+  abbrev Counts : Point → Run → Command → Type 0
+  Counts p s c = counted (told_at p (outcome_of (next sh by shown w c).1) s) ≡ after_answer (next sh by shown w c).1 (counted s)
+
+  abbrev sum : Command → ℕ
+  sum c = checksum_given by (memory_of sh by.spell w) c
+
+  point_counts : (p : Point) (s : Run) (c : Command) → asks_at p s ≡ Some c → Counts p s c
+  point_counts Appending s c is = subst (Counts Appending s) (same_command _ c is) (heard_append s _)
+  point_counts (Replying op) s c is = subst (Counts (Replying op) s) (same_command _ c is) (heard_reply op s _)
+  point_counts Stepping s c is =
+      let r : Result Progress StepError = (after_advance sh by.spell w (sum Advance)).1 in
+      subst (Counts Stepping s) (same_command Advance c is) (block_counts (stepped (outcome_of (ToAdvance r)) s) ∙ heard_step s r)
+  point_counts Writing s c is = subst (Counts Writing s) (same_command _ c is) (heard_write s (after_block sh by.spell w (sum (WriteBlock 1 (drawn_body s.number))) 1 (drawn_body s.number)).1)
+  point_counts Releasing s c is = subst (Counts Releasing s) (same_command _ c is) (heard_release s (after_release sh by.spell w (slice_index s.held 0)).1)
+  point_counts Beginning s c is = subst (Counts Beginning s) (same_command _ c is) (heard_begin s (after_begin sh by.spell w (number_body s.round)).1)
+  point_counts Ending s c is = subst (Counts Ending s) (is_step s.running c is) (heard_step s _)
+
+module _ (sh : Shape) (by : Codec) where
+  -- so do all of them
+  run_counts : (shown : Shown) (w : Work) (s e : Run) (cs : List Command) (xs : List Answer) → Follows s cs xs e → xs ≡ result sh by shown w cs → counted e ≡ after_answers xs (counted s)
+  run_counts shown w s e [] [] one are = ap counted one
+  run_counts shown w s e [] (x ∷ xs) one are = absurd one
+  run_counts shown w s e (c ∷ cs) [] one are = absurd one
+  run_counts shown w s e (c ∷ cs) (x ∷ xs) one are =
+      let here : x ≡ (next sh by shown w c).1 = cc are in
+      let more : xs ≡ result sh by (shown_after by shown (memory_of sh by.spell w) c) (next sh by shown w c).0 cs = cc are in
+      let first : counted (heard x s) ≡ after_answer x (counted s) =
+      subst (λ (y : Answer). counted (heard y s) ≡ after_answer y (counted s)) (sym here) (point_counts sh by shown w s.point s c one.0) in
+      run_counts (shown_after by shown (memory_of sh by.spell w) c) (next sh by shown w c).0 (heard x s) e cs xs one.1 more ∙ ap (after_answers xs) first
+
+-- ---- from any numbers on
+
+abbrev added : Numbers → Numbers → Numbers
+added n m = (n.0 + m.0, n.1 + m.1, n.2 + m.2)
+
+same_numbers : (a b c x y z : ℕ) → a ≡ x → b ≡ y → c ≡ z → let n : Numbers = (a, b, c) in n ≡ (x, y, z)
+same_numbers a b c x y z one two three = λ i. (one i, two i, three i)
+
+one_added : (x : Answer) (n m : Numbers) → after_answer x (added n m) ≡ added n (after_answer x m)
+one_added (ToAppend (Ok receipt)) n m = same_numbers _ _ _ _ _ _ (omega arith) refl refl
+one_added (ToAppend (Err e)) n m = refl
+one_added (ToReply (Ok sum)) n m = same_numbers _ _ _ _ _ _ refl (omega arith) refl
+one_added (ToReply (Err e)) n m = refl
+one_added (ToAdvance (Ok (Ended k))) n m = same_numbers _ _ _ _ _ _ refl refl (omega arith)
+one_added (ToAdvance (Ok (Working left))) n m = refl
+one_added (ToAdvance (Err e)) n m = refl
+one_added (ToWriteBlock r) n m = refl
+one_added (ToRelease r) n m = refl
+one_added (ToBegin r) n m = refl
+one_added (ToReadPrepare r) n m = refl
+one_added (ToReadReply r) n m = refl
+one_added (ToReadBlock r) n m = refl
+one_added (ToScrub r) n m = refl
+one_added (ToRecent r) n m = refl
+
+none_added : (n : Numbers) → n ≡ added n (0, 0, 0)
+none_added n = same_numbers _ _ _ _ _ _ (omega arith) (omega arith) (omega arith)
+
+all_added : (xs : List Answer) (n m : Numbers) → after_answers xs (added n m) ≡ added n (after_answers xs m)
+all_added [] n m = refl
+all_added (x ∷ xs) n m = ap (after_answers xs) (one_added x n m) ∙ all_added xs n (after_answer x m)
+
+-- ---- the laws
+
+pub one_run : OneRun
+one_run seed count file image view run other one two =
+    let by : List Command → List Answer = result (shape file) (codec file) (shown_of file image) (opened (shape file) (unit_at file.layout file.cluster image) view) in
+    (same_run (shape file) (codec file) (shown_of file image) (opened (shape file) (unit_at file.layout file.cluster image) view) (start seed count file.layout.clients) run other one.commands two.commands (by one.commands) (by two.commands)
+    one.follows two.follows one.ends two.ends refl refl).0
+
+module _ (seed count : ℕ) (layout : Layout) (t : Told) (old new : Outside) (status : Status) (works : WorksThrough seed count layout t old new status) (view : View) (whole : IsImage t.shown)
+    (found : IsFound (shape works.replica.file) (unit_at works.replica.file.layout works.replica.file.cluster t.shown) view) (ended : HasEnded status) where
+  abbrev file : DataFile
+  file = works.replica.file
+
+  abbrev w : Work
+  w = opened (shape file) (unit_at file.layout file.cluster t.shown) view
+
+  answers_are : works.worked.answers ≡ result (shape file) (codec file) (shown_of file t.shown) w (map command_in works.worked.acts)
+  answers_are = works.result view (shown_of file t.shown) found (agree_self file.layout (shown_of file t.shown))
+
+  follows_on : Follows (start seed count file.layout.clients) (map command_in works.worked.acts) works.worked.answers works.run
+  follows_on = subst (λ (l : Layout). Follows (start seed count l.clients) (map command_in works.worked.acts) works.worked.answers works.run) (sym works.is_opened.of) works.worked.follows
+
+  is_run : IsRun seed count file t.shown view works.run
+  is_run = record {
+    commands = map command_in works.worked.acts;
+    follows = subst (λ (xs : List Answer). Follows (start seed count file.layout.clients) (map command_in works.worked.acts) xs works.run) answers_are follows_on;
+    ends = asks_none seed count layout t old new status works whole ended;
+  }
+
+  run_counted : counted works.run ≡ after_answers works.worked.answers (0, 0, 0)
+  run_counted = run_counts (shape file) (codec file) (shown_of file t.shown) w (start seed count file.layout.clients) works.run (map command_in works.worked.acts) works.worked.answers follows_on answers_are
+
+  -- the numbers of the state that was opened are those of the view
+  first_numbers : numbers_in (memory works.replica) ≡ (head view, view.replies, sequence view)
+  first_numbers = ap numbers_in (found_keeps works.replica t.shown view whole (opened_here seed count layout t old new status works whole ended) found).1
+
+  numbers : numbers_in (memory works.last) ≡ added (head view, view.replies, sequence view) (counted works.run)
+  numbers =
+      let first : Numbers = (head view, view.replies, sequence view) in
+      last_numbers seed count layout t old new status works whole ended ∙ ap (after_answers works.worked.answers) (first_numbers ∙ none_added first) ∙ all_added works.worked.answers first (0, 0, 0) ∙ ap (added first) (sym run_counted)
+
+  report : workload_of works.run works.last ≡ workload_by view works.run
+  report = λ i. record {
+    appended = works.run.counts.appended;
+    replied = works.run.counts.replied;
+    wrote = works.run.counts.wrote;
+    released = works.run.counts.released;
+    checkpoints = works.run.counts.checkpoints;
+    refused = works.run.counts.refused;
+    bytes = works.run.counts.bytes;
+    head = (numbers i).0;
+    replies = (numbers i).1;
+    sequence = (numbers i).2;
+  }
+
+  prints_result : (run : Run) × IsRun seed count file t.shown view run × (status ≡ Done) × Appends old.written new.written (run_text view run)
+  prints_result =
+      let ends = by_end seed count layout t old new status works whole ended in
+      (works.run, is_run, ends.1, subst (λ (x : Workload). Appends old.written new.written (workload_text x)) report ends.2)
+
+pub run_text_is_result : RunTextIsResult
+run_text_is_result seed count layout t old new status works view whole found ended = prints_result seed count layout t old new status works view whole found ended

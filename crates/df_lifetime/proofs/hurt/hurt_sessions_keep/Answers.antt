@@ -1,0 +1,15 @@
+-- The laws are proved.
+use Rattle.df_lifetime.proofs.HurtSessions.{hurt_runs_keep, hurt_scripts_keep, runs_keep_on, scripts_keep_on}
+use Rattle.df_lifetime.proofs.hurt.hurt_sessions_keep.Goals as goal
+
+pub returns-clause-scripts : goal.returns-clause-scripts
+returns-clause-scripts c = scripts_keep_on
+
+pub returns-clause-runs : goal.returns-clause-runs
+returns-clause-runs c = runs_keep_on
+
+pub returns-clause-hurt_scripts : goal.returns-clause-hurt_scripts
+returns-clause-hurt_scripts c = hurt_scripts_keep
+
+pub returns-clause-hurt_runs : goal.returns-clause-hurt_runs
+returns-clause-hurt_runs c = hurt_runs_keep

@@ -1,0 +1,75 @@
+-- What a session keeps by any log by which its file may be opened: on a hurt disk by the one that is begun anew at what its open found. So sessions compose there, too.
+use Rattle.std.specs.Prelude.{◌≡◌, ℕ, zero, suc, List, [], ◌++◌, take, drop, Some}
+use Rattle.df_base.specs.Image.{changed}
+use Rattle.df_base.specs.Log.{AreLoose, Event, Log, Stop, Sync, now}
+use Rattle.df_base.specs.Moments.{IsMoment}
+use Rattle.df_disk.specs.Told.{IsHonest, Told, did}
+use Rattle.df_theory.specs.Device.{NoChanceOf}
+use Rattle.df_theory.specs.View.{View}
+use Rattle.df_units.specs.Bytes.{unit_at}
+use Rattle.df_model.specs.Commands.{Answer}
+use Rattle.df_model.specs.Work.{Work, kept}
+use Rattle.df_replica.specs.Below.{DataFile, FindsHad, begun, told_after}
+use Rattle.df_replica.specs.Following.{MayOpen}
+use Rattle.df_replica.specs.Serving.{Grade, StandsFor, format}
+use Rattle.df_replica.specs.Session.{Act, work_after}
+use Rattle.df_top.specs.Acknowledging.{CallsMade, KeepsAnswered, WereAnswered, events_made, run_calls, script_calls}
+use Rattle.df_top.specs.Keeping.{KeepsFile, over}
+use Rattle.df_top.specs.Outside.{Outside}
+use Rattle.df_top.specs.Run.{ServesScript}
+use Rattle.df_top.specs.Session.{list_of}
+use Rattle.df_top.specs.Working.{WorksThrough}
+use Rattle.df_top.specs.declared.status.Status.{Status}
+use Rattle.df_lifetime.specs.Acknowledged.{AreThere}
+use Rattle.df_lifetime.specs.Life.{start_of}
+
+-- The next open finds the view after all of these acts, which were answered so, and perhaps some of those behind them, from the first of these on: the file may be opened by
+-- this log, what was answered is there, and at the higher grade so is each block that is referenced.
+pub record NextFinds (file : DataFile) (g : Grade) (w : Work) (acts : List Act) (answers : List Answer) (perhaps : List Act) (t : Told) : Type 0 where
+  pub more : List Act
+  pub rest : List Act
+  pub some : perhaps ≡ more ++ rest
+  pub may : MayOpen file (kept (work_after file w (acts ++ more))) t
+  pub there : AreThere (kept (work_after file w (acts ++ more))) acts answers
+  pub stands : StandsFor g (unit_at file.layout file.cluster t.shown) (kept (work_after file w (acts ++ more)))
+
+-- what a base tells at the end of a session
+abbrev pub at_end : List Event → CallsMade → Told → Told
+at_end mending c base = told_after (events_made c) (told_after mending (did Sync base))
+
+-- this many of its calls were answered by then: none at any moment, or one and more
+abbrev pub AreAnswered : ℕ → List Event → Told → Log → CallsMade → Type 0
+AreAnswered zero mending base log c = Unit {0}
+AreAnswered (suc k) mending base log c = WereAnswered (suc k) (over mending [] base) log c
+
+-- What a session keeps by a base, behind this mending of its open and from this state of the machine on: what `run` promises of a disk that may be opened. The disk shows at
+-- the end what the base tells, and so the next open goes on from there, or behind a stop at any moment, with all that was answered by then.
+pub record KeepsOn (file : DataFile) (g : Grade) (w : Work) (base : Told) (mending : List Event) (c : CallsMade) : Type 0 where
+  pub keeps : KeepsFile file g w base c.acts c.answers c.failed (over mending (events_made c) base)
+  pub acknowledged : KeepsAnswered file g w (over mending [] base) c
+  pub shows : (n : Told) → c.new ≡ Some n → (at_end mending c base).shown ≡ n.shown
+  pub ended : NoChanceOf (format file) (at_end mending c base).log (now (at_end mending c base).log) → NextFinds file g w c.acts c.answers (list_of c.failed) (at_end mending c base)
+  pub stopped : (k : ℕ) (m : Told) (changes : List (ℕ × List ℕ)) → IsMoment (did Sync base).log (at_end mending c base).log m.log → AreAnswered k mending base m.log c → IsHonest m → AreLoose m.log.events changes
+      → NoChanceOf (format file) m.log (changed changes (now m.log)) → NextFinds file g w (take k c.acts) (take k c.answers) (drop k c.acts ++ list_of c.failed) (did (Stop changes) m)
+
+-- so does each session, whatever was done to the disk before: by each log that shows what it shows, and by which the file may be opened
+abbrev pub ScriptsKeepOn : Type 0
+ScriptsKeepOn =
+    (g : Grade) (file : DataFile) (view : View) (t base : Told) (old new : Outside) (status : Status) (serves : ServesScript file.layout t old new status) → base.shown ≡ t.shown → MayOpen file view base
+    → StandsFor g (unit_at file.layout file.cluster t.shown) view → KeepsOn file g (start_of file t.shown view) base serves.barrier.0 (script_calls serves.session)
+
+abbrev pub RunsKeepOn : Type 0
+RunsKeepOn =
+    (g : Grade) (file : DataFile) (view : View) (t base : Told) (old new : Outside) (status : Status) (seed count : ℕ) (works : WorksThrough seed count file.layout t old new status) → base.shown ≡ t.shown → MayOpen file view base
+    → StandsFor g (unit_at file.layout file.cluster t.shown) view → KeepsOn file g (start_of file t.shown view) base works.barrier.0 (run_calls works.worked)
+
+-- A session on a hurt disk keeps it by the log that is begun anew, where its open finds the file's own checkpoint, as it does at rest while two copies stand.
+abbrev pub HurtScriptsKeep : Type 0
+HurtScriptsKeep =
+    (g : Grade) (file : DataFile) (view : View) (t : Told) (old new : Outside) (status : Status) (serves : ServesScript file.layout t old new status) (had : FindsHad file view t serves.replica) → had.found.checkpoint ≡ view.checkpoint
+    → StandsFor g (unit_at file.layout file.cluster t.shown) had.found → KeepsOn file g (start_of file t.shown had.found) (begun t) serves.barrier.0 (script_calls serves.session)
+
+abbrev pub HurtRunsKeep : Type 0
+HurtRunsKeep =
+    (g : Grade) (file : DataFile) (view : View) (t : Told) (old new : Outside) (status : Status) (seed count : ℕ) (works : WorksThrough seed count file.layout t old new status) (had : FindsHad file view t works.replica) → had.found.checkpoint ≡ view.checkpoint
+    → StandsFor g (unit_at file.layout file.cluster t.shown) had.found → KeepsOn file g (start_of file t.shown had.found) (begun t) works.barrier.0 (run_calls works.worked)

@@ -1,0 +1,142 @@
+-- What is printed is a function of what the disk shows at first: of `recover`, `scrub` and `workload`, as `df_top` says it of a script and of `inspect`. And whatever fails in
+-- a session, what is written is a front of the text that its script has.
+use Rattle.std.specs.Prelude.{◌≡◌, ◌+◌, ℕ, List, length, None, Some}
+use Rattle.df_base.specs.Image.{Image, IsImage}
+use Rattle.df_base.specs.Streams.{Appends, AppendsPart}
+use Rattle.df_disk.specs.Told.{Told}
+use Rattle.df_inspect.specs.Reports.{workload_text}
+use Rattle.df_inspect.specs.declared.counts.Workload.{Workload}
+use Rattle.df_layout.specs.declared.layout.Layout.{Layout}
+use Rattle.df_lines.specs.Grammar.{Said}
+use Rattle.df_lines.specs.Room.{line_bound}
+use Rattle.df_lines.specs.Script.{IsScript}
+use Rattle.df_theory.specs.Found.{IsFound}
+use Rattle.df_theory.specs.View.{View, head, sequence}
+use Rattle.df_units.specs.Bytes.{unit_at}
+use Rattle.df_model.specs.Commands.{Command}
+use Rattle.df_model.specs.Supply.{result}
+use Rattle.df_model.specs.Work.{opened}
+use Rattle.df_replica.specs.Below.{DataFile, shape}
+use Rattle.df_replica.specs.Leaving.{SparesReads}
+use Rattle.df_replica.specs.Reading.{shown_of}
+use Rattle.df_result.specs.Agreeing.{AgreeShown}
+use Rattle.df_result.specs.Codec.{codec}
+use Rattle.df_workload.specs.Asking.{asks}
+use Rattle.df_workload.specs.Following.{Follows}
+use Rattle.df_workload.specs.Rounds.{start}
+use Rattle.df_workload.specs.declared.state.State.{State as Run}
+use Rattle.df_top.specs.OneText.{ShowSame, text_by}
+use Rattle.df_top.specs.Outside.{Outside}
+use Rattle.df_top.specs.Reporting.{Recovers}
+use Rattle.df_top.specs.Resulting.{script_text_of}
+use Rattle.df_top.specs.Run.{ServesScript, script_budget}
+use Rattle.df_top.specs.Scrubs.{ScrubsFile}
+use Rattle.df_top.specs.Working.{WorksThrough}
+use Rattle.df_top.specs.declared.status.Status.{Status}
+use Rattle.df_top.specs.declared.status.Status.TheVariants.{Done, Found}
+
+-- ---- a word that is carried out twice
+
+-- a word was carried out over a disk that tells what it shows
+pub record Carried (Word : Told → Outside → Outside → Status → Type 0) : Type 0 where
+  pub told : Told
+  pub old : Outside
+  pub new : Outside
+  pub status : Status
+  pub does : Word told old new status
+
+-- no call of the disk or of the sink failed
+abbrev pub HasEnded : Status → Type 0
+HasEnded Done = Unit {0}
+HasEnded Found = Unit {0}
+HasEnded status = ⊥
+
+-- it was carried out to its end over two disks that show the same
+pub record Twice (layout : Layout) (Word : Told → Outside → Outside → Status → Type 0) : Type 0 where
+  pub one : Carried Word
+  pub other : Carried Word
+  pub same : ShowSame layout one.told.shown other.told.shown
+  pub ended : HasEnded one.status × HasEnded other.status
+
+-- both times it ends with the same status and prints the same text
+pub record PrintsOne {Word : Told → Outside → Outside → Status → Type 0} (one other : Carried Word) : Type 0 where
+  pub status : one.status ≡ other.status
+  pub text : List ℕ
+  pub first : Appends one.old.written one.new.written text
+  pub second : Appends other.old.written other.new.written text
+
+-- so does `recover`
+abbrev pub RecoverHasOneText : Type 0
+RecoverHasOneText = (layout : Layout) (runs : Twice layout (Recovers layout)) → PrintsOne runs.one runs.other
+
+-- So does `scrub`, where what is shown behind the mending agrees, too, at each place that a call reads: that is what its tour is made over.
+abbrev pub ScrubHasOneText : Type 0
+ScrubHasOneText =
+    (layout : Layout) (runs : Twice layout (ScrubsFile layout)) → AgreeShown layout (shown_of runs.one.does.replica.file runs.one.does.after.shown) (shown_of runs.one.does.replica.file runs.other.does.after.shown) → PrintsOne runs.one runs.other
+
+-- So it is over what the disks show at first alone, where each mending left what calls read as it was: the `spares` of each open (`MendsAll`).
+abbrev pub SparedScrubHasOneText : Type 0
+SparedScrubHasOneText =
+    (layout : Layout) (runs : Twice layout (ScrubsFile layout)) → SparesReads runs.one.does.replica.file runs.one.told.shown runs.one.does.after.shown
+    → SparesReads runs.other.does.replica.file runs.other.told.shown runs.other.does.after.shown → PrintsOne runs.one runs.other
+
+-- And so does a generated run of one seed and one number of rounds, over disks that show images.
+abbrev pub WorkloadHasOneText : Type 0
+WorkloadHasOneText = (seed count : ℕ) (layout : Layout) (runs : Twice layout (WorksThrough seed count layout)) → IsImage runs.one.told.shown → IsImage runs.other.told.shown → PrintsOne runs.one runs.other
+
+-- ---- what a generated run prints
+
+-- a run of so many rounds over an image in which this view is found: it asks, the machine answers over what is shown, and at the end nothing more is asked for
+pub record IsRun (seed count : ℕ) (file : DataFile) (image : Image) (view : View) (run : Run) : Type 0 where
+  pub commands : List Command
+  pub follows : Follows (start seed count file.layout.clients) commands (result (shape file) (codec file) (shown_of file image) (opened (shape file) (unit_at file.layout file.cluster image) view) commands) run
+  pub ends : asks run ≡ None
+
+-- there is no other
+abbrev pub OneRun : Type 0
+OneRun = (seed count : ℕ) (file : DataFile) (image : Image) (view : View) (run other : Run) → IsRun seed count file image view run → IsRun seed count file image view other → run ≡ other
+
+-- what it counted, and the numbers of the file: head, replies and sequence went on by what was appended and replied, and by the checkpoints that were finished
+abbrev pub workload_by : View → Run → Workload
+workload_by view run = record {
+  appended = run.counts.appended;
+  replied = run.counts.replied;
+  wrote = run.counts.wrote;
+  released = run.counts.released;
+  checkpoints = run.counts.checkpoints;
+  refused = run.counts.refused;
+  bytes = run.counts.bytes;
+  head = head view + run.counts.appended;
+  replies = view.replies + run.counts.replied;
+  sequence = sequence view + run.counts.checkpoints;
+}
+
+abbrev pub run_text : View → Run → List ℕ
+run_text view run = workload_text (workload_by view run)
+
+-- a run that nothing failed in prints that, over the image that the disk shows at first
+abbrev pub RunTextIsResult : Type 0
+RunTextIsResult =
+    (seed count : ℕ) (layout : Layout) (t : Told) (old new : Outside) (status : Status) (works : WorksThrough seed count layout t old new status) (view : View) → IsImage t.shown
+    → IsFound (shape works.replica.file) (unit_at works.replica.file.layout works.replica.file.cluster t.shown) view → HasEnded status
+    → (run : Run) × IsRun seed count works.replica.file t.shown view run × (status ≡ Done) × Appends old.written new.written (run_text view run)
+
+-- ---- a session that anything failed in
+
+-- a session of a script over a disk that tells what it shows, with the view that its open found and the lines that its text has
+pub record Scripted (layout : Layout) (t : Told) (old new : Outside) (status : Status) : Type 0 where
+  pub serves : ServesScript layout t old new status
+  pub view : View
+  pub found : IsFound (shape serves.replica.file) (unit_at serves.replica.file.layout serves.replica.file.cluster t.shown) view
+  pub text : List ℕ
+  pub left : old.left ≡ Some text
+  pub says : List Said
+  pub script : IsScript (line_bound layout) script_budget text says
+
+-- what it prints where nothing fails
+abbrev pub whole_text : {layout : Layout} {t : Told} {old new : Outside} {status : Status} → Scripted layout t old new status → List ℕ
+whole_text {t = t} s = text_by s.script.ends (length s.says) (script_text_of s.serves.replica.file s.view t.shown s.says)
+
+-- however the session ends, what is written is a front of that
+abbrev pub FrontIsWritten : Type 0
+FrontIsWritten = (layout : Layout) (t : Told) (old new : Outside) (status : Status) (s : Scripted layout t old new status) → AppendsPart old.written new.written (whole_text s)

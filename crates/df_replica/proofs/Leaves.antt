@@ -1,0 +1,504 @@
+-- What the steps of a call leave shown, which blocks they spare, and which blocks are durable behind them.
+use Rattle.std.proofs.Common.{◌≡◌, ◌⊎◌, inl, inr, ℕ, zero, suc, ◌+◌, ◌<◌, ◌%◌, ◌==◌, ◌||◌, if◌then◌else◌, Bool, true, false, List, [], ◌∷◌, Option, Some, None, refl, sym, ◌∙◌, ap, subst, arith}
+use Rattle.std.specs.Prelude.{nat_lt}
+use Rattle.std.proofs.lemmas.Bool.{and_from, cond-false, eqb-true, le-leb, lt-ltb}
+use Rattle.std.proofs.lemmas.Bool.Decides.{nat_tests}
+use Rattle.df_base.specs.Image.{Image, IsImage, covers, written}
+use Rattle.df_base.specs.Log.{Event, Log, Stop, Sync, Write, add, loose}
+use Rattle.df_base.specs.Moments.{adds}
+use Rattle.df_base.proofs.Laws.{written_is_image}
+use Rattle.df_disk.specs.Told.{Told, did}
+use Rattle.df_damage.specs.Anew.{told_after}
+use Rattle.df_layout.specs.declared.layout.Layout.{Layout}
+use Rattle.df_format.proofs.Laws.{same_shown, some-eq}
+use Rattle.df_theory.specs.Units.{AnyUnit, Block, BlockPlace, BlockUnit, Content, CopyPlace, CopyUnit, HeaderPlace, Place, PreparePlace, PrepareUnit, ReplyPlace, ReplyUnit, Units, is_some, or_else}
+use Rattle.df_theory.specs.Device.{AreSteps}
+use Rattle.df_theory.specs.Runs.{Puts, Step, Syncs}
+use Rattle.df_theory.specs.Trailer.{InChain}
+use Rattle.df_theory.specs.UnitLog.{put_one}
+use Rattle.df_units.specs.Bytes.{has, has_place, span_at, unit_at}
+use Rattle.df_units.specs.Format.{format_of}
+use Rattle.df_units.specs.Meaning.{place_of}
+use Rattle.df_units.specs.Wanted.{class_at}
+use Rattle.df_units.proofs.Laws.{is_format}
+use Rattle.df_model.specs.After.{after_check, after_running, after_step_of, begun, outcome, to_check, with_live, with_prepare, with_reply, with_running}
+use Rattle.df_model.specs.Commands.{Advance, Append, Begin, Command, Given, ReadBlock, ReadPrepare, ReadReply, Recent, Release, Reply, Scrub, WriteBlock}
+use Rattle.df_model.specs.Making.{block_of, needed_of, next_address, place_of_reply, prepare_of, reply_of, trailer_block}
+use Rattle.df_model.specs.Memory.{Course, Memory, course, course_of, memory_of}
+use Rattle.df_model.specs.Refusals.{append_refusals, begin_refusals, block_refusals, first_refusal, release_refusals, reply_refusals}
+use Rattle.df_model.specs.Sense.{AtEachOf, IsClear, IsWork}
+use Rattle.df_model.specs.Supply.{copies_of, puts_of, step_puts, trailer_puts, unless}
+use Rattle.df_model.specs.Work.{Running, Work, is_captured, is_held, is_known, is_of}
+use Rattle.df_model.specs.declared.answers.Verdict.{Verdict}
+use Rattle.df_model.specs.declared.answers.Verdict.TheVariants.{Sound, Failing}
+use Rattle.df_model.proofs.Laws.{block_may_law}
+use Rattle.df_state.specs.declared.file.DataFile.{DataFile}
+use Rattle.df_state.specs.State.{Represents, State, memory, shape, spelling}
+use Rattle.df_replica.specs.Leaving.{AreSettled, IsReadPlace, LeavesCopies, LeavesShown, SparesHeld, SparesReads, WritesNext, image_after, is_durable, writes_to}
+use Rattle.df_replica.specs.Serving.{Firm, Keeps, format, next}
+
+-- ---- tests
+
+neither : (x y : Bool) → (x || y) ≡ false → (x ≡ false) × (y ≡ false)
+neither true y is = absurd (cc)
+neither false y is = (refl, is)
+
+either : (x y : Bool) → (x || y) ≡ true → (x ≡ true) ⊎ (y ≡ true)
+either true y is = inl refl
+either false y is = inr is
+
+or_first : (x y : Bool) → x ≡ true → (x || y) ≡ true
+or_first true y is = refl
+or_first false y is = absurd (cc)
+
+or_second : (x y : Bool) → y ≡ true → (x || y) ≡ true
+or_second true y is = refl
+or_second false y is = is
+
+-- ---- what steps put
+
+-- the unit at a place after these steps
+abbrev pub unit_after : List Step → Place → Option AnyUnit → Option AnyUnit
+unit_after [] place o = o
+unit_after ((Puts put) ∷ ss) place o = unit_after ss place (or_else (put place) o)
+unit_after (Syncs ∷ ss) place o = unit_after ss place o
+
+-- what is put is there at their end
+some_stays : (ss : List Step) (place : Place) (x : AnyUnit) → unit_after ss place (Some x) ≡ None → ⊥
+some_stays [] place x none = cc
+some_stays ((Puts put) ∷ ss) place x none = go (put place) (λ y. some_stays ss place y) none
+  where
+    go : (o : Option AnyUnit) → ((y : AnyUnit) → unit_after ss place (Some y) ≡ None → ⊥) → unit_after ss place (or_else o (Some x)) ≡ None → ⊥
+    go None on there = on x there
+    go (Some y) on there = on y there
+some_stays (Syncs ∷ ss) place x none = some_stays ss place x none
+
+-- they begin with a sync
+abbrev pub StartSynced : List Step → Type 0
+StartSynced [] = ⊥
+StartSynced ((Puts put) ∷ ss) = ⊥
+StartSynced (Syncs ∷ ss) = Unit {0}
+
+outside : (at : ℕ) (bytes : List ℕ) (image : Image) (sector : ℕ) → covers at bytes sector ≡ false → written at bytes image sector ≡ image sector
+unfolding written
+outside at bytes image sector dry = cond-false (covers at bytes sector) _ _ dry
+
+-- the sectors of a place of the layout
+has_inside : (layout : Layout) (place : Place) (k : ℕ) → has_place layout place ≡ true → k < (span_at layout place).count → has layout place ((span_at layout place).first + k) ≡ true
+has_inside layout place k there inside =
+    let sector = (span_at layout place).first + k in
+    and_from _ _ there (and_from _ _ (le-leb (span_at layout place).first sector (omega arith)) (lt-ltb sector ((span_at layout place).first + (span_at layout place).count) (omega arith)))
+
+-- what a disk that tells shows after events, and the log that it tells
+pub shown_after : (events : List Event) (t : Told) → (told_after events t).shown ≡ image_after events t.shown
+shown_after [] t = refl
+shown_after (e ∷ es) t = shown_after es (did e t)
+
+pub logged_after : (events : List Event) (t : Told) → (told_after events t).log ≡ adds events t.log
+logged_after [] t = refl
+logged_after (e ∷ es) t = logged_after es (did e t)
+
+-- what isn't loose stays so where nothing is written
+pub stays_firm : (events : List Event) (log : Log) (sector : ℕ) → loose log sector ≡ false → writes_to events sector ≡ false → loose (adds events log) sector ≡ false
+stays_firm [] log sector firm dry = firm
+stays_firm ((Write at bytes) ∷ es) log sector firm dry =
+    let parts = neither (covers at bytes sector) (writes_to es sector) dry in
+    stays_firm es (add (Write at bytes) log) sector (ap (λ (b : Bool). b || loose log sector) parts.0 ∙ firm) parts.1
+stays_firm (Sync ∷ es) log sector firm dry = stays_firm es (add Sync log) sector refl dry
+stays_firm ((Stop cs) ∷ es) log sector firm dry = stays_firm es (add (Stop cs) log) sector refl dry
+
+module _ (layout : Layout) (cluster : ℕ) where
+  -- a place shows what the steps make of what it showed
+  pub shown_by : (events : List Event) (steps : List Step) (image : Image) → AreSteps (format_of layout cluster) events steps → IsImage image → (place : Place)
+      → unit_at layout cluster (image_after events image) place ≡ unit_after steps place (unit_at layout cluster image place)
+  shown_by [] [] image are whole place = refl
+  shown_by [] (p ∷ ss) image are whole place = absurd are
+  shown_by ((Write at bytes) ∷ es) ((Puts put) ∷ ss) image are whole place =
+      shown_by es ss (written at bytes image) are.1 (written_is_image at bytes image are.0.piece whole) place ∙ ap (unit_after ss place) (are.0.shows image place whole)
+  shown_by ((Write at bytes) ∷ es) [] image are whole place = absurd are
+  shown_by ((Write at bytes) ∷ es) (Syncs ∷ ss) image are whole place = absurd are
+  shown_by (Sync ∷ es) (Syncs ∷ ss) image are whole place = shown_by es ss image are whole place
+  shown_by (Sync ∷ es) [] image are whole place = absurd are
+  shown_by (Sync ∷ es) ((Puts put) ∷ ss) image are whole place = absurd are
+  shown_by ((Stop cs) ∷ es) ss image are whole place = absurd are
+
+  -- and the image stays whole
+  stays_whole : (events : List Event) (steps : List Step) (image : Image) → AreSteps (format_of layout cluster) events steps → IsImage image → IsImage (image_after events image)
+  stays_whole [] [] image are whole = whole
+  stays_whole [] (p ∷ ss) image are whole = absurd are
+  stays_whole ((Write at bytes) ∷ es) ((Puts put) ∷ ss) image are whole = stays_whole es ss (written at bytes image) are.1 (written_is_image at bytes image are.0.piece whole)
+  stays_whole ((Write at bytes) ∷ es) [] image are whole = absurd are
+  stays_whole ((Write at bytes) ∷ es) (Syncs ∷ ss) image are whole = absurd are
+  stays_whole (Sync ∷ es) (Syncs ∷ ss) image are whole = stays_whole es ss image are whole
+  stays_whole (Sync ∷ es) [] image are whole = absurd are
+  stays_whole (Sync ∷ es) ((Puts put) ∷ ss) image are whole = absurd are
+  stays_whole ((Stop cs) ∷ es) ss image are whole = absurd are
+
+  -- no sector is written of a place at which they put nothing
+  pub unwritten : (events : List Event) (steps : List Step) → AreSteps (format_of layout cluster) events steps → (place : Place) → unit_after steps place None ≡ None → (sector : ℕ) → has layout place sector ≡ true
+      → writes_to events sector ≡ false
+  unwritten [] [] are place none sector here = refl
+  unwritten [] (p ∷ ss) are place none sector here = absurd are
+  unwritten ((Write at bytes) ∷ es) ((Puts put) ∷ ss) are place none sector here = by (put place) refl (λ behind. unwritten es ss are.1 place behind sector here)
+    where
+      by : (o : Option AnyUnit) → put place ≡ o → (unit_after ss place None ≡ None → writes_to es sector ≡ false) → (covers at bytes sector || writes_to es sector) ≡ false
+      by None is on =
+          let apart : covers at bytes sector ≡ false = (is_format layout cluster).apart at bytes place sector (are.0.touches place ∙ ap is_some is) here in
+          ap (λ (b : Bool). b || writes_to es sector) apart ∙ on (sym (ap (λ (o : Option AnyUnit). unit_after ss place (or_else o None)) is) ∙ none)
+      by (Some x) is on = absurd (some_stays ss place x (sym (ap (λ (o : Option AnyUnit). unit_after ss place (or_else o None)) is) ∙ none))
+  unwritten ((Write at bytes) ∷ es) [] are place none sector here = absurd are
+  unwritten ((Write at bytes) ∷ es) (Syncs ∷ ss) are place none sector here = absurd are
+  unwritten (Sync ∷ es) (Syncs ∷ ss) are place none sector here = unwritten es ss are place none sector here
+  unwritten (Sync ∷ es) [] are place none sector here = absurd are
+  unwritten (Sync ∷ es) ((Puts put) ∷ ss) are place none sector here = absurd are
+  unwritten ((Stop cs) ∷ es) ss are place none sector here = absurd are
+
+  -- a sector that isn't written stays
+  same_sector : (events : List Event) (steps : List Step) → AreSteps (format_of layout cluster) events steps → (image : Image) (sector : ℕ) → writes_to events sector ≡ false → image_after events image sector ≡ image sector
+  same_sector [] [] are image sector dry = refl
+  same_sector [] (p ∷ ss) are image sector dry = absurd are
+  same_sector ((Write at bytes) ∷ es) ((Puts put) ∷ ss) are image sector dry =
+      let parts = neither (covers at bytes sector) (writes_to es sector) dry in
+      same_sector es ss are.1 (written at bytes image) sector parts.1 ∙ outside at bytes image sector parts.0
+  same_sector ((Write at bytes) ∷ es) [] are image sector dry = absurd are
+  same_sector ((Write at bytes) ∷ es) (Syncs ∷ ss) are image sector dry = absurd are
+  same_sector (Sync ∷ es) (Syncs ∷ ss) are image sector dry = same_sector es ss are image sector dry
+  same_sector (Sync ∷ es) [] are image sector dry = absurd are
+  same_sector (Sync ∷ es) ((Puts put) ∷ ss) are image sector dry = absurd are
+  same_sector ((Stop cs) ∷ es) ss are image sector dry = absurd are
+
+  -- behind a sync nothing is loose but what was written since
+  synced_first : (events : List Event) (steps : List Step) → AreSteps (format_of layout cluster) events steps → StartSynced steps → (log : Log) (sector : ℕ) → writes_to events sector ≡ false → loose (adds events log) sector ≡ false
+  synced_first [] [] are starts log sector dry = absurd starts
+  synced_first [] (p ∷ ss) are starts log sector dry = absurd are
+  synced_first ((Write at bytes) ∷ es) ((Puts put) ∷ ss) are starts log sector dry = absurd starts
+  synced_first ((Write at bytes) ∷ es) [] are starts log sector dry = absurd are
+  synced_first ((Write at bytes) ∷ es) (Syncs ∷ ss) are starts log sector dry = absurd are
+  synced_first (Sync ∷ es) (Syncs ∷ ss) are starts log sector dry = stays_firm es (add Sync log) sector refl dry
+  synced_first (Sync ∷ es) [] are starts log sector dry = absurd are
+  synced_first (Sync ∷ es) ((Puts put) ∷ ss) are starts log sector dry = absurd are
+  synced_first ((Stop cs) ∷ es) ss are starts log sector dry = absurd are
+
+  -- the class of what is shown at a place is a matter of its sectors
+  module _ (a b : Image) where
+    abbrev AreSame : Place → Type 0
+    AreSame place = (sector : ℕ) → has layout place sector ≡ true → a sector ≡ b sector
+
+    same_class : (place : Place) → IsReadPlace layout place → AreSame place → class_at layout cluster a place ≡ class_at layout cluster b place
+    same_class (CopyPlace n) there same = absurd there
+    same_class (HeaderPlace n) there same = absurd there
+    same_class (PreparePlace n) there same =
+        (same_shown layout cluster (place_of (PreparePlace n)) a b (λ k inside. same ((span_at layout (PreparePlace n)).first + k) (has_inside layout (PreparePlace n) k there inside))).class
+    same_class (ReplyPlace n) there same =
+        (same_shown layout cluster (place_of (ReplyPlace n)) a b (λ k inside. same ((span_at layout (ReplyPlace n)).first + k) (has_inside layout (ReplyPlace n) k there inside))).class
+    same_class (BlockPlace n) there same =
+        (same_shown layout cluster (place_of (BlockPlace n)) a b (λ k inside. same ((span_at layout (BlockPlace n)).first + k) (has_inside layout (BlockPlace n) k there inside))).class
+
+-- steps that put nothing at a place that a call reads leave each of them as it was
+pub spared_by : (file : DataFile) (events : List Event) (steps : List Step) → AreSteps (format file) events steps → ((k : ℕ) (o : Option AnyUnit) → unit_after steps (PreparePlace k) o ≡ o) → ((k : ℕ) (o : Option AnyUnit) → unit_after steps (ReplyPlace k) o ≡ o)
+    → ((k : ℕ) (o : Option AnyUnit) → unit_after steps (BlockPlace k) o ≡ o) → (image : Image) → IsImage image → SparesReads file image (image_after events image)
+spared_by file events steps are prepare reply block image whole = record {
+  whole = stays_whole file.layout file.cluster events steps image are whole;
+  units = record {
+    prepare = λ k. shown_by file.layout file.cluster events steps image are whole (PreparePlace k) ∙ prepare k (unit_at file.layout file.cluster image (PreparePlace k));
+    reply = λ k. shown_by file.layout file.cluster events steps image are whole (ReplyPlace k) ∙ reply k (unit_at file.layout file.cluster image (ReplyPlace k));
+    block = λ k. shown_by file.layout file.cluster events steps image are whole (BlockPlace k) ∙ block k (unit_at file.layout file.cluster image (BlockPlace k));
+  };
+  classes = λ place read. same_class file.layout file.cluster (image_after events image) image place read (λ sector here.
+      same_sector file.layout file.cluster events steps are image sector (unwritten file.layout file.cluster events steps are place (none place read) sector here));
+}
+  where
+    none : (place : Place) → IsReadPlace file.layout place → unit_after steps place None ≡ None
+    none (CopyPlace k) read = absurd read
+    none (HeaderPlace k) read = absurd read
+    none (PreparePlace k) read = prepare k None
+    none (ReplyPlace k) read = reply k None
+    none (BlockPlace k) read = block k None
+
+-- ---- what a command puts at a block that is held
+
+put_aside : (a b : ℕ) (x : AnyUnit) → (a ≡ b → ⊥) → put_one (BlockPlace a) x (BlockPlace b) ≡ None
+put_aside a b x differs = by (a == b) refl
+  where
+    by : (c : Bool) → (a == b) ≡ c → (if c then Some x else None) ≡ None
+    by true is = absurd (differs (eqb-true a b is))
+    by false is = refl
+
+unless_none : {E : Type 0} (o : Option E) (put : Units) (place : Place) → (o ≡ None → put place ≡ None) → unless o put place ≡ None
+unless_none (Some e) put place none = refl
+unless_none None put place none = none refl
+
+module _ (file : DataFile) (w : Work) (work : IsWork (shape file) (spelling file) w) (a : ℕ) (held : is_held w a ≡ true) (sum : ℕ) where
+  abbrev m : Memory
+  m = memory_of (shape file) (spelling file) w
+
+  left_unput : (r : Running) → w.running ≡ Some r → (WritesNext Advance w a → ⊥) → (left : List ℕ) → r.left ≡ left → trailer_puts m (course (spelling file) r) sum left (BlockPlace a) ≡ None
+  left_unput r running other [] is = refl
+  left_unput r running other (x ∷ more) is =
+      put_aside x a (BlockUnit (trailer_block m (course (spelling file) r) sum)) (λ same. other (r, more, running, is ∙ ap (λ (n : ℕ). n ∷ more) same))
+
+  step_unput : (WritesNext Advance w a → ⊥) → (o : Option Running) → w.running ≡ o → step_puts m (course_of (spelling file) o) sum (BlockPlace a) ≡ None
+  step_unput other None running = refl
+  step_unput other (Some r) running = left_unput r running other r.left refl
+
+  held_unput : (command : Command) → (WritesNext command w a → ⊥) → puts_of m sum command (BlockPlace a) ≡ None
+  held_unput (Append client request body) other =
+      unless_none (first_refusal (append_refusals m client request body)) (put_one (PreparePlace ((m.head + 1) % m.layout.slots)) (PrepareUnit (prepare_of m sum client request body))) (BlockPlace a) (λ none. refl)
+  held_unput (Reply op body) other =
+      unless_none (first_refusal (reply_refusals m op body)) (put_one (ReplyPlace (place_of_reply m)) (ReplyUnit (reply_of m sum body))) (BlockPlace a) (λ none. refl)
+  held_unput (WriteBlock kind body) other =
+      unless_none (first_refusal (block_refusals m kind body)) (put_one (BlockPlace (next_address m)) (BlockUnit (block_of sum kind body))) (BlockPlace a)
+      (λ none. put_aside (next_address m) a (BlockUnit (block_of sum kind body)) (λ same.
+      let free : is_held w (next_address m) ≡ false = (block_may_law (shape file) (spelling file) w kind body none).free in
+      let no : true ≡ false = sym held ∙ ap (is_held w) (sym same) ∙ free in
+      cc))
+  held_unput (Release address) other = refl
+  held_unput (Begin root) other = refl
+  held_unput Advance other = step_unput other w.running refl
+  held_unput (ReadPrepare op) other = refl
+  held_unput (ReadReply client) other = refl
+  held_unput (ReadBlock address) other = refl
+  held_unput Scrub other = refl
+  held_unput (Recent place) other = refl
+
+-- ---- what is durable behind a command
+
+-- the running checkpoint holds the block, by a reference or in the trailer as far as it is written
+abbrev is_taken : Running → ℕ → Bool
+is_taken r a = is_known (r.parts.references a) || is_of a r.written
+
+-- the command is the last step of a checkpoint that holds the block
+abbrev EndsWith : Command → Work → (a : ℕ) → Type 0
+EndsWith Advance w a = (r : Running) × (w.running ≡ Some r) × (r.left ≡ []) × (is_taken r a ≡ true)
+EndsWith command w a = ⊥
+
+module _ (file : DataFile) (w : Work) (a : ℕ) where
+  -- what is durable behind it was durable before, or the checkpoint that it ends holds it
+  abbrev WasDurable : Command → Type 0
+  WasDurable command = (is_durable w a ≡ true) ⊎ EndsWith command w a
+
+  unless_was : {E A : Type 0} (o : Option E) (u : Work) (x : A) → (is_durable u a ≡ true → is_durable w a ≡ true) → is_durable (outcome o w u x).0 a ≡ true → is_durable w a ≡ true
+  unless_was (Some e) u x go is = is
+  unless_was None u x go is = go is
+
+  checked_was : (verdict : Verdict) (list : List (ℕ × ℕ)) → is_durable (after_check w verdict list).0 a ≡ true → is_durable w a ≡ true
+  checked_was verdict [] is = is
+  checked_was Sound (x ∷ more) is = is
+  checked_was (Failing class) (x ∷ more) is = is
+
+  left_was : (sum : ℕ) (r : Running) → w.running ≡ Some r → (left : List ℕ) → r.left ≡ left → is_durable (after_running (shape file) (spelling file) w sum r left).0 a ≡ true → WasDurable Advance
+  left_was sum r running [] left is = inr (r, running, left, is)
+  left_was sum r running (x ∷ more) left is = inl is
+
+  step_was : (sum : ℕ) (o : Option Running) → w.running ≡ o → is_durable (after_step_of (shape file) (spelling file) w sum o).0 a ≡ true → WasDurable Advance
+  step_was sum None running is = inl is
+  step_was sum (Some r) running is = left_was sum r running r.left refl is
+
+  was_durable : (given : Given) (command : Command) → is_durable (next file w given command).0 a ≡ true → WasDurable command
+  was_durable given (Append client request body) is =
+      let m = memory_of (shape file) (spelling file) w in
+      let p = prepare_of m given.checksum client request body in
+      let answer : ℕ × ℕ = (p.header.op, given.checksum) in
+      inl (unless_was (first_refusal (append_refusals m client request body)) (with_prepare w p) answer (λ there. there) is)
+  was_durable given (Reply op body) is =
+      let m = memory_of (shape file) (spelling file) w in
+      inl (unless_was (first_refusal (reply_refusals m op body)) (with_reply w (place_of_reply m) (reply_of m given.checksum body)) given.checksum (λ there. there) is)
+  was_durable given (WriteBlock kind body) is =
+      let m = memory_of (shape file) (spelling file) w in
+      let answer : ℕ × ℕ = (next_address m, given.checksum) in
+      inl (unless_was (first_refusal (block_refusals m kind body)) (with_live w (next_address m) (Some given.checksum)) answer (λ there. there) is)
+  was_durable given (Release address) is =
+      let m = memory_of (shape file) (spelling file) w in
+      inl (unless_was (first_refusal (release_refusals m address)) (with_live w address None) tt (λ there. there) is)
+  was_durable given (Begin root) is =
+      let m = memory_of (shape file) (spelling file) w in
+      let needed = needed_of (spelling file) m root in
+      inl (unless_was (first_refusal (begin_refusals m needed root)) (with_running w (Some (begun (shape file) (spelling file) w root))) needed (λ there. there) is)
+  was_durable given Advance is = step_was given.checksum w.running refl is
+  was_durable given (ReadPrepare op) is = inl is
+  was_durable given (ReadReply client) is = inl is
+  was_durable given (ReadBlock address) is = inl is
+  was_durable given Scrub is = inl (checked_was given.verdict (to_check (memory_of (shape file) (spelling file) w)) is)
+  was_durable given (Recent place) is = inl is
+
+-- what is durable is held
+pub durable_held : (w : Work) (a : ℕ) → is_durable w a ≡ true → is_held w a ≡ true
+durable_held w a is = or_second (is_known (w.live a)) _ (or_second (is_captured a w.running) _ is)
+
+-- so is what the running checkpoint holds
+taken_captured : (r : Running) (a : ℕ) → is_taken r a ≡ true → is_captured a (Some r) ≡ true
+taken_captured r a is = elim (either (is_known (r.parts.references a)) (is_of a r.written) is) [
+  | inl known ↦ or_first (is_known (r.parts.references a)) _ known
+  | inr there ↦ or_second (is_known (r.parts.references a)) _ (or_first (is_of a r.written) _ there)
+]
+
+taken_held : (w : Work) (r : Running) (a : ℕ) → w.running ≡ Some r → is_taken r a ≡ true → is_held w a ≡ true
+taken_held w r a running is = or_second (is_known (w.live a)) _ (or_first (is_captured a w.running) _ (ap (is_captured a) running ∙ taken_captured r a is))
+
+in_chain : (a : ℕ) (chain : List (ℕ × Block)) → is_of a chain ≡ true → (b : Block) × InChain a b chain
+in_chain a [] is = absurd (cc)
+in_chain a (x ∷ xs) is = elim (either (a == x.0) (is_of a xs) is) [
+  | inl here ↦ (x.1, inl (eqb-true a x.0 here, refl))
+  | inr there ↦ let more = in_chain a xs there in (more.0, inr more.1)
+]
+
+-- the running trailer's next block is not a durable one
+next_aside : (w : Work) (a : ℕ) → ((r : Running) → w.running ≡ Some r → AtEachOf (IsClear w.live w.view.checkpoint) r.left) → is_durable w a ≡ true → (command : Command) → WritesNext command w a → ⊥
+next_aside w a clear is Advance (r, more, running, left) =
+    let free : IsClear w.live w.view.checkpoint a = (subst (AtEachOf (IsClear w.live w.view.checkpoint)) left (clear r running)).0 in
+    elim (either (is_known (w.view.checkpoint.parts.references a)) (is_of a w.view.checkpoint.chain) is) [
+      | inl known ↦ let no : true ≡ false = sym known ∙ ap is_known free.unreferenced in cc
+      | inr there ↦ let at = in_chain a w.view.checkpoint.chain there in free.no_trailer at.0 at.1
+    ]
+next_aside w a clear is (Append client request body) never = never
+next_aside w a clear is (Reply op body) never = never
+next_aside w a clear is (WriteBlock kind body) never = never
+next_aside w a clear is (Release address) never = never
+next_aside w a clear is (Begin root) never = never
+next_aside w a clear is (ReadPrepare op) never = never
+next_aside w a clear is (ReadReply client) never = never
+next_aside w a clear is (ReadBlock address) never = never
+next_aside w a clear is Scrub never = never
+next_aside w a clear is (Recent place) never = never
+
+-- nor does the last step write one
+last_aside : (w : Work) (a : ℕ) (r : Running) → w.running ≡ Some r → r.left ≡ [] → (command : Command) → WritesNext command w a → ⊥
+last_aside w a r running left Advance (q, more, on, to_come) =
+    let same : r ≡ q = some-eq (sym running ∙ on) in
+    let no : [] ≡ a ∷ more = sym left ∙ ap (λ (x : Running). x.left) same ∙ to_come in
+    cc
+last_aside w a r running left (Append client request body) never = never
+last_aside w a r running left (Reply op body) never = never
+last_aside w a r running left (WriteBlock kind body) never = never
+last_aside w a r running left (Release address) never = never
+last_aside w a r running left (Begin root) never = never
+last_aside w a r running left (ReadPrepare op) never = never
+last_aside w a r running left (ReadReply client) never = never
+last_aside w a r running left (ReadBlock address) never = never
+last_aside w a r running left Scrub never = never
+last_aside w a r running left (Recent place) never = never
+
+-- ---- a call whose steps put what its command makes
+
+-- the trailer of the running checkpoint is written
+abbrev pub IsWhole : Option Course → Type 0
+IsWhole None = ⊥
+IsWhole (Some c) = c.left ≡ []
+
+-- the command is the last step of a checkpoint
+abbrev pub IsLast : Command → Memory → Type 0
+IsLast Advance m = IsWhole m.running
+IsLast command m = ⊥
+
+-- its device calls are steps that put at each place that a call reads what the command makes of what is in memory; the last step begins with a sync
+pub record Makes (given : Given) (command : Command) (s : State) (events : List Event) : Type 0 where
+  pub steps : List Step
+  pub are : AreSteps (format s.file) events steps
+  pub prepare : (k : ℕ) (o : Option AnyUnit) → unit_after steps (PreparePlace k) o ≡ or_else (puts_of (memory s) given.checksum command (PreparePlace k)) o
+  pub reply : (k : ℕ) (o : Option AnyUnit) → unit_after steps (ReplyPlace k) o ≡ or_else (puts_of (memory s) given.checksum command (ReplyPlace k)) o
+  pub block : (k : ℕ) (o : Option AnyUnit) → unit_after steps (BlockPlace k) o ≡ or_else (puts_of (memory s) given.checksum command (BlockPlace k)) o
+  pub copy : (w : Work) → IsWork (shape s.file) (spelling s.file) w → Represents s w → (n : ℕ) (o : Option AnyUnit) → unit_after steps (CopyPlace n) o ≡ or_else (puts_of (memory s) given.checksum command (CopyPlace n)) o
+  pub last : IsLast command (memory s) → StartSynced steps
+
+-- a command that makes nothing
+pub makes_nothing : (given : Given) (command : Command) (s : State) → ((place : Place) → puts_of (memory s) given.checksum command place ≡ None) → (IsLast command (memory s) → ⊥) → Makes given command s []
+makes_nothing given command s none other = record {
+  steps = [];
+  are = tt;
+  prepare = λ k o. sym (ap (λ (p : Option AnyUnit). or_else p o) (none (PreparePlace k)));
+  reply = λ k o. sym (ap (λ (p : Option AnyUnit). or_else p o) (none (ReplyPlace k)));
+  block = λ k o. sym (ap (λ (p : Option AnyUnit). or_else p o) (none (BlockPlace k)));
+  copy = λ w work rep n o. sym (ap (λ (p : Option AnyUnit). or_else p o) (none (CopyPlace n)));
+  last = λ is. absurd (other is);
+}
+
+-- the four copies, one after the other
+copy_passed : (n k : ℕ) (x : AnyUnit) (o : Option AnyUnit) → n < k → or_else (put_one (CopyPlace n) x (CopyPlace k)) o ≡ o
+copy_passed n k x o less = let other : (n == k) ≡ false = grind (arith, nat_tests) in ap (λ (b : Bool). or_else (if b then Some x else None) o) other
+
+-- the unit that they leave at a copy
+abbrev pub copies_over : AnyUnit → (k : ℕ) → Option AnyUnit → Option AnyUnit
+copies_over x k o = or_else (put_one (CopyPlace 3) x (CopyPlace k)) (or_else (put_one (CopyPlace 2) x (CopyPlace k)) (or_else (put_one (CopyPlace 1) x (CopyPlace k)) (or_else (put_one (CopyPlace 0) x (CopyPlace k)) o)))
+
+pub copies_made : (c : Content) (k : ℕ) (o : Option AnyUnit) → copies_over (CopyUnit c) k o ≡ or_else (copies_of c (CopyPlace k)) o
+copies_made c zero o = refl
+copies_made c (suc zero) o = refl
+copies_made c (suc (suc zero)) o = refl
+copies_made c (suc (suc (suc zero))) o = refl
+copies_made c (suc (suc (suc (suc k)))) o =
+    let n = suc (suc (suc (suc k))) in
+    let x = CopyUnit c in
+    let none : nat_lt n 4 ≡ false = grind (arith, nat_tests) in
+    copy_passed 3 n x _ (omega arith) ∙ copy_passed 2 n x _ (omega arith) ∙ copy_passed 1 n x _ (omega arith) ∙ copy_passed 0 n x o (omega arith)
+    ∙ sym (ap (λ (b : Bool). or_else (if b then Some x else None) o) none)
+
+module _ (given : Given) (command : Command) (s : State) (events : List Event) (makes : Makes given command s events) where
+  abbrev layout : Layout
+  layout = s.file.layout
+
+  abbrev cluster : ℕ
+  cluster = s.file.cluster
+
+  none_put : (place : Place) → IsReadPlace layout place → puts_of (memory s) given.checksum command place ≡ None → unit_after makes.steps place None ≡ None
+  none_put (CopyPlace k) read none = absurd read
+  none_put (HeaderPlace k) read none = absurd read
+  none_put (PreparePlace k) read none = makes.prepare k None ∙ ap (λ (p : Option AnyUnit). or_else p None) none
+  none_put (ReplyPlace k) read none = makes.reply k None ∙ ap (λ (p : Option AnyUnit). or_else p None) none
+  none_put (BlockPlace k) read none = makes.block k None ∙ ap (λ (p : Option AnyUnit). or_else p None) none
+
+  pub leaves_shown : (image : Image) → IsImage image → LeavesShown s.file (memory s) given.checksum command image (image_after events image)
+  leaves_shown image whole = record {
+    whole = stays_whole layout cluster events makes.steps image makes.are whole;
+    units = record {
+      prepare = λ k. shown_by layout cluster events makes.steps image makes.are whole (PreparePlace k) ∙ makes.prepare k (unit_at layout cluster image (PreparePlace k));
+      reply = λ k. shown_by layout cluster events makes.steps image makes.are whole (ReplyPlace k) ∙ makes.reply k (unit_at layout cluster image (ReplyPlace k));
+      block = λ k. shown_by layout cluster events makes.steps image makes.are whole (BlockPlace k) ∙ makes.block k (unit_at layout cluster image (BlockPlace k));
+    };
+    classes = λ place read none. same_class layout cluster (image_after events image) image place read (λ sector here.
+        same_sector layout cluster events makes.steps makes.are image sector (unwritten layout cluster events makes.steps makes.are place (none_put place read none) sector here));
+  }
+
+  pub leaves_copies : (w : Work) → Keeps Firm s w None → (image : Image) → IsImage image → LeavesCopies s.file (memory s) given.checksum command image (image_after events image)
+  leaves_copies w k image whole n = shown_by layout cluster events makes.steps image makes.are whole (CopyPlace n) ∙ makes.copy w k.0 k.1 n (unit_at layout cluster image (CopyPlace n))
+
+  pub spares_held : (w : Work) → Keeps Firm s w None → SparesHeld s.file command w events
+  spares_held w k a held other sector here =
+      let none = subst (λ (x : Memory). puts_of x given.checksum command (BlockPlace a) ≡ None) (sym k.1) (held_unput s.file w k.0 a held given.checksum command other) in
+      unwritten layout cluster events makes.steps makes.are (BlockPlace a) (makes.block a None ∙ ap (λ (p : Option AnyUnit). or_else p None) none) sector here
+
+  ends_last : (w : Work) (a : ℕ) (c : Command) → EndsWith c w a → IsLast c (memory_of (shape s.file) (spelling s.file) w)
+  ends_last w a Advance (r, running, left, taken) = subst (λ (o : Option Running). IsWhole (course_of (spelling s.file) o)) (sym running) left
+  ends_last w a (Append client request body) never = absurd never
+  ends_last w a (Reply op body) never = absurd never
+  ends_last w a (WriteBlock kind body) never = absurd never
+  ends_last w a (Release address) never = absurd never
+  ends_last w a (Begin root) never = absurd never
+  ends_last w a (ReadPrepare op) never = absurd never
+  ends_last w a (ReadReply client) never = absurd never
+  ends_last w a (ReadBlock address) never = absurd never
+  ends_last w a Scrub never = absurd never
+  ends_last w a (Recent place) never = absurd never
+
+  ends_held : (w : Work) (a : ℕ) (c : Command) → EndsWith c w a → (is_held w a ≡ true) × (WritesNext c w a → ⊥)
+  ends_held w a Advance (r, running, left, taken) = (taken_held w r a running taken, last_aside w a r running left Advance)
+  ends_held w a (Append client request body) never = absurd never
+  ends_held w a (Reply op body) never = absurd never
+  ends_held w a (WriteBlock kind body) never = absurd never
+  ends_held w a (Release address) never = absurd never
+  ends_held w a (Begin root) never = absurd never
+  ends_held w a (ReadPrepare op) never = absurd never
+  ends_held w a (ReadReply client) never = absurd never
+  ends_held w a (ReadBlock address) never = absurd never
+  ends_held w a Scrub never = absurd never
+  ends_held w a (Recent place) never = absurd never
+
+  firm_then : (w : Work) (log : Log) (k : Keeps Firm s w None) → AreSettled s.file log w → (a sector : ℕ) → has layout (BlockPlace a) sector ≡ true → WasDurable s.file w a command → loose (adds events log) sector ≡ false
+  firm_then w log k settled a sector here (inl was) =
+      stays_firm events log sector (settled.firm a sector was here) (spares_held w k a (durable_held w a was) (next_aside w a k.0.clear was command) sector here)
+  firm_then w log k settled a sector here (inr ends) =
+      let both = ends_held w a command ends in
+      let starts = makes.last (subst (λ (x : Memory). IsLast command x) (sym k.1) (ends_last w a command ends)) in
+      synced_first layout cluster events makes.steps makes.are starts log sector (spares_held w k a both.0 both.1 sector here)
+
+  pub settles_on : (w : Work) (log : Log) → Keeps Firm s w None → AreSettled s.file log w → AreSettled s.file (adds events log) (next s.file w given command).0
+  settles_on w log k settled = record { firm = λ a sector durable here. firm_then w log k settled a sector here (was_durable s.file w a given command durable) }

@@ -1,0 +1,82 @@
+-- Commands one after the other don't tell two things apart that agree.
+use Rattle.std.proofs.Common.{◌≡◌, ℕ, List, [], ◌∷◌, Option, Some, None, refl, ◌∙◌, ap, arith}
+use Rattle.df_base.proofs.Laws.{AreBytes-check_of, field_at-lt}
+use Rattle.df_format.specs.Making.{for_body}
+use Rattle.df_format.specs.Spelling.{spelling_rest}
+use Rattle.df_format.specs.Super.{covered_bytes}
+use Rattle.df_format.specs.declared.header.Header.{Header}
+use Rattle.df_theory.specs.Units.{AnyUnit, BlockPlace, Place, PreparePlace, ReplyPlace, or_else}
+use Rattle.df_model.specs.Codec.{IsChecksum}
+use Rattle.df_model.specs.Commands.{Advance, Answer, Append, Begin, Command, ReadBlock, ReadPrepare, ReadReply, Recent, Release, Reply, Scrub, WriteBlock}
+use Rattle.df_model.specs.Making.{block_of, content_of, next_address, place_of_reply, prepare_of, reply_of, trailer_block}
+use Rattle.df_model.specs.Memory.{Course, Memory, memory_of}
+use Rattle.df_model.specs.Sense.{IsWork}
+use Rattle.df_model.specs.Supply.{Shown, checksum_given, next as over, puts_of, result, shown_after, step_sum, supplied, trailer_sum}
+use Rattle.df_model.specs.Work.{Work}
+use Rattle.df_model.proofs.Laws.{sense_law}
+use Rattle.df_replica.specs.Below.{DataFile, shape, spelling}
+use Rattle.df_replica.specs.Leaving.{IsReadPlace}
+use Rattle.df_result.specs.Agreeing.{AgreeShown}
+use Rattle.df_result.specs.Calls.{ResultAgrees}
+use Rattle.df_result.specs.Codec.{block_header, codec, fields_of, prepare_header, reply_header, sum_of}
+use Rattle.df_result.proofs.Agreed.{next_agrees}
+
+-- ---- what is made has a checksum
+
+small : (h : Header) (body : List ℕ) → IsChecksum (sum_of h body)
+small h body = field_at-lt 16 0 _ (AreBytes-check_of (spelling_rest (for_body h body)))
+
+module _ (file : DataFile) (m : Memory) where
+  left_small : (r : Course) (left : List ℕ) → IsChecksum (trailer_sum (codec file) m r left)
+  left_small r [] = field_at-lt 16 0 _ (AreBytes-check_of (covered_bytes (fields_of file (content_of m r 0))))
+  left_small r (a ∷ more) = small (block_header file a (trailer_block m r 0)) (trailer_block m r 0).body
+
+  step_small : (o : Option Course) → IsChecksum (step_sum (codec file) m o)
+  step_small None = omega arith
+  step_small (Some r) = left_small r r.left
+
+  given_small : (c : Command) → IsChecksum (checksum_given (codec file) m c)
+  given_small (Append client request body) = small (prepare_header file (prepare_of m 0 client request body).header) body
+  given_small (Reply op body) = small (reply_header file (place_of_reply m) (reply_of m 0 body).header) body
+  given_small (WriteBlock kind body) = small (block_header file (next_address m) (block_of 0 kind body)) body
+  given_small (Release address) = omega arith
+  given_small (Begin root) = omega arith
+  given_small Advance = step_small m.running
+  given_small (ReadPrepare op) = omega arith
+  given_small (ReadReply client) = omega arith
+  given_small (ReadBlock address) = omega arith
+  given_small Scrub = omega arith
+  given_small (Recent place) = omega arith
+
+-- ---- what is shown then
+
+module _ (file : DataFile) (one other : Shown) (m : Memory) (c : Command) (agree : AgreeShown file.layout one other) where
+  abbrev put : Place → Option AnyUnit
+  put = puts_of m (checksum_given (codec file) m c) c
+
+  classes_then : (place : Place) → IsReadPlace file.layout place → (o : Option AnyUnit) → put place ≡ o → or_else o (one.units place) ≡ None → one.damage place ≡ other.damage place
+  classes_then place read None is none = agree.classes place read none
+  classes_then place read (Some x) is none = absurd (cc)
+
+  agrees_then : AgreeShown file.layout (shown_after (codec file) one m c) (shown_after (codec file) other m c)
+  agrees_then = record {
+    units = record {
+      prepare = λ k. ap (or_else (put (PreparePlace k))) (agree.units.prepare k);
+      reply = λ k. ap (or_else (put (ReplyPlace k))) (agree.units.reply k);
+      block = λ k. ap (or_else (put (BlockPlace k))) (agree.units.block k);
+    };
+    classes = λ place read none. classes_then place read (put place) refl none;
+  }
+
+-- ---- one after the other
+
+pub result_agrees : ResultAgrees
+result_agrees file one other w [] agree work range = refl
+result_agrees file one other w (c ∷ cs) agree work range =
+    let m = memory_of (shape file) (spelling file) w in
+    let same = next_agrees file one other agree w work c in
+    let later : IsWork (shape file) (spelling file) (over (shape file) (codec file) one w c).0 =
+    sense_law (shape file) (spelling file) w (supplied (codec file) one m c) c (record { checksum = given_small file m c; fields = range.0 }) work in
+    let rest = result_agrees file (shown_after (codec file) one m c) (shown_after (codec file) other m c) (over (shape file) (codec file) one w c).0 cs (agrees_then file one other m c agree) later range.1 in
+    (λ i. (same i).1 ∷ rest i)
+    ∙ ap (λ (x : Work × Answer). (over (shape file) (codec file) other w c).1 ∷ result (shape file) (codec file) (shown_after (codec file) other m c) x.0 cs) same

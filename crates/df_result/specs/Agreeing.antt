@@ -1,0 +1,34 @@
+-- Two things that a device may show which no command tells apart, and a command over what is shown, whatever else it was supplied with.
+use Rattle.std.specs.Prelude.{◌≡◌, ℕ, None}
+use Rattle.df_layout.specs.declared.layout.Layout.{Layout}
+use Rattle.df_theory.specs.Units.{Place}
+use Rattle.df_model.specs.After.{to_check}
+use Rattle.df_model.specs.Commands.{Advance, Append, Command, Given, ReadBlock, ReadPrepare, ReadReply, Reply, Scrub, WriteBlock}
+use Rattle.df_model.specs.Memory.{Memory}
+use Rattle.df_model.specs.Refusals.{append_refusals, block_refusals, first_refusal, reply_refusals}
+use Rattle.df_model.specs.Result.{AgreeReads}
+use Rattle.df_model.specs.Supply.{Codec, Shown, block_read, checksum_given, first_check, message_given, step_sum}
+use Rattle.df_replica.specs.Leaving.{IsReadPlace}
+
+-- the same units at each place that a command reads, and where the layout has the place and it shows none, the same class
+pub record AgreeShown (layout : Layout) (one other : Shown) : Type 0 where
+  pub units : AgreeReads one.units other.units
+  pub classes : (place : Place) → IsReadPlace layout place → one.units place ≡ None → one.damage place ≡ other.damage place
+
+-- ---- what a command is supplied with, as far as it asks for it
+
+-- the checksum is the codec's; a command that is refused makes nothing, and asks for none
+abbrev pub IsSum : Codec → Memory → (sum : ℕ) → Command → Type 0
+IsSum codec m sum (Append client request body) = first_refusal (append_refusals m client request body) ≡ None → sum ≡ checksum_given codec m (Append client request body)
+IsSum codec m sum (Reply op body) = first_refusal (reply_refusals m op body) ≡ None → sum ≡ checksum_given codec m (Reply op body)
+IsSum codec m sum (WriteBlock kind body) = first_refusal (block_refusals m kind body) ≡ None → sum ≡ checksum_given codec m (WriteBlock kind body)
+IsSum codec m sum Advance = sum ≡ step_sum codec m m.running
+IsSum codec m sum command = sum ≡ 0
+
+-- what a read finds, or a check, is what is shown
+abbrev pub IsFoundIn : Shown → Memory → Given → Command → Type 0
+IsFoundIn shown m given (ReadPrepare op) = given.message ≡ message_given shown m (ReadPrepare op)
+IsFoundIn shown m given (ReadReply client) = given.message ≡ message_given shown m (ReadReply client)
+IsFoundIn shown m given (ReadBlock address) = given.block ≡ block_read shown m (ReadBlock address)
+IsFoundIn shown m given Scrub = given.verdict ≡ first_check shown (to_check m)
+IsFoundIn shown m given command = Unit {0}

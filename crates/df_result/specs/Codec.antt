@@ -1,0 +1,130 @@
+-- The checksum that each unit of a file gets, as a function of what it says in the words of the model and of its place: the header, or the superblock, that has these
+-- words is built and sealed as the maker of a unit does. It is the dictionary of units and bytes, read the other way.
+use Rattle.std.specs.Prelude.{◌≡◌, ◌%◌, ◌==◌, ℕ, if◌then◌else◌, List, Some, None, slice_index}
+use Rattle.df_base.specs.Fields.{spelled}
+use Rattle.df_base.specs.Image.{Image, IsImage}
+use Rattle.df_format.specs.declared.header.Header.{Header}
+use Rattle.df_format.specs.declared.kind.Kind.TheVariants.{Prepare, Reply, Block, Trailer}
+use Rattle.df_format.specs.declared.superblock.SuperFields.{SuperFields}
+use Rattle.df_format.specs.Copies.{content_with}
+use Rattle.df_format.specs.Making.{for_body}
+use Rattle.df_format.specs.Spelling.{no_checksum, sealed}
+use Rattle.df_theory.specs.Units
+use Rattle.df_theory.specs.Units.{AnyUnit, BlockPlace, BlockUnit, CopyPlace, CopyUnit, Place, PreparePlace, PrepareUnit, ReplyPlace, ReplyUnit}
+use Rattle.df_units.specs.Bytes.{unit_at}
+use Rattle.df_units.specs.Meaning.{layout_of, number_of}
+use Rattle.df_model.specs.Supply.{Codec}
+use Rattle.df_replica.specs.Below.{DataFile, spelling}
+
+-- ---- what is made of the words of the model
+
+-- the header of a prepare, in the slot of its op; what follows from the body, and the checksum, come as it is sealed
+abbrev pub prepare_header : DataFile → Units.Header → Header
+prepare_header file h = record {
+  checksum = no_checksum;
+  checksum_body = no_checksum;
+  cluster = file.cluster;
+  parent = spelled 16 h.parent;
+  client = h.client;
+  op = h.op;
+  request = h.request;
+  mark = h.mark;
+  checkpoint = h.checkpoint;
+  size = 0;
+  slot = h.op % file.layout.slots;
+  kind = Prepare;
+  block_kind = 0;
+}
+
+-- of a reply, at a session's place
+abbrev pub reply_header : DataFile → (place : ℕ) → Units.Header → Header
+reply_header file place h = record {
+  checksum = no_checksum;
+  checksum_body = no_checksum;
+  cluster = file.cluster;
+  parent = spelled 16 h.parent;
+  client = h.client;
+  op = h.op;
+  request = h.request;
+  mark = h.mark;
+  checkpoint = h.checkpoint;
+  size = 0;
+  slot = place;
+  kind = Reply;
+  block_kind = 0;
+}
+
+-- of a block, at an address: one of kind 0 is a trailer's
+abbrev pub block_header : DataFile → (address : ℕ) → Units.Block → Header
+block_header file address b = record {
+  checksum = no_checksum;
+  checksum_body = no_checksum;
+  cluster = file.cluster;
+  parent = spelled 16 b.before_checksum;
+  client = 0;
+  op = address;
+  request = b.before;
+  mark = b.index;
+  checkpoint = b.sequence;
+  size = 0;
+  slot = 0;
+  kind = if b.kind == 0 then Trailer else Block;
+  block_kind = b.kind;
+}
+
+-- the fields of a superblock of the file
+abbrev pub fields_of : DataFile → Units.Content → SuperFields
+fields_of file c = record {
+  version = 1;
+  slots = file.layout.slots;
+  message_size = file.layout.message_size;
+  clients = file.layout.clients;
+  block_size = file.layout.block_size;
+  blocks = file.layout.blocks;
+  cluster = file.cluster;
+  sequence = c.sequence;
+  op = c.op;
+  op_checksum = spelled 16 c.op_checksum;
+  head = c.head;
+  replies = c.replies;
+  trailer_address = c.trailer;
+  trailer_checksum = spelled 16 c.trailer_checksum;
+  trailer_size = c.trailer_size;
+  boot = 0;
+  first_nonzero = None;
+}
+
+-- the checksum of the unit that is made of a header and a body
+abbrev pub sum_of : Header → List ℕ → ℕ
+sum_of header body = number_of (sealed (for_body header body)).checksum
+
+-- how a file's trailers are spelled, and the checksums that its units get
+abbrev pub codec : DataFile → Codec
+codec file = record {
+  spell = spelling file;
+  prepare = λ p. sum_of (prepare_header file p.header) p.body;
+  reply = λ place r. sum_of (reply_header file place r.header) r.body;
+  block = λ address b. sum_of (block_header file address b) b.body;
+  content = λ c. number_of (content_with (fields_of file c)).checksum;
+}
+
+-- ---- and so it is with what is shown
+
+-- a superblock of the file: of version 1, with its layout and cluster, and zeros behind its fields
+pub record IsOfFile (file : DataFile) (c : Units.Content) : Type 0 where
+  pub version : c.version ≡ 1
+  pub layout : c.layout ≡ layout_of file.layout
+  pub cluster : c.cluster ≡ file.cluster
+  pub rest : (i : ℕ) → slice_index c.rest i ≡ 0
+
+-- the unit has the checksum that the codec gives to what it says at this place; headers of the ring have those of their prepares
+abbrev pub HasSum : DataFile → Place → AnyUnit → Type 0
+HasSum file (CopyPlace n) (CopyUnit c) = IsOfFile file c → c.checksum ≡ (codec file).content c
+HasSum file (PreparePlace s) (PrepareUnit p) = p.header.checksum ≡ (codec file).prepare p
+HasSum file (ReplyPlace k) (ReplyUnit r) = r.header.checksum ≡ (codec file).reply k r
+HasSum file (BlockPlace a) (BlockUnit b) = b.checksum ≡ (codec file).block a b
+HasSum file place x = Unit {0}
+
+-- so has each unit that an image shows
+abbrev pub UnitsHaveSums : Type 0
+UnitsHaveSums = (file : DataFile) (image : Image) (place : Place) (x : AnyUnit) → IsImage image → unit_at file.layout file.cluster image place ≡ Some x → HasSum file place x

@@ -1,0 +1,235 @@
+-- A session's text and status follow from its script and from what the disk shows.
+use Rattle.std.proofs.Common.{◌≡◌, ◌⊎◌, inl, inr, ℕ, ◌+◌, ◌-◌, Bool, List, [], ◌∷◌, ◌++◌, length, map, Option, Some, None, refl, sym, ◌∙◌, ap, subst, arith, suc}
+use Rattle.std.proofs.lemmas.List.{append-nil}
+use Rattle.df_base.specs.Image.{Image}
+use Rattle.df_base.specs.Streams.{Appends}
+use Rattle.df_disk.specs.Told.{Told}
+use Rattle.df_inspect.specs.Opening.{script_text}
+use Rattle.df_layout.specs.declared.layout.Layout.{Layout}
+use Rattle.df_format.specs.Copies.{Content, content_at}
+use Rattle.df_format.specs.declared.superblock.SuperFields.{SuperFields}
+use Rattle.df_lines.specs.Grammar.{Said}
+use Rattle.df_lines.specs.Room.{line_bound}
+use Rattle.df_lines.specs.Script.{Begins, IsRefused, IsScript}
+use Rattle.df_lines.specs.Text.{after_line, taken}
+use Rattle.df_lines.proofs.Laws.{one_script}
+use Rattle.df_quorum.specs.Quorum.{IsChosen}
+use Rattle.df_theory.specs.Found.{IsFound}
+use Rattle.df_theory.specs.Units.{AnyUnit, BlockPlace, Place, PreparePlace, ReplyPlace}
+use Rattle.df_theory.specs.View.{View}
+use Rattle.df_theory.proofs.Laws.{one_found_law}
+use Rattle.df_units.specs.Bytes.{unit_at}
+use Rattle.df_model.specs.Supply.{Shown}
+use Rattle.df_model.specs.Work.{Work, opened}
+use Rattle.df_replica.specs.Below.{DataFile, IsOpened, State as Replica, shape}
+use Rattle.df_replica.specs.Reading.{shown_of}
+use Rattle.df_replica.proofs.Laws.{one_super}
+use Rattle.df_result.specs.Agreeing.{AgreeShown}
+use Rattle.df_top.specs.Lines.{Turned, all_text, printed, said_in}
+use Rattle.df_top.specs.OneText.{IsThrough, OneText, ShowSame, TextIsResult, status_by, text_by}
+use Rattle.df_top.specs.Outside.{Outside}
+use Rattle.df_top.specs.Resulting.{text_over}
+use Rattle.df_top.specs.Run.{ServesScript, script_budget, start}
+use Rattle.df_top.specs.Session.{EndsText, EndsWith, Failing, act_of, said_of}
+use Rattle.df_top.specs.declared.status.Status.{Status}
+use Rattle.df_top.specs.declared.status.Status.TheVariants.{Done, Script, Words, Refused, Memory, DiskFault, ReadFault, WriteFault, Found}
+use Rattle.df_top.proofs.OneReport.{same_file}
+
+-- ---- how a text ends
+
+begins_one : (bound budget : ℕ) (text : List ℕ) (says : List Said) (left other : ℕ) (rest more : List ℕ) → Begins bound budget text says left rest → Begins bound budget text says other more → (left ≡ other) × (rest ≡ more)
+begins_one bound budget text [] left other rest more one two = (one.0 ∙ sym two.0, one.1 ∙ sym two.1)
+begins_one bound budget text (said ∷ says) left other rest more one two = begins_one bound (budget - taken text) (after_line text) says left other rest more one.1 two.1
+
+count_map : {A B : Type 0} (f : A → B) (xs : List A) → length (map f xs) ≡ length xs
+count_map f [] = refl
+count_map f (x ∷ xs) = ap suc (count_map f xs)
+
+-- what was executed is the script, and this is how it ends
+pub record EndsAs (bound budget : ℕ) (text : List ℕ) (says lines : List Said) (script : IsScript bound budget text says) (status : Status) (more : ℕ → List ℕ → List ℕ) : Type 0 where
+  pub lines_are : lines ≡ says
+  pub status_is : status ≡ status_by script.ends
+  pub text_is : (n : ℕ) (printed : List ℕ) → more n printed ≡ text_by script.ends n printed
+
+module _ (bound budget : ℕ) (text : List ℕ) (says lines : List Said) (script : IsScript bound budget text says) (left : ℕ) (rest : List ℕ) (begins : Begins bound budget text lines left rest) where
+  behind : lines ≡ says → (left ≡ script.left) × (rest ≡ script.rest)
+  behind same = begins_one bound budget text says left script.left rest script.rest (subst (λ (l : List Said). Begins bound budget text l left rest) same begins) script.begins
+
+  ends_whole : rest ≡ [] → EndsAs bound budget text says lines script Done (λ n printed. printed)
+  ends_whole none = go script.ends refl
+    where
+      same : lines ≡ says
+      same = one_script bound budget text lines says (record { left = left; rest = rest; begins = begins; ends = inl none }) script
+
+      go : (e : (script.rest ≡ []) ⊎ IsRefused bound script.left script.rest) → script.ends ≡ e → EndsAs bound budget text says lines script Done (λ n printed. printed)
+      go (inl empty) is = record { lines_are = same; status_is = sym (ap status_by is); text_is = λ n printed. sym (ap (λ (x : (script.rest ≡ []) ⊎ IsRefused bound script.left script.rest). text_by x n printed) is) }
+      go (inr refused) is = absurd (refused.some (sym (behind same).1 ∙ none))
+
+  ends_refused : IsRefused bound left rest → EndsAs bound budget text says lines script Script (λ n printed. printed ++ script_text (n + 1))
+  ends_refused refused = go script.ends refl
+    where
+      same : lines ≡ says
+      same = one_script bound budget text lines says (record { left = left; rest = rest; begins = begins; ends = inr refused }) script
+
+      go : (e : (script.rest ≡ []) ⊎ IsRefused bound script.left script.rest) → script.ends ≡ e → EndsAs bound budget text says lines script Script (λ n printed. printed ++ script_text (n + 1))
+      go (inl empty) is = absurd (refused.some ((behind same).1 ∙ empty))
+      go (inr other) is = record { lines_are = same; status_is = sym (ap status_by is); text_is = λ n printed. sym (ap (λ (x : (script.rest ≡ []) ⊎ IsRefused bound script.left script.rest). text_by x n printed) is) }
+
+-- ---- how a session ends
+
+-- where nothing failed each line was answered, and the session came to the end of its text, or to a line that is refused
+pub record IsThroughBy (bound budget : ℕ) (text : List ℕ) (turns : List Turned) (old new : Outside) (status : Status) : Type 0 where
+  pub left : ℕ
+  pub rest : List ℕ
+  pub begins : Begins bound budget text (map said_in turns) left rest
+  pub ends : ((status ≡ Done) × (rest ≡ []) × Appends old.written new.written (all_text turns)) ⊎ ((status ≡ Script) × IsRefused bound left rest × Appends old.written new.written (all_text turns ++ script_text (length turns + 1)))
+
+module _ (bound : ℕ) (text : List ℕ) (turns : List Turned) (old new : Outside) (budget : ℕ) (left : ℕ) (rest : List ℕ) where
+  through : (failing : Option Failing) (cut : Bool) (status : Status) → Begins bound budget text (map said_in turns ++ said_of failing) left rest → EndsText bound left rest new.left cut status → EndsWith 0 old new turns (act_of failing) cut status → IsThrough status
+      → IsThroughBy bound budget text turns old new status
+  through None cut Done begins ends wrote is = record {
+    left = left;
+    rest = rest;
+    begins = subst (λ (l : List Said). Begins bound budget text l left rest) (append-nil (map said_in turns)) begins;
+    ends = inl (refl, (ends.finished refl).0, subst (λ (b : Bool). Appends old.written new.written (printed 0 turns b)) wrote.0 wrote.1);
+  }
+  through None cut Script begins ends wrote is = record {
+    left = left;
+    rest = rest;
+    begins = subst (λ (l : List Said). Begins bound budget text l left rest) (append-nil (map said_in turns)) begins;
+    ends =
+        let count : 0 + length turns + 1 ≡ length turns + 1 = omega arith in
+        inr (refl, ends.refused wrote.0, subst (λ (n : ℕ). Appends old.written new.written (all_text turns ++ script_text n)) count (subst (λ (b : Bool). Appends old.written new.written (printed 0 turns b)) wrote.0 wrote.1));
+  }
+  through (Some f) cut Done begins ends wrote is = absurd wrote
+  through (Some f) cut Script begins ends wrote is = absurd wrote
+  through failing cut Words begins ends wrote is = absurd is
+  through failing cut Refused begins ends wrote is = absurd is
+  through failing cut Memory begins ends wrote is = absurd is
+  through failing cut DiskFault begins ends wrote is = absurd is
+  through failing cut ReadFault begins ends wrote is = absurd is
+  through failing cut WriteFault begins ends wrote is = absurd is
+  through failing cut Found begins ends wrote is = absurd is
+
+module _ (layout : Layout) (t : Told) (old new : Outside) (status : Status) (serves : ServesScript layout t old new status) (text : List ℕ) (left : old.left ≡ Some text) (is : IsThrough status) where
+  abbrev file : DataFile
+  file = serves.replica.file
+
+  abbrev turns : List Turned
+  turns = serves.session.turns
+
+  by : IsThroughBy (line_bound layout) script_budget text turns (start serves.mended old serves.replica).outside serves.last.outside status
+  by =
+      let ended = serves.session.text text left in
+      through (line_bound layout) text turns (start serves.mended old serves.replica).outside serves.last.outside script_budget ended.0 ended.1 serves.session.failing serves.session.cut status ended.2 ended.3 serves.session.written is
+
+  -- its script
+  pub script_of : IsScript (line_bound layout) script_budget text (map said_in turns)
+  script_of = record {
+    left = by.left;
+    rest = by.rest;
+    begins = by.begins;
+    ends = elim by.ends [
+      | inl whole ↦ inl whole.1
+      | inr cut ↦ inr cut.1
+    ];
+  }
+
+  module _ (view : View) (shown : Shown) (says : List Said) (script : IsScript (line_bound layout) script_budget text says) (found : IsFound (shape file) (unit_at file.layout file.cluster t.shown) view) (agree : AgreeShown file.layout (shown_of file t.shown) shown) where
+    abbrev w : Work
+    w = opened (shape file) (unit_at file.layout file.cluster t.shown) view
+
+    lines_text : all_text turns ≡ text_over file shown w (map said_in turns)
+    lines_text = (serves.result view shown found agree).text
+
+    abbrev Prints : List ℕ → Type 0
+    Prints line = Appends old.written new.written line
+
+    written_new : (line : List ℕ) → Appends old.written serves.last.outside.written line → Prints line
+    written_new line wrote = subst (λ (o : Outside). Appends old.written o.written line) serves.last_is wrote
+
+    -- its status, and what it prints over whatever agrees with what the disk shows
+    pub prints_over : (status ≡ status_by script.ends) × Prints (text_by script.ends (length says) (text_over file shown w says))
+    prints_over = elim by.ends [
+      | inl (done, empty, wrote) ↦
+          let ends = ends_whole (line_bound layout) script_budget text says (map said_in turns) script by.left by.rest by.begins empty in
+          let line : all_text turns ≡ text_by script.ends (length says) (text_over file shown w says) =
+          lines_text ∙ ap (text_over file shown w) ends.lines_are ∙ ends.text_is (length says) (text_over file shown w says) in
+          (done ∙ ends.status_is, subst Prints line (written_new (all_text turns) wrote))
+      | inr (cut, refused, wrote) ↦
+          let ends = ends_refused (line_bound layout) script_budget text says (map said_in turns) script by.left by.rest by.begins refused in
+          let count : length turns ≡ length says = sym (count_map said_in turns) ∙ ap length ends.lines_are in
+          let line : all_text turns ++ script_text (length turns + 1) ≡ text_by script.ends (length says) (text_over file shown w says) =
+          ap (λ (l : List ℕ). l ++ script_text (length turns + 1)) (lines_text ∙ ap (text_over file shown w) ends.lines_are)
+          ∙ ap (λ (n : ℕ). text_over file shown w says ++ script_text (n + 1)) count ∙ ends.text_is (length says) (text_over file shown w says) in
+          (cut ∙ ends.status_is, subst Prints line (written_new (all_text turns ++ script_text (length turns + 1)) wrote))
+    ]
+
+agree_self : (layout : Layout) (shown : Shown) → AgreeShown layout shown shown
+agree_self layout shown = record { units = record { prepare = λ k. refl; reply = λ k. refl; block = λ k. refl }; classes = λ place read none. refl }
+
+pub text_is_result : TextIsResult
+text_is_result layout t old new status serves view text says script found left is =
+    let file = serves.replica.file in
+    prints_over layout t old new status serves text left is view (shown_of file t.shown) says script found (agree_self file.layout (shown_of file t.shown))
+
+-- ---- two images that show the same
+
+module _ (layout : Layout) (a b : Image) (same : ShowSame layout a b) where
+  super_there : (f : SuperFields) (content : Content) → IsChosen (content_at a) content → IsChosen (content_at b) content
+  super_there f content chosen = subst (λ (shown : ℕ → Option Content). IsChosen shown content) (λ i n. same.copies n i) chosen
+
+  units_there : (cluster : ℕ) → unit_at layout cluster a ≡ unit_at layout cluster b
+  units_there cluster i place = same.units cluster place i
+
+  -- of one file
+  one_file : (s u : Replica) → IsOpened layout a s → IsOpened layout b u → s.file ≡ u.file
+  one_file s u one other =
+      let chosen = super_there s.fields one.has.super.content one.has.super.chosen in
+      let fields : s.fields ≡ u.fields =
+      one_super b s.fields u.fields (record { content = one.has.super.content; chosen = chosen; fields = one.has.super.fields; usable = one.has.super.usable }) other.has.super in
+      same_file s.file u.file (one.of ∙ sym other.of) (sym one.has.cluster ∙ ap (λ (f : SuperFields). f.cluster) fields ∙ other.has.cluster)
+
+  -- and of one view
+  one_view : (s u : Replica) (one : IsOpened layout a s) (other : IsOpened layout b u) → one.view ≡ other.view
+  one_view s u one other =
+      one_found_law (shape u.file) (unit_at layout u.file.cluster b) one.view other.view
+      (subst (λ (f : DataFile). IsFound (shape f) (unit_at layout f.cluster b) one.view) (one_file s u one other) (subst (λ (image : Place → Option AnyUnit). IsFound (shape s.file) image one.view) (units_there s.file.cluster) one.found)) other.found
+
+  agree_there : (file : DataFile) → file.layout ≡ layout → AgreeShown file.layout (shown_of file a) (shown_of file b)
+  agree_there file of =
+      let here : ShowSame file.layout a b = subst (λ (l : Layout). ShowSame l a b) (sym of) same in
+      record {
+        units = record { prepare = λ k. here.units file.cluster (PreparePlace k); reply = λ k. here.units file.cluster (ReplyPlace k); block = λ k. here.units file.cluster (BlockPlace k) };
+        classes = λ place read none. here.classes file.cluster place read none;
+      }
+
+  -- what lines print over the one and over the other
+  one_line : (s u : Replica) (one : IsOpened layout a s) (other : IsOpened layout b u) (says : List Said)
+      → text_over s.file (shown_of s.file b) (opened (shape s.file) (unit_at s.file.layout s.file.cluster a) one.view) says ≡ text_over u.file (shown_of u.file b) (opened (shape u.file) (unit_at u.file.layout u.file.cluster b) other.view) says
+  one_line s u one other says =
+      let there : unit_at s.file.layout s.file.cluster a ≡ unit_at s.file.layout s.file.cluster b =
+      subst (λ (l : Layout). unit_at l s.file.cluster a ≡ unit_at l s.file.cluster b) (sym one.of) (units_there s.file.cluster) in
+      ap (λ (image : Place → Option AnyUnit). text_over s.file (shown_of s.file b) (opened (shape s.file) image one.view) says) there
+      ∙ ap (λ (v : View). text_over s.file (shown_of s.file b) (opened (shape s.file) (unit_at s.file.layout s.file.cluster b) v) says) (one_view s u one other)
+      ∙ ap (λ (f : DataFile). text_over f (shown_of f b) (opened (shape f) (unit_at f.layout f.cluster b) other.view) says) (one_file s u one other)
+
+found_here : (layout : Layout) (image : Image) (s : Replica) (is : IsOpened layout image s) → IsFound (shape s.file) (unit_at s.file.layout s.file.cluster image) is.view
+found_here layout image s is = subst (λ (l : Layout). IsFound (shape s.file) (unit_at l s.file.cluster image) is.view) (sym is.of) is.found
+
+pub one_text : OneText
+one_text layout t u old new before now status ending text one other same left also is are =
+    let s = one.replica in
+    let r = other.replica in
+    let script = script_of layout u before now ending other text also are in
+    let says : List Said = map said_in other.session.turns in
+    let first = prints_over layout t old new status one text left is one.is_opened.view (shown_of s.file u.shown) says script (found_here layout t.shown s one.is_opened) (agree_there layout t.shown u.shown same s.file one.is_opened.of) in
+    let second = prints_over layout u before now ending other text also are other.is_opened.view (shown_of r.file u.shown) says script (found_here layout u.shown r other.is_opened) (agree_self r.file.layout (shown_of r.file u.shown)) in
+    let line = one_line layout t.shown u.shown same s r one.is_opened other.is_opened says in (
+      first.0 ∙ sym second.0,
+      (
+        text_by script.ends (length says) (text_over r.file (shown_of r.file u.shown) (opened (shape r.file) (unit_at r.file.layout r.file.cluster u.shown) other.is_opened.view) says),
+        subst (λ (l : List ℕ). Appends old.written new.written (text_by script.ends (length says) l)) line first.1,
+        second.1,
+      ),
+    )

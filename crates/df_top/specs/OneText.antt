@@ -1,0 +1,60 @@
+-- A script has one text and one status over what a disk shows: what a session prints where no call of the disk, of the source or of the sink failed.
+use Rattle.std.specs.Prelude.{◌≡◌, ◌⊎◌, ◌+◌, ℕ, List, ◌++◌, length, Some, None}
+use Rattle.std.proofs.Common.{inl, inr}
+use Rattle.df_base.specs.Image.{Image}
+use Rattle.df_base.specs.Streams.{Appends}
+use Rattle.df_disk.specs.Told.{Told}
+use Rattle.df_inspect.specs.Opening.{script_text}
+use Rattle.df_layout.specs.declared.layout.Layout.{Layout}
+use Rattle.df_format.specs.Copies.{content_at}
+use Rattle.df_lines.specs.Grammar.{Said}
+use Rattle.df_lines.specs.Room.{line_bound}
+use Rattle.df_lines.specs.Script.{IsScript}
+use Rattle.df_theory.specs.Found.{IsFound}
+use Rattle.df_theory.specs.Units.{Place}
+use Rattle.df_theory.specs.View.{View}
+use Rattle.df_units.specs.Bytes.{unit_at}
+use Rattle.df_units.specs.Wanted.{class_at}
+use Rattle.df_replica.specs.Below.{shape}
+use Rattle.df_replica.specs.Leaving.{IsReadPlace}
+use Rattle.df_top.specs.Outside.{Outside}
+use Rattle.df_top.specs.Resulting.{script_text_of}
+use Rattle.df_top.specs.Run.{ServesScript, script_budget}
+use Rattle.df_top.specs.declared.status.Status.{Status}
+use Rattle.df_top.specs.declared.status.Status.TheVariants.{Done, Script}
+
+-- nothing failed: the script came to its end, or its next line was refused
+abbrev pub IsThrough : Status → Type 0
+IsThrough Done = Unit {0}
+IsThrough Script = Unit {0}
+IsThrough status = ⊥
+
+-- how the session of a script ends, by how its text ends behind the lines: there is no more, or the next line is refused
+abbrev pub status_by : {A B : Type 0} → A ⊎ B → Status
+status_by (inl no_more) = Done
+status_by (inr refused) = Script
+
+-- and what it prints, where its n lines print this: at a line that is refused, the line that says so behind it
+abbrev pub text_by : {A B : Type 0} → A ⊎ B → (n : ℕ) → List ℕ → List ℕ
+text_by (inl no_more) n text = text
+text_by (inr refused) n text = text ++ script_text (n + 1)
+
+-- the status and the text of a session are functions of its script and of the image that the disk shows at first
+abbrev pub TextIsResult : Type 0
+TextIsResult =
+    (layout : Layout) (t : Told) (old new : Outside) (status : Status) (serves : ServesScript layout t old new status) (view : View) (text : List ℕ) (says : List Said) (script : IsScript (line_bound layout) script_budget text says)
+    → IsFound (shape serves.replica.file) (unit_at serves.replica.file.layout serves.replica.file.cluster t.shown) view → old.left ≡ Some text → IsThrough status
+    → (status ≡ status_by script.ends) × Appends old.written new.written (text_by script.ends (length says) (script_text_of serves.replica.file view t.shown says))
+
+-- Two images show the same, read with this layout: the same copies of the superblock, at each place the same unit, and where there is none, and a call may read the
+-- place, the same class.
+pub record ShowSame (layout : Layout) (a b : Image) : Type 0 where
+  pub copies : (n : ℕ) → content_at a n ≡ content_at b n
+  pub units : (cluster : ℕ) (place : Place) → unit_at layout cluster a place ≡ unit_at layout cluster b place
+  pub classes : (cluster : ℕ) (place : Place) → IsReadPlace layout place → unit_at layout cluster a place ≡ None → class_at layout cluster a place ≡ class_at layout cluster b place
+
+-- two sessions of one script over disks that show the same print the same and end with the same status
+abbrev pub OneText : Type 0
+OneText =
+    (layout : Layout) (t u : Told) (old new before now : Outside) (status ending : Status) (text : List ℕ) → ServesScript layout t old new status → ServesScript layout u before now ending → ShowSame layout t.shown u.shown
+    → old.left ≡ Some text → before.left ≡ Some text → IsThrough status → IsThrough ending → (status ≡ ending) × ((line : List ℕ) × Appends old.written new.written line × Appends before.written now.written line)

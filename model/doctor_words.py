@@ -1,0 +1,192 @@
+"""The doctor's words: what a place holds, why a file is refused, and what to do next."""
+
+from doctor_case import cases_by_copy, copies_of, copy_fields, looks, members_of
+from reader import class_of_copy, evidence_of, is_copy, later_of
+from reader_units import BLOCK, HEADER, PREPARE, REPLY, RESERVED, SECTOR, bytes_at, fields_at, look, zones_of
+
+NAMES = {RESERVED: "reserved header", PREPARE: "prepare", REPLY: "reply", BLOCK: "block", 5: "trailer block"}
+# So many places are described one by one.
+FEW = 6
+FIELDS = {  # what is asked of a field of the superblock, or of a part of its checkpoint's trailer
+    "Slots": "it has to be 16 to 1024, and a multiple of 16", "Clients": "it has to be 1 to 64",
+    "MessageSize": "it has to be 4096 to 1048576, and a multiple of 4096", "Blocks": "it has to be 8 to 16384",
+    "BlockSize": "it has to be 4096 to 524288, and a multiple of 4096", "Cluster": "it has to be above 0",
+    "Sequence": "it has to be 1 to 2^62", "Op": "it has to be at most 2^62", "OpChecksum": "it has to be zeros, as Op is 0",
+    "Head": "it has to be Op to Op + Slots, and at most 2^62", "Replies": "it has to be at most Head, and at most 8 below it",
+    "TrailerAddress": "it has to be at most Blocks, and 0 only where Op is 0", "Boot": "it has to be 0",
+    "TrailerChecksum": "it has to be zeros, as TrailerAddress is 0",
+    "TrailerSize": "it has to be 0 where TrailerAddress is 0, else from 1 to the greatest trailer",
+    "Zero": "the byte at this offset of the copy has to be zero",
+    "TrailerChain": "the block at this address is no link of the trailer's chain, or the trailer references it",
+    "TrailerRoot": "so long is the root, or the text that has no whole length of a root; it has to be at most 1024, and in the text",
+    "TrailerSessions": "so many sessions there are, or the session of this place breaks a rule, or the text ends here",
+    "TrailerBits": "at this offset of the trailer's text the bits end too early, or have one past the last block",
+    "TrailerEnd": "the text has so many bytes, and its references ask for another number",
+    "Pending": "this op waits for its reply, and is the last op of no session",
+}
+COPY_AND_CHECK = "take the file from a copy, and check the device"
+NEXT = {
+    "NotFormatted": "name the right file; or, where it was never used, `format` it",
+    "NoQuorum": "a file that was never used: remove it and make it anew. Else " + COPY_AND_CHECK,
+    "Version": "use the program that made the file",
+    "BadField": "use the program that made the file; if it is this one, " + COPY_AND_CHECK,
+    "Damaged": "what was acknowledged isn't all there: " + COPY_AND_CHECK,
+}
+
+
+def unit_text(h):
+    """What a header says, in words."""
+    text = {
+        RESERVED: f"slot {h['slot']}", BLOCK: f"kind {h['block_kind']} for address {h['op']}",
+        PREPARE: f"op {h['op']}, client {h['client']}, request {h['request']}, mark {h['mark']}, checkpoint {h['checkpoint']}",
+        REPLY: f"op {h['op']}, client {h['client']}, request {h['request']}, mark {h['mark']}, checkpoint {h['checkpoint']}",
+    }.get(h["kind"], f"index {h['mark']} of checkpoint {h['checkpoint']}, for address {h['op']}")
+    return f"a {NAMES[h['kind']]}: {text}, {h['size']} bytes, cluster {h['cluster']}"
+
+
+def copy_text(sector):
+    """What a copy says, in words."""
+    c = copy_fields(sector)
+    return (f"copy {sector[16]} of a superblock: version {c['Version']}, sequence {c['Sequence']}, cluster {c['Cluster']}, "
+            f"layout {layout_text(c)}, checkpoint {c['Op']}, head {c['Head']}, replies {c['Replies']}")
+
+
+def layout_text(f):
+    text = ",".join(str(f[name]) for name in ("Slots", "MessageSize", "Clients", "BlockSize", "Blocks"))
+    return {"32,8192,4,16384,64": "small", "1024,1048576,64,524288,16384": "large"}.get(text, text)
+
+
+def nature(data):
+    """What bytes are, where they are no unit."""
+    if len(set(data)) == 1:
+        return "zeros" if not data[0] else f"bytes {data[0]:02x} alone"
+    if all(byte in b"\t\n\r" or 32 <= byte < 127 for byte in data.rstrip(b"\0")):
+        return f"text, {bytes(data[:24]).decode('ascii')!r} .."
+    return "bytes of all sorts" if len(set(data)) > 128 else "a few kinds of bytes"
+
+
+def natures(file, first, end):
+    """What the sectors from a first one up to another hold, in runs."""
+    runs = []
+    for at in range(first, end):
+        name = nature(bytes_at(file, SECTOR * at, SECTOR))
+        if runs and runs[-1][2] == name:
+            runs[-1][1] = at + 1
+        else:
+            runs.append([at, at + 1, name])
+    shown = [f"{span(start, stop)}: {name}" for start, stop, name in runs[:FEW]]
+    return "; ".join(shown + ([f"and {len(runs) - FEW} runs more"] if len(runs) > FEW else []))
+
+
+def span(first, end):
+    return f"sector {first}" if end == first + 1 else f"sectors {first}..{end}"
+
+
+def place_lines(file, f, zone, index):
+    """Where a place is, and what it holds."""
+    one = zones_of(f)[zone]
+    at, first = one.at(index), one.at(index) // SECTOR
+    end = -(-(at + one.length) // SECTOR)
+    lines = [f"{zone} {index}: {span(first, end)}, bytes {at}..{at + one.length}"]
+    if zone == "Superblock":
+        sector = bytes_at(file, at, SECTOR)
+        return lines + ["there: " + (copy_text(sector) if is_copy(sector) else f"no copy. {natures(file, first, end)}")]
+    seen = look(file, f, zone, index)
+    if seen.header:
+        return lines + [f"there: {unit_text(seen.header)}" + (f"; {seen.why}" if seen.why else "")]
+    raw = bytes_at(file, at, HEADER)
+    h = fields_at(raw)
+    close = h["kind"] in NAMES and h["version"] == 1 and h["cluster"] == f["Cluster"]
+    return lines + [f"there: no unit, since {seen.why}" + (f". Its fields would be {unit_text(h)}" if close else "")
+                    + ". " + (nature(raw) if zone == "WalHeaders" else natures(file, first, end))]
+
+
+def told(state, head):
+    """Who tells of ops above the head."""
+    found = [f"{zone} {index} (op {op})" if zone != "the superblock" else f"the superblock (head {op})"
+             for op, zone, index in evidence_of(state) if op > head]
+    return ", ".join(found[:FEW]) + (f" and {len(found) - FEW} places more" if len(found) > FEW else "")
+
+
+def lost_lines(file, state):
+    """Why the prepare behind the tail is missed."""
+    f, head = state["fields"], state["head"]
+    op, slot = head + 1, (head + 1) % f["Slots"]
+    lines = [f"the file has the ops up to {head}; op {op} belongs into slot {slot}, and is told of by {told(state, head)}"]
+    one, header = state["prepares"][slot], state["headers"][slot]
+    if not isinstance(one, str) and one["op"] == op:
+        other = not isinstance(header, str) and header["op"] == op and header["checksum"] != one["checksum"]
+        lines.append("a prepare of this op is there, but " + (
+            "its header in the ring of headers is that of another one" if other else
+            "doesn't fit those before it by its parent, its mark, or its client's request"))
+    return lines + place_lines(file, f, "WalPrepares", slot) + place_lines(file, f, "WalHeaders", slot)
+
+
+def damaged_lines(case, zone, index):
+    """Why a place refuses the file."""
+    file, state, f = case.file, case.state, case.fields
+    if zone == "WalPrepares":
+        return lost_lines(file, state)
+    if zone == "Superblock":
+        found = later_of(state)
+        lines = [f"{len(found)} places are of a later checkpoint than the superblock's, of sequence {f['Sequence']} and op {f['Op']}"]
+        return lines + [line for each in found[:FEW] for line in place_lines(file, f, *each)] + copy_lines(file)
+    if zone == "ClientReplies":
+        client, last = list(state["sessions"].items())[index]
+        lines = [f"the reply to op {last['op']}, request {last['request']} of client {client}, was stored, and isn't shown here"]
+    else:
+        lines = [f"the trailer of the checkpoint, whose last block is at address {f['TrailerAddress']}, needs its block here"]
+    return lines + place_lines(file, f, zone, index)
+
+
+def copy_lines(file):
+    """What each of the four sectors of copies has."""
+    sectors = copies_of(file)
+    members = members_of(sectors)
+    return [f"Superblock {place}: {'chosen' if place in members else class_of_copy(sector, place)}, "
+            + (copy_text(sector) if is_copy(sector) else nature(sector)) for place, sector in enumerate(sectors)]
+
+
+def alone_lines(file):
+    """What an open would answer were one of the copies enough."""
+    lines = []
+    for place, case in cases_by_copy(file):
+        head = "" if case.refusal else f", head {case.state['head']}, replies {case.state['stored']}"
+        lines.append(f"were the copy in sector {place} enough: {case.verdict()}{head}")
+    return lines
+
+
+def refusal_lines(case, sectors):
+    """Why an open refuses the file; `sectors` are those that may hold something."""
+    words = case.refusal.split()
+    if words[0] == "Damaged":
+        return damaged_lines(case, words[1], int(words[2]))
+    if words[0] in ("NotFormatted", "NoQuorum"):
+        why = "the first four sectors are zeros" if words[0] == "NotFormatted" else "no two of the four copies agree"
+        return [why, *copy_lines(case.file), *alone_lines(case.file), *look_lines(case.file, sectors)]
+    if words[0] == "Version":
+        return [f"the superblock has version {words[2]}; the program and this reader know version 1 alone", *copy_lines(case.file)]
+    return [f"{words[1]} {words[2]}: {FIELDS[words[1]]}", *copy_lines(case.file)]
+
+
+def look_lines(file, sectors):
+    """What the sectors look like, whatever the layout."""
+    runs = looks(file, sectors)
+    listed = [f"{span(first, end)}: {name}, {count} of them" for first, end, name, count in runs[: 4 * FEW]]
+    return listed + ([f"and {len(runs) - 4 * FEW} runs more"] if len(runs) > 4 * FEW else [])
+
+
+def next_lines(case):
+    """What to do."""
+    if case.refusal:
+        return [NEXT[case.refusal.split()[0]]]
+    lines = []
+    if case.lost:
+        lines.append("keep a copy of the file, since mending takes some of these traces away; then compare what was acknowledged, "
+                     "with `prepare` and `lookup`, before a new line is given: what was taken back is accepted again")
+    if case.mends:
+        lines.append("`run`, `recover` or `scrub` mends what is listed so, with nothing to do by hand")
+    if case.failing:
+        lines.append("what the blocks that fail held is lost: release them, write them again from elsewhere, make a checkpoint, "
+                     "and check the device")
+    return lines or ["nothing"]

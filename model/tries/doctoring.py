@@ -1,0 +1,138 @@
+"""Tries of `doctor.py`, which is built on the reader: what it says of a file is what the program answers, and where damage takes
+back what was acknowledged it says so."""
+
+import os
+import subprocess
+import sys
+from xml.etree import ElementTree
+
+import doctor as told
+from doctor_case import examine
+from doctor_picture import picture
+
+from . import form, generate, hurt, reading, recovery, reporting, rows, script
+from .binary import expect, require
+from .common import Try
+from .forge import put
+from .form import SECTOR, Place
+from .knows import knows
+
+DOCTOR = os.path.abspath(told.__file__)
+
+
+def older(t: Try) -> bytes:
+    """A file whose copies are those of an earlier moment: something in it is of a later checkpoint, perhaps a reply alone."""
+    past = hurt.history(t)
+    copies = t.random.choice(past.earlier)[: SECTOR * form.COPIES]
+    return copies + past.data[SECTOR * form.COPIES :]
+
+
+def of_garbage(t: Try) -> bytes:
+    size = t.random.choice((0, 1, 4096, 16384, 30000))
+    return t.random.choice((t.random.randbytes(size), bytes(size), (b"append 1 1 -\n" * 2400)[:size]))
+
+
+MAKERS = {
+    "tied": reading.tied, "struck": reading.struck, "forged": reading.forged, "rewritten": reading.rewritten,
+    "reported": reporting.file_for, "hurt": lambda t: hurt.damage(t, hurt.history(t))[0],
+    "with older copies": older, "of a worked row": lambda t: t.random.choice(rows.listed())[0] or b"", "of garbage": of_garbage,
+}
+
+
+def asked(t: Try) -> tuple:
+    """The doctor's lines and status over the program's file, and its case."""
+    file = told.opened(t.binary.path)
+    try:
+        case = examine(file)
+        lines, status = told.report(case, t.binary.path)
+        drawing = picture(case, "file") if t.random.random() < 0.3 else None
+    finally:
+        os.close(file.fd)
+    if drawing:
+        ElementTree.fromstring(drawing)
+        t.counts["pictures drawn"] += 1
+    return lines, status, case
+
+
+def only(lines: list, *words: str) -> list:
+    """The lines that begin with one of these words."""
+    return [line for line in lines if line.split(" ")[0] in words]
+
+
+def doctor(t: Try) -> None:
+    """A file of any sort: the refusal, what is mended, the sessions and the blocks that fail are the program's."""
+    name = t.random.choice(list(MAKERS))
+    data = MAKERS[name](t)
+    t.binary.put(data)
+    lines, status, case = asked(t)
+    expect("the doctor writes nothing", data, t.binary.get())
+    if t.random.random() < 0.1:
+        done = subprocess.run([sys.executable, DOCTOR, t.binary.path], capture_output=True, text=True)
+        expect("the doctor as a program", ("\n".join(lines) + "\n", status, ""), (done.stdout, done.returncode, done.stderr))
+    answer = t.binary.run(words=["inspect"])
+    printed = answer.text.decode().splitlines()
+    expect("the model", recovery.found(data).refusal or "", case.refusal)
+    if case.refusal:
+        expect("the refusal", [f"refused {case.refusal}"], printed)
+        expect("the doctor's status", 2, status)
+        expect("the doctor's verdict", True, lines[0] in (f"refused: {case.refusal}", "no data file"))
+        require("the refusal is told", any(case.refusal in line for line in lines))
+    else:
+        expect("sessions and what is mended", only(printed, "session", "mend"), only(lines, "session", "mend"))
+        expect("whether something is mended", answer.status == 1, bool(case.mends))
+        scrubbed(t, lines, status, case)
+    t.counts[f"files {name}: " + (" ".join(lines[0].split()[:2]) if case.refusal else lines[0])] += 1
+
+
+def scrubbed(t: Try, lines: list, status: int, case) -> None:
+    """The blocks that fail are those of a tour, and the status follows."""
+    if knows("all"):
+        toured = t.binary.run(words=["scrub"]).text.decode().splitlines()
+        expect("failing blocks", [*only(toured, "failing"), f"tour {case.checked} {len(case.failing)}"],
+               [*only(lines, "failing"), toured[-1]])
+    expect("the doctor's status", int(bool(case.mends or case.failing or case.lost)), status)
+
+
+def taken_back(t: Try) -> None:
+    """Sectors of the newest prepares, headers and replies are hurt. Where the file opens in an earlier state, the doctor lists
+    what may be lost; and nothing of a file that is whole."""
+    random, home = t.random, generate.home(t.random)
+    listed = generate.script_of(random, generate.machine_of(script.fresh(home)), random.choice((2, 5, 12)), 0, 1)
+    data = script.run(script.fresh(home), generate.text_of(random, listed)).data
+    before, layout = recovery.view_of(data), home.layout
+    t.binary.put(data)
+    expect("a whole file lost nothing", [], asked(t)[2].lost)
+    ops = range(max(before.checkpoint.op + 1, before.head() - 1), before.head() + 1)
+    places = [layout.at(Place(form.CLIENT_REPLIES, place)) for place, _ in enumerate(before.sessions)]
+    image = bytearray(data)
+    for op in ops:
+        if random.random() < 0.5 or op == before.head():
+            places += [layout.place(op), layout.header_sector(op % layout.slots)]
+    for at in random.sample(places, min(len(places), random.choice((1, 2, 2, 3)))) if random.random() < 0.5 else places[-2:]:
+        put(image, at, b"\xa5" * SECTOR)
+    t.binary.put(bytes(image))
+    found, case = recovery.found(bytes(image)), asked(t)[2]
+    earlier = not found.refusal and found.view != before
+    require(f"what may be lost behind op {before.head()} is told", not earlier or bool(case.lost))
+    what = " ".join(found.refusal.split()[:2]) if found.refusal else "taken back, and told" if earlier else "as before"
+    t.counts[f"newest units hurt: {what}"] += 1
+
+
+def doctor_paths(t: Try) -> None:
+    """Paths that are no file: the doctor names the status that the program answers."""
+    loop = os.path.join(t.binary.folder, "ring")
+    if not os.path.lexists(loop):
+        os.symlink(loop, loop)
+    absent = os.path.join(t.binary.folder, f"absent{t.random.randrange(10**9)}")
+    missing = os.path.join(t.binary.folder, "no", "file")
+    path = t.random.choice(("", "/", t.binary.folder, missing, loop, "/dev/null/x", "x" * 300, absent))
+    done = subprocess.run([sys.executable, DOCTOR, path], capture_output=True, text=True, cwd=t.binary.folder)
+    expect("the doctor of no file", ("no data file", 2, ""), (done.stdout.splitlines()[0], done.returncode, done.stderr))
+    require("the doctor makes nothing", not os.path.exists(absent))
+    got = t.binary.run(words=["run"], path=path)
+    told_of = "refused NotFormatted" in done.stdout if path == absent else "answers status 5" in done.stdout
+    expect("the program's status, as the doctor has it", (4 if path == absent else 5, True), (got.status, told_of))
+    t.counts["paths of no file"] += 1
+
+
+KINDS = {"doctor": (doctor, 6), "taken_back": (taken_back, 3), "doctor_paths": (doctor_paths, 1)} if knows("reports") else {}
