@@ -1,5 +1,5 @@
 -- A trailer that is refused is that of no checkpoint that can be read: what is shown has one chain, and it has one text.
-use Rattle.std.proofs.Common.{◌≡◌, ℕ, ◌+◌, ◌-◌, ◌*◌, ◌^◌, ◌<◌, ◌≤◌, ◌==◌, Bool, true, false, Option, Some, None, List, [], ◌∷◌, length, min, refl, sym, ap, ◌∙◌, subst, arith, inl, inr}
+use Rattle.std.proofs.Common.{◌≡◌, ℕ, ◌+◌, ◌-◌, ◌*◌, ◌^◌, ◌<◌, ◌≤◌, ◌==◌, Bool, true, false, Option, Some, None, List, [], ◌∷◌, length, min, refl, sym, ap, ◌∙◌, subst, arith, inl, inr, eq-eqb}
 use Rattle.std.specs.Prelude.{Ok}
 use Rattle.std.proofs.lemmas.Bool.{cases_lt}
 use Rattle.std.proofs.lemmas.Bool.Decides.{nat_tests}
@@ -21,15 +21,12 @@ use Rattle.df_checkpoint.specs.Reads.{IsWhole}
 use Rattle.df_checkpoint.specs.Laws.{BadTextIsUnreadable, BrokenIsUnreadable, DamageIsMissed, ReferencedIsUnreadable, UntrackedIsUnreadable}
 use Rattle.df_checkpoint.proofs.OneLink.{asked_is}
 
-yes_eq : (a b : ℕ) → a ≡ b → (a == b) ≡ true
-yes_eq a b same = grind (arith, nat_tests)
-
 -- a block that is shown as it is wanted is the answer
 shown_asked : (shown : Shown) (a k : ℕ) (is : IsShown shown.units a k) → asked shown a k ≡ Ok is.0
 shown_asked shown a k (b, at, sum, kind) =
     ap (λ (o : Option AnyUnit). trailer_alone (block_given (Some k) o (class_at shown (BlockPlace a)))) at
-    ∙ ap (λ (t : Bool). trailer_alone (given_if t b (class_at shown (BlockPlace a)))) (yes_eq b.checksum k sum)
-    ∙ ap (λ (t : Bool). given_if t b Stale) (yes_eq b.kind 0 kind)
+    ∙ ap (λ (t : Bool). trailer_alone (given_if t b (class_at shown (BlockPlace a)))) (eq-eqb b.checksum k sum)
+    ∙ ap (λ (t : Bool). given_if t b Stale) (eq-eqb b.kind 0 kind)
 
 pub damage_missed : DamageIsMissed
 damage_missed sh shown c a class lacking = record { sum = lacking.sum; reads = lacking.reads; missed = λ is. let one = shown_asked shown a lacking.sum is in let two = lacking.is in cc }

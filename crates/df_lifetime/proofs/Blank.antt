@@ -4,6 +4,7 @@ use Rattle.std.specs.Prelude.{slice_index}
 use Rattle.std.proofs.lemmas.List.{length-replicate}
 use Rattle.df_base.specs.Image.{Image, IsImage, blank}
 use Rattle.df_base.specs.Log.{AreEvents, AreSyncs, Event, Stop, Sync, Write}
+use Rattle.df_base.proofs.Laws.{blank_is_image, AreBytes-zeros}
 use Rattle.df_layout.specs.declared.layout.Layout.{Layout}
 use Rattle.df_format.specs.First.{first_content, first_super}
 use Rattle.df_format.specs.Spelling.{IsCheck, no_checksum}
@@ -45,11 +46,6 @@ first_is_super layout cluster some = record {
   zero = refl;
 }
 
-AreBytes-zeros : (n i : ℕ) → slice_index (replicate n 0) i < 256
-AreBytes-zeros zero i = omega arith
-AreBytes-zeros (suc n) zero = omega arith
-AreBytes-zeros (suc n) (suc i) = AreBytes-zeros n i
-
 no_check : IsCheck no_checksum
 unfolding no_checksum
 no_check = record { size = length-replicate {A = ℕ} 16 0; each = AreBytes-zeros 16 }
@@ -77,10 +73,6 @@ first_fits layout cluster below = record {
 
 -- ---- a blank disk
 
-blank_whole : IsImage blank
-unfolding blank
-blank_whole = record { sectors = λ sector. record { size = length-replicate {A = ℕ} 4096 0; each = AreBytes-zeros 4096 } }
-
 syncs_are_events : (es : List Event) → AreSyncs es → AreEvents es
 syncs_are_events [] syncs = tt
 syncs_are_events ((Write at bytes) ∷ es) syncs = absurd syncs
@@ -90,7 +82,7 @@ syncs_are_events ((Stop changes) ∷ es) syncs = absurd syncs
 pub new_disks_are_made_on : NewDisksAreMadeOn
 new_disks_are_made_on layout cluster t named below blank_start syncs = record {
   named = named;
-  is_log = record { start = subst IsImage (sym blank_start) blank_whole; events = syncs_are_events t.log.events syncs };
+  is_log = record { start = subst IsImage (sym blank_start) blank_is_image; events = syncs_are_events t.log.events syncs };
   making =
       subst (λ (image : Image). IsMaking (shape (file_of layout cluster named)) (units_log (format_of layout cluster) (record { start = image; events = t.log.events })) (content_of (first_content layout cluster))) (sym blank_start)
       (new_is_making layout cluster named (shape (file_of layout cluster named)).parse t.log.events (record { rules = first_is_super layout cluster named; fits = first_fits layout cluster below }) syncs);

@@ -5,7 +5,7 @@ use Rattle.std.proofs.Math.Nat.{ℕ_set}
 use Rattle.df_base.specs.Image.{Image, changed, written}
 use Rattle.df_base.specs.Log.{Event, Stop, Sync, Write}
 use Rattle.df_base.specs.Moments.{Extends}
-use Rattle.df_base.proofs.Laws.{extends_self}
+use Rattle.df_base.proofs.Laws.{extends_self, extends_on}
 use Rattle.df_disk.specs.Adds.{after_all}
 use Rattle.df_disk.specs.Told.{IsHonest, Told, did}
 use Rattle.df_layout.specs.declared.layout.Layout.{Layout}
@@ -17,7 +17,6 @@ use Rattle.df_theory.proofs.Laws.{one_chosen_law}
 use Rattle.df_units.specs.Bytes.{unit_at}
 use Rattle.df_replica.specs.Below.{IsOpened, State, shape, DataFile}
 use Rattle.df_replica.specs.Opened.{ToldBy}
-use Rattle.df_replica.proofs.Laws.{extends_on}
 
 -- ---- a file is its layout and its cluster
 

@@ -2,7 +2,7 @@
 use Rattle.std.proofs.Common.{◌≡◌, ◌⊎◌, inl, inr, ℕ, ◌+◌, ◌-◌, suc, Bool, true, false, List, [], ◌∷◌, ◌++◌, append_assoc, length, length-append, map, Option, Some, None, refl, sym, ◌∙◌, ap, subst, arith}
 use Rattle.std.specs.Prelude.{take}
 use Rattle.std.proofs.Math.Seq.{take-length}
-use Rattle.std.proofs.lemmas.List.{append-nil, take-append-le}
+use Rattle.std.proofs.lemmas.List.{append-nil, take-append-le, map-append}
 use Rattle.df_base.specs.Streams.{Appends, AppendsPart}
 use Rattle.df_base.specs.Log.{Sync}
 use Rattle.df_disk.specs.Adds.{after_all}
@@ -106,10 +106,6 @@ over_front sh by shown w (Ring ∷ xs) ys =
     let more = over_front sh by shown w xs ys in
     (more.0, ap (λ (l : List ℕ). recent_text w.findings ++ l) more.1 ∙ sym (append_assoc (recent_text w.findings) (joined (printed sh by shown w xs)) more.0))
 
-map_append : {A B : Type 0} (f : A → B) (xs ys : List A) → map f (xs ++ ys) ≡ map f xs ++ map f ys
-map_append f [] ys = refl
-map_append f (x ∷ xs) ys = ap (λ (l : List _). f x ∷ l) (map_append f xs ys)
-
 count_map : {A B : Type 0} (f : A → B) (xs : List A) → length (map f xs) ≡ length xs
 count_map f [] = refl
 count_map f (x ∷ xs) = ap suc (count_map f xs)
@@ -117,7 +113,7 @@ count_map f (x ∷ xs) = ap suc (count_map f xs)
 text_front : (file : DataFile) (shown : Shown) (w : Work) (lines says : List Said) → IsFront lines says → IsFront (text_over file shown w lines) (text_over file shown w says)
 text_front file shown w lines says (more, is) =
     let front = over_front (shape file) (codec file) shown w (map line_of lines) (map line_of more) in
-    (front.0, ap (λ (l : List Line). joined (printed (shape file) (codec file) shown w l)) (ap (map line_of) is ∙ map_append line_of lines more) ∙ front.1)
+    (front.0, ap (λ (l : List Line). joined (printed (shape file) (codec file) shown w l)) (ap (map line_of) is ∙ map-append line_of lines more) ∙ front.1)
 
 by_front : {A B : Type 0} (e : A ⊎ B) (n : ℕ) (line : List ℕ) → IsFront line (text_by e n line)
 by_front (inl none) n line = ([], sym (append-nil line))

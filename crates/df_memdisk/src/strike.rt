@@ -71,9 +71,6 @@ impl MemoryDisk {
             sector,
             bytes,
         };
-        match self.strikes.push(struck) {
-            Ok(()) => Ok(()),
-            Err(_) => Err(OutOfMemory),
-        }
+        Ok(self.strikes.push(struck)?)
     }
 }

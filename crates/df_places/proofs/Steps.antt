@@ -1,5 +1,6 @@
 -- The events of the write of a sound room's unit are steps of the model: the unit is put into its place, and synced.
 use Rattle.std.proofs.Common.{◌≡◌, ℕ, List, Some, refl, sym, ◌∙◌, ap, subst, take}
+use Rattle.std.proofs.lemmas.Option.{same_Some}
 use Rattle.df_layout.specs.declared.layout.Layout.{Layout}
 use Rattle.df_layout.specs.declared.places.Place.{Place}
 use Rattle.df_layout.specs.declared.places.Zone.{Zone}
@@ -10,7 +11,6 @@ use Rattle.df_format.specs.Message.{Message, sectors_end}
 use Rattle.df_format.specs.Own.{own_place}
 use Rattle.df_format.specs.Valid.{IsUnit}
 use Rattle.df_format.specs.Brings.{Brings}
-use Rattle.df_format.proofs.Laws.{some-eq}
 use Rattle.df_buffers.specs.Rooms.{StandsIn}
 use Rattle.df_buffers.specs.Sounds.{BringsOwn, Holding}
 use Rattle.df_theory.specs.Device.{AreSteps, IsPut}
@@ -25,16 +25,16 @@ use Rattle.df_places.proofs.Rooms.{no_ring}
 
 -- a unit has one own place in a zone
 one_place : (layout : Layout) (cluster : ℕ) (a b : Place) (u : Message) → a.zone ≡ b.zone → IsUnit layout cluster a u → IsUnit layout cluster b u → a ≡ b
-one_place layout cluster a b u zones at_a at_b = some-eq (sym at_a.own ∙ ap (λ (z : Zone). own_place layout z u.header) zones ∙ at_b.own)
+one_place layout cluster a b u zones at_a at_b = same_Some _ _ (sym at_a.own ∙ ap (λ (z : Zone). own_place layout z u.header) zones ∙ at_b.own)
 
 -- bytes that bring a unit to a place of the model put it there
 puts_at : (layout : Layout) (cluster : ℕ) (at : Units.Place) (u : Message) (x : AnyUnit) (bytes : List ℕ) → ((place_of at).zone ≡ WalHeaders → ⊥) → unit_of at u ≡ Some x → Brings layout cluster (place_of at) u bytes
     → IsPut (format_of layout cluster) (span_of layout (place_of at)).first bytes (put_one at x)
 puts_at layout cluster (CopyPlace n) u x bytes alone is brings = absurd (cc)
 puts_at layout cluster (HeaderPlace s) u x bytes alone is brings = absurd (alone refl)
-puts_at layout cluster (PreparePlace s) u x bytes alone is brings = subst (λ (y : AnyUnit). IsPut (format_of layout cluster) (span_of layout (place_of (PreparePlace s))).first bytes (put_one (PreparePlace s) y)) (some-eq is) (prepare_put layout cluster s u bytes brings)
-puts_at layout cluster (ReplyPlace k) u x bytes alone is brings = subst (λ (y : AnyUnit). IsPut (format_of layout cluster) (span_of layout (place_of (ReplyPlace k))).first bytes (put_one (ReplyPlace k) y)) (some-eq is) (reply_put layout cluster k u bytes brings)
-puts_at layout cluster (BlockPlace a) u x bytes alone is brings = subst (λ (y : AnyUnit). IsPut (format_of layout cluster) (span_of layout (place_of (BlockPlace a))).first bytes (put_one (BlockPlace a) y)) (some-eq is) (block_put layout cluster a u bytes brings)
+puts_at layout cluster (PreparePlace s) u x bytes alone is brings = subst (λ (y : AnyUnit). IsPut (format_of layout cluster) (span_of layout (place_of (PreparePlace s))).first bytes (put_one (PreparePlace s) y)) (same_Some _ _ is) (prepare_put layout cluster s u bytes brings)
+puts_at layout cluster (ReplyPlace k) u x bytes alone is brings = subst (λ (y : AnyUnit). IsPut (format_of layout cluster) (span_of layout (place_of (ReplyPlace k))).first bytes (put_one (ReplyPlace k) y)) (same_Some _ _ is) (reply_put layout cluster k u bytes brings)
+puts_at layout cluster (BlockPlace a) u x bytes alone is brings = subst (λ (y : AnyUnit). IsPut (format_of layout cluster) (span_of layout (place_of (BlockPlace a))).first bytes (put_one (BlockPlace a) y)) (same_Some _ _ is) (block_put layout cluster a u bytes brings)
 
 -- the lent sectors bring the unit to the place that is its own
 own_brings : (zone : Zone) (layout : Layout) (place : Place) (held : Holding) (lent : List ℕ) → held.layout ≡ layout → place.zone ≡ zone → IsUnit layout held.unit.header.cluster place held.unit → BringsOwn zone held lent

@@ -1,6 +1,7 @@
 -- The state whose live blocks changed: it makes sense, and what it is in the words of the machine.
-use Rattle.std.proofs.Common.{◌≡◌, ℕ, ◌==◌, true, false, Bool, cond, List, [], ◌∷◌, length, Option, Some, None, refl, sym, ap, subst, arith}
+use Rattle.std.proofs.Common.{◌≡◌, ℕ, ◌==◌, true, false, Bool, cond, List, [], ◌∷◌, length, Option, Some, None, refl, sym, ap, subst, arith, ltb-false}
 use Rattle.std.specs.Prelude.{Result, Ok, Err, OnErr, OnOk}
+use Rattle.std.proofs.lemmas.Bool.{eqb-false}
 use Rattle.df_format.specs.declared.superblock.SuperFields.{SuperFields}
 use Rattle.df_grid.specs.Grid.{GridState, IsUnheld, with_blocks as grid_of}
 use Rattle.df_model.specs.Blocks.{Blocks, block_released, sum_at, without_entry}
@@ -13,7 +14,6 @@ use Rattle.df_model.specs.declared.errors.BlockError.{BlockError}
 use Rattle.df_state.specs.declared.file.DataFile.{DataFile}
 use Rattle.df_state.specs.State.{Capture, IsCourse, IsState, State, course_in, grid_with, memory}
 use Rattle.df_replica.specs.Blocks.{MayWriteNext, address_or, with_blocks}
-use Rattle.df_replica.proofs.AppendTests.{eq_false, lt_false}
 
 -- ---- other live blocks
 
@@ -99,8 +99,8 @@ pub may_write : (s : State) (kind : ℕ) (body : List ℕ) (address : ℕ) → f
 may_write s kind body address none here free =
     let tests = all_pass (block_refusals (memory s) kind body) none in
     record {
-      named = (let some = eq_false _ _ tests.0 in omega (arith, some));
-      fits = (let fits = lt_false _ _ tests.1.0 in omega (arith, fits, s.file.layout.block_size_within.0));
+      named = (let some = eqb-false _ _ tests.0 in omega (arith, some));
+      fits = (let fits = ltb-false _ _ tests.1.0 in omega (arith, fits, s.file.layout.block_size_within.0));
       free = subst (IsUnheld (grid_with s.file s.blocks)) here free;
     }
 

@@ -1,14 +1,14 @@
 -- Every call: whose device calls are the machine's has good moments, and where it answered what is kept goes on.
 use Rattle.std.proofs.Common.{◌≡◌, ℕ, Bool, ◌||◌, inl, inr, true, false, List, [], ◌∷◌, ◌++◌, append_assoc, Option, Some, None, refl, sym, ◌∙◌, ap, subst}
+use Rattle.std.proofs.lemmas.Option.{same_Some}
 use Rattle.df_base.specs.Image.{covers}
 use Rattle.df_base.specs.Log.{Event, IsLog, Log, Stop, Sync, Write, now}
 use Rattle.df_base.specs.Moments.{EachMoment, Extends, adds}
-use Rattle.df_base.proofs.Laws.{extends_self}
+use Rattle.df_base.proofs.Laws.{extends_self, extends_on}
 use Rattle.df_disk.specs.Told as told
 use Rattle.df_disk.specs.Told.{Told, did}
 use Rattle.df_disk.specs.Adds.{AddsPart, after_all}
 use Rattle.df_damage.specs.Written.{IsWritten}
-use Rattle.df_format.proofs.Laws.{some-eq}
 use Rattle.df_journal.specs.Append.{ShowsRing}
 use Rattle.df_theory.specs.Device.{Format, IsSafeDisk, units_log}
 use Rattle.df_theory.specs.Shape.{Shape}
@@ -77,14 +77,10 @@ tells_none [] n part = cc
 tells_none (e ∷ es) n (inl same) = cc
 tells_none (e ∷ es) n (inr more) = tells_none es n more
 
-pub extends_on : (last later earlier : Log) → Extends last later → Extends later earlier → Extends last earlier
-extends_on last later earlier one two =
-    (one.0 ++ two.0, one.1 ∙ ap (λ (l : List Event). one.0 ++ l) two.1 ∙ sym (append_assoc one.0 two.0 earlier.events), one.2 ∙ two.2)
-
 -- the log that a call leaves goes on from the one before it
 grows : (events : List Event) (t n : Told) → AddsPart events (Some t) (Some n) → Extends n.log t.log
-grows [] t n is = subst (λ (x : Told). Extends x.log t.log) (sym (some-eq is)) (extends_self t.log)
-grows (e ∷ es) t n (inl is) = subst (λ (x : Told). Extends x.log t.log) (sym (some-eq is)) (extends_self t.log)
+grows [] t n is = subst (λ (x : Told). Extends x.log t.log) (sym (same_Some _ _ is)) (extends_self t.log)
+grows (e ∷ es) t n (inl is) = subst (λ (x : Told). Extends x.log t.log) (sym (same_Some _ _ is)) (extends_self t.log)
 grows (e ∷ es) t n (inr more) = extends_on n.log (did e t).log t.log (grows es (did e t) n more) (e ∷ [], refl, refl)
 
 -- a good log is safe

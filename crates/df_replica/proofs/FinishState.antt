@@ -1,9 +1,10 @@
 -- What the superblock says that ends a checkpoint obeys the rules.
 use Rattle.std.proofs.Common.{◌≡◌, ◌∙◌, ℕ, ◌≤◌, List, [], ◌∷◌, Some, None, refl, sym, ap, arith}
 use Rattle.std.proofs.lemmas.List.{take_all}
+use Rattle.std.proofs.lemmas.Option.{same_Some}
 use Rattle.df_base.specs.Fields.{spelled}
 use Rattle.df_base.proofs.Laws.{spelled-field_at}
-use Rattle.df_format.proofs.Laws.{some-eq, faults}
+use Rattle.df_format.proofs.Laws.{faults}
 use Rattle.df_format.specs.Spelling.{IsCheck}
 use Rattle.df_format.specs.SuperRules.{IsSuper, fault_of}
 use Rattle.df_grid.specs.Table.{last_of}
@@ -21,7 +22,7 @@ pub first_pair : (written : List (ℕ × ℕ)) (left : List ℕ) (address sum : 
 first_pair written (a ∷ more) address sum done is = absurd (cc)
 first_pair [] [] address sum done is = absurd (cc)
 first_pair (x ∷ xs) [] address sum done is =
-    let same : (address, sum) ≡ x = some-eq is in
+    let same : (address, sum) ≡ x = same_Some _ _ is in
     (ap (λ (y : ℕ × ℕ). y.0) (sym same), ap (λ (y : ℕ × ℕ). y.1) (sym same))
 
 module _ (s : State) (r : Capture) (is : IsState s) (runs : IsRunning s.file s.fields s.head s.blocks r) (some : 1 ≤ first_address s.blocks.written) (inside : first_address s.blocks.written ≤ s.file.layout.blocks) where

@@ -1,6 +1,6 @@
 -- What the crates above cite: what an open finds, and how calls one after the other go on, end, and are survived.
 pub use Rattle.df_replica.proofs.Opens.{found_keeps}
-pub use Rattle.df_replica.proofs.Calls.{extends_on, good_safe}
+pub use Rattle.df_replica.proofs.Calls.{good_safe}
 pub use Rattle.df_replica.proofs.Sessions.{added_on, answered_is_there, fault_stops_them, good_left, joined, keeps_alone, nothing_is_served, one_more_is_served}
 pub use Rattle.df_replica.proofs.Leaves.{durable_held, logged_after, shown_after, stays_firm}
 pub use Rattle.df_replica.proofs.NotRefused.{safe_is_not_refused}

@@ -1,10 +1,10 @@
 -- Each read of a reply is the machine's: it does nothing to the disk, and what it found is what it was supplied with.
 use Rattle.std.proofs.Common.{◌≡◌, ℕ, ◌^◌, ◌<◌, Bool, true, false, cond, nat_lt, [], Option, Some, None, refl, sym, ◌∙◌, ap, subst, arith}
 use Rattle.std.specs.Prelude.{Result, Ok, Err}
+use Rattle.std.proofs.lemmas.Option.{same_Some}
 use Rattle.df_base.specs.Log.{now}
 use Rattle.df_disk.specs.Told.{Told}
 use Rattle.df_layout.specs.declared.damage.Class.{Class}
-use Rattle.df_format.proofs.Laws.{some-eq}
 use Rattle.df_format.specs.declared.kind.Kind.TheVariants.{Reply}
 use Rattle.df_format.specs.Message.{Message}
 use Rattle.df_format.specs.Own.{place_in}
@@ -49,7 +49,7 @@ module _ (s : State) (client : ℕ) (live : s.live ≡ true) where
     live = live;
     stands = λ w work rep. (ap ToReadReply (sym same) ∙ ap (λ (m : Memory). ToReadReply (after.lookup_answer m given.message client)) rep, rep);
     made = λ w work rep. tt;
-    ring = λ g w a b k all. subst (λ (x : Told). ShowsRing s.file.layout s.file.cluster (now x.log) s.headers) (sym (some-eq all)) k.ring;
+    ring = λ g w a b k all. subst (λ (x : Told). ShowsRing s.file.layout s.file.cluster (now x.log) s.headers) (sym (same_Some _ _ all)) k.ring;
   }
 
   answers : (told : Option Told) (found : Option (Result Units.Message Class)) (answer : Result Units.Message LookupError)
@@ -91,8 +91,8 @@ is_refusal s client e some =
     by (is_new session) (nat_lt s.replies (last_op session)) (last_op session) some
   where
     by : (new waits : Bool) (op : ℕ) → cond new (Some lookup.NoClient) (cond waits (Some (lookup.ReplyPending op)) None) ≡ Some e → IsRefusal e
-    by true waits op is = subst IsRefusal (some-eq is) tt
-    by false true op is = subst IsRefusal (some-eq is) tt
+    by true waits op is = subst IsRefusal (same_Some _ _ is) tt
+    by false true op is = subst IsRefusal (same_Some _ _ is) tt
     by false false op is = absurd (cc)
 
 -- what a read answers where it is refused

@@ -1,10 +1,10 @@
 -- Each read is the machine's: it does nothing to the disk, and what it found is what it was supplied with.
 use Rattle.std.proofs.Common.{◌≡◌, ℕ, ◌+◌, ◌%◌, ◌^◌, ◌<◌, Bool, true, false, cond, not, ◌&&◌, nat_lt, [], Option, Some, None, refl, sym, ◌∙◌, ap, subst, arith}
 use Rattle.std.specs.Prelude.{Result, Ok, Err, nat_le, slice_get}
+use Rattle.std.proofs.lemmas.Option.{same_Some}
 use Rattle.df_base.specs.Log.{now}
 use Rattle.df_disk.specs.Told.{Told}
 use Rattle.df_layout.specs.declared.damage.Class.{Class}
-use Rattle.df_format.proofs.Laws.{some-eq}
 use Rattle.df_format.specs.declared.kind.Kind.TheVariants.{Prepare}
 use Rattle.df_format.specs.Message.{Message}
 use Rattle.df_format.specs.Own.{place_in}
@@ -48,7 +48,7 @@ module _ (s : State) (op : ℕ) (live : s.live ≡ true) where
     live = live;
     stands = λ w work rep. (ap ToReadPrepare (sym same) ∙ ap (λ (m : Memory). ToReadPrepare (after.prepare_answer m given.message op)) rep, rep);
     made = λ w work rep. tt;
-    ring = λ g w a b k all. subst (λ (x : Told). ShowsRing s.file.layout s.file.cluster (now x.log) s.headers) (sym (some-eq all)) k.ring;
+    ring = λ g w a b k all. subst (λ (x : Told). ShowsRing s.file.layout s.file.cluster (now x.log) s.headers) (sym (same_Some _ _ all)) k.ring;
   }
 
   answers : (told : Option Told) (found : Option (Result Units.Message Class)) (answer : Result Units.Message PrepareError)
@@ -87,7 +87,7 @@ not_kept : (s : State) (op : ℕ) (e : PrepareError) → first_refusal (prepare_
 not_kept s op e some = by (not (nat_lt s.fields.op op && nat_le op s.head)) some
   where
     by : (b : Bool) → cond b (Some (prepare.NotKept (s.fields.op + 1) s.head)) None ≡ Some e → IsNotKept e
-    by true is = subst IsNotKept (some-eq is) tt
+    by true is = subst IsNotKept (same_Some _ _ is) tt
     by false is = absurd (cc)
 
 -- what a read answers where it is refused

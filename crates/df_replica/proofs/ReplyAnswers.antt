@@ -1,13 +1,14 @@
 -- Each reply is the machine's: its answer, the state behind it, and what it does to the disk.
 use Rattle.std.proofs.Common.{◌≡◌, ◌∙◌, inl, ℕ, ◌<◌, true, false, Bool, List, [], ◌∷◌, length, map, Option, Some, None, refl, sym, ap, subst, arith}
 use Rattle.std.specs.Prelude.{if◌then◌else◌, Ok, Err}
+use Rattle.std.proofs.lemmas.Option.{same_Some}
 use Rattle.df_base.proofs.Laws.{AreBytes-check_of, field_at-lt, now_is_image}
 use Rattle.df_base.specs.Image.{IsImage}
 use Rattle.df_base.specs.Log.{now}
 use Rattle.df_disk.specs.Told.{Told}
 use Rattle.df_disk.specs.Adds.{AddsPart, after_all}
 use Rattle.df_layout.specs.declared.places.Zone.TheVariants.{ClientReplies}
-use Rattle.df_format.proofs.Laws.{made_brings, some-eq}
+use Rattle.df_format.proofs.Laws.{made_brings}
 use Rattle.df_format.specs.Making.{for_body}
 use Rattle.df_format.specs.Message.{Message, sectors_of}
 use Rattle.df_format.specs.Own.{place_in}
@@ -102,7 +103,7 @@ module _ (s : State) (op : ℕ) (body : List ℕ) (given : Given) (is : IsState 
       live = live;
       stands = λ w work rep. (ap (λ (x : Work × Answer). x.1) (sym (refused_next w rep)), subst (λ (x : Work × Answer). Represents s x.0) (sym (refused_next w rep)) rep);
       made = λ w work rep. refused_makes w rep;
-      ring = λ g w a b k all. subst (λ (x : Told). ShowsRing s.file.layout s.file.cluster (now x.log) s.headers) (sym (some-eq all)) k.ring;
+      ring = λ g w a b k all. subst (λ (x : Told). ShowsRing s.file.layout s.file.cluster (now x.log) s.headers) (sym (same_Some _ _ all)) k.ring;
     }
 
     refused_call : (old : Option Told) → IsSupplied s old command given → IsCall given command s s old old (Some (ToReply (Err e)))
@@ -203,7 +204,7 @@ module _ (s : State) (op : ℕ) (body : List ℕ) (given : Given) (is : IsState 
     ring_kept : (g : Grade) (w : Work) (a b : Told) → IsKept g s w a.log → Some b ≡ after_all (reply_events s u) (Some a) → ShowsRing s.file.layout s.file.cluster (now b.log) s.headers
     ring_kept g w a b k all =
         let whole : IsImage (now a.log) = now_is_image a.log.start a.log.events k.log_is.start k.log_is.events in
-        subst (λ (x : Told). ShowsRing s.file.layout s.file.cluster (now x.log) s.headers) (sym (some-eq all)) (λ slot h at. put.shows (now a.log) (HeaderPlace slot) whole ∙ k.ring slot h at)
+        subst (λ (x : Told). ShowsRing s.file.layout s.file.cluster (now x.log) s.headers) (sym (same_Some _ _ all)) (λ slot h at. put.shows (now a.log) (HeaderPlace slot) whole ∙ k.ring slot h at)
 
     allowed_as : Answered given command s (replied s u.header) (reply_events s u) answer
     allowed_as = record { file = refl; live = live; stands = λ w work rep. allowed_at w work rep; made = λ w work rep. makes w rep; ring = λ g w a b k all. ring_kept g w a b k all }

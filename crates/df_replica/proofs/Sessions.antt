@@ -3,7 +3,7 @@ use Rattle.std.proofs.Common.{◌≡◌, ◌⊎◌, inl, inr, List, [], ◌∷�
 use Rattle.df_base.specs.Image.{Image}
 use Rattle.df_base.specs.Log.{Event, IsLeft, Log, add}
 use Rattle.df_base.specs.Moments.{EachMoment, Extends, adds}
-use Rattle.df_base.proofs.Laws.{extends_add, extends_self, more, weaker}
+use Rattle.df_base.proofs.Laws.{extends_add, extends_self, more, weaker, same_log, adds_on, extends_on, either_same}
 use Rattle.df_disk.specs.Told.{Told}
 use Rattle.df_disk.specs.Adds.{after_all}
 use Rattle.df_layout.specs.declared.damage.Class.TheVariants.{Blank}
@@ -18,7 +18,7 @@ use Rattle.df_replica.specs.Leaving.{AreSettled}
 use Rattle.df_replica.specs.Serving.{EachIsGood, Firm, Grade, IsGoodFor, IsKept, Keeps, Whole, format, next}
 use Rattle.df_replica.specs.Session.{Act, AnsweredIsThere, EachIsMidway, FaultStopsThem, HasView, HoldsFor, HoldsSome, IsMidway, LeavesEither, LeavesView, NothingIsServed, OneMoreIsServed, answers_of, work_after}
 use Rattle.df_replica.specs.WrittenFor.{IsWrittenIn}
-use Rattle.df_replica.proofs.Calls.{extends_on, good_safe, firmly, moments}
+use Rattle.df_replica.proofs.Calls.{good_safe, firmly, moments}
 
 -- ---- the acts with one more
 
@@ -66,9 +66,6 @@ module _ (file : DataFile) (g : Grade) where
 
 -- ---- moments that go on
 
-same_log : (a b : Log) → a.events ≡ b.events → a.start ≡ b.start → a ≡ b
-same_log a b es st i = record { start = st i; events = es i }
-
 grow : (new : List Event) (entry mid : Log) (P : Log → Type 0) → EachMoment entry mid P → EachMoment mid (record { start = mid.start; events = new ++ mid.events }) P
     → EachMoment entry (record { start = mid.start; events = new ++ mid.events }) P
 grow [] entry mid P one two = one
@@ -105,10 +102,6 @@ looks = record { checksum = 0; message = Err Blank; block = Err Blank; verdict =
 -- what is kept is good where it stands
 good_now : (g : Grade) (s : State) (w : Work) (t : Told) → IsKept g s w t.log → EachMoment t.log t.log (IsGoodFor g (format s.file) (shape s.file) (kept w) (kept w))
 good_now g s w t k = moments looks (Recent 0) s [] (record { checksum = omega arith; fields = tt }) (λ known x told there. record { steps = []; are = tt; does = refl }) g w t k t refl
-
-either_same : (A : Type 0) → A ⊎ A → A
-either_same A (inl a) = a
-either_same A (inr a) = a
 
 view_now : (g : Grade) (s : State) (w : Work) (t : Told) → IsKept g s w t.log → LeavesView s.file g w (Some t)
 view_now g s w t k image left chance =
@@ -153,10 +146,6 @@ module _ (s0 s t : State) (told0 told new : Option Told) (acts : List Act) (answ
 pub added_on : (es fs : List Event) (old : Option Told) → after_all (es ++ fs) old ≡ after_all fs (after_all es old)
 added_on [] fs old = refl
 added_on (e ∷ es) fs old = added_on es fs _
-
-adds_on : (es fs : List Event) (log : Log) → adds (es ++ fs) log ≡ adds fs (adds es log)
-adds_on [] fs log = refl
-adds_on (e ∷ es) fs log = adds_on es fs (add e log)
 
 pub one_more_is_served : OneMoreIsServed
 one_more_is_served s0 s t told0 told new acts answers es act answer served call =

@@ -33,7 +33,7 @@ pub use Rattle.df_theory.proofs.PutShown.{put_shown_law}
 pub use Rattle.df_theory.proofs.DiskStops.{disk_barrier_law, disk_stop_law}
 pub use Rattle.df_theory.proofs.TidyDisk.{standing_moments_law, tidy_moments_law}
 -- ---- facts that other proofs need
-pub use Rattle.df_theory.proofs.Steps.{cases_bool, old_agrees, rests_safe, rests_holds}
+pub use Rattle.df_theory.proofs.Steps.{old_agrees, rests_safe, rests_holds}
 pub use Rattle.df_theory.proofs.Writes.{dry_quiet, good_rests, put_else, quiet_synced}
 pub use Rattle.df_theory.proofs.Texts.{text_bytes}
 pub use Rattle.df_theory.proofs.Mends.{copies_shown, synced_after}

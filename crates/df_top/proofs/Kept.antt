@@ -4,7 +4,7 @@ use Rattle.std.proofs.lemmas.List.{append-nil}
 use Rattle.df_base.specs.Image.{Image, changed, written}
 use Rattle.df_base.specs.Log.{Event, Log, Stop, Sync, Write}
 use Rattle.df_base.specs.Moments.{EachMoment, Extends, adds}
-use Rattle.df_base.proofs.Laws.{extends_self, weaker}
+use Rattle.df_base.proofs.Laws.{extends_self, weaker, adds_on, extends_on, either_same}
 use Rattle.df_disk.specs.Adds.{after_all}
 use Rattle.df_disk.specs.Told.{IsHonest, Told, did}
 use Rattle.df_theory.specs.Device.{units_log}
@@ -22,10 +22,10 @@ use Rattle.df_replica.specs.Leaving.{AreSettled, SparesHeld}
 use Rattle.df_replica.specs.Opened.{MendsAll, ToldBy}
 use Rattle.df_replica.specs.Serving.{Firm, Grade, IsGoodFor, IsKept, Keeps, KeptFor, StandsFor, Whole, format}
 use Rattle.df_replica.specs.Session.{Act, EachIsMidway, HasView, HoldsSome, IsMidway, IsServed, LeavesEither, LeavesView, answers_of, work_after}
-use Rattle.df_replica.proofs.Laws.{added_is_told, added_on, answered_is_there, extends_on, fault_stops_them, good_left, good_safe, joined, keeps_alone, nothing_is_served, one_more_is_served}
+use Rattle.df_replica.proofs.Laws.{added_is_told, added_on, answered_is_there, fault_stops_them, good_left, good_safe, joined, keeps_alone, nothing_is_served, one_more_is_served}
 use Rattle.df_top.specs.Keeping.{KeepsFile}
 use Rattle.df_top.specs.Session.{AreCalls, Calls, EndsCalls, events_of, events_to}
-use Rattle.df_top.proofs.Untouched.{adds_on, settled_told, stay_settled}
+use Rattle.df_top.proofs.Untouched.{settled_told, stay_settled}
 
 -- ---- what is told
 
@@ -113,10 +113,6 @@ all_served s t old new acts answers live calls = serves_on s s t old old new [] 
 some_first : (file : DataFile) (g : Grade) (w : Work) (acts : List Act) (image : Image) → HasView file g w image → HoldsSome file g w acts image
 some_first file g w [] image has = has
 some_first file g w (a ∷ acts) image has = inl has
-
-either_same : (A : Type 0) → A ⊎ A → A
-either_same A (inl a) = a
-either_same A (inr a) = a
 
 -- what is kept for a grade is tidy
 tidy_for : (g : Grade) (sh : Shape) (spell : Parts → List ℕ) (log : UnitLog) (w : Work) → KeptFor g sh spell log w → IsTidy sh log (kept w)

@@ -1,5 +1,6 @@
 -- A file that was opened, and on which a generated run was carried out: what is answered and kept, and who is to blame.
 use Rattle.std.proofs.Common.{◌≡◌, inl, inr, ℕ, true, List, Option, Some, None, refl, sym, ◌∙◌, subst, Result, Ok, Err}
+use Rattle.std.proofs.lemmas.Option.{none-some}
 use Rattle.df_base.specs.Causes.{HasCause}
 use Rattle.df_base.specs.Image.{IsImage}
 use Rattle.df_base.specs.Log.{Sync}
@@ -88,13 +89,10 @@ run_never run t (Err Disk) old new status printed = (λ is. cc (printed.0, is), 
 
 -- ---- a disk that tells what it shows
 
-untold_is_none : (u : Told) → None ≡ Some u → ⊥
-untold_is_none u is = cc
-
 -- no run ends there by a step that is damaged
 damaged_never : (run : Run) (t : Replica) (told : Option Told) (failed : Option Act) (old new : Option (List ℕ)) (u : Told) → told ≡ Some u → Writes run t told failed old new Refused → ⊥
 damaged_never run t told None old new u is writes = writes
-damaged_never run t told (Some a) old new u is writes = untold_is_none u (sym writes.1.untold ∙ is)
+damaged_never run t told (Some a) old new u is writes = none-some u (sym writes.1.untold ∙ is)
 
 -- ---- it is carried out
 

@@ -2,14 +2,13 @@
 use Rattle.std.proofs.Common.{◌≡◌, ℕ, suc, ◌+◌, ◌*◌, ◌/◌, ◌^◌, ◌<◌, ◌≤◌, Bool, true, false, Option, Some, None, List, [], ◌∷◌, ◌++◌, length, refl, ap, arith, length-append}
 use Rattle.std.specs.Prelude.{map, min}
 use Rattle.df_base.specs.Fields.{AreBytes, spelled}
-use Rattle.df_base.proofs.Laws.{AreBytes-spelled, length-spelled}
+use Rattle.df_base.proofs.Laws.{AreBytes-spelled, length-spelled, AreBytes-nil, AreBytes-append}
 use Rattle.df_theory.specs.Units.{Layout, Parts, Session}
 use Rattle.df_theory.specs.Shape.{Shape}
 use Rattle.df_model.specs.Codec.{IsCodec, IsLawful}
 use Rattle.df_trailer.specs.Laws.{HasLimits}
 use Rattle.df_trailer.specs.Spelling.{bits_size, blocks_of, is_referenced, number_of, spell, spell_blocks, spell_checks, spell_sessions}
 use Rattle.df_trailer.specs.Text.{ones, parse_of}
-use Rattle.df_trailer.proofs.Bytes.{AreBytes-append, AreBytes-nil}
 use Rattle.df_trailer.proofs.Blocks as blocks
 use Rattle.df_trailer.proofs.Read.{text_read}
 use Rattle.df_trailer.proofs.Spelled.{lawful_stands, read_again}
