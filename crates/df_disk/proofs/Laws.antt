@@ -73,3 +73,6 @@ goes_by [] t new is = (t, is, record { grew = extends_self t.log; honest = λ h.
 goes_by (e ∷ es) t new is =
     let rest = goes_by es (did e t) new is in
     (rest.0, rest.1, record { grew = extends_on rest.0.log (did e t).log t.log rest.2.grew (e ∷ [], refl, refl); honest = λ h. rest.2.honest (honest_did e t h) })
+
+pub goes_told : (t : Told) (new : Option Told) → (es : List Event) × (new ≡ after_all es (Some t)) → (n : Told) × (new ≡ Some n) × Goes t n
+goes_told t new told = goes_by told.0 t new told.1

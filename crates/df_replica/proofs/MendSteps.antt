@@ -7,6 +7,7 @@ use Rattle.df_base.specs.Log.{Sync}
 use Rattle.df_base.specs.Moments.{EachMoment}
 use Rattle.df_disk.specs.Told.{Told}
 use Rattle.df_disk.specs.Adds.{Adds, AddsPart, after_all}
+use Rattle.df_disk.proofs.Laws.{all_is_part}
 use Rattle.df_damage.specs.Anew.{told_after}
 use Rattle.df_damage.proofs.Laws.{added_is_told}
 use Rattle.df_layout.specs.declared.damage.Mend.{Mend}
@@ -40,7 +41,6 @@ use Rattle.df_recovery.specs.Plan.{header_or_none, headers_in, if_wanted}
 use Rattle.df_replica.specs.Mending.{IsMended, MayMendOn, header_events, mending_events, mending_steps, needs_sector, sector_puts, sector_writes, sectors_of, sectors_to}
 use Rattle.df_replica.specs.Serving.{Firm, Grade, IsGoodFor, StandingFor, Whole, format}
 use Rattle.df_state.specs.State.{shape}
-use Rattle.df_replica.proofs.Calls.{all_are_part}
 use Rattle.df_replica.proofs.MendEvents.{sectors_more}
 
 -- ---- the calls are steps
@@ -212,7 +212,7 @@ module _ (file : DataFile) (table : List Header) (mends : List Mend) (f : SuperF
   pub all_moments : EachMoment base.log (told_after (mending_events file.layout table mends f members) base).log (IsGoodFor may.grade (format file) (shape file) may.view may.view)
   all_moments =
       let events = mending_events file.layout table mends f members in
-      mending_moments file table mends f members base (told_after events base) may steps (all_are_part events (Some base) (Some (told_after events base)) all_told)
+      mending_moments file table mends f members base (told_after events base) may steps (all_is_part events (Some base) (Some (told_after events base)) all_told)
 
   pub all_mended : IsTable file.layout file.cluster table → IsMended may.grade file may.view table (told_after (mending_events file.layout table mends f members) base)
   all_mended is = mending_ends file table mends f members base (told_after (mending_events file.layout table mends f members) base) (Ok tt) may is steps all_told

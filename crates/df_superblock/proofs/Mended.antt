@@ -17,7 +17,7 @@ use Rattle.df_superblock.specs.Events.{mend_events, repair_events}
 use Rattle.df_base.specs.Moments.{adds}
 use Rattle.df_superblock.specs.Calls.{KeepsMembers, KeepsUnlessMisled, RepairsUnlessMisled, EndsRepaired}
 use Rattle.df_superblock.proofs.Sights.{PutsCopy}
-use Rattle.df_disk.proofs.Laws.{adds_part, part_then, all_then, passes}
+use Rattle.df_disk.proofs.Laws.{adds_part, part_then, all_then, passes, tells_on}
 use Rattle.df_superblock.proofs.Mends.{Spares, Writes, member_spared, other_written, shown_stays, written_shows}
 use Rattle.df_superblock.proofs.Misleads.{AreOutside, KeepsChoice, each_stays}
 use Rattle.df_superblock.proofs.Puts.{copy_put, one_content}
@@ -47,11 +47,6 @@ still_shown ((Write at bytes) ∷ es) t new n spare (inr is) = still_from (Write
 still_shown (Sync ∷ es) t new n spare (inr is) = still_from Sync t new n refl (still_shown es (did Sync t) new n spare is)
 still_shown ((Stop cs) ∷ es) t new n spare (inr is) = absurd spare
 
-tells_still : (es : List Event) (t : Told) → AddsPart es (Some t) None → ⊥
-tells_still [] t is = let no : None ≡ Some t = is in cc
-tells_still (e ∷ es) t (inl is) = let no : None ≡ Some t = is in cc
-tells_still (e ∷ es) t (inr is) = tells_still es (did e t) is
-
 member_stays : (f : SuperFields) (members : List Bool) (t u : Told) (n : ℕ) → IsUsable f → length members ≡ 4 → AddsPart (repair_events f 0 members) (Some t) (Some u) → IsTrue (get_or members n false) → u.shown n ≡ t.shown n
 member_stays f members t u n usable size is member =
     let place : 0 + n ≡ n = omega arith in
@@ -60,7 +55,7 @@ member_stays f members t u n usable size is member =
 
 pub keeps_members : {T E : Type 0} → (f : SuperFields) (members : List Bool) (old new : Option Told) (result : Result T E) → IsUsable f → length members ≡ 4 → Adds (repair_events f 0 members) old new result → KeepsMembers members old new
 keeps_members f members None new result usable size is = tt
-keeps_members f members (Some t) None result usable size is = absurd (tells_still (repair_events f 0 members) t (adds_part (repair_events f 0 members) (Some t) None result is))
+keeps_members f members (Some t) None result usable size is = absurd (tells_on (repair_events f 0 members) t (adds_part (repair_events f 0 members) (Some t) None result is))
 keeps_members f members (Some t) (Some u) result usable size is = λ n below member. member_stays f members t u n usable size (adds_part (repair_events f 0 members) (Some t) (Some u) result is) member
 
 -- ---- one place after the other

@@ -5,6 +5,7 @@ use Rattle.df_base.specs.Causes.{HasCause}
 use Rattle.df_base.specs.Image.{IsImage}
 use Rattle.df_base.specs.Log.{Sync}
 use Rattle.df_disk.specs.Told.{Told, did}
+use Rattle.df_disk.proofs.Laws.{goes_told}
 use Rattle.df_inspect.specs.Prints.{Prints}
 use Rattle.df_inspect.specs.Reports.{workload_text}
 use Rattle.df_inspect.specs.declared.counts.Workload.{Workload}
@@ -31,7 +32,7 @@ use Rattle.df_top.specs.declared.status.Status.{Status}
 use Rattle.df_top.specs.declared.status.Status.TheVariants.{Done, Words, Refused, DiskFault, ReadFault, WriteFault, Memory}
 use Rattle.df_top.proofs.Causes.{calm_done, calm_refused, disk_blame, line_ends, never_printed, no_blame}
 use Rattle.df_top.proofs.Acknowledged.{keeps_answered}
-use Rattle.df_top.proofs.Kept.{answers_alone, ends_add, ends_told, goes_told, keeps_over, opened_over}
+use Rattle.df_top.proofs.Kept.{answers_alone, ends_add, ends_told, keeps_over, opened_over}
 use Rattle.df_top.proofs.Runs.{EndsRun}
 use Rattle.df_top.proofs.Resulted.{opened_answers}
 use Rattle.df_top.proofs.Spared.{spares_blocks}
