@@ -22,9 +22,9 @@ either_same A (inl a) = a
 either_same A (inr a) = a
 
 -- what is there under a test
-pub given_if : {X : Type 0} (b : Bool) (o : Option X) (x : X) → cond b o None ≡ Some x → (b ≡ true) × (o ≡ Some x)
-given_if true o x is = (refl, is)
-given_if false o x is = absurd (cc)
+pub cond_there : {X : Type 0} (b : Bool) (o : Option X) (x : X) → cond b o None ≡ Some x → (b ≡ true) × (o ≡ Some x)
+cond_there true o x is = (refl, is)
+cond_there false o x is = absurd (cc)
 
 -- ---- numbers
 

@@ -18,10 +18,10 @@ use Rattle.df_format.specs.Whole.{greatest_size}
 use Rattle.df_format.specs.Making.{for_body}
 use Rattle.df_format.specs.Valid.{IsUnit}
 use Rattle.df_format.specs.UnitLaws.{MadeIsUnit}
-use Rattle.df_format.proofs.Laws.{begun_is_shown}
+use Rattle.df_format.proofs.Laws.{begun_is_shown, fits_slot}
 use Rattle.df_buffers.specs.Rooms.{StandsIn, FillsRoom}
 use Rattle.df_buffers.specs.Sounds.{IsSound, unit_with}
-use Rattle.df_buffers.proofs.Finds.{is_no_ring, fits_slot, found_whole}
+use Rattle.df_buffers.proofs.Finds.{is_no_ring, found_whole}
 
 some_of : {X : Type 0} (o : Option X) → IsSome o → (x : X) × (o ≡ Some x)
 some_of None is = absurd (cc)

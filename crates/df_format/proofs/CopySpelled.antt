@@ -7,14 +7,13 @@ use Rattle.std.proofs.lemmas.Slice.Eq.{bytes_eq-Decides}
 use Rattle.std.proofs.lemmas.Option.{cond_some}
 use Rattle.df_base.specs.Fields.{AreBytes, field_at, spelled, check_of}
 use Rattle.df_base.specs.Image.{IsSector}
-use Rattle.df_base.proofs.Laws.{length-check_of, AreBytes-check_of, length-spelled, AreBytes-spelled, field_spelled, field_at-lt, spelled-field_at, AreBytes-append, AreBytes-take, AreBytes-drop}
+use Rattle.df_base.proofs.Laws.{length-check_of, AreBytes-check_of, length-spelled, AreBytes-spelled, field_spelled, field_at-lt, spelled-field_at, AreBytes-append, AreBytes-take, AreBytes-drop, AreBytes-zeros}
 use Rattle.df_format.specs.declared.superblock.SuperFields.{SuperFields}
 use Rattle.df_format.specs.declared.superblock.SuperCopy.{SuperCopy}
 use Rattle.df_format.specs.Spelling.{IsCheck}
 use Rattle.df_format.specs.Super.{FitsSuper, fields_bytes, covered_bytes, copy_bytes}
 use Rattle.df_format.specs.Copies.{first_nonzero_of, super_fields_of, has_checksum, has_zeros, is_copy, copy_in}
 use Rattle.df_format.specs.CopyLaws.{IsWritten, CopiesHaveOneSpelling}
-use Rattle.df_format.proofs.Messages.{AreBytes-zeros}
 use Rattle.df_format.proofs.Parts.{piece, past}
 use Rattle.df_format.proofs.CopyParts.{no_other, all_zeros}
 

@@ -2,7 +2,7 @@
 use Rattle.std.proofs.Common.{◌≡◌, ◌<◌, ◌+◌, ◌-◌, ℕ, zero, suc, List, ◌∷◌, ◌++◌, length, replicate, sym, subst, arith, length-append}
 use Rattle.std.proofs.lemmas.List.{length-replicate}
 use Rattle.df_base.specs.Fields.{AreBytes, spelled}
-use Rattle.df_base.proofs.Laws.{AreBytes-check_of, AreBytes-spelled, AreBytes-append, AreBytes-cons}
+use Rattle.df_base.proofs.Laws.{AreBytes-check_of, AreBytes-spelled, AreBytes-append, AreBytes-cons, AreBytes-zeros}
 use Rattle.df_format.specs.declared.header.Header.{Header}
 use Rattle.df_format.specs.declared.kind.Kind.{Kind}
 use Rattle.df_format.specs.declared.kind.Kind.TheVariants.{Reserved, Prepare, Reply, Block, Trailer}
@@ -19,11 +19,6 @@ unfolding sectors_of
 length-sectors u is =
     let n : ℕ = 256 + length u.body in
     omega (arith, length-append (unit_of u) (replicate (sectors_end n - n) 0), length-unit u is, length-replicate {A = ℕ} (sectors_end n - n) 0)
-
-pub AreBytes-zeros : (n : ℕ) → AreBytes (replicate n 0)
-AreBytes-zeros zero i = omega arith
-AreBytes-zeros (suc n) zero = omega arith
-AreBytes-zeros (suc n) (suc i) = AreBytes-zeros n i
 
 AreBytes-version : AreBytes version_bytes
 unfolding version_bytes

@@ -2,7 +2,7 @@
 use Rattle.std.proofs.Common.{◌≡◌, ◌⊎◌, inl, inr, ℕ, Bool, true, false, Option, Some, None, cond, refl, sym, ◌∙◌, ap, subst}
 use Rattle.std.proofs.lemmas.Bool.{cond-true, and_parts, and_from, ltb-true, lt-ltb, leb-true, le-leb, eqb-true, eq-eqb}
 use Rattle.std.proofs.lemmas.Option.{cond_some, same_Some}
-use Rattle.df_base.proofs.Laws.{given_if}
+use Rattle.df_base.proofs.Laws.{cond_there}
 use Rattle.df_layout.specs.declared.layout.Layout.{Layout}
 use Rattle.df_layout.specs.declared.places.Place.{Place}
 use Rattle.df_layout.specs.declared.places.Zone.{Zone}
@@ -63,13 +63,13 @@ pub record IsOwn (layout : Layout) (zone : Zone) (h : Header) (place : Place) : 
 inside_is : (layout : Layout) (o : Option Place) (place : Place) → inside layout o ≡ Some place → (o ≡ Some place) × HasPlace layout place
 inside_is layout None place is = absurd (cc)
 inside_is layout (Some named) place is =
-    let parts = given_if _ _ place is in
+    let parts = cond_there _ _ place is in
     (ap Some parts.1, subst (λ (p : Place). HasPlace layout p) parts.1 (has-true layout named.zone named.index parts.0))
 
 pub own_is : (layout : Layout) (zone : Zone) (h : Header) (place : Place) → own_place layout zone h ≡ Some place → IsOwn layout zone h place
 unfolding own_place
 own_is layout zone h place is =
-    let parts = given_if _ _ place is in
+    let parts = cond_there _ _ place is in
     let there = inside_is layout _ place parts.1 in
     record { op = parts.0; named = there.0; has = there.1 }
 

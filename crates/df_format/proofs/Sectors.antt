@@ -5,8 +5,7 @@ use Rattle.std.proofs.lemmas.Bool.Decides.{nat_tests}
 use Rattle.std.proofs.lemmas.List.{drop_all, take-append-drop, drop-drop, length-replicate}
 use Rattle.df_base.specs.Fields.{AreBytes}
 use Rattle.df_base.specs.Image.{Image, IsImage, blank, bytes_at, covers, written}
-use Rattle.df_base.proofs.Laws.{AreBytes-append}
-use Rattle.df_format.proofs.Messages.{AreBytes-zeros}
+use Rattle.df_base.proofs.Laws.{AreBytes-append, AreBytes-zeros}
 
 pub length-bytes_at : (image : Image) (at n : ℕ) → IsImage image → length (bytes_at image at n) ≡ 4096 * n
 length-bytes_at image at zero is = refl

@@ -16,10 +16,7 @@ use Rattle.df_format.specs.Reading.{kind_of, fields_of, has_numbers, is_spelled,
 use Rattle.df_format.specs.UnitLaws.{HeadersHaveOneSpelling}
 use Rattle.df_format.proofs.Codes.{kind_of-code, code_of-kind}
 use Rattle.df_format.proofs.Parts.{piece, past}
-use Rattle.df_format.proofs.Ranges.{AreInRange, in_range, passes}
-
-same_bytes : (a b : List ℕ) → a ≡ b → bytes_eq a b ≡ true
-same_bytes a b is = (bytes_eq-Decides a b).1 is
+use Rattle.df_format.proofs.Ranges.{AreInRange, in_range, passes, same_bytes}
 
 length-version : length version_bytes ≡ 134
 unfolding version_bytes

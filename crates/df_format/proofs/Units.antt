@@ -13,7 +13,7 @@ use Rattle.df_layout.specs.declared.places.Place.{Place}
 use Rattle.df_layout.specs.declared.places.Zone.{Zone}
 use Rattle.df_layout.specs.declared.places.Zone.TheVariants.{Superblock, WalHeaders, WalPrepares, ClientReplies, Grid}
 use Rattle.df_layout.specs.Spans.{HasPlace, place_sectors, sectors_before, span_of}
-use Rattle.df_layout.proofs.Laws.{are_apart}
+use Rattle.df_layout.proofs.Laws.{are_apart, some_sectors}
 use Rattle.df_format.specs.declared.header.Header.{Header}
 use Rattle.df_format.specs.Spelling.{spelling}
 use Rattle.df_format.specs.Rules.{IsSealed}
@@ -160,13 +160,13 @@ left_apart layout cluster log image place other bytes has is fits quiet left =
     left.kept ((span_of layout other).first + k) (or_from _ _ outside (quiet k inside)) ∙ written_else _ bytes (now log) _ outside)
 
 -- slots of one header sector have its sector
-one_sector : (layout : Layout) (index slot : ℕ) → index / 16 ≡ slot / 16 → (span_of layout (place_in WalHeaders index)).first ≡ (span_of layout (place_in WalHeaders slot)).first
+pub header_first : (layout : Layout) (index slot : ℕ) → index / 16 ≡ slot / 16 → (span_of layout (place_in WalHeaders index)).first ≡ (span_of layout (place_in WalHeaders slot)).first
 unfolding span_of sectors_before
-one_sector layout index slot same = omega arith
+header_first layout index slot same = omega arith
 
-one_count : (layout : Layout) (slot : ℕ) → (span_of layout (place_in WalHeaders slot)).count ≡ 1
+pub header_count : (layout : Layout) (slot : ℕ) → (span_of layout (place_in WalHeaders slot)).count ≡ 1
 unfolding span_of place_sectors
-one_count layout slot = refl
+header_count layout slot = refl
 
 part_of_front : (slot : ℕ) (bytes rest : List ℕ) → length bytes ≡ 4096 → part_in WalHeaders slot (bytes ++ rest) ≡ part_in WalHeaders slot bytes
 part_of_front slot bytes rest size =
@@ -181,7 +181,7 @@ sector_shown layout cluster image index slot bytes size same =
     let at : ℕ = (span_of layout (place_in WalHeaders index)).first in
     let begun = written_begins at bytes image 1 (omega (arith, size)) in
     let there : bytes_at (written at bytes image) (span_of layout place).first (span_of layout place).count ≡ bytes ++ begun.0 =
-    (λ i. bytes_at (written at bytes image) (sym (one_sector layout index slot same) i) (one_count layout slot i)) ∙ begun.1 in
+    (λ i. bytes_at (written at bytes image) (sym (header_first layout index slot same) i) (header_count layout slot i)) ∙ begun.1 in
     ap (λ (l : List ℕ). unit_in layout cluster place (part_in WalHeaders slot l)) there
     ∙ ap (λ (l : List ℕ). unit_in layout cluster place l) (part_of_front slot bytes begun.0 size)
 
@@ -219,7 +219,7 @@ headers_fill layout index headers sixteen =
     let size = length-headers headers sixteen.each in
     record {
       piece = record { some = omega (arith, sixteen.count); whole = omega (arith, sixteen.count); each = AreBytes-headers headers sixteen.each };
-      fits = omega (arith, sixteen.count, one_count layout index);
+      fits = omega (arith, sixteen.count, header_count layout index);
     }
 
 no_body : (h : Header) → (spelling h ++ []) ++ [] ≡ spelling h
@@ -231,15 +231,6 @@ header_shown layout cluster image index slot headers h sixteen same is unit =
     let spelled : part_in WalHeaders slot (headers_bytes headers) ≡ spelling h = one_header headers (slot % 16) h sixteen.each is in
     sector_shown layout cluster image index slot (headers_bytes headers) size same
     ∙ begun_is_shown layout cluster (place_in WalHeaders slot) _ (record { header = h; body = [] }) (record { is = unit; rest = []; spelled = spelled ∙ sym (no_body h) })
-
--- a blank place
-some_sectors : (layout : Layout) (zone : Zone) → 0 < place_sectors layout zone
-unfolding place_sectors
-some_sectors layout Superblock = omega arith
-some_sectors layout WalHeaders = omega arith
-some_sectors layout WalPrepares = omega (arith, layout.message_size_within.0)
-some_sectors layout ClientReplies = omega (arith, layout.message_size_within.0)
-some_sectors layout Grid = omega (arith, layout.block_size_within.0)
 
 blank_front : (at n : ℕ) → 0 < n → (k : ℕ) → k + 256 ≤ 4096 → take 256 (drop k (bytes_at blank at n)) ≡ replicate 256 0
 unfolding blank

@@ -6,7 +6,8 @@ use Rattle.std.proofs.lemmas.Slice.Eq.{bytes_eq-Decides}
 use Rattle.std.specs.Str.{bytes_eq}
 use Rattle.std.proofs.lemmas.Option.{cond_some, same_Some}
 use Rattle.df_base.specs.Fields.{AreBytes, check_of}
-use Rattle.df_base.proofs.Laws.{AreBytes-take, AreBytes-drop, given_if}
+use Rattle.df_base.proofs.Laws.{AreBytes-take, AreBytes-drop, cond_there}
+use Rattle.df_base.specs.Image.{Image}
 use Rattle.df_layout.specs.declared.damage.Class.{Class}
 use Rattle.df_layout.specs.declared.damage.Class.TheVariants.{Blank, Elsewhere, Stale}
 use Rattle.df_layout.specs.declared.layout.Layout.{Layout}
@@ -21,7 +22,7 @@ use Rattle.df_format.specs.Reading.{header_in}
 use Rattle.df_format.specs.Message.{Message}
 use Rattle.df_format.specs.Own.{own_place}
 use Rattle.df_format.specs.Whole.{Whole, greatest_size, body_in, has_body, is_unit, with_own, if_unit, whole_in}
-use Rattle.df_format.specs.Shown.{same_place, if_own, unit_in, is_blank, class_of_whole, class_of}
+use Rattle.df_format.specs.Shown.{same_place, if_own, unit_in, unit_at, bytes_of, is_blank, class_of_whole, class_of, class_at}
 use Rattle.df_format.specs.Valid.{IsBodyOf, HasBody, Begins}
 use Rattle.df_format.specs.UnitLaws.{place_size, UnitsHaveOneSpelling, BodyFollows, RingHasNoBody, ValidIsStale, StaleIsValid, ElsewhereIsOther}
 use Rattle.df_format.proofs.Spelled.{read_as, reads, was_spelled, length-spelling}
@@ -47,7 +48,7 @@ unit_parts : (layout : Layout) (cluster : ℕ) (zone : Zone) (bytes : List ℕ) 
     → IsFound layout cluster zone bytes w.unit w.own
 unit_parts layout cluster zone bytes None w is from = absurd (cc)
 unit_parts layout cluster zone bytes (Some h) w is from =
-    let parts = given_if _ _ w is in
+    let parts = cond_there _ _ w is in
     let own = with_parts zone bytes h (own_place layout zone h) w parts.1 in
     let tests = and_parts _ _ parts.0 in
     let fixed = and_parts _ _ tests.0 in
@@ -77,7 +78,7 @@ found_whole layout cluster zone bytes u own is =
 own_parts : (place : Place) (o : Option Whole) (u : Message) → if_own place o ≡ Some u → o ≡ Some (record { unit = u; own = place })
 own_parts place None u is = absurd (cc)
 own_parts place (Some w) u is =
-    let parts = given_if _ _ u is in
+    let parts = cond_there _ _ u is in
     let here = same_place-true w.own place parts.0 in
     λ i. Some (record { unit = parts.1 i; own = here i })
 
@@ -251,6 +252,11 @@ valid_stale layout cluster place bytes u is =
     cond-false _ Blank _ (whole_is_not_blank layout cluster place.zone bytes _ whole)
     ∙ ap (λ (o : Option Whole). class_of_whole place o) whole
     ∙ cond-true _ Stale (Elsewhere place) (same_place-self place)
+
+-- a place that shows a unit, where another one is wanted, is stale
+pub shown_stale : (layout : Layout) (cluster : ℕ) (image : Image) (place : Place) (u : Message) → unit_at layout cluster image place ≡ Some u → class_at layout cluster image place ≡ Stale
+unfolding unit_at class_at
+shown_stale layout cluster image place u shown = valid_stale layout cluster place (bytes_of layout image place) u shown
 
 stale_by : (b : Bool) (own : Place) → cond b Stale (Elsewhere own) ≡ Stale → b ≡ true
 stale_by true own is = refl

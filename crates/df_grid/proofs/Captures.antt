@@ -7,13 +7,14 @@ use Rattle.std.proofs.Math.Bool.{or-false}
 use Rattle.df_model.specs.Work.{is_in}
 use Rattle.df_model.specs.Blocks.{blocks_captured, capture_finished, sum_at}
 use Rattle.df_model.specs.Sense.{RiseFrom}
+use Rattle.df_model.proofs.Laws.{rise_take}
 use Rattle.df_units.specs.Meaning.{number_of}
 use Rattle.df_grid.specs.declared.entry.Entry.{Entry}
 use Rattle.df_grid.specs.Entries.{is_marked}
 use Rattle.df_grid.specs.Table.{AreTaken, IsTable, blocks_in, capturing, finishing, is_captured, is_durable, is_live, open_from, paired, picked}
 use Rattle.df_grid.proofs.Picks.{pick_at, pick_map, pick_none}
 use Rattle.df_grid.proofs.Chains.{pair_same, sum_map}
-use Rattle.df_grid.proofs.Free.{open_rise, rise_take}
+use Rattle.df_grid.proofs.Free.{open_rise}
 
 -- an entry of a changed list is one of the list, changed
 pub get_map : (f : Entry → Entry) (es : List Entry) (i : ℕ) (x : Entry) → slice_get (map f es) i ≡ Some x → (e : Entry) × (slice_get es i ≡ Some e) × (x ≡ f e)

@@ -125,8 +125,3 @@ open_rise s (true ∷ ts) = lower s (open_from (s + 1) ts) (open_rise (s + 1) ts
     lower s [] rise = tt
     lower s (x ∷ xs) rise = (omega (arith, rise.0), rise.1)
 open_rise s (false ∷ ts) = (omega arith, open_rise (s + 1) ts)
-
-pub rise_take : (n a : ℕ) (xs : List ℕ) → RiseFrom a xs → RiseFrom a (take n xs)
-rise_take zero a xs rise = tt
-rise_take (suc n) a [] rise = tt
-rise_take (suc n) a (x ∷ xs) rise = (rise.0, rise_take n (x + 1) xs rise.1)

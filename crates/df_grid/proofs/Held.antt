@@ -12,7 +12,7 @@ use Rattle.df_grid.specs.Table.{IsTable, blocks_in, entry_at, is_captured, is_du
 use Rattle.df_grid.proofs.Picks.{below, past, pick_at}
 use Rattle.df_grid.proofs.Chains.{pair_at, sum_there}
 
-known_if : (b : Bool) (c : ℕ) → is_known (cond b (Some c) None) ≡ b
+pub known_if : (b : Bool) (c : ℕ) → is_known (cond b (Some c) None) ≡ b
 known_if true c = refl
 known_if false c = refl
 

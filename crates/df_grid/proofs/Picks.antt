@@ -123,12 +123,3 @@ pick_map f test before s (e ∷ es) same sum =
 pub pick_none : (test : Entry → Bool) (s : ℕ) (es : List Entry) → ((i : ℕ) (e : Entry) → slice_get es i ≡ Some e → test e ≡ false) → picked test s es ≡ []
 pick_none test s [] none = refl
 pick_none test s (e ∷ es) none = cond-false (test e) _ (picked test (s + 1) es) (none 0 e refl) ∙ pick_none test (s + 1) es (λ i x at. none (suc i) x at)
-
--- what isn't there can't be taken away
-pub without_none : (a : ℕ) (xs : List (ℕ × ℕ)) → sum_at a xs ≡ None → without_entry a xs ≡ xs
-without_none a [] none = refl
-without_none a (x ∷ xs) none = go (x.0 == a) refl none (λ there. without_none a xs there)
-  where
-    go : (b : Bool) → (x.0 == a) ≡ b → cond b (Some x.1) (sum_at a xs) ≡ None → (sum_at a xs ≡ None → without_entry a xs ≡ xs) → cond (x.0 == a) xs (x ∷ without_entry a xs) ≡ x ∷ xs
-    go true is there more = absurd (cc)
-    go false is there more = cond-false (x.0 == a) xs (x ∷ without_entry a xs) is ∙ ap (λ (l : List (ℕ × ℕ)). x ∷ l) (more there)

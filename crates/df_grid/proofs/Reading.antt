@@ -21,7 +21,7 @@ use Rattle.df_format.specs.Shown.{bytes_of, class_of, header_or_class, unit_in}
 use Rattle.df_format.specs.Spelling.{IsCheck, spelling_rest}
 use Rattle.df_format.specs.Valid.{IsUnit}
 use Rattle.df_format.specs.Rules.{IsSealed, ObeysBlock, ObeysKind, ObeysTrailer}
-use Rattle.df_format.proofs.Laws.{valid_belongs, valid_stale}
+use Rattle.df_format.proofs.Laws.{valid_belongs, valid_stale, shown_stale}
 use Rattle.df_buffers.specs.declared.identity.Identity.{Identity}
 use Rattle.df_buffers.specs.Sounds.{Holding}
 use Rattle.df_theory.specs.Units
@@ -29,22 +29,13 @@ use Rattle.df_theory.specs.Units.{AnyUnit, BlockPlace, BlockUnit}
 use Rattle.df_model.specs.Supply.{block_at, block_given, class_or, given_if, is_sum, no_trailer}
 use Rattle.df_units.specs.Meaning.{block_of, number_of}
 use Rattle.df_units.specs.Bytes.{message_unit}
-use Rattle.df_units.proofs.Laws.{one_number}
+use Rattle.df_units.proofs.Laws.{one_number, sealed_check}
 use Rattle.df_base.proofs.Laws.{AreBytes-check_of, length-check_of}
 use Rattle.df_places.specs.Units.{IsSeen}
 use Rattle.df_grid.specs.Grid.{IsKnownUnit}
 use Rattle.df_places.specs.Shelves.{HoldsFound, IsFound, IsOf, IsRead}
 use Rattle.df_grid.specs.Reads.{IsFaultOf, at_address, ReadsBlock, ReadsTrailer, Tests, class_in, shown_of, trailer_alone}
 use Rattle.df_grid.proofs.Single.{not_both}
-
--- a sealed header's checksum has sixteen bytes
-sealed_check : (h : Header) → IsSealed h → IsCheck h.checksum
-sealed_check h is = subst IsCheck (sym is.checksum) (record { size = length-check_of (spelling_rest h); each = AreBytes-check_of (spelling_rest h) })
-
--- a place that shows a unit, where another one is wanted, is stale
-shown_stale : (layout : Layout) (cluster : ℕ) (image : Image) (place : Place) (u : Message) → Shown.unit_at layout cluster image place ≡ Some u → Shown.class_at layout cluster image place ≡ Stale
-unfolding Shown.unit_at Shown.class_at
-shown_stale layout cluster image place u shown = valid_stale layout cluster place (bytes_of layout image place) u shown
 
 -- the machine's answer is one about the message that is shown
 abbrev pub given : Option ℕ → Option Message → Class → Result Units.Block Class

@@ -12,11 +12,12 @@ use Rattle.df_grid.specs.Table.{IsTable, TableState, adopted, blocks_in, entry_a
 use Rattle.std.proofs.lemmas.List.{length-replicate, length-set}
 use Rattle.std.proofs.lemmas.Option.{slice_get_within}
 use Rattle.std.proofs.lemmas.Bool.{or_left}
+use Rattle.df_model.proofs.Laws.{without_none}
 use Rattle.df_grid.proofs.Zips.{length_entries}
 use Rattle.df_grid.proofs.Keeping.{HasNone, has_none}
 use Rattle.df_grid.proofs.Held.{look_some, unheld_open}
 use Rattle.df_grid.proofs.Free.{all_none, least_first}
-use Rattle.df_grid.proofs.Picks.{pick_none, without_none}
+use Rattle.df_grid.proofs.Picks.{pick_none}
 use Rattle.df_grid.proofs.Chains.{sum_there}
 use Rattle.df_grid.proofs.Moves.{chained_blocks, chained_kept, dead_blocks, dead_kept, durable_blocks, durable_kept, next_inside, next_spare, written_blocks, written_kept}
 
@@ -88,10 +89,6 @@ module _ (es : List Entry) (taken : List Bool) (written left chain : List ℕ) (
 pub known_number : (b : Bool) (c : List ℕ) → number_in (cond b (Some c) None) ≡ cond b (Some (number_of c)) None
 known_number true c = refl
 known_number false c = refl
-
-pub known_if : (b : Bool) (n : ℕ) → is_known (cond b (Some n) None) ≡ b
-known_if true n = refl
-known_if false n = refl
 
 -- the entry of an address that has one
 pub entry_is : (es : List Entry) (a : ℕ) (e : Entry) → entry_at es a ≡ Some e → HasEntry es a × (slice_get es (a - 1) ≡ Some e) × (a ≡ suc (a - 1))

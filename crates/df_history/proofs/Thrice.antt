@@ -17,7 +17,7 @@ use Rattle.df_theory.specs.Runs.{AtEach, Puts, Step, Syncs, after_steps}
 use Rattle.df_theory.specs.MendLaws.{IsSlotHeader, Reaches, mend_steps}
 use Rattle.df_theory.specs.WriterLaws.{Appends}
 use Rattle.df_theory.specs.Found.{AreOfPlaces, IsFound, IsInRange, IsOfPlace}
-use Rattle.df_theory.proofs.Laws.{anew_law, append_law, each_weaker, four, hurt_law, put_one_law, quiet_synced, rests_law, short_same, holds_found, low_steps, low_update, IsOpen, bears_open, chosen_same, pool_pools, All, now_all, pools_all, copies_of, reserved, sector}
+use Rattle.df_theory.proofs.Laws.{anew_law, append_law, each_weaker, four, hurt_law, put_one_law, quiet_synced, rests_law, short_same, holds_found, low_steps, low_update, IsOpen, bears_open, chosen_same, pool_pools, All, now_all, pools_all, copies_of, reserved, sector, never_kept}
 use Rattle.df_history.specs.Histories.{InHistoryPool, InHistoryPools, IsLived, IsLivedMoment, IsSettled, MayStart}
 use Rattle.df_history.specs.OpenLaws.{IsOpening}
 use Rattle.df_history.specs.Sample.{IsReopened, ThriceSampleLaw, opened}
@@ -282,14 +282,6 @@ module _ (logs : List UnitLog) (log : UnitLog) (c d : Content) (copy : Option An
   next_headers s at = ap (λ (b : Bool). or_else (if b then Some (HeaderUnit renewed.header) else None) (if b then Some (HeaderUnit g) else now log (HeaderPlace s))) at ∙ is.headers s at
 
 -- ---- the boots
-
-never_kept : (o : Option Session) (op : ℕ) (r : Message) → kept o op None ≡ Some r → ⊥
-never_kept None op r none = let both : None ≡ Some r = none in cc
-never_kept (Some s) op r none = go (nat_lt op s.op) none
-  where
-    go : (b : Bool) → (if b then None else None) ≡ Some r → ⊥
-    go true both = (let none : None ≡ Some r = both in cc)
-    go false both = (let none : None ≡ Some r = both in cc)
 
 -- from a boot whose superblock records as many prepares as this
 boots : (b n sum : ℕ) → n ≤ 1 → b < 9 → MayBoot (view (record (content b) { head = n; pin = n; pin_checksum = sum })) (pinned 6 (b + 1))

@@ -14,41 +14,13 @@ use Rattle.df_theory.specs.Device.{units_log}
 use Rattle.df_theory.specs.MakingLaws.{IsMaking}
 use Rattle.df_units.specs.Format.{format_of}
 use Rattle.df_units.specs.Meaning.{content_of}
-use Rattle.df_units.proofs.Laws.{new_is_making}
+use Rattle.df_units.proofs.Laws.{new_is_making, zeros_check}
 use Rattle.df_replica.specs.Below.{shape}
 use Rattle.df_replica.specs.Making.{file_of}
+use Rattle.df_replica.proofs.Laws.{first_is_super}
 use Rattle.df_lifetime.specs.NewDisks.{NewDisksAreMadeOn}
 
 -- ---- its superblock can be used
-
-first_is_super : (layout : Layout) (cluster : ℕ) → 0 < cluster → IsSuper (first_super layout cluster)
-unfolding first_super
-first_is_super layout cluster some = record {
-  version = refl;
-  layout = record {
-    slots_within = layout.slots_within;
-    message_size_within = layout.message_size_within;
-    clients_within = layout.clients_within;
-    block_size_within = layout.block_size_within;
-    blocks_within = layout.blocks_within;
-  };
-  cluster = some;
-  sequence = (omega arith, omega arith);
-  op = omega arith;
-  op_checksum = λ _. refl;
-  head = (omega arith, omega arith, omega arith);
-  replies = (omega arith, omega arith);
-  trailer = (omega arith, λ other. absurd (other refl));
-  trailer_checksum = λ _. refl;
-  no_trailer = λ _. refl;
-  trailer_size = λ other. absurd (other refl);
-  boot = refl;
-  zero = refl;
-}
-
-no_check : IsCheck no_checksum
-unfolding no_checksum
-no_check = record { size = length-replicate {A = ℕ} 16 0; each = AreBytes-zeros 16 }
 
 first_fits : (layout : Layout) (cluster : ℕ) → cluster < 2 ^ 128 → FitsSuper (first_super layout cluster)
 unfolding first_super
@@ -62,11 +34,11 @@ first_fits layout cluster below = record {
   cluster = below;
   sequence = omega arith;
   op = omega arith;
-  op_checksum = no_check;
+  op_checksum = zeros_check;
   head = omega arith;
   replies = omega arith;
   trailer_address = omega arith;
-  trailer_checksum = no_check;
+  trailer_checksum = zeros_check;
   trailer_size = omega arith;
   boot = omega arith;
 }

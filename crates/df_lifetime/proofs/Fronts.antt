@@ -13,7 +13,7 @@ use Rattle.df_lines.specs.Grammar.{Said, Says}
 use Rattle.df_lines.specs.Room.{line_bound}
 use Rattle.df_lines.specs.Script.{Begins, IsLine, IsRefused, IsScript}
 use Rattle.df_lines.specs.Text.{after_line, line_of as first_line, taken}
-use Rattle.df_lines.proofs.Laws.{nothing_said, one_said, one_script}
+use Rattle.df_lines.proofs.Laws.{nothing_said, one_said, one_script, no_line, begins_one}
 use Rattle.df_theory.specs.Shape.{Shape}
 use Rattle.df_model.specs.Memory.{memory_of}
 use Rattle.df_model.specs.Supply.{Codec, Shown, next, shown_after}
@@ -54,13 +54,6 @@ all_is_part old new xs wrote = (length xs, omega arith, subst (Appends old new) 
 
 -- ---- the lines that were executed
 
--- no line stands where the script ends
-no_line : (bound budget left : ℕ) (text rest : List ℕ) (said : Said) → IsLine bound budget text said → left ≡ budget → rest ≡ text → (rest ≡ []) ⊎ IsRefused bound left rest → ⊥
-no_line bound budget left text rest said line same_left same_rest (inl none) =
-    nothing_said said (subst (λ (t : List ℕ). Says (first_line t) said) (sym same_rest ∙ none) line.says)
-no_line bound budget left text rest said line same_left same_rest (inr refused) =
-    refused.none said (subst (λ (n : ℕ). IsLine bound n rest said) (sym same_left) (subst (λ (t : List ℕ). IsLine bound budget t said) (sym same_rest) line))
-
 -- lines with which a text begins are the first ones of its script
 lines_front : (bound budget : ℕ) (text : List ℕ) (lines says : List Said) (left last : ℕ) (rest end : List ℕ) → Begins bound budget text lines left rest → Begins bound budget text says last end → (end ≡ []) ⊎ IsRefused bound last end → IsFront lines says
 lines_front bound budget text [] says left last rest end first all ends = (says, refl)
@@ -69,10 +62,6 @@ lines_front bound budget text (a ∷ lines) (b ∷ says) left last rest end firs
     let more = lines_front bound (budget - taken text) (after_line text) lines says left last rest end first.1 all.1 ends in
     let same : b ≡ a = one_said (first_line text) b a all.0.says first.0.says in
     (more.0, (λ i. same i ∷ more.1 i))
-
-begins_one : (bound budget : ℕ) (text : List ℕ) (says : List Said) (left other : ℕ) (rest more : List ℕ) → Begins bound budget text says left rest → Begins bound budget text says other more → rest ≡ more
-begins_one bound budget text [] left other rest more one two = one.1 ∙ sym two.1
-begins_one bound budget text (said ∷ says) left other rest more one two = begins_one bound (budget - taken text) (after_line text) says left other rest more one.1 two.1
 
 begins_first : (bound budget : ℕ) (text : List ℕ) (lines more : List Said) (left : ℕ) (rest : List ℕ) → Begins bound budget text (lines ++ more) left rest → (n : ℕ) × (end : List ℕ) × Begins bound budget text lines n end
 begins_first bound budget text [] more left rest begins = (budget, text, (refl, refl))

@@ -110,7 +110,10 @@ impl MemoryDisk {
         ensures err { OnErr result (self.new ≡ self.old) }
         ensures honest { IsHonest (told_of self.old) → IsHonest (told_of self.new) }
     {
-        Ok(self.past.push(happened)?)
+        match self.past.push(happened) {
+            Ok(()) => Ok(()),
+            Err(_) => Err(OutOfMemory),
+        }
     }
 
     // Keeps a write, with a copy of its bytes.

@@ -71,6 +71,9 @@ impl MemoryDisk {
             sector,
             bytes,
         };
-        Ok(self.strikes.push(struck)?)
+        match self.strikes.push(struck) {
+            Ok(()) => Ok(()),
+            Err(_) => Err(OutOfMemory),
+        }
     }
 }

@@ -76,7 +76,7 @@ in_free held s (suc n) a from to free = in_at held s a (filter (λ x. not (held 
 
 -- ---- one count of pieces
 
-count_le : (room size n k : ℕ) → IsCount room size n → IsCount room size k → n ≤ k
+pub count_le : (room size n k : ℕ) → IsCount room size n → IsCount room size k → n ≤ k
 count_le room size n k one two = go (nat_lt k n) refl
   where
     go : (b : Bool) → nat_lt k n ≡ b → n ≤ k

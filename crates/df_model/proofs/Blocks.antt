@@ -4,7 +4,7 @@ use Rattle.df_theory.specs.Units.{AnyUnit, BlockPlace, BlockUnit, Content, CopyP
 use Rattle.df_theory.specs.Copies.{Agree, IsChosen}
 use Rattle.df_theory.specs.Shows.{Agrees, Needs}
 use Rattle.df_theory.specs.Holds.{Holds}
-use Rattle.df_theory.proofs.Laws.{put_else, short_same}
+use Rattle.df_theory.proofs.Laws.{put_else, short_same, chosen_same}
 use Rattle.std.specs.List.{filter, range_with_len}
 use Rattle.std.proofs.lemmas.Bool.{cases_eq, or_right, eqb-false}
 use Rattle.df_model.specs.Laws.{BlockAsideLaw, BlockMayLaw}
@@ -109,14 +109,6 @@ release_keeps sh spell w a work = record {
 same_agree : (image later : Units) (c : Content) → ((n : ℕ) → later (CopyPlace n) ≡ image (CopyPlace n)) → Agree later c → Agree image c
 same_agree image later c same is = record { first = is.first; second = is.second; apart = is.apart; inside = is.inside; at_first = sym (same is.first) ∙ is.at_first; at_second = sym (same is.second) ∙ is.at_second }
 
--- the copies alone decide on the choice
-same_choice : (image later : Units) (c : Content) → ((n : ℕ) → later (CopyPlace n) ≡ image (CopyPlace n)) → IsChosen image c → IsChosen later c
-same_choice image later c same is = record {
-  agreed = same_agree later image c (λ n. sym (same n)) is.agreed;
-  greatest = λ d agreed. is.greatest d (same_agree image later d same agreed);
-  lowest = λ d agreed rank n inside at. let low = is.lowest d (same_agree image later d same agreed) rank n inside (sym (same n) ∙ at) in (low.0, low.1, same low.0 ∙ low.2);
-}
-
 pub block_aside_law : BlockAsideLaw
 block_aside_law sh w image put a b free one = (
   λ holds. record {
@@ -148,4 +140,4 @@ block_aside_law sh w image put a b free one = (
     agrees holds place x (Some y) is there = subst (λ (p : Place). Agrees sh w.view p x) (sym (one.only place y is).0) tt
 
     chosen : Holds sh image w.view → IsChosen (overlay put image) w.view.checkpoint.content
-    chosen holds = same_choice image (overlay put image) w.view.checkpoint.content (λ n. put_else put image (BlockPlace a) (CopyPlace n) (BlockUnit b) one (λ same. cc (same))) holds.chosen
+    chosen holds = chosen_same image (overlay put image) w.view.checkpoint.content (λ n. put_else put image (BlockPlace a) (CopyPlace n) (BlockUnit b) one (λ same. cc (same))) holds.chosen

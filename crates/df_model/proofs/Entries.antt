@@ -7,7 +7,7 @@ use Rattle.df_base.proofs.Laws.{same_test}
 use Rattle.df_theory.specs.Units.{Block, Layout}
 use Rattle.df_theory.specs.Shape.{Shape}
 use Rattle.df_model.specs.Work.{Running, Work, captured_sum, is_captured, is_held, is_in, is_known, is_of, or_known, reference_of, sum_in}
-use Rattle.df_model.specs.Blocks.{Blocks, blocks_of, captured_of, entries, entry, is_held_in, left_of, pair_of, reference_in, sum_at, written_of}
+use Rattle.df_model.specs.Blocks.{Blocks, blocks_of, captured_of, entries, entry, is_held_in, left_of, pair_of, reference_in, sum_at, without_entry, written_of}
 
 -- what is looked up is what the map says there
 in_case : (f : ℕ → Option ℕ) (a x : ℕ) (o : Option ℕ) (rest : List (ℕ × ℕ)) (c : ℕ) → f x ≡ o → sum_at a (entry x o rest) ≡ Some c → (sum_at a rest ≡ Some c → f a ≡ Some c) → f a ≡ Some c
@@ -129,3 +129,12 @@ module _ (sh : Shape) (w : Work) (a : ℕ) (from : 1 ≤ a) (to : a < 1 + sh.lay
       ∙ ap (λ (o : Option ℕ). or_known (w.live a) (or_known o (or_known (sum_at a b.durable) (sum_at a b.chain)))) (captured_sum_is sh.layout a from to w.running)
       ∙ ap (λ (o : Option ℕ). or_known (w.live a) (or_known (captured_sum a w.running) (or_known o (sum_at a b.chain)))) (entry_at w.view.checkpoint.parts.references 1 sh.layout.blocks a from to)
       ∙ ap (λ (o : Option ℕ). or_known (w.live a) (or_known (captured_sum a w.running) (or_known (w.view.checkpoint.parts.references a) o))) (pairs_sum a w.view.checkpoint.chain)
+
+-- what isn't there can't be taken away
+pub without_none : (a : ℕ) (xs : List (ℕ × ℕ)) → sum_at a xs ≡ None → without_entry a xs ≡ xs
+without_none a [] none = refl
+without_none a (x ∷ xs) none = by (without_none a xs) (x.0 == a) refl none
+  where
+    by : (sum_at a xs ≡ None → without_entry a xs ≡ xs) → (b : Bool) → (x.0 == a) ≡ b → cond b (Some x.1) (sum_at a xs) ≡ None → cond b xs (x ∷ without_entry a xs) ≡ x ∷ xs
+    by rest true same is = absurd (cc)
+    by rest false other is = ap (λ (l : List (ℕ × ℕ)). x ∷ l) (rest is)

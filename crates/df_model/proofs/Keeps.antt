@@ -217,7 +217,7 @@ of_case : (a : ℕ) (x : ℕ × Block) (xs : List (ℕ × Block)) (b : Bool) →
 of_case a x xs true same is more = (x.1, inl (eqb-true a x.0 same, refl))
 of_case a x xs false same is more = let rest = more is in (rest.0, inr rest.1)
 
-some_of : (a : ℕ) (xs : List (ℕ × Block)) → is_of a xs ≡ true → (y : Block) × InChain a y xs
+pub some_of : (a : ℕ) (xs : List (ℕ × Block)) → is_of a xs ≡ true → (y : Block) × InChain a y xs
 some_of a [] is = absurd (cc)
 some_of a (x ∷ xs) is = of_case a x xs (a == x.0) refl is (λ more. some_of a xs more)
 

@@ -13,6 +13,7 @@ use Rattle.df_format.specs.Valid.{IsUnit}
 use Rattle.df_format.specs.Brings.{Brings}
 use Rattle.df_buffers.specs.Rooms.{StandsIn}
 use Rattle.df_buffers.specs.Sounds.{BringsOwn, Holding}
+use Rattle.df_buffers.proofs.Laws.{is_no_ring}
 use Rattle.df_theory.specs.Device.{AreSteps, IsPut}
 use Rattle.df_theory.specs.Units
 use Rattle.df_theory.specs.Units.{AnyUnit, BlockPlace, CopyPlace, HeaderPlace, PreparePlace, ReplyPlace}
@@ -21,7 +22,6 @@ use Rattle.df_units.specs.Format.{format_of}
 use Rattle.df_units.specs.Meaning.{place_of, unit_of}
 use Rattle.df_units.proofs.Laws.{block_put, prepare_put, reply_put}
 use Rattle.df_places.specs.Units.{put_events, put_steps, unit_events, unit_steps}
-use Rattle.df_places.proofs.Rooms.{no_ring}
 
 -- a unit has one own place in a zone
 one_place : (layout : Layout) (cluster : ℕ) (a b : Place) (u : Message) → a.zone ≡ b.zone → IsUnit layout cluster a u → IsUnit layout cluster b u → a ≡ b
@@ -55,7 +55,7 @@ put_is_steps kind zone layout place held lent stands same in_zone own value brin
     let cluster = held.unit.header.cluster in
     let sectors = take (sectors_end held.unit.header.size) held.bytes in
     let to_place : Brings layout cluster place held.unit sectors = write_brings zone layout place held lent same in_zone own value brings in
-    let alone : (place_of at).zone ≡ WalHeaders → ⊥ = λ ring. no_ring kind zone stands (sym in_zone ∙ ap (λ (p : Place). p.zone) (sym here) ∙ ring) in
+    let alone : (place_of at).zone ≡ WalHeaders → ⊥ = λ ring. is_no_ring kind zone stands (sym in_zone ∙ ap (λ (p : Place). p.zone) (sym here) ∙ ring) in
     let put = puts_at layout cluster at held.unit x sectors alone is (subst (λ (p : Place). Brings layout cluster p held.unit sectors) (sym here) to_place) in (
       subst (λ (p : Place). IsPut (format_of layout cluster) (span_of layout p).first sectors (put_one at x)) here put,
       tt,

@@ -38,7 +38,7 @@ at_none client (s ∷ ss) d none =
     let other : has_client client s ≡ false = none 0 (omega arith) in
     rw other (at_none client ss d (λ k h. none (suc k) (omega arith)))
 
-no_session : told.Session
+pub no_session : told.Session
 no_session = record { client = 0; request = 0; op = 0; reply = None }
 
 found_by : (client : ℕ) (ss : List told.Session) (o : Option ℕ) → position (has_client client) ss ≡ o → session_of_client client (map session_of ss) ≡ option_map session_of (session_at ss o)

@@ -9,7 +9,7 @@ use Rattle.df_model.specs.Making.{next_address}
 use Rattle.df_model.specs.Memory.{Course}
 use Rattle.df_model.specs.Refusals.{block_refusals, first_refusal}
 use Rattle.df_model.specs.Work.{is_known}
-use Rattle.df_model.proofs.Laws.{all_pass}
+use Rattle.df_model.proofs.Laws.{all_pass, known_none, without_none}
 use Rattle.df_model.specs.declared.errors.BlockError.{BlockError}
 use Rattle.df_state.specs.declared.file.DataFile.{DataFile}
 use Rattle.df_state.specs.State.{Capture, IsCourse, IsState, State, course_in, grid_with, memory}
@@ -68,20 +68,8 @@ live_state s live is = record {
 
 -- ---- an address that isn't live
 
-known_none : (o : Option ℕ) → is_known o ≡ false → o ≡ None
-known_none None is = refl
-known_none (Some c) is = absurd (cc)
-
-nothing_goes : (a : ℕ) (xs : List (ℕ × ℕ)) → sum_at a xs ≡ None → without_entry a xs ≡ xs
-nothing_goes a [] none = refl
-nothing_goes a (x ∷ xs) none = by (nothing_goes a xs) (x.0 == a) refl none
-  where
-    by : (sum_at a xs ≡ None → without_entry a xs ≡ xs) → (b : Bool) → (x.0 == a) ≡ b → cond b (Some x.1) (sum_at a xs) ≡ None → cond b xs (x ∷ without_entry a xs) ≡ x ∷ xs
-    by rest true same is = absurd (cc)
-    by rest false other is = ap (λ (l : List (ℕ × ℕ)). x ∷ l) (rest is)
-
 pub not_live_stays : (b : Blocks) (a : ℕ) → is_known (sum_at a b.live) ≡ false → block_released b a ≡ b
-not_live_stays b a not_live = ap (lives b) (nothing_goes a b.live (known_none (sum_at a b.live) not_live))
+not_live_stays b a not_live = ap (lives b) (without_none a b.live (known_none (sum_at a b.live) not_live))
 
 -- ---- the address of the next block
 

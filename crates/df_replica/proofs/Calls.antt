@@ -79,7 +79,7 @@ good_safe file Firm v u log good = good.safe
 good_safe file Whole v u log good = good.safe
 
 -- what is kept, whether the referenced blocks are shown or not
-firm_of : (g : Grade) (sh : Shape) (spell : Parts → List ℕ) (log : UnitLog) (w : Work) → KeptFor g sh spell log w → IsKeptBy sh spell log w
+pub firm_of : (g : Grade) (sh : Shape) (spell : Parts → List ℕ) (log : UnitLog) (w : Work) → KeptFor g sh spell log w → IsKeptBy sh spell log w
 firm_of Firm sh spell log w by = by
 firm_of Whole sh spell log w by = by.0
 

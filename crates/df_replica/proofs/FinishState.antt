@@ -13,10 +13,6 @@ use Rattle.df_units.specs.Meaning.{number_of}
 use Rattle.df_state.specs.State.{Capture, IsRunning, IsState, State}
 use Rattle.df_replica.specs.Stepping.{next_fields}
 
--- a checksum is spelled as it was read
-pub spelled_check : (check : List ℕ) → IsCheck check → spelled 16 (number_of check) ≡ check
-spelled_check check is = spelled-field_at 16 0 check is.each (omega (arith, is.size)) ∙ take_all 16 check (omega (arith, is.size))
-
 -- the last trailer block is the first of those that are listed
 pub first_pair : (written : List (ℕ × ℕ)) (left : List ℕ) (address sum : ℕ) → left ≡ [] → Some (address, sum) ≡ last_of left written → (first_address written ≡ address) × (first_sum written ≡ sum)
 first_pair written (a ∷ more) address sum done is = absurd (cc)

@@ -32,7 +32,7 @@ use Rattle.df_model.specs.Supply.{copies_of, puts_of, step_puts, trailer_puts, u
 use Rattle.df_model.specs.Work.{Running, Work, is_captured, is_held, is_known, is_of}
 use Rattle.df_model.specs.declared.answers.Verdict.{Verdict}
 use Rattle.df_model.specs.declared.answers.Verdict.TheVariants.{Sound, Failing}
-use Rattle.df_model.proofs.Laws.{block_may_law}
+use Rattle.df_model.proofs.Laws.{block_may_law, some_of}
 use Rattle.df_state.specs.declared.file.DataFile.{DataFile}
 use Rattle.df_state.specs.State.{Represents, State, memory, shape, spelling}
 use Rattle.df_replica.specs.Leaving.{AreSettled, IsReadPlace, LeavesCopies, LeavesShown, SparesHeld, SparesReads, WritesNext, image_after, is_durable, writes_to}
@@ -316,20 +316,13 @@ taken_captured r a is = elim (or_cases (is_known (r.parts.references a)) (is_of 
 taken_held : (w : Work) (r : Running) (a : ℕ) → w.running ≡ Some r → is_taken r a ≡ true → is_held w a ≡ true
 taken_held w r a running is = or_right (is_known (w.live a)) _ (or_left (is_captured a w.running) _ (ap (is_captured a) running ∙ taken_captured r a is))
 
-in_chain : (a : ℕ) (chain : List (ℕ × Block)) → is_of a chain ≡ true → (b : Block) × InChain a b chain
-in_chain a [] is = absurd (cc)
-in_chain a (x ∷ xs) is = elim (or_cases (a == x.0) (is_of a xs) is) [
-  | inl here ↦ (x.1, inl (eqb-true a x.0 here, refl))
-  | inr there ↦ let more = in_chain a xs there in (more.0, inr more.1)
-]
-
 -- the running trailer's next block is not a durable one
 next_aside : (w : Work) (a : ℕ) → ((r : Running) → w.running ≡ Some r → AtEachOf (IsClear w.live w.view.checkpoint) r.left) → is_durable w a ≡ true → (command : Command) → WritesNext command w a → ⊥
 next_aside w a clear is Advance (r, more, running, left) =
     let free : IsClear w.live w.view.checkpoint a = (subst (AtEachOf (IsClear w.live w.view.checkpoint)) left (clear r running)).0 in
     elim (or_cases (is_known (w.view.checkpoint.parts.references a)) (is_of a w.view.checkpoint.chain) is) [
       | inl known ↦ let no : true ≡ false = sym known ∙ ap is_known free.unreferenced in cc
-      | inr there ↦ let at = in_chain a w.view.checkpoint.chain there in free.no_trailer at.0 at.1
+      | inr there ↦ let at = some_of a w.view.checkpoint.chain there in free.no_trailer at.0 at.1
     ]
 next_aside w a clear is (Append client request body) never = never
 next_aside w a clear is (Reply op body) never = never

@@ -14,7 +14,7 @@ use Rattle.df_model.specs.Work.{Work, kept}
 use Rattle.df_model.specs.declared.reading.LookupError.{LookupError}
 use Rattle.df_model.specs.declared.reading.PrepareError.{PrepareError}
 use Rattle.df_model.specs.declared.reading.ReadError.{ReadError}
-use Rattle.df_model.proofs.Laws.{all_pass}
+use Rattle.df_model.proofs.Laws.{all_pass, entry_in}
 use Rattle.df_theory.specs.Device.{NoChanceOf, units_log}
 use Rattle.df_theory.specs.Sessions.{Answers}
 use Rattle.df_theory.specs.Tails.{In}
@@ -28,7 +28,7 @@ use Rattle.df_replica.specs.Reading.{IsReadPrepare}
 use Rattle.df_replica.specs.Serving.{format}
 use Rattle.df_state.specs.State.{Represents, State, memory, shape, spelling}
 use Rattle.df_replica.specs.Lending.{BlockIsLent, BlockIsTheOne, IsReplyTo, LendsWrittenBlock, LendsWrittenPrepare, LendsWrittenReply, PrepareIsLent, PrepareIsTheOne, ReplyIsLent, ReplyIsTheOne}
-use Rattle.df_replica.proofs.LentFinds.{block_in, chain_get, client_at, entry_in, joined_at, mapped, prepare_in, reply_in, stored_in}
+use Rattle.df_replica.proofs.LentFinds.{block_in, chain_get, client_at, joined_at, mapped, prepare_in, reply_in, stored_in}
 
 -- ---- the one unit with the checksum that is known
 

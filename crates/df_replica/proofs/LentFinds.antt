@@ -111,8 +111,3 @@ entry_case f a x (Some d) rest c known is more = go (x == a) refl is
     go : (b : Bool) → (x == a) ≡ b → (if b then Some d else sum_at a rest) ≡ Some c → f a ≡ Some c
     go true same found = ap f (sym (eqb-true x a same)) ∙ known ∙ found
     go false same found = more found
-
--- what is looked up among the entries of a map is what the map says
-pub entry_in : (f : ℕ → Option ℕ) (xs : List ℕ) (a c : ℕ) → sum_at a (entries f xs) ≡ Some c → f a ≡ Some c
-entry_in f [] a c is = absurd (cc)
-entry_in f (x ∷ xs) a c is = entry_case f a x (f x) (entries f xs) c refl is (λ rest. entry_in f xs a c rest)

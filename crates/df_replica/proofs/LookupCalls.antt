@@ -32,9 +32,7 @@ use Rattle.df_replica.specs.Supply.{IsSupplied}
 use Rattle.df_replica.proofs.LookupFinds.{reply_found_by, reply_known, reply_lacks_by}
 use Rattle.df_replica.proofs.Calls.{AreCalls, Answered, answered_call, stopped_call}
 use Rattle.df_replica.proofs.Leaves.{makes_nothing}
-
-zero_sum : (given : Given) → given.checksum ≡ 0 → IsChecksum given.checksum
-zero_sum given zero = subst IsChecksum (sym zero) (let small : 0 < 2 ^ 128 = omega arith in small)
+use Rattle.df_replica.proofs.ReadCalls.{zero_sum}
 
 module _ (s : State) (client : ℕ) (live : s.live ≡ true) where
   calls : (given : Given) → AreCalls given (ReadReply client) s []

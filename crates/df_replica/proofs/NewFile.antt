@@ -23,7 +23,7 @@ use Rattle.df_trailer.specs.Text.{parse_of}
 use Rattle.df_state.specs.State.{shape}
 use Rattle.df_units.specs.Making.{AreReserved, IsMadeOnDisk, first_view, header_puts, header_writes}
 use Rattle.df_units.specs.Sample.{reserved_header}
-use Rattle.df_units.proofs.Laws.{all_added, copy_put, format_on_disk, headers_put, part_moments}
+use Rattle.df_units.proofs.Laws.{all_added, copy_put, format_on_disk, headers_put, part_moments, headers_are_steps}
 use Rattle.df_headers.specs.Ring
 use Rattle.df_headers.specs.Ring.{IsTable, in_sector}
 use Rattle.df_headers.proofs.Laws.{reserved_table as reserved_is_table, sector_at, table_written}
@@ -69,10 +69,6 @@ how_many s zero table = refl
 how_many s (suc n) table = ap suc (how_many (s + 1) n table)
 
 -- ---- the making
-
-headers_are_steps : (layout : Layout) (cluster sector : ℕ) (sectors : List (List Header)) → AreReserved layout cluster sector sectors → AreSteps (format_of layout cluster) (header_writes layout sector sectors) (all_puts (header_puts sector sectors))
-headers_are_steps layout cluster sector [] are = tt
-headers_are_steps layout cluster sector (headers ∷ rest) are = (headers_put layout cluster sector headers are.0, headers_are_steps layout cluster (sector + 1) rest are.2)
 
 abbrev All : Layout → ℕ → Type 0
 All layout cluster = AreReserved layout cluster 0 (sectors_in layout (reserved_table layout cluster))

@@ -21,7 +21,7 @@ use Rattle.df_format.specs.Shown
 use Rattle.df_format.specs.Shown.{bytes_of}
 use Rattle.df_format.specs.Spelling.{IsCheck, spelling_rest}
 use Rattle.df_format.specs.Valid.{IsInSlot, IsUnit}
-use Rattle.df_format.proofs.Laws.{valid_belongs, valid_stale}
+use Rattle.df_format.proofs.Laws.{valid_belongs, valid_stale, shown_stale}
 use Rattle.df_buffers.specs.declared.identity.Identity.{Identity}
 use Rattle.df_buffers.specs.declared.identity.Wanted.TheVariants.{Checksum}
 use Rattle.df_buffers.specs.Sounds.{Holding}
@@ -29,7 +29,7 @@ use Rattle.df_theory.specs.Units
 use Rattle.df_theory.specs.Units.{PreparePlace}
 use Rattle.df_units.specs.Bytes.{message_unit}
 use Rattle.df_units.specs.Meaning.{message_of, number_of}
-use Rattle.df_units.proofs.Laws.{one_number}
+use Rattle.df_units.proofs.Laws.{one_number, sealed_check}
 use Rattle.df_model.specs.Commands.{ReadPrepare}
 use Rattle.df_model.specs.Memory as memory
 use Rattle.df_model.specs.Refusals.{first_refusal, prepare_refusals}
@@ -39,15 +39,6 @@ use Rattle.df_places.specs.Shelves.{IsFound, IsOf, IsRead}
 use Rattle.df_state.specs.declared.file.DataFile.{DataFile}
 use Rattle.df_state.specs.State.{State, memory, prepare_sum, sum_of}
 use Rattle.df_replica.specs.Reading.{IsFoundBy, IsKnownUnit, check_in, prepare_wanted, shown_of}
-
--- a sealed header's checksum has sixteen bytes
-sealed_check : (h : Header) → IsSealed h → IsCheck h.checksum
-sealed_check h is = subst IsCheck (sym is.checksum) (record { size = length-check_of (spelling_rest h); each = AreBytes-check_of (spelling_rest h) })
-
--- a place that shows a unit, where another one is wanted, is stale
-shown_stale : (layout : Layout) (cluster : ℕ) (image : Image) (place : Place) (u : Message) → Shown.unit_at layout cluster image place ≡ Some u → Shown.class_at layout cluster image place ≡ Stale
-unfolding Shown.unit_at Shown.class_at
-shown_stale layout cluster image place u shown = valid_stale layout cluster place (bytes_of layout image place) u shown
 
 -- ---- the message that an image shows
 

@@ -12,6 +12,7 @@ use Rattle.df_theory.specs.Units.{Block}
 use Rattle.df_model.specs.Commands.{Advance, Command}
 use Rattle.df_model.specs.Sense.{AtEachOf, IsClear}
 use Rattle.df_model.specs.Work.{Running, Work, is_captured, is_held, is_known, is_of}
+use Rattle.df_model.proofs.Laws.{some_of}
 use Rattle.df_replica.specs.Below.{DataFile}
 use Rattle.df_replica.specs.Leaving.{AreSettled, SparesHeld, WritesNext, is_durable, writes_to}
 
@@ -44,10 +45,6 @@ firm_on ((Stop changes) ∷ es) log sector none firm = firm_on es (add (Stop cha
 one_of : (a : ℕ) (x : ℕ × Block) (xs : List (ℕ × Block)) (b : Bool) → (a == x.0) ≡ b → (b || is_of a xs) ≡ true → (is_of a xs ≡ true → (y : Block) × InChain a y xs) → (y : Block) × InChain a y (x ∷ xs)
 one_of a x xs true same is more = (x.1, inl (eqb-true a x.0 same, refl))
 one_of a x xs false same is more = let rest = more is in (rest.0, inr rest.1)
-
-some_of : (a : ℕ) (xs : List (ℕ × Block)) → is_of a xs ≡ true → (y : Block) × InChain a y xs
-some_of a [] is = absurd (cc)
-some_of a (x ∷ xs) is = one_of a x xs (a == x.0) refl is (λ more. some_of a xs more)
 
 -- no address of the running trailer is one of theirs
 module _ (w : Work) (clear : (r : Running) → w.running ≡ Some r → AtEachOf (IsClear w.live w.view.checkpoint) r.left) where

@@ -11,7 +11,7 @@ use Rattle.df_trailer.specs.Spelling.{bits_size, blocks_of, is_referenced, numbe
 use Rattle.df_trailer.specs.Text.{ones, parse_of}
 use Rattle.df_trailer.proofs.Blocks as blocks
 use Rattle.df_trailer.proofs.Read.{text_read}
-use Rattle.df_trailer.proofs.Spelled.{lawful_stands, read_again}
+use Rattle.df_trailer.proofs.Spelled.{lawful_stands, read_again, length_map}
 
 sessions_bytes : (ss : List Session) → AreBytes (spell_sessions ss)
 sessions_bytes [] = AreBytes-nil
@@ -36,10 +36,6 @@ few_ones : (bits : List Bool) → ones bits ≤ length bits
 few_ones [] = omega arith
 few_ones (false ∷ bits) = omega (arith, few_ones bits)
 few_ones (true ∷ bits) = omega (arith, few_ones bits)
-
-length_map : (bs : List (Option ℕ)) → length (map is_referenced bs) ≡ length bs
-length_map [] = refl
-length_map (b ∷ bs) = ap suc (length_map bs)
 
 pub codec : (sh : Shape) → HasLimits sh.layout → 256 < sh.layout.block_size → sh.parse ≡ parse_of sh.layout → IsCodec sh (spell sh.layout)
 codec sh limits room is = record {

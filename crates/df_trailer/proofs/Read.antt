@@ -9,7 +9,7 @@ use Rattle.df_base.proofs.Laws.{field_at-lt, AreBytes-take, AreBytes-drop}
 use Rattle.df_theory.specs.Units.{Layout, Parts, Session}
 use Rattle.df_model.specs.Codec.{InGrid, IsChecksum, IsLawful}
 use Rattle.df_model.specs.Refusals.{first_refusal}
-use Rattle.df_trailer.proofs.Passing.{all_pass}
+use Rattle.df_model.proofs.Laws.{all_pass}
 use Rattle.df_trailer.specs.declared.fault.Failing.{Failing}
 use Rattle.df_trailer.specs.declared.fault.Fault.{Fault}
 use Rattle.df_trailer.specs.Spelling.{bits_size, blocks_of, is_referenced, listed, number_of, spell, spell_blocks, spell_checks, spell_sessions}

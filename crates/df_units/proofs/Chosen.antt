@@ -84,7 +84,7 @@ shown_checks image n c whole is =
 
 -- ---- copies
 
-copy_parts : (o : Option Content) (d : Units.Content) → copy_unit o ≡ Some (CopyUnit d) → (c : Content) × (o ≡ Some c) × (content_of c ≡ d)
+pub copy_parts : (o : Option Content) (d : Units.Content) → copy_unit o ≡ Some (CopyUnit d) → (c : Content) × (o ≡ Some c) × (content_of c ≡ d)
 copy_parts None d is = absurd (cc)
 copy_parts (Some c) d is = (c, refl, cc)
 
