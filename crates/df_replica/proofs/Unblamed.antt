@@ -2,7 +2,7 @@
 use Rattle.std.proofs.Common.{◌≡◌, ℕ, true, false, Bool, List, [], ◌∷◌, Option, Some, None, refl, sym, ap, subst}
 use Rattle.std.specs.Prelude.{if◌then◌else◌, Result, Err}
 use Rattle.df_base.specs.Causes.{Blamed, IsBlamed}
-use Rattle.df_format.proofs.Laws.{some-eq}
+use Rattle.std.proofs.lemmas.Option.{same_Some}
 use Rattle.df_model.specs.Commands.{Answer}
 use Rattle.df_model.specs.Faults.{is_append_fault, is_block_fault, is_lookup_fault, is_prepare_fault, is_reply_fault}
 use Rattle.df_model.specs.Memory.{Memory}
@@ -23,7 +23,7 @@ AreUnblamed is_fault (t ∷ ts) = (is_fault t.1 ≡ false) × AreUnblamed is_fau
 
 module _ {E : Type 0} (is_fault : E → Bool) (e : E) where
   unblamed_at : (b : Bool) (x : E) (o : Option E) → is_fault x ≡ false → (if b then Some x else o) ≡ Some e → (o ≡ Some e → is_fault e ≡ false) → is_fault e ≡ false
-  unblamed_at true x o safe is behind = subst (λ (y : E). is_fault y ≡ false) (some-eq is) safe
+  unblamed_at true x o safe is behind = subst (λ (y : E). is_fault y ≡ false) (same_Some _ _ is) safe
   unblamed_at false x o safe is behind = behind is
 
   first_unblamed : (ts : List (Bool × E)) → AreUnblamed is_fault ts → first_refusal ts ≡ Some e → is_fault e ≡ false
