@@ -1,9 +1,9 @@
 -- What an image shows at the copies' places: the laws that the superblock rests on.
-use Rattle.std.proofs.Common.{◌≡◌, ◌≢◌, inl, inr, ◌+◌, ◌==◌, ℕ, false, List, length, take, drop, Option, Some, None, refl, ◌∙◌, ap, subst, arith}
-use Rattle.std.proofs.lemmas.Bool.{cond-true, cond-false, cases_order, eq-eqb}
+use Rattle.std.proofs.Common.{◌≡◌, ◌≢◌, inl, inr, ◌+◌, ◌==◌, ℕ, List, length, take, drop, Option, Some, None, refl, ◌∙◌, ap, subst, arith}
+use Rattle.std.proofs.lemmas.Bool.{cond-true, cases_order, eq-eqb}
 use Rattle.std.proofs.lemmas.List.{take_all}
 use Rattle.df_base.specs.Fields.{check_of}
-use Rattle.df_base.specs.Image.{Image, covers, written}
+use Rattle.df_base.specs.Image.{Image, written}
 use Rattle.df_base.proofs.Laws.{written_else}
 use Rattle.df_format.specs.declared.superblock.SuperCopy.{SuperCopy}
 use Rattle.df_format.specs.Super.{covered_bytes, copy_bytes}

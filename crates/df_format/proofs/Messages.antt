@@ -1,5 +1,5 @@
 -- The bytes of a unit: their length, and that they are bytes.
-use Rattle.std.proofs.Common.{◌≡◌, ◌<◌, ◌+◌, ◌-◌, ℕ, zero, suc, List, ◌∷◌, ◌++◌, length, replicate, sym, subst, arith, length-append}
+use Rattle.std.proofs.Common.{◌≡◌, ◌<◌, ◌+◌, ◌-◌, ℕ, List, ◌∷◌, ◌++◌, length, replicate, sym, subst, arith, length-append}
 use Rattle.std.proofs.lemmas.List.{length-replicate}
 use Rattle.df_base.specs.Fields.{AreBytes, spelled}
 use Rattle.df_base.proofs.Laws.{AreBytes-check_of, AreBytes-spelled, AreBytes-append, AreBytes-cons, AreBytes-zeros}

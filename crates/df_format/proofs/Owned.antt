@@ -1,5 +1,5 @@
 -- The own place of a unit: the layout has it, and the unit's header says what belongs there.
-use Rattle.std.proofs.Common.{◌≡◌, ◌⊎◌, inl, inr, ℕ, Bool, true, false, Option, Some, None, cond, refl, sym, ◌∙◌, ap, subst}
+use Rattle.std.proofs.Common.{◌≡◌, ◌⊎◌, inl, inr, ℕ, true, Option, Some, None, refl, sym, ◌∙◌, ap, subst}
 use Rattle.std.proofs.lemmas.Bool.{cond-true, and_parts, and_from, ltb-true, lt-ltb, leb-true, le-leb, eqb-true, eq-eqb}
 use Rattle.std.proofs.lemmas.Option.{cond_some, same_Some}
 use Rattle.df_base.proofs.Laws.{cond_there}
@@ -63,7 +63,7 @@ pub record IsOwn (layout : Layout) (zone : Zone) (h : Header) (place : Place) : 
 inside_is : (layout : Layout) (o : Option Place) (place : Place) → inside layout o ≡ Some place → (o ≡ Some place) × HasPlace layout place
 inside_is layout None place is = absurd (cc)
 inside_is layout (Some named) place is =
-    let parts = cond_there _ _ place is in
+    let parts = cond_some _ _ place is in
     (ap Some parts.1, subst (λ (p : Place). HasPlace layout p) parts.1 (has-true layout named.zone named.index parts.0))
 
 pub own_is : (layout : Layout) (zone : Zone) (h : Header) (place : Place) → own_place layout zone h ≡ Some place → IsOwn layout zone h place

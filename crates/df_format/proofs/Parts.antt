@@ -1,7 +1,6 @@
 -- Parts of bytes are bytes, and a list is its pieces one behind the other.
-use Rattle.std.proofs.Common.{◌≡◌, ℕ, zero, suc, ◌+◌, List, [], ◌∷◌, ◌++◌, length, take, drop, sym, ◌∙◌, ap, arith}
-use Rattle.std.proofs.lemmas.List.{take-append-drop, drop-drop, drop_at, get_or-drop}
-use Rattle.df_base.specs.Fields.{AreBytes}
+use Rattle.std.proofs.Common.{◌≡◌, ℕ, ◌+◌, List, ◌++◌, length, take, drop, sym, ◌∙◌, ap}
+use Rattle.std.proofs.lemmas.List.{take-append-drop, drop-drop, drop_at}
 
 -- what stands from an offset on is a piece and what stands behind it
 pub piece : (at n : ℕ) (bytes front rest : List ℕ) → front ≡ take n (drop at bytes) → drop (at + n) bytes ≡ rest → drop at bytes ≡ front ++ rest

@@ -2,10 +2,10 @@
 use Rattle.std.proofs.Common.{◌≡◌, inl, inr, ◌<◌, ◌≤◌, ◌+◌, ◌-◌, ◌*◌, ℕ, false, zero, suc, List, [], ◌++◌, length, take, drop, refl, sym, ◌∙◌, ap, subst, arith, append_assoc, length-append}
 use Rattle.std.proofs.lemmas.Bool.{and_left, and_right, cases_lt, le-ltb, lt-leb}
 use Rattle.std.proofs.lemmas.Bool.Decides.{nat_tests}
-use Rattle.std.proofs.lemmas.List.{drop_all, take-append-drop, drop-drop, length-replicate}
+use Rattle.std.proofs.lemmas.List.{drop_all, take-append-drop, drop-drop}
 use Rattle.df_base.specs.Fields.{AreBytes}
-use Rattle.df_base.specs.Image.{Image, IsImage, blank, bytes_at, covers, written}
-use Rattle.df_base.proofs.Laws.{AreBytes-append, AreBytes-zeros}
+use Rattle.df_base.specs.Image.{Image, IsImage, bytes_at, covers, written}
+use Rattle.df_base.proofs.Laws.{AreBytes-append}
 
 pub length-bytes_at : (image : Image) (at n : ℕ) → IsImage image → length (bytes_at image at n) ≡ 4096 * n
 length-bytes_at image at zero is = refl

@@ -78,7 +78,7 @@ found_whole layout cluster zone bytes u own is =
 own_parts : (place : Place) (o : Option Whole) (u : Message) → if_own place o ≡ Some u → o ≡ Some (record { unit = u; own = place })
 own_parts place None u is = absurd (cc)
 own_parts place (Some w) u is =
-    let parts = cond_there _ _ u is in
+    let parts = cond_some _ _ u is in
     let here = same_place-true w.own place parts.0 in
     λ i. Some (record { unit = parts.1 i; own = here i })
 
