@@ -1,7 +1,7 @@
 -- What a maker gives of a header obeys the rules of its kind, and a unit is what its maker would make again.
 use Rattle.std.proofs.Common.{◌≡◌, ◌↔◌, ℕ, ◌+◌, ◌^◌, ◌<◌, ◌≤◌, List, [], length, refl, sym, ◌∙◌, ap, subst, arith}
 use Rattle.df_base.specs.Fields.{check_of}
-use Rattle.df_base.proofs.Laws.{length-check_of, AreBytes-check_of}
+use Rattle.df_base.proofs.Laws.{length-check_of, AreBytes-check_of, AreBytes-zeros}
 use Rattle.df_format.specs.declared.header.Header.{Header}
 use Rattle.df_format.specs.declared.kind.Kind.{Kind}
 use Rattle.df_format.specs.declared.kind.Kind.TheVariants.{Reserved, Prepare as AsPrepare, Reply, Block, Trailer}
@@ -9,7 +9,6 @@ use Rattle.df_format.specs.Making.{blank_header, for_body, of_kind}
 use Rattle.df_format.specs.Rules.{FitsFields, IsCounter, IsSealed, ObeysKind, ObeysRules}
 use Rattle.df_format.specs.Spelling.{IsCheck, no_checksum, sealed, spelling_rest}
 use Rattle.df_format.specs.Valid.{IsBodyOf}
-use Rattle.df_format.proofs.Messages.{AreBytes-zeros}
 
 -- ---- what a maker sees to, of the fields that its kind names
 

@@ -5,8 +5,9 @@ use Rattle.std.proofs.lemmas.Bool.{cond-true, and_parts, and_from}
 use Rattle.std.proofs.lemmas.List.{take_at, take_all, drop_at, length-take-le, length-drop, get_or-drop}
 use Rattle.std.proofs.lemmas.Slice.Eq.{bytes_eq-Decides}
 use Rattle.std.specs.Str.{bytes_eq}
+use Rattle.std.proofs.lemmas.Option.{cond_some}
 use Rattle.df_base.specs.Fields.{AreBytes, field_at, spelled, check_of}
-use Rattle.df_base.proofs.Laws.{length-check_of, length-spelled, field_spelled, field_at-lt, spelled-field_at}
+use Rattle.df_base.proofs.Laws.{length-check_of, length-spelled, field_spelled, field_at-lt, spelled-field_at, AreBytes-take, AreBytes-drop}
 use Rattle.df_format.specs.declared.header.Header.{Header}
 use Rattle.df_format.specs.declared.kind.Kind.{Kind}
 use Rattle.df_format.specs.Spelling.{code_of, header_version, tail_of, spelling, spelling_rest, IsCheck}
@@ -14,15 +15,8 @@ use Rattle.df_format.specs.Rules.{ObeysRules, IsSealed}
 use Rattle.df_format.specs.Reading.{kind_of, fields_of, has_numbers, is_spelled, header_of_kind, header_in}
 use Rattle.df_format.specs.UnitLaws.{HeadersHaveOneSpelling}
 use Rattle.df_format.proofs.Codes.{kind_of-code, code_of-kind}
-use Rattle.df_format.proofs.Parts.{bytes-take, bytes-drop, piece, past}
-use Rattle.df_format.proofs.Ranges.{AreInRange, in_range, passes}
-
-pub guard_is : {X : Type 0} (b : Bool) (x y : X) → cond b (Some x) None ≡ Some y → (b ≡ true) × (x ≡ y)
-guard_is true x y is = (refl, cc)
-guard_is false x y is = absurd (cc)
-
-same_bytes : (a b : List ℕ) → a ≡ b → bytes_eq a b ≡ true
-same_bytes a b is = (bytes_eq-Decides a b).1 is
+use Rattle.df_format.proofs.Parts.{piece, past}
+use Rattle.df_format.proofs.Ranges.{AreInRange, in_range, passes, same_bytes}
 
 pub length-tail : (number : ℕ) → length (tail_of number) ≡ 134
 unfolding tail_of
@@ -54,7 +48,7 @@ read_of_kind : (bytes : List ℕ) (h : Header) (o : Option Kind) → header_of_k
 unfolding is_spelled
 read_of_kind bytes h None is from = absurd (cc)
 read_of_kind bytes h (Some kind) is from =
-    let parts = guard_is _ _ h is in
+    let parts = cond_some _ _ h is in
     let tests = and_parts _ _ parts.0 in
     let fixed = and_parts _ _ tests.0 in
     let same : kind ≡ h.kind = kind_of-fields kind bytes h parts.1 in
@@ -222,7 +216,7 @@ module _ (bytes : List ℕ) (size : length bytes ≡ 256) (are : AreBytes bytes)
   check_here : (at : ℕ) → at + 16 ≤ 256 → IsCheck (take 16 (drop at bytes))
   check_here at fits = record {
     size = length-take-le 16 (drop at bytes) (omega (arith, length-drop at bytes, size, fits));
-    each = bytes-take 16 (drop at bytes) (bytes-drop at bytes are);
+    each = AreBytes-take 16 (drop at bytes) (AreBytes-drop at bytes are);
   }
 
   obeys : AreInRange (fields_of kind bytes) → ObeysRules (fields_of kind bytes)

@@ -30,7 +30,7 @@ use Rattle.df_model.specs.Blocks.{Blocks}
 use Rattle.df_model.specs.Making.{first_of}
 use Rattle.df_units.specs.Format.{format_of}
 use Rattle.df_units.specs.Meaning.{block_of, number_of, place_of, unit_of}
-use Rattle.df_units.proofs.Laws.{no_number}
+use Rattle.df_units.proofs.Laws.{no_number, whole_check}
 use Rattle.df_places.specs.Units.{put_events, put_steps}
 use Rattle.df_grid.specs.Grid.{GridState}
 use Rattle.df_grid.specs.Table.{pair_in}
@@ -71,9 +71,6 @@ made_put layout place held header piece is sectors here steps =
 zeros_are : spelled 16 0 ≡ no_checksum
 unfolding spelled no_checksum
 zeros_are = refl
-
-whole_check : (c : List ℕ) → IsCheck c → spelled 16 (number_of c) ≡ c
-whole_check c fits = spelled-field_at 16 0 c fits.each (omega (arith, fits.size)) ∙ take_all 16 c (omega (arith, fits.size))
 
 parent_is : (before : Option Reference) (written : List (ℕ × ℕ)) → pair_in before ≡ slice_get written 0 → IsCheck (checksum_in before) → checksum_in before ≡ spelled 16 (first_sum written)
 parent_is None [] same fits = sym zeros_are

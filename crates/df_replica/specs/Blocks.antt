@@ -1,6 +1,5 @@
 -- The calls that write a block and let one go: what a write makes, what it asks of the disk, and the states that they lead to. No state of the machine is in sight.
 use Rattle.std.specs.Prelude.{◌≡◌, ◌<◌, ◌≤◌, ◌+◌, ℕ, false, List, Option, Some, None, Result, Ok, Err}
-use Rattle.df_base.specs.Causes.{Rose}
 use Rattle.df_base.specs.Log.{Event}
 use Rattle.df_disk.specs.Told.{Told}
 use Rattle.df_disk.specs.Adds.{AddsPart, after_all}
@@ -22,6 +21,7 @@ use Rattle.df_model.specs.declared.errors.BlockError.TheVariants as block
 use Rattle.df_model.specs.declared.errors.NotLive.{NotLive}
 use Rattle.df_state.specs.State.{State, grid_with, memory}
 use Rattle.df_replica.specs.Appending.{MayBeMade, unit_of}
+use Rattle.df_replica.specs.Stopping.{stopped}
 
 -- ---- a write
 
@@ -77,14 +77,8 @@ IsWriteBlock kind body s t old new (Ok reference) =
     let u = next_block s kind body in
     (first_refusal (block_refusals (memory s) kind body) ≡ None) × (reference ≡ reference_of u.header) × (t ≡ written s u.header) × (new ≡ after_all (block_events s u) old)
 IsWriteBlock kind body s t old new (Err block.DiskFault) =
-    (first_refusal (block_refusals (memory s) kind body) ≡ None) × (t ≡ record s { live = false }) × AddsPart (block_events s (next_block s kind body)) old new
+    (first_refusal (block_refusals (memory s) kind body) ≡ None) × (t ≡ stopped s) × AddsPart (block_events s (next_block s kind body)) old new
 IsWriteBlock kind body s t old new (Err e) = (first_refusal (block_refusals (memory s) kind body) ≡ Some e) × (t ≡ s) × (new ≡ old)
-
--- the count of faults rose where the disk is blamed, and is the same at every other answer
-abbrev pub BlamesWriteBlock : (before now : ℕ) → Result Reference BlockError → Type 0
-BlamesWriteBlock before now (Ok reference) = now ≡ before
-BlamesWriteBlock before now (Err block.DiskFault) = (before ≤ now) × Rose before now
-BlamesWriteBlock before now (Err e) = now ≡ before
 
 -- ---- a release
 

@@ -1,7 +1,6 @@
 -- A reply of a replica: what it makes, what it asks of the disk, and the state that it leads to. No state of the machine is in sight.
-use Rattle.std.specs.Prelude.{◌≡◌, ◌<◌, ◌≤◌, ◌+◌, ℕ, false, List, [], ◌∷◌, drop, Option, Some, None, Result, Ok, Err}
+use Rattle.std.specs.Prelude.{◌≡◌, ◌<◌, ◌≤◌, ◌+◌, ℕ, List, [], ◌∷◌, drop, Option, Some, None, Result, Ok, Err}
 use Rattle.std.specs.List.{slice_get}
-use Rattle.df_base.specs.Causes.{Rose}
 use Rattle.df_base.specs.Log.{Event, Sync, Write}
 use Rattle.df_layout.specs.Spans.{span_of}
 use Rattle.df_layout.specs.declared.layout.Layout.{Layout}
@@ -23,6 +22,7 @@ use Rattle.df_model.specs.declared.errors.ReplyError.{ReplyError}
 use Rattle.df_model.specs.declared.errors.ReplyError.TheVariants as reply
 use Rattle.df_state.specs.State.{State, memory}
 use Rattle.df_replica.specs.Appending.{unit_of}
+use Rattle.df_replica.specs.Stopping.{stopped}
 
 -- the place of the session that waits for the next reply
 abbrev pub place_waiting : State → ℕ
@@ -78,11 +78,5 @@ IsReply op body s t old new (Ok check) =
     let u = next_reply s body in
     (first_refusal (reply_refusals (memory s) op body) ≡ None) × (check ≡ u.header.checksum) × (t ≡ replied s u.header) × (new ≡ after_all (reply_events s u) old)
 IsReply op body s t old new (Err reply.DiskFault) =
-    (first_refusal (reply_refusals (memory s) op body) ≡ None) × (t ≡ record s { live = false }) × AddsPart (reply_events s (next_reply s body)) old new
+    (first_refusal (reply_refusals (memory s) op body) ≡ None) × (t ≡ stopped s) × AddsPart (reply_events s (next_reply s body)) old new
 IsReply op body s t old new (Err e) = (first_refusal (reply_refusals (memory s) op body) ≡ Some e) × (t ≡ s) × (new ≡ old)
-
--- the count of faults rose where the disk is blamed, and is the same at every other answer
-abbrev pub BlamesReply : (before now : ℕ) → Result (List ℕ) ReplyError → Type 0
-BlamesReply before now (Ok check) = now ≡ before
-BlamesReply before now (Err reply.DiskFault) = (before ≤ now) × Rose before now
-BlamesReply before now (Err e) = now ≡ before

@@ -1,6 +1,5 @@
 -- The steps of a running checkpoint: a trailer block each, and at last the superblock that ends it. No state of the machine is in sight.
-use Rattle.std.specs.Prelude.{◌≡◌, ◌≢◌, ◌≤◌, ◌+◌, ◌-◌, ℕ, false, List, [], ◌∷◌, length, Option, Some, None, Result, Ok, Err}
-use Rattle.df_base.specs.Causes.{Rose}
+use Rattle.std.specs.Prelude.{◌≡◌, ◌≢◌, ◌+◌, ◌-◌, ℕ, List, [], ◌∷◌, length, Option, Some, None, Result, Ok, Err}
 use Rattle.df_base.specs.Fields.{spelled}
 use Rattle.df_base.specs.Log.{Event, Sync}
 use Rattle.df_disk.specs.Told.{Told}
@@ -22,6 +21,7 @@ use Rattle.df_model.specs.declared.errors.StepError.{StepError}
 use Rattle.df_model.specs.declared.errors.StepError.TheVariants as step
 use Rattle.df_state.specs.declared.file.DataFile.{DataFile}
 use Rattle.df_state.specs.State.{Capture, State, captured_text, grid_with}
+use Rattle.df_replica.specs.Stopping.{stopped}
 
 -- a fact of the running checkpoint
 abbrev pub OfRunning : Option Capture → (Capture → Type 0) → Type 0
@@ -104,14 +104,8 @@ abbrev pub IsStep : (s t : State) → (old new : Option Told) → Result Progres
 IsStep s t old new (Ok (Working left)) = OfRunning s.running (λ r. (s.blocks.left ≢ []) × (left ≡ length s.blocks.left) × (t ≡ advanced s r) × (new ≡ after_all (block_events s r) old))
 IsStep s t old new (Ok (Done sequence)) = OfRunning s.running (λ r. (s.blocks.left ≡ []) × (sequence ≡ r.sequence) × (t ≡ finished s r) × (new ≡ after_all (last_events s r) old))
 IsStep s t old new (Err step.NotRunning) = (s.running ≡ None) × (t ≡ s) × (new ≡ old)
-IsStep s t old new (Err (step.Damaged place kind)) = OfRunning s.running (λ r. (s.blocks.left ≡ []) × (t ≡ record s { live = false }) × (new ≡ after_all (last_events s r) old) × (Tells new → ⊥))
-IsStep s t old new (Err step.DiskFault) = OfRunning s.running (λ r. (t ≡ record s { live = false }) × AddsPart (step_events s r) old new)
-
--- the count of faults rose where the disk is blamed, and is the same at every other answer
-abbrev pub BlamesStep : {T : Type 0} → (before now : ℕ) → Result T StepError → Type 0
-BlamesStep before now (Ok x) = now ≡ before
-BlamesStep before now (Err step.DiskFault) = (before ≤ now) × Rose before now
-BlamesStep before now (Err e) = now ≡ before
+IsStep s t old new (Err (step.Damaged place kind)) = OfRunning s.running (λ r. (s.blocks.left ≡ []) × (t ≡ stopped s) × (new ≡ after_all (last_events s r) old) × (Tells new → ⊥))
+IsStep s t old new (Err step.DiskFault) = OfRunning s.running (λ r. (t ≡ stopped s) × AddsPart (step_events s r) old new)
 
 -- ---- its parts
 

@@ -3,6 +3,7 @@ use Rattle.std.proofs.Common.{◌≡◌, inl, inr, ℕ, suc, ◌%◌, ◌==◌, 
 use Rattle.std.specs.Prelude.{slice_index}
 use Rattle.std.proofs.lemmas.Bool.Decides.{nat_tests}
 use Rattle.std.proofs.lemmas.List.{take_all}
+use Rattle.std.proofs.lemmas.Option.{same_Some}
 use Rattle.df_base.specs.Fields.{check_of, spelled}
 use Rattle.df_base.specs.Image.{Image, IsImage}
 use Rattle.df_base.proofs.Laws.{spelled-field_at}
@@ -24,7 +25,7 @@ use Rattle.df_format.specs.Shown
 use Rattle.df_format.specs.Spelling.{IsCheck}
 use Rattle.df_format.specs.Super.{covered_bytes}
 use Rattle.df_format.specs.Valid.{IsBodyOf, IsUnit}
-use Rattle.df_format.proofs.Laws.{is_here, made_again, shown_belongs, shown_is_unit, some-eq, was_written}
+use Rattle.df_format.proofs.Laws.{is_here, made_again, shown_belongs, shown_is_unit, was_written}
 use Rattle.df_theory.specs.Units.{AnyUnit, BlockPlace, CopyPlace, HeaderPlace, Place, PreparePlace, ReplyPlace}
 use Rattle.df_units.specs.Bytes.{copy_unit, message_unit, unit_at}
 use Rattle.df_units.specs.Meaning.{block_of, content_of, header_of, message_of, number_of, offset_list}
@@ -94,7 +95,7 @@ module _ (file : DataFile) (image : Image) (whole : IsImage image) where
 
   copy_parts : (o : Option SuperCopy) (c : Content) → content_in o ≡ Some c → (copy : SuperCopy) × (o ≡ Some copy) × (record { checksum = copy.checksum; fields = copy.fields } ≡ c)
   copy_parts None c is = absurd (cc)
-  copy_parts (Some copy) c is = (copy, refl, some-eq is)
+  copy_parts (Some copy) c is = (copy, refl, same_Some _ _ is)
 
   copy_there : (n : ℕ) (c : Content) → content_at image n ≡ Some c → (copy : SuperCopy) × (copy_in (image n) ≡ Some copy) × (record { checksum = copy.checksum; fields = copy.fields } ≡ c)
   unfolding copy_at
@@ -141,19 +142,19 @@ module _ (file : DataFile) (image : Image) (whole : IsImage image) where
 
   of_copy : (n : ℕ) (o : Option Content) (x : AnyUnit) → content_at image n ≡ o → copy_unit o ≡ Some x → HasSum file (CopyPlace n) x
   of_copy n None x shown is = absurd (cc)
-  of_copy n (Some c) x shown is = subst (HasSum file (CopyPlace n)) (some-eq is) (λ of. content_sum n c shown of)
+  of_copy n (Some c) x shown is = subst (HasSum file (CopyPlace n)) (same_Some _ _ is) (λ of. content_sum n c shown of)
 
   of_prepare : (s : ℕ) (o : Option Message) (x : AnyUnit) → Shown.unit_at file.layout file.cluster image (place_in WalPrepares s) ≡ o → message_unit (PreparePlace s) o ≡ Some x → HasSum file (PreparePlace s) x
   of_prepare s None x shown is = absurd (cc)
-  of_prepare s (Some u) x shown is = subst (HasSum file (PreparePlace s)) (some-eq is) (prepare_sum s u shown)
+  of_prepare s (Some u) x shown is = subst (HasSum file (PreparePlace s)) (same_Some _ _ is) (prepare_sum s u shown)
 
   of_reply : (k : ℕ) (o : Option Message) (x : AnyUnit) → Shown.unit_at file.layout file.cluster image (place_in ClientReplies k) ≡ o → message_unit (ReplyPlace k) o ≡ Some x → HasSum file (ReplyPlace k) x
   of_reply k None x shown is = absurd (cc)
-  of_reply k (Some u) x shown is = subst (HasSum file (ReplyPlace k)) (some-eq is) (reply_sum k u shown)
+  of_reply k (Some u) x shown is = subst (HasSum file (ReplyPlace k)) (same_Some _ _ is) (reply_sum k u shown)
 
   of_block : (a : ℕ) (o : Option Message) (x : AnyUnit) → Shown.unit_at file.layout file.cluster image (place_in Grid a) ≡ o → message_unit (BlockPlace a) o ≡ Some x → HasSum file (BlockPlace a) x
   of_block a None x shown is = absurd (cc)
-  of_block a (Some u) x shown is = subst (HasSum file (BlockPlace a)) (some-eq is) (block_sum a u shown)
+  of_block a (Some u) x shown is = subst (HasSum file (BlockPlace a)) (same_Some _ _ is) (block_sum a u shown)
 
   has_sum : (place : Place) (x : AnyUnit) → unit_at file.layout file.cluster image place ≡ Some x → HasSum file place x
   has_sum (CopyPlace n) x is = of_copy n (content_at image n) x refl is

@@ -40,10 +40,8 @@ fn header_table(alloc: Global, layout: &Layout) -> Result<HeaderTable, OutOfMemo
 {
     // Stands in the table until a header is put there.
     let blank = Header::of(Kind::Reserved, 0);
-    match vec![in alloc; blank; layout.slots as usize] {
-        Ok(room) => Ok(HeaderTable::over(room)),
-        Err(_) => Err(OutOfMemory),
-    }
+    let room = vec![in alloc; blank; layout.slots as usize]?;
+    Ok(HeaderTable::over(room))
 }
 
 fn slot_table(alloc: Global, layout: &Layout) -> Result<SlotTable, OutOfMemory>
@@ -53,19 +51,14 @@ fn slot_table(alloc: Global, layout: &Layout) -> Result<SlotTable, OutOfMemory>
         header: Err(Class::Blank),
         prepare: Err(Class::Blank),
     };
-    match vec![in alloc; blank; layout.slots as usize] {
-        Ok(room) => Ok(SlotTable::over(room)),
-        Err(_) => Err(OutOfMemory),
-    }
+    let room = vec![in alloc; blank; layout.slots as usize]?;
+    Ok(SlotTable::over(room))
 }
 
 fn mend_list(alloc: Global, layout: &Layout) -> Result<Vec<Mend>, OutOfMemory>
     ensures { IfOk result (λ mends. layout.now.slots + 4 ≤ vec_capacity mends) }
 {
-    match Vec::with_capacity(alloc, layout.slots as usize + 4) {
-        Ok(mends) => Ok(mends),
-        Err(_) => Err(OutOfMemory),
-    }
+    Ok(Vec::with_capacity(alloc, layout.slots as usize + 4)?)
 }
 
 impl LogRooms {
