@@ -10,11 +10,11 @@ use Rattle.df_disk.specs.Adds.{AddsPart, after_all}
 use Rattle.df_format.specs.declared.header.Header.{Header}
 use Rattle.df_format.specs.declared.kind.Kind.{Kind}
 use Rattle.df_format.specs.declared.kind.Kind.TheVariants.{Prepare as AsPrepare}
-use Rattle.df_format.specs.Making.{for_body}
+use Rattle.df_format.specs.Making.{blank_header, for_body}
 use Rattle.df_format.specs.Message.{Message, sectors_of}
 use Rattle.df_format.specs.Own.{own_place}
 use Rattle.df_format.specs.Rules.{ObeysRules}
-use Rattle.df_format.specs.Spelling.{no_checksum, sealed}
+use Rattle.df_format.specs.Spelling.{sealed}
 use Rattle.df_format.specs.Valid.{IsUnit}
 use Rattle.df_format.specs.Whole.{greatest_size}
 use Rattle.df_sessions.specs.Requests.{sessions_of}
@@ -58,20 +58,14 @@ pub record IsMadeUnit (layout : Layout) (place : Place) (u : Message) (result : 
 
 -- what the maker of the next prepare says of it
 abbrev pub header_given : State → (client request : ℕ) → Header
-header_given s client request = record {
-  checksum = no_checksum;
-  checksum_body = no_checksum;
-  cluster = s.file.cluster;
+header_given s client request = record (blank_header AsPrepare s.file.cluster) {
   parent = s.head_checksum;
   client = client;
   op = s.head + 1;
   request = request;
   mark = s.replies;
   checkpoint = s.fields.sequence;
-  size = 0;
   slot = (s.head + 1) % s.file.layout.slots;
-  kind = AsPrepare;
-  block_kind = 0;
 }
 
 -- the next prepare

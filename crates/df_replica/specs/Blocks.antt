@@ -8,8 +8,8 @@ use Rattle.df_layout.specs.declared.places.Zone.TheVariants.{Grid}
 use Rattle.df_format.specs.declared.header.Header.{Header}
 use Rattle.df_format.specs.declared.kind.Kind.TheVariants.{Block as AsBlock}
 use Rattle.df_format.specs.declared.reference.Reference.{Reference}
+use Rattle.df_format.specs.Making.{blank_header}
 use Rattle.df_format.specs.Message.{Message}
-use Rattle.df_format.specs.Spelling.{no_checksum}
 use Rattle.df_units.specs.Meaning.{number_of}
 use Rattle.df_grid.specs.Grid.{GridState, IsUnheld}
 use Rattle.df_grid.specs.Writes.{made_events}
@@ -27,21 +27,7 @@ use Rattle.df_replica.specs.Stopping.{stopped}
 
 -- what the maker of a block at an address says of it: its cluster, its address and its kind alone
 abbrev pub block_given : State → (address kind : ℕ) → Header
-block_given s address kind = record {
-  checksum = no_checksum;
-  checksum_body = no_checksum;
-  cluster = s.file.cluster;
-  parent = no_checksum;
-  client = 0;
-  op = address;
-  request = 0;
-  mark = 0;
-  checkpoint = 0;
-  size = 0;
-  slot = 0;
-  kind = AsBlock;
-  block_kind = kind;
-}
+block_given s address kind = record (blank_header AsBlock s.file.cluster) { op = address; block_kind = kind }
 
 -- the next block: it goes to the least address that isn't held
 abbrev pub next_block : State → (kind : ℕ) → List ℕ → Message

@@ -9,6 +9,7 @@ use Rattle.df_disk.specs.Told.{Told}
 use Rattle.df_disk.specs.Adds.{AddsPart, after_all}
 use Rattle.df_format.specs.declared.header.Header.{Header}
 use Rattle.df_format.specs.declared.kind.Kind.TheVariants.{Reply as AsReply}
+use Rattle.df_format.specs.Making.{blank_header}
 use Rattle.df_format.specs.Message.{Message, sectors_of}
 use Rattle.df_format.specs.Own.{place_in}
 use Rattle.df_format.specs.Spelling.{no_checksum}
@@ -37,20 +38,14 @@ first_check (check ∷ checks) = check
 
 -- what the maker of the next reply says of it: its parent is the prepare that waits the longest
 abbrev pub reply_given : State → Header
-reply_given s = record {
-  checksum = no_checksum;
-  checksum_body = no_checksum;
-  cluster = s.file.cluster;
+reply_given s = record (blank_header AsReply s.file.cluster) {
   parent = first_check s.waiting;
   client = client_of (session_waiting s);
   op = s.replies + 1;
   request = request_of (session_waiting s);
   mark = s.head;
   checkpoint = s.fields.sequence;
-  size = 0;
   slot = place_waiting s;
-  kind = AsReply;
-  block_kind = 0;
 }
 
 -- the next reply

@@ -6,6 +6,7 @@ use Rattle.df_disk.specs.Told.{Told}
 use Rattle.df_disk.specs.Adds.{AddsPart, after_all}
 use Rattle.df_format.specs.declared.superblock.SuperFields.{SuperFields}
 use Rattle.df_format.specs.Copies.{content_with}
+use Rattle.df_format.specs.First.{blank_super}
 use Rattle.df_format.specs.Message.{Message}
 use Rattle.df_theory.specs.Units
 use Rattle.df_units.specs.Meaning.{number_of}
@@ -52,14 +53,7 @@ advanced s r = record s { blocks = next_written s.blocks (block_sum s r); runnin
 
 -- what a superblock says of a checkpoint, where its trailer ends with this block
 abbrev pub fields_for : DataFile → Capture → (head replies address : ℕ) → List ℕ → SuperFields
-fields_for file r head replies address checksum = record {
-  version = 1;
-  slots = file.layout.slots;
-  message_size = file.layout.message_size;
-  clients = file.layout.clients;
-  block_size = file.layout.block_size;
-  blocks = file.layout.blocks;
-  cluster = file.cluster;
+fields_for file r head replies address checksum = record (blank_super file.layout file.cluster) {
   sequence = r.sequence;
   op = r.op;
   op_checksum = r.op_checksum;
@@ -68,8 +62,6 @@ fields_for file r head replies address checksum = record {
   trailer_address = address;
   trailer_checksum = checksum;
   trailer_size = r.size;
-  boot = 0;
-  first_nonzero = None;
 }
 
 -- what the one that ends it says: the checkpoint reaches the op that was captured, and the head and the replies are those of the moment

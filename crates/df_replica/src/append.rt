@@ -31,9 +31,6 @@ use df_model::{AppendError, Receipt};
 use df_places::Shelf;
 use df_state::LogRooms;
 
-// What stands in place of a checksum that is set later.
-const NO_CHECKSUM: [u8; 16] = [0; 16];
-
 // Makes a prepare in its room, and makes it durable, with its header.
 fn append_in<D: Disk>(
     disk: &mut D,
@@ -83,7 +80,7 @@ fn append_in<D: Disk>(
 
 impl Replica {
     // What the maker of the next prepare says of it.
-    #[tactic(auto, unfolding(df_format::specs::Own::own_place, df_format::specs::Spelling::no_checksum))]
+    #[tactic(auto, unfolding(df_format::specs::Own::own_place))]
     fn header_given(&self, client: u128, request: u64, body: &[u8]) -> Header
         requires { MayNext self.now client request (length body.now) }
         ensures value { result ≡ header_given self.now client request }
@@ -92,19 +89,14 @@ impl Replica {
     {
         let parent = self.head_checksum;
         Header {
-            checksum: NO_CHECKSUM,
-            checksum_body: NO_CHECKSUM,
-            cluster: self.file.cluster,
             parent,
             client,
             op: self.head + 1,
             request,
             mark: self.replies,
             checkpoint: self.content.fields().sequence,
-            size: 0,
             slot: ((self.head + 1) % u64::from(self.file.layout.slots)) as u32,
-            kind: Kind::Prepare,
-            block_kind: 0,
+            ..Header::of(Kind::Prepare, self.file.cluster)
         }
     }
 

@@ -32,9 +32,6 @@ use df_grid::Grid;
 use df_model::{BlockError, NotLive};
 use df_places::Shelf;
 
-// What stands in place of a checksum that is set later, or that there is none of.
-const NO_CHECKSUM: [u8; 16] = [0; 16];
-
 // The address of the next block, or why none is written: its kind is a trailer's, it has no room, or each address is held.
 fn address_or_refusal(
     kind: u8,
@@ -105,7 +102,7 @@ impl Replica {
     }
 
     // What the maker of the next block says of it.
-    #[tactic(auto, unfolding(df_format::specs::Own::own_place, df_format::specs::Spelling::no_checksum))]
+    #[tactic(auto, unfolding(df_format::specs::Own::own_place))]
     fn block_given(&self, address: u64, kind: u8, body: &[u8]) -> Header
         requires may { MayWriteNext self.now kind (length body.now) }
         requires address { address ≡ next_address (memory self.now) }
@@ -114,19 +111,9 @@ impl Replica {
         ensures own { IsSome (own_place self.now.file.layout InGrid result) }
     {
         Header {
-            checksum: NO_CHECKSUM,
-            checksum_body: NO_CHECKSUM,
-            cluster: self.file.cluster,
-            parent: NO_CHECKSUM,
-            client: 0,
             op: address,
-            request: 0,
-            mark: 0,
-            checkpoint: 0,
-            size: 0,
-            slot: 0,
-            kind: Kind::Block,
             block_kind: kind,
+            ..Header::of(Kind::Block, self.file.cluster)
         }
     }
 

@@ -33,9 +33,6 @@ use df_replies::write_reply;
 use df_sessions::{Session, SessionTable};
 use df_state::LogRooms;
 
-// What stands in place of a checksum that is set later.
-const NO_CHECKSUM: [u8; 16] = [0; 16];
-
 // The session at a place.
 pub(crate) fn session_in(table: &SessionTable, place: u64) -> Session
     requires { place < length table.now.sessions }
@@ -136,7 +133,7 @@ impl Replica {
     }
 
     // What the maker of the next reply says of it.
-    #[tactic(auto, unfolding(df_format::specs::Own::own_place, df_format::specs::Spelling::no_checksum))]
+    #[tactic(auto, unfolding(df_format::specs::Own::own_place))]
     fn reply_given(&self, body: &[u8]) -> Header
         requires { MayReplyNext self.now (length body.now) }
         ensures value { result ≡ reply_given self.now }
@@ -148,19 +145,14 @@ impl Replica {
         let client = client_of(&session);
         let parent = self.first_waiting();
         Header {
-            checksum: NO_CHECKSUM,
-            checksum_body: NO_CHECKSUM,
-            cluster: self.file.cluster,
             parent,
             client,
             op: self.replies + 1,
             request: session.request,
             mark: self.head,
             checkpoint: self.content.fields().sequence,
-            size: 0,
             slot: place as u32,
-            kind: Kind::Reply,
-            block_kind: 0,
+            ..Header::of(Kind::Reply, self.file.cluster)
         }
     }
 

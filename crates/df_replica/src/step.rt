@@ -43,16 +43,8 @@ fn fields_for(
     ensures fields { result ≡ fields_for file.now (capture_of running.now) head replies last.address last.checksum }
     ensures check { IsCheck last.checksum }
 {
-    let layout = &file.layout;
     let trailer_checksum = as_check(last.checksum);
     SuperFields {
-        version: 1,
-        slots: layout.slots,
-        message_size: layout.message_size,
-        clients: layout.clients,
-        block_size: layout.block_size,
-        blocks: layout.blocks,
-        cluster: file.cluster,
         sequence: running.capture.sequence,
         op: running.op,
         op_checksum: running.op_checksum,
@@ -61,8 +53,7 @@ fn fields_for(
         trailer_address: last.address,
         trailer_checksum,
         trailer_size: running.size,
-        boot: 0,
-        first_nonzero: None,
+        ..SuperFields::of(&file.layout, file.cluster)
     }
 }
 
