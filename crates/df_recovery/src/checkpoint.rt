@@ -1,5 +1,5 @@
 // The checkpoint that a superblock names is read: its trailer's chain and text into the grid and the table of sessions.
-ghost use Rattle.std.specs.Prelude.{◌≡◌, ◌≢◌, ◌+◌, ◌/◌, IfErr, IfOk, vec_len};
+ghost use Rattle.std.specs.Prelude.{◌≡◌, ◌≢◌, IfErr, IfOk, vec_len};
 ghost use Rattle.df_units.specs.Superblocks.{AreFieldsOf};
 ghost use Rattle.df_recovery.specs.Checkpoints.{error_of};
 ghost use Rattle.df_recovery.specs.Scanning.{AreRoomsOf, FitsFile, IsCheckpoint, IsEmpty, IsText, IsUnread, SurveysBy, error_in};
