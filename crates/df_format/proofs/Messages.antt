@@ -6,7 +6,7 @@ use Rattle.df_base.proofs.Laws.{AreBytes-check_of, AreBytes-spelled, AreBytes-ap
 use Rattle.df_format.specs.declared.header.Header.{Header}
 use Rattle.df_format.specs.declared.kind.Kind.{Kind}
 use Rattle.df_format.specs.declared.kind.Kind.TheVariants.{Reserved, Prepare, Reply, Block, Trailer}
-use Rattle.df_format.specs.Spelling.{code_of, version_bytes, spelling, spelling_rest, tail_bytes}
+use Rattle.df_format.specs.Spelling.{code_of, header_version, spelling, spelling_rest, tail_of}
 use Rattle.df_format.specs.Rules.{IsSealed}
 use Rattle.df_format.specs.Message.{Message, unit_of, sectors_of, sectors_end}
 use Rattle.df_format.proofs.Spelled.{length-spelling}
@@ -20,9 +20,9 @@ length-sectors u is =
     let n : ℕ = 256 + length u.body in
     omega (arith, length-append (unit_of u) (replicate (sectors_end n - n) 0), length-unit u is, length-replicate {A = ℕ} (sectors_end n - n) 0)
 
-AreBytes-version : AreBytes version_bytes
-unfolding version_bytes
-AreBytes-version = AreBytes-cons 1 (0 ∷ replicate 132 0) (omega arith) (AreBytes-cons 0 (replicate 132 0) (omega arith) (AreBytes-zeros 132))
+AreBytes-tail : (number : ℕ) → AreBytes (tail_of number)
+unfolding tail_of
+AreBytes-tail number = AreBytes-append (spelled 2 number) (replicate 132 0) (AreBytes-spelled 2 number) (AreBytes-zeros 132)
 
 code-small : (kind : Kind) → code_of kind < 256
 code-small Reserved = omega arith
@@ -31,10 +31,8 @@ code-small Reply = omega arith
 code-small Block = omega arith
 code-small Trailer = omega arith
 
-AreBytes-tail : (kind : Kind) (block_kind : ℕ) → block_kind < 256 → AreBytes (tail_bytes kind block_kind)
-unfolding tail_bytes
-AreBytes-tail kind block_kind small =
-    AreBytes-cons (code_of kind) (block_kind ∷ version_bytes) (code-small kind) (AreBytes-cons block_kind version_bytes small AreBytes-version)
+AreBytes-kind : (kind : Kind) (block_kind : ℕ) (rest : List ℕ) → block_kind < 256 → AreBytes rest → AreBytes (code_of kind ∷ (block_kind ∷ rest))
+AreBytes-kind kind block_kind rest small are = AreBytes-cons (code_of kind) (block_kind ∷ rest) (code-small kind) (AreBytes-cons block_kind rest small are)
 
 number : (n x : ℕ) (rest : List ℕ) → AreBytes rest → AreBytes (spelled n x ++ rest)
 number n x rest are = AreBytes-append (spelled n x) rest (AreBytes-spelled n x) are
@@ -42,14 +40,15 @@ number n x rest are = AreBytes-append (spelled n x) rest (AreBytes-spelled n x) 
 AreBytes-rest : (h : Header) → IsSealed h → AreBytes (spelling_rest h)
 unfolding spelling_rest
 AreBytes-rest h is =
-    let r116 : List ℕ = spelled 4 h.slot ++ tail_bytes h.kind h.block_kind in
+    let r120 : List ℕ = code_of h.kind ∷ (h.block_kind ∷ tail_of header_version) in
+    let r116 : List ℕ = spelled 4 h.slot ++ r120 in
     let r112 : List ℕ = spelled 4 h.size ++ r116 in
     let r104 : List ℕ = spelled 8 h.checkpoint ++ r112 in
     let r96 : List ℕ = spelled 8 h.mark ++ r104 in
     let r88 : List ℕ = spelled 8 h.request ++ r96 in
     let r80 : List ℕ = spelled 8 h.op ++ r88 in
     let r64 : List ℕ = spelled 16 h.client ++ r80 in
-    let b80 : AreBytes r80 = number 8 h.op r88 (number 8 h.request r96 (number 8 h.mark r104 (number 8 h.checkpoint r112 (number 4 h.size r116 (number 4 h.slot (tail_bytes h.kind h.block_kind) (AreBytes-tail h.kind h.block_kind is.rules.fits.block_kind)))))) in
+    let b80 : AreBytes r80 = number 8 h.op r88 (number 8 h.request r96 (number 8 h.mark r104 (number 8 h.checkpoint r112 (number 4 h.size r116 (number 4 h.slot r120 (AreBytes-kind h.kind h.block_kind (tail_of header_version) is.rules.fits.block_kind (AreBytes-tail header_version))))))) in
     let b48 : AreBytes (h.parent ++ r64) = AreBytes-append h.parent r64 is.rules.fits.parent.each (number 16 h.client r80 b80) in
     AreBytes-append h.checksum_body (spelled 16 h.cluster ++ (h.parent ++ r64)) is.rules.fits.body.each (number 16 h.cluster (h.parent ++ r64) b48)
 

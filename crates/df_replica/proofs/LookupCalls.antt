@@ -18,17 +18,19 @@ use Rattle.df_model.specs.After as after
 use Rattle.df_model.specs.After.{shown_or}
 use Rattle.df_model.specs.Codec.{IsChecksum}
 use Rattle.df_model.specs.Commands.{Given, IsInput, ReadReply, ToReadReply}
+use Rattle.df_model.specs.Faults.{is_lookup_fault}
 use Rattle.df_model.specs.Memory.{Memory}
 use Rattle.df_model.specs.Memory as memory
 use Rattle.df_model.specs.Refusals.{first_refusal, is_new, last_op, lookup_refusals, session_of_client}
 use Rattle.df_model.specs.declared.reading.LookupError.{LookupError}
 use Rattle.df_model.specs.declared.reading.LookupError.TheVariants as lookup
 use Rattle.df_state.specs.State.{State, memory, reply_sum as known_sum}
-use Rattle.df_replica.specs.Answering.{Gives, ServesRead, read_reply_answer}
+use Rattle.df_replica.specs.Answering.{Gives, ServesRead, answer_of}
 use Rattle.df_replica.specs.declared.lookup.Stored.{Stored}
-use Rattle.df_replica.specs.Lookups.{HoldsKnown, IsReadReply, IsStoredFor, ReplyBlames, Tells, place_for, reply_found, reply_leaves, reply_shown}
+use Rattle.df_replica.specs.Lookups.{HoldsKnown, IsReadReply, IsStoredFor, Tells, place_for, reply_found, reply_shown}
 use Rattle.df_replica.specs.Reading.{IsFoundBy, IsKnownUnit}
 use Rattle.df_replica.specs.Supply.{IsSupplied}
+use Rattle.df_replica.specs.Stopping.{left_by}
 use Rattle.df_replica.proofs.LookupFinds.{reply_found_by, reply_known, reply_lacks_by}
 use Rattle.df_replica.proofs.Calls.{AreCalls, Answered, answered_call, stopped_call}
 use Rattle.df_replica.proofs.Leaves.{makes_nothing}
@@ -94,29 +96,17 @@ is_refusal s client e some =
     by false false op is = absurd (cc)
 
 -- what a read answers where it is refused
-pub refused_leaves : (A : Type 0) (s : State) (client : ℕ) (live : s.live ≡ true) (told : Option Told) (e : LookupError) → first_refusal (lookup_refusals (memory s) client) ≡ Some e → s ≡ reply_leaves {A = A} s (Err e)
-refused_leaves A s client live told lookup.NoClient some = refl
-refused_leaves A s client live told (lookup.ReplyPending op) some = refl
-refused_leaves A s client live told (lookup.Damaged place class) some = absurd (is_refusal s client (lookup.Damaged place class) some)
-refused_leaves A s client live told lookup.DiskFault some = absurd (is_refusal s client lookup.DiskFault some)
-
 pub refused_reads : (s : State) (client : ℕ) (live : s.live ≡ true) (told : Option Told) (e : LookupError) → first_refusal (lookup_refusals (memory s) client) ≡ Some e → IsReadReply client s told (Err e)
 refused_reads s client live told lookup.NoClient some = some
 refused_reads s client live told (lookup.ReplyPending op) some = some
 refused_reads s client live told (lookup.Damaged place class) some = absurd (is_refusal s client (lookup.Damaged place class) some)
 refused_reads s client live told lookup.DiskFault some = absurd (is_refusal s client lookup.DiskFault some)
 
-pub refused_serves : (A : Type 0) (s : State) (client : ℕ) (live : s.live ≡ true) (told : Option Told) (e : LookupError) → first_refusal (lookup_refusals (memory s) client) ≡ Some e → ServesRead (ReadReply client) s (reply_leaves {A = A} s (Err e)) told (reply_found (Err e)) (read_reply_answer (Err e))
+pub refused_serves : (A : Type 0) (s : State) (client : ℕ) (live : s.live ≡ true) (told : Option Told) (e : LookupError) → first_refusal (lookup_refusals (memory s) client) ≡ Some e → ServesRead (ReadReply client) s (left_by {T = A} is_lookup_fault s (Err e)) told (reply_found (Err e)) (answer_of is_lookup_fault ToReadReply (Err e))
 refused_serves A s client live told lookup.NoClient some = lookup_refused s client live told lookup.NoClient some
 refused_serves A s client live told (lookup.ReplyPending op) some = lookup_refused s client live told (lookup.ReplyPending op) some
 refused_serves A s client live told (lookup.Damaged place class) some = absurd (is_refusal s client (lookup.Damaged place class) some)
 refused_serves A s client live told lookup.DiskFault some = absurd (is_refusal s client lookup.DiskFault some)
-
-pub refused_blames : (A : Type 0) (s : State) (client : ℕ) (live : s.live ≡ true) (told : Option Told) (e : LookupError) → first_refusal (lookup_refusals (memory s) client) ≡ Some e → (count : ℕ) → ReplyBlames {A = A} count count (Err e)
-refused_blames A s client live told lookup.NoClient some = λ count. refl
-refused_blames A s client live told (lookup.ReplyPending op) some = λ count. refl
-refused_blames A s client live told (lookup.Damaged place class) some = absurd (is_refusal s client (lookup.Damaged place class) some)
-refused_blames A s client live told lookup.DiskFault some = absurd (is_refusal s client lookup.DiskFault some)
 
 -- ---- what was read
 

@@ -20,14 +20,16 @@ use Rattle.df_model.specs.After as after
 use Rattle.df_model.specs.After.{shown_or}
 use Rattle.df_model.specs.Codec.{IsChecksum}
 use Rattle.df_model.specs.Commands.{Given, IsInput, ReadPrepare, ToReadPrepare}
+use Rattle.df_model.specs.Faults.{is_prepare_fault}
 use Rattle.df_model.specs.Memory.{Memory, prepare_sum}
 use Rattle.df_model.specs.Refusals.{first_refusal, prepare_refusals}
 use Rattle.df_model.specs.declared.reading.PrepareError.{PrepareError}
 use Rattle.df_model.specs.declared.reading.PrepareError.TheVariants as prepare
 use Rattle.df_state.specs.State.{State, memory}
-use Rattle.df_replica.specs.Answering.{Gives, ServesRead, read_prepare_answer}
-use Rattle.df_replica.specs.Reading.{IsFoundBy, IsKnownUnit, IsReadPrepare, PrepareBlames, check_in, prepare_found, prepare_leaves, prepare_wanted}
+use Rattle.df_replica.specs.Answering.{Gives, ServesRead, answer_of}
+use Rattle.df_replica.specs.Reading.{IsFoundBy, IsKnownUnit, IsReadPrepare, check_in, prepare_found, prepare_wanted}
 use Rattle.df_replica.specs.Supply.{IsSupplied}
+use Rattle.df_replica.specs.Stopping.{left_by}
 use Rattle.df_replica.proofs.ReadFinds.{prepare_found_by, prepare_known, prepare_lacks_by}
 use Rattle.df_replica.proofs.Calls.{AreCalls, Answered, answered_call, stopped_call}
 use Rattle.df_replica.proofs.Leaves.{makes_nothing}
@@ -91,25 +93,15 @@ not_kept s op e some = by (not (nat_lt s.fields.op op && nat_le op s.head)) some
     by false is = absurd (cc)
 
 -- what a read answers where it is refused
-pub refused_leaves : (A : Type 0) (s : State) (op : ℕ) (live : s.live ≡ true) (told : Option Told) (e : PrepareError) → first_refusal (prepare_refusals (memory s) op) ≡ Some e → s ≡ prepare_leaves {A = A} s (Err e)
-refused_leaves A s op live told (prepare.NotKept first last) some = refl
-refused_leaves A s op live told (prepare.Damaged place class) some = absurd (not_kept s op (prepare.Damaged place class) some)
-refused_leaves A s op live told prepare.DiskFault some = absurd (not_kept s op prepare.DiskFault some)
-
 pub refused_reads : (s : State) (op : ℕ) (live : s.live ≡ true) (told : Option Told) (e : PrepareError) → first_refusal (prepare_refusals (memory s) op) ≡ Some e → IsReadPrepare op s told (Err e)
 refused_reads s op live told (prepare.NotKept first last) some = some
 refused_reads s op live told (prepare.Damaged place class) some = absurd (not_kept s op (prepare.Damaged place class) some)
 refused_reads s op live told prepare.DiskFault some = absurd (not_kept s op prepare.DiskFault some)
 
-pub refused_serves : (A : Type 0) (s : State) (op : ℕ) (live : s.live ≡ true) (told : Option Told) (e : PrepareError) → first_refusal (prepare_refusals (memory s) op) ≡ Some e → ServesRead (ReadPrepare op) s (prepare_leaves {A = A} s (Err e)) told (prepare_found (Err e)) (read_prepare_answer (Err e))
+pub refused_serves : (A : Type 0) (s : State) (op : ℕ) (live : s.live ≡ true) (told : Option Told) (e : PrepareError) → first_refusal (prepare_refusals (memory s) op) ≡ Some e → ServesRead (ReadPrepare op) s (left_by {T = A} is_prepare_fault s (Err e)) told (prepare_found (Err e)) (answer_of is_prepare_fault ToReadPrepare (Err e))
 refused_serves A s op live told (prepare.NotKept first last) some = prepare_refused s op live told (prepare.NotKept first last) some
 refused_serves A s op live told (prepare.Damaged place class) some = absurd (not_kept s op (prepare.Damaged place class) some)
 refused_serves A s op live told prepare.DiskFault some = absurd (not_kept s op prepare.DiskFault some)
-
-pub refused_blames : (A : Type 0) (s : State) (op : ℕ) (live : s.live ≡ true) (told : Option Told) (e : PrepareError) → first_refusal (prepare_refusals (memory s) op) ≡ Some e → (count : ℕ) → PrepareBlames {A = A} count count (Err e)
-refused_blames A s op live told (prepare.NotKept first last) some = λ count. refl
-refused_blames A s op live told (prepare.Damaged place class) some = absurd (not_kept s op (prepare.Damaged place class) some)
-refused_blames A s op live told prepare.DiskFault some = absurd (not_kept s op prepare.DiskFault some)
 
 -- ---- what was read
 

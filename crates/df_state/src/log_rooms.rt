@@ -35,29 +35,12 @@ pub struct LogRooms {
     pub ghost mends_fit: { layout.slots + 4 ≤ vec_capacity mends },
 }
 
-// Stands in a table until the first header is put there.
-fn no_header() -> Header {
-    Header {
-        checksum: [0; 16],
-        checksum_body: [0; 16],
-        cluster: 0,
-        parent: [0; 16],
-        client: 0,
-        op: 0,
-        request: 0,
-        mark: 0,
-        checkpoint: 0,
-        size: 256,
-        slot: 0,
-        kind: Kind::Reserved,
-        block_kind: 0,
-    }
-}
-
 fn header_table(alloc: Global, layout: &Layout) -> Result<HeaderTable, OutOfMemory>
     ensures { IfOk result (λ table. length table ≡ layout.now.slots) }
 {
-    let room = vec![in alloc; no_header(); layout.slots as usize]?;
+    // Stands in the table until a header is put there.
+    let blank = Header::of(Kind::Reserved, 0);
+    let room = vec![in alloc; blank; layout.slots as usize]?;
     Ok(HeaderTable::over(room))
 }
 

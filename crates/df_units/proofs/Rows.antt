@@ -3,24 +3,23 @@ use Rattle.std.proofs.Common.{◌≡◌, inl, inr, ℕ, zero, suc, ◌+◌, ◌*
 use Rattle.std.specs.Prelude.{slice_get}
 use Rattle.std.proofs.lemmas.Bool.{cases_eq, cond-false, cond-true, eq-eqb, ne_eqb}
 use Rattle.std.proofs.lemmas.Option.{same_Some}
-use Rattle.df_base.specs.Fields.{check_of}
 use Rattle.df_base.specs.Image.{IsImage, blank}
-use Rattle.df_base.proofs.Laws.{AreBytes-check_of, length-check_of, written_is_image, blank_is_image}
+use Rattle.df_base.proofs.Laws.{written_is_image, blank_is_image}
 use Rattle.df_layout.specs.declared.layout.Layout.{Layout}
 use Rattle.df_layout.specs.declared.places.Zone.TheVariants.{WalHeaders}
 use Rattle.df_format.specs.declared.header.Header.{Header}
+use Rattle.df_format.specs.declared.kind.Kind.TheVariants.{Reserved}
+use Rattle.df_format.specs.Making.{blank_header, for_body}
 use Rattle.df_format.specs.Own.{place_in}
 use Rattle.df_format.specs.Rules.{IsSealed}
-use Rattle.df_format.specs.Spelling.{IsCheck, spelling_rest}
 use Rattle.df_format.specs.Valid.{IsUnit}
-use Rattle.df_format.proofs.Laws.{headers_fill, is_own, valid_belongs}
+use Rattle.df_format.proofs.Laws.{given_obeys, headers_fill, is_own, sealed_is, valid_belongs}
 use Rattle.df_theory.specs.Units.{AnyUnit, HeaderPlace, HeaderUnit, or_else}
 use Rattle.df_theory.specs.UnitLog.{put_one}
 use Rattle.df_units.specs.Meaning.{header_of}
 use Rattle.df_units.specs.Bytes.{unit_at}
 use Rattle.df_units.specs.Puts.{AreHeaders, IsNextSector, header_unit, put_headers}
 use Rattle.df_units.specs.Sample.{OneOfSixteenIsNew, ReservedIsUnit, TableIsWritten, headers_of, reserved_header, reserved_image, sector_of, with_new}
-use Rattle.df_units.proofs.Usable.{zeros_check}
 use Rattle.df_units.proofs.Writes.{headers_put, one_new}
 
 -- ---- headers of a table
@@ -63,32 +62,10 @@ table_written layout cluster sector table inside valid = record {
 
 -- ---- reserved headers
 
-check_is : (bytes : List ℕ) → IsCheck (check_of bytes)
-check_is bytes = record { size = length-check_of bytes; each = AreBytes-check_of bytes }
-
 reserved_sealed : (cluster slot : ℕ) → 0 < cluster → cluster < 2 ^ 128 → slot < 2 ^ 32 → IsSealed (reserved_header cluster slot)
-unfolding spelling_rest
-reserved_sealed cluster slot named small inside = record {
-  rules = record {
-    fits = record {
-      body = check_is [];
-      cluster = small;
-      parent = zeros_check;
-      client = omega arith;
-      op = omega arith;
-      request = omega arith;
-      mark = omega arith;
-      checkpoint = omega arith;
-      size = omega arith;
-      slot = inside;
-      block_kind = omega arith;
-    };
-    cluster = named;
-    size = omega arith;
-    kind = record { body = refl; parent = refl; client = refl; op = refl; request = refl; mark = refl; checkpoint = refl; size = refl; block_kind = refl };
-  };
-  checksum = refl;
-}
+reserved_sealed cluster slot named small inside =
+    let given : Header = record (blank_header Reserved cluster) { slot = slot } in
+    sealed_is (for_body given []) (given_obeys cluster (named, small) given [] Reserved (inside, refl))
 
 pub reserved_unit : ReservedIsUnit
 reserved_unit layout cluster slot named small inside = record {
