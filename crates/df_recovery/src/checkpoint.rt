@@ -1,5 +1,5 @@
 // The checkpoint that a superblock names is read: its trailer's chain and text into the grid and the table of sessions.
-ghost use Rattle.std.specs.Prelude.{◌≡◌, ◌≢◌, ◌+◌, ◌/◌, IfErr, IfOk, vec_len};
+ghost use Rattle.std.specs.Prelude.{◌≡◌, ◌≢◌, ◌/◌, IfErr, IfOk, vec_len};
 ghost use Rattle.df_base.specs.Causes.{IsBlamed};
 ghost use Rattle.df_units.specs.Superblocks.{AreFieldsOf};
 ghost use Rattle.df_model.specs.Faults.{is_open_fault};

@@ -1,6 +1,6 @@
 // The writes of a mending: header sectors, one sync, then the copies of the superblock that aren't members of the choice.
 // A header sector is durable before a copy is written.
-ghost use Rattle.std.specs.Prelude.{◌≡◌, ◌<◌, ◌/◌, ◌≤◌, IfOk, length};
+ghost use Rattle.std.specs.Prelude.{◌≡◌, ◌<◌, ◌/◌, IfOk, length};
 ghost use Rattle.df_base.specs.Causes.{HasCause};
 ghost use Rattle.df_disk.specs.Adds.{Adds};
 ghost use Rattle.df_theory.specs.Device.{AreSteps};

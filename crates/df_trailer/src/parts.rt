@@ -1,5 +1,5 @@
 // The parts of a trailer, as a reader gives them, in rooms that its caller gave.
-ghost use Rattle.std.specs.Prelude.{◌≡◌, ◌+◌, ◌*◌, ◌/◌, ◌≤◌, ◌<◌, ◌^◌, ◌==◌, ℕ, [], length, take, drop, map, get_or, slice_set, replicate, true, false};
+ghost use Rattle.std.specs.Prelude.{◌≡◌, ◌+◌, ◌*◌, ◌/◌, ◌≤◌, ◌<◌, ◌==◌, ℕ, [], length, take, drop, map, get_or, slice_set, replicate, true, false};
 ghost use Rattle.std.specs.Int.{bit_at};
 ghost use Rattle.df_trailer.specs.Rooms.{bits_in_words, without_reply};
 ghost use Rattle.df_trailer.specs.Text.{session, bits_at, bits_of, count, count_at, ones, read_sessions, root_size, sessions_at};
