@@ -20,6 +20,7 @@ use arrayvec::ArrayVec;
 use df_base::Check;
 use df_format::Reference;
 use df_freeset::FreeSet;
+use df_layout::LINKS;
 use std::marker::Model;
 
 /// The table of blocks. Both parts of the running trailer and the durable one's chain are lists of addresses, the chains from the last
@@ -28,9 +29,9 @@ use std::marker::Model;
 pub struct Table {
     entries: Entries,
     free: FreeSet,
-    written: ArrayVec<u64, 70>,
-    left: ArrayVec<u64, 70>,
-    chain: ArrayVec<u64, 70>,
+    written: ArrayVec<u64, LINKS>,
+    left: ArrayVec<u64, LINKS>,
+    chain: ArrayVec<u64, LINKS>,
     counts: ArrayVec<u64, 64>,
 }
 
