@@ -31,15 +31,15 @@ module _ {E : Type 0} (is_fault : E → Bool) (e : E) where
   first_unblamed (t ∷ ts) safe is = unblamed_at t.0 t.1 (first_refusal ts) safe.0 is (λ behind. first_unblamed ts safe.1 behind)
 
   -- such an answer is told, leaves all as it was, and says that the count is the same
-  module _ {T : Type 0} (no : is_fault e ≡ false) where
-    pub refused_answer : (told : Result T E → Answer) → answer_of is_fault told (Err e) ≡ Some (told (Err e))
+  module _ (no : is_fault e ≡ false) where
+    pub refused_answer : {T : Type 0} (told : Result T E → Answer) → answer_of is_fault told (Err e) ≡ Some (told (Err e))
     refused_answer told = ap (λ (b : Bool). if b then None else Some (told (Err e))) no
 
-    pub refused_leaves : (s : State) → s ≡ left_by {T = T} is_fault s (Err e)
-    refused_leaves s = sym (ap (λ (b : Bool). if b then stopped s else s) no)
+    pub refused_leaves : (T : Type 0) (s : State) → s ≡ left_by {T = T} is_fault s (Err e)
+    refused_leaves T s = sym (ap (λ (b : Bool). if b then stopped s else s) no)
 
-    pub refused_blames : (count : ℕ) → IsBlamed {T = T} is_fault count count (Err e)
-    refused_blames count = subst (λ (b : Bool). Blamed b count count) (sym no) refl
+    pub refused_blames : (T : Type 0) (count : ℕ) → IsBlamed {T = T} is_fault count count (Err e)
+    refused_blames T count = subst (λ (b : Bool). Blamed b count count) (sym no) refl
 
 pub append_unblamed : (m : Memory) (client request : ℕ) (body : List ℕ) (e : AppendError) → first_refusal (append_refusals m client request body) ≡ Some e → is_append_fault e ≡ false
 append_unblamed m client request body e = first_unblamed is_append_fault e (append_refusals m client request body) (refl, (refl, (refl, (refl, (refl, (refl, (refl, (refl, (refl, tt)))))))))

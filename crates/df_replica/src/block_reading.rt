@@ -17,6 +17,7 @@ ghost use Rattle.df_replica.specs.contracts.replica.Replica.{the_row};
 ghost use Rattle.df_replica.specs.Stopping.{left_by};
 
 use crate::Replica;
+use crate::replica::end_calls;
 use df_buffers::{Block, Sound};
 use df_disk::Disk;
 use df_layout::{Place, Zone};
@@ -56,7 +57,7 @@ impl Replica {
         let wrong = match self.grid.load(&mut self.trailer.block, disk, address) {
             Ok(wrong) => wrong,
             Err(_) => {
-                self.stop();
+                end_calls(&mut self.live);
                 return Err(ReadError::DiskFault);
             }
         };

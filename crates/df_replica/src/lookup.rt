@@ -21,6 +21,7 @@ ghost use Rattle.df_replica.specs.Reading.{IsKnownUnit, in_words};
 ghost use Rattle.df_replica.specs.contracts.replica.Replica.{the_row};
 ghost use Rattle.df_replica.specs.Stopping.{left_by};
 
+use crate::replica::end_calls;
 use crate::reply::as_check;
 use crate::{DataFile, Replica};
 use df_base::{Check, Failed};
@@ -183,7 +184,7 @@ impl Replica {
         let wrong = match loaded {
             Ok(wrong) => wrong,
             Err(_) => {
-                self.stop();
+                end_calls(&mut self.live);
                 return Err(LookupError::DiskFault);
             }
         };

@@ -20,6 +20,7 @@ ghost use Rattle.df_replica.specs.contracts.replica.Replica.{the_row};
 ghost use Rattle.df_replica.specs.Stopping.{left_by};
 
 use crate::refusing::prepare_refusal;
+use crate::replica::end_calls;
 use crate::{DataFile, Replica};
 use df_base::Failed;
 use df_buffers::{Identity, Prepare, Sound, Wanted};
@@ -125,7 +126,7 @@ impl Replica {
         let wrong = match loaded {
             Ok(wrong) => wrong,
             Err(_) => {
-                self.stop();
+                end_calls(&mut self.live);
                 return Err(PrepareError::DiskFault);
             }
         };

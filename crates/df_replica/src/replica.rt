@@ -1,5 +1,5 @@
 // A replica: what it keeps in memory of the file that it works on, and what it tells of it.
-ghost use Rattle.std.specs.Prelude.{◌≡◌, slice_get};
+ghost use Rattle.std.specs.Prelude.{◌≡◌, false, slice_get};
 ghost use Rattle.df_replica.specs.Replica.{summary_of};
 ghost use Rattle.df_replica.specs.Stopping.{stopped};
 
@@ -122,6 +122,13 @@ pub(crate) fn rooms_of(
     }
 }
 
+// No call may follow. A call that lends from a field hands over the flag, since the whole can't be lent beside that.
+pub(crate) fn end_calls(live: &mut bool)
+    ensures { live.new ≡ false }
+{
+    *live = false;
+}
+
 impl Replica {
     /// Whether calls may go on: not after a fault.
     pub fn live(&self) -> bool
@@ -134,7 +141,7 @@ impl Replica {
     pub(crate) fn stop(&mut self)
         ensures { self.new ≡ stopped self.old }
     {
-        self.live = false;
+        end_calls(&mut self.live);
     }
 
     /// The numbers of the state.

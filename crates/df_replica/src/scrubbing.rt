@@ -13,6 +13,7 @@ ghost use Rattle.df_replica.specs.Scrubbing.{IsScrub, LeavesTour};
 ghost use Rattle.df_replica.specs.contracts.replica.Replica.{the_row};
 
 use crate::Replica;
+use crate::replica::end_calls;
 use df_base::Failed;
 use df_disk::Disk;
 use df_layout::Finding;
@@ -56,7 +57,7 @@ impl Replica {
         match done {
             Ok(()) => Ok(self.scrub.report.as_slice()),
             Err(failed) => {
-                self.stop();
+                end_calls(&mut self.live);
                 Err(failed)
             }
         }

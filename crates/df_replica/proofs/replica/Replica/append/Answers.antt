@@ -1,6 +1,7 @@
 -- What isn't refused may be the next prepare, and each call is the machine's.
-use Rattle.std.proofs.Common.{refl, sym, ap, ◌∙◌}
+use Rattle.std.proofs.Common.{◌≡◌, refl, sym, ap, subst, ◌∙◌}
 use Rattle.df_state.specs.State.{State}
+use Rattle.df_replica.specs.Stopping.{stopped}
 use Rattle.df_replica.proofs.AppendAnswers.{fault_serves, receipt_serves, refusal_serves}
 use Rattle.df_replica.proofs.AppendTests.{may_next}
 use Rattle.df_replica.proofs.replica.Replica.append.Goals as goal
@@ -20,3 +21,10 @@ pub returns-in-Err-clause-call : goal.returns-in-Err-clause-call
 returns-in-Err-clause-call g c =
     fault_serves c.args.self.now c.args.client c.args.request c.args.body.now c.append_refusal.ensures.state c.requires.live c.ranges.client.fits c.append_refusal.ensures.table (sym (c.append_refusal.ensures.why c.args.body.now refl) ∙ c.in_default.is)
     c.append_next.ensures.own c.stop.new.self (g.D.Disk.told c.args.disk.now) (g.D.Disk.told c.append_next.new.disk) (ap (λ (s : State). s.live) c.stop.ensures) c.in-Err.ensures.events
+
+pub returns-in-Err-clause-exact : goal.returns-in-Err-clause-exact
+returns-in-Err-clause-exact g c = (
+  sym (c.append_refusal.ensures.why c.args.body.now refl) ∙ c.in_default.is,
+  subst (λ (t : State). t ≡ stopped (record c.args.self.now { headers = t.headers })) (sym c.stop.ensures) (ap stopped c.in-Err.ensures.kept),
+  c.in-Err.ensures.events,
+)

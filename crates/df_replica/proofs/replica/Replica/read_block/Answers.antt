@@ -1,5 +1,5 @@
 -- What the room holds is what the machine reads.
-use Rattle.std.proofs.Common.{◌≡◌, ◌∙◌, ℕ, None, Some, refl, ap, subst}
+use Rattle.std.proofs.Common.{◌≡◌, ◌∙◌, ℕ, Bool, None, Some, refl, ap, subst}
 use Rattle.df_layout.specs.declared.layout.Layout.{Layout}
 use Rattle.df_model.specs.Blocks.{sum_at}
 use Rattle.df_model.specs.Refusals.{first_refusal, read_refusals}
@@ -28,7 +28,7 @@ returns-in-Err g c =
     let v = c.args.self.now in
     let none = subst (λ (s : State). first_refusal (read_refusals (memory s) c.args.address) ≡ None) c.self.view_is
     (is_live (the_view c.self.inside) c.args.address c.live.result c.is_none.result c.live.ensures c.is_none.ensures c.if-is_none.false) in (
-      (refl, (λ _. tt), c.stop.ensures ∙ ap stopped c.self.view_is),
+      (refl, (λ _. tt), ap (λ (b : Bool). record (the_view c.self.inside) { live = b }) c.end_calls.ensures ∙ ap stopped c.self.view_is),
       record {
         after = tt;
         exact = none;

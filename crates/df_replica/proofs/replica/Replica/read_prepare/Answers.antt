@@ -1,5 +1,5 @@
 -- What the room holds is what the machine reads.
-use Rattle.std.proofs.Common.{◌≡◌, List, Option, Some, None, true, refl, sym, ap, subst, ◌∙◌}
+use Rattle.std.proofs.Common.{◌≡◌, Bool, List, Option, Some, None, true, refl, sym, ap, subst, ◌∙◌}
 use Rattle.std.specs.Prelude.{Result, IfOk}
 use Rattle.df_base.specs.Causes.{HasCause}
 use Rattle.df_base.specs.declared.Failed.{Failed}
@@ -27,7 +27,7 @@ returns-in-Some g c =
     let v = c.args.self.now in
     let e = c.in-Some.error in
     let no = prepare_unblamed (memory v) c.args.op e some in (
-      (refl, (λ _. tt), c.self.view_is ∙ refused_leaves is_prepare_fault e no v),
+      (refl, (λ _. tt), c.self.view_is ∙ refused_leaves is_prepare_fault e no (Bor Holding) v),
       record {
         after = tt;
         exact = refused_reads v c.args.op c.requires.live told e some;
@@ -35,7 +35,7 @@ returns-in-Some g c =
         written = tt;
         call = refused_serves (Bor Holding) v c.args.op c.requires.live told e some;
         same = refl;
-        cause = refused_blames is_prepare_fault e no (g.D.Disk.faults c.args.disk.now);
+        cause = refused_blames is_prepare_fault e no (Bor Holding) (g.D.Disk.faults c.args.disk.now);
       },
     )
 
@@ -46,7 +46,7 @@ returns-in-Err g c =
     let none = subst (λ (s : State). first_refusal (prepare_refusals (memory s) c.args.op) ≡ None) c.self.view_is (sym c.prepare_refusal.ensures.why ∙ c.in_default.is) in
     let cause : HasCause (g.D.Disk.faults c.args.disk.now) (g.D.Disk.faults c.load_prepare-rooms.new.disk) c.load_prepare-rooms.result.1 = c.load_prepare-rooms.ensures.cause in
     let blames = subst (λ (r : Result (Option Class) Failed). HasCause (g.D.Disk.faults c.args.disk.now) (g.D.Disk.faults c.load_prepare-rooms.new.disk) r) c.in-Err.is cause in (
-      (refl, (λ _. tt), c.stop.ensures ∙ ap stopped (ap (λ (hs : List Header). record (the_view c.self.inside) { headers = hs }) headers ∙ c.self.view_is)),
+      (refl, (λ _. tt), ap (λ (b : Bool). record (the_view c.self.inside) { headers = c.load_prepare-rooms.result.0.headers; live = b }) c.end_calls.ensures ∙ ap stopped (ap (λ (hs : List Header). record (the_view c.self.inside) { headers = hs }) headers ∙ c.self.view_is)),
       record { after = tt; exact = none; lent = tt; written = tt; call = prepare_stopped c.args.self.now c.args.op c.requires.live told (stopped c.args.self.now) refl; same = c.load_prepare-rooms.ensures.same; cause = (blames.later, blames.failed) },
     )
 

@@ -1,5 +1,5 @@
 -- What the room holds is what the machine reads.
-use Rattle.std.proofs.Common.{◌≡◌, List, Option, Some, true, refl, sym, ap, subst, ◌∙◌}
+use Rattle.std.proofs.Common.{◌≡◌, Bool, List, Option, Some, true, refl, sym, ap, subst, ◌∙◌}
 use Rattle.std.specs.Prelude.{Result, IfOk}
 use Rattle.df_base.specs.Causes.{HasCause}
 use Rattle.df_base.specs.declared.Failed.{Failed}
@@ -29,7 +29,7 @@ returns-in-Err g c =
     let v = c.args.self.now in
     let e = c.in-Err.error in
     let no = lookup_unblamed (memory v) c.args.client e some in (
-      (refl, (λ _. tt), c.self.view_is ∙ refused_leaves is_lookup_fault e no v),
+      (refl, (λ _. tt), c.self.view_is ∙ refused_leaves is_lookup_fault e no (Bor Holding) v),
       record {
         after = tt;
         exact = refused_reads v c.args.client c.requires.live told e some;
@@ -37,7 +37,7 @@ returns-in-Err g c =
         written = tt;
         call = refused_serves (Bor Holding) v c.args.client c.requires.live told e some;
         same = refl;
-        cause = refused_blames is_lookup_fault e no (g.D.Disk.faults c.args.disk.now);
+        cause = refused_blames is_lookup_fault e no (Bor Holding) (g.D.Disk.faults c.args.disk.now);
       },
     )
 
@@ -48,7 +48,7 @@ returns-in-Err-loaded g c =
     let for = subst (λ (s : State). IsStoredFor s c.args.client c.in-Ok.stored) c.self.view_is c.in-Ok.ensures.stored in
     let cause : HasCause (g.D.Disk.faults c.args.disk.now) (g.D.Disk.faults c.load_reply-rooms.new.disk) c.load_reply-rooms.result.1 = c.load_reply-rooms.ensures.cause in
     let blames = subst (λ (r : Result (Option Class) Failed). HasCause (g.D.Disk.faults c.args.disk.now) (g.D.Disk.faults c.load_reply-rooms.new.disk) r) c.in-Err-loaded.is cause in (
-      (refl, (λ _. tt), c.stop.ensures ∙ ap stopped (ap (λ (hs : List Header). record (the_view c.self.inside) { headers = hs }) headers ∙ c.self.view_is)),
+      (refl, (λ _. tt), ap (λ (b : Bool). record (the_view c.self.inside) { headers = c.load_reply-rooms.result.0.headers; live = b }) c.end_calls.ensures ∙ ap stopped (ap (λ (hs : List Header). record (the_view c.self.inside) { headers = hs }) headers ∙ c.self.view_is)),
       record { after = tt; exact = for.served; lent = tt; written = tt; call = lookup_stopped c.args.self.now c.args.client c.requires.live told (stopped c.args.self.now) refl; same = c.load_reply-rooms.ensures.same; cause = (blames.later, blames.failed) },
     )
 
