@@ -95,6 +95,7 @@ module _ (layout : Layout) (t : Told) (old new : Outside) (status : Status) (s :
     is_opened = is_opened;
     mended = mended;
     barrier = synced;
+    mending = over.spares;
     last = last;
     last_is = last_is;
     session = ended;

@@ -133,6 +133,7 @@ module _ (seed count : ℕ) (layout : Layout) (t : Told) (old new : Outside) (st
         answers_alone Firm (opened (shape s.file) (unit_at s.file.layout s.file.cluster t.shown) view) s last mended new.told ended.worked.acts ended.worked.answers ended.worked.failed live
         (found_keeps s t.shown view image opened_here found) ended.worked.calls;
     barrier = synced;
+    mending = over.spares;
     result = λ view shown found agree.
         opened_answers s t mended over image (opened (shape s.file) (unit_at s.file.layout s.file.cluster t.shown) view) (found_keeps s t.shown view image opened_here found) last new.told ended.worked.failed shown agree ended.worked.acts
         ended.worked.answers ended.worked.calls;
