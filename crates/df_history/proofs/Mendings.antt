@@ -85,9 +85,6 @@ each_last P [] log at = at
 each_last P ((Puts put) ∷ ss) log at = each_last P ss (wrote put log) at.1
 each_last P (Syncs ∷ ss) log at = each_last P ss (add Synced log) at.1
 
-dry_synced : (log : UnitLog) → IsDry (add Synced log)
-dry_synced log place = refl
-
 dry_mend : (hs : List Units) (ks : List (ℕ × Units)) (log : UnitLog) → IsDry log → IsDry (after_steps (mend_steps hs ks) log)
 dry_mend hs ks log dry = subst IsDry (sym (after_append (header_steps hs) (copy_steps ks) log)) (dry_copies ks (after_steps (header_steps hs) log) (dry_headers hs log dry))
 

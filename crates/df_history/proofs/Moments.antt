@@ -303,11 +303,6 @@ awake_lived_law sh log before logs begun lived above ss at = awake_steps sh befo
 
 -- ---- the start
 
--- a log that is begun anew behind this history
-start_asleep : (sh : Shape) (log : UnitLog) (logs : List UnitLog) (lived : IsLived sh (log ∷ logs)) (shown : Units) (w : View) → MayStart log logs shown → Holds sh shown w
-    → IsAsleep sh log logs lived (boot_of w) (λ x. x ≡ w) (λ x y is_x is_y boot. subst (λ (z : View). IsSameBare z y) (sym is_x) (subst (λ (z : View). IsSameBare w z) (sym is_y) (same_bare w))) (record { start = shown; events = [] })
-start_asleep sh log logs lived shown w may holds = record { start = may; view = w; holds = holds; boot = refl; stays = tt; newest = (w, refl, holds); last = w; grows = holds; still = λ s x at. elim at [ inl shown ↦ inl shown | inr none ↦ absurd none ] }
-
 pub one_bare : (w x y : View) → x ≡ w → y ≡ w → IsSameBare x y
 one_bare w x y is_x is_y = subst (λ (z : View). IsSameBare z y) (sym is_x) (subst (λ (z : View). IsSameBare w z) (sym is_y) (same_bare w))
 

@@ -1,14 +1,13 @@
 -- A sample: a file is damaged and opened three times. The second damage and the third hit the same places: two copies of the superblock, and the header of the only prepare.
-use Rattle.std.proofs.Common.{◌≡◌, ◌⊎◌, inl, inr, ℕ, ◌+◌, ◌<◌, ◌≤◌, ◌==◌, ◌%◌, nat_lt, Bool, true, false, if◌then◌else◌, List, [], ◌∷◌, Option, Some, None, refl, sym, ◌∙◌, ap, subst, arith, eqb-true}
+use Rattle.std.proofs.Common.{◌≡◌, ◌⊎◌, inl, inr, ℕ, ◌+◌, ◌<◌, ◌≤◌, ◌==◌, ◌%◌, Bool, true, false, if◌then◌else◌, List, [], ◌∷◌, Option, Some, None, refl, sym, ◌∙◌, ap, subst, arith, eqb-true}
 use Rattle.std.specs.List.{slice_get}
-use Rattle.std.proofs.lemmas.Bool.Decides.{nat_tests}
 use Rattle.df_theory.specs.CopyPuts.{PutsCopies, update_steps}
-use Rattle.df_theory.specs.Units.{AnyUnit, BlockPlace, Content, CopyPlace, CopyUnit, Header, HeaderPlace, HeaderUnit, Message, Place, PreparePlace, PrepareUnit, ReplyPlace, Session, Units, or_else}
+use Rattle.df_theory.specs.Units.{AnyUnit, BlockPlace, Content, CopyPlace, CopyUnit, Header, HeaderPlace, HeaderUnit, Message, Place, PreparePlace, PrepareUnit, ReplyPlace, Units, or_else}
 use Rattle.df_theory.specs.Tails.{In}
 use Rattle.df_theory.specs.View.{View, sessions}
 use Rattle.df_theory.specs.Shows.{AgreesHeader, Needs}
 use Rattle.df_theory.specs.Holds.{Holds}
-use Rattle.df_theory.specs.Next.{IsStamped, MayAppend, MayBoot, appended, booted, kept}
+use Rattle.df_theory.specs.Next.{IsStamped, MayAppend, MayBoot, appended, booted}
 use Rattle.df_theory.specs.UnitLog.{Synced, UnitLog, add, now, put_one, settled, wrote}
 use Rattle.df_theory.specs.Chance.{InPool}
 use Rattle.df_theory.specs.Grown.{IsClear, IsSafe}

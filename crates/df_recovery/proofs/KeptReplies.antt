@@ -34,30 +34,6 @@ stored_now n s h reply is le =
 
 -- ---- place by place
 
-pub stores_none : (n : ℕ) (replies : List (Result Header Class)) (ss : List Session) → StoresTo n replies 0 ss ss
-stores_none n replies ss = record { stored = λ k s less at. absurd (omega (arith, less)); others = λ k from. refl; requests = refl }
-
-pub stores_more : (n : ℕ) (replies : List (Result Header Class)) (place : ℕ) (reply : Result Header Class) (before mid after : List Session) → slice_get replies place ≡ Some reply → StoresTo n replies place before mid
-    → ((s : Session) → slice_get mid place ≡ Some s → slice_get after place ≡ Some (with_stored n (Some reply) s)) → ((k : ℕ) → (k ≡ place → ⊥) → slice_get after k ≡ slice_get mid k) → sessions_of after ≡ sessions_of mid
-    → StoresTo n replies (place + 1) before after
-stores_more n replies place reply before mid after at old stored others requests = record {
-  stored = each;
-  others = λ k from. others k (λ same. omega (arith, from, same)) ∙ old.others k (omega (arith, from));
-  requests = requests ∙ old.requests;
-}
-  where
-    each : (k : ℕ) (s : Session) → k < place + 1 → slice_get before k ≡ Some s → slice_get after k ≡ Some (with_stored n (slice_get replies k) s)
-    each k s less there = elim (cases_lt k place) [
-      | inl low ↦ others k (λ same. omega (arith, low, same)) ∙ old.stored k s low there
-      | inr from ↦
-          let same : k ≡ place = omega arith in
-          let here : slice_get mid place ≡ Some s = old.others place (omega arith) ∙ sym (ap (slice_get before) same) ∙ there in
-          ap (slice_get after) same ∙ stored s here ∙ ap (λ (o : Option (Result Header Class)). Some (with_stored n o s)) (sym at ∙ ap (slice_get replies) (sym same))
-    ]
-
-pub same_count : (n : ℕ) (replies : List (Result Header Class)) (count : ℕ) (before after : List Session) → StoresTo n replies count before after → length after ≡ length before
-same_count n replies count before after stores = sym (length-map after session_of) ∙ ap length stores.requests ∙ length-map before session_of
-
 -- ---- in the model
 
 entry_of : (o : Option (Result Header Class)) (x : Option AnyUnit) (r : Message) (n : ℕ) (s : Session) → ((reply : Result Header Class) → o ≡ Some reply → ShowsReply x reply) → (o ≡ None → x ≡ None) → x ≡ Some (ReplyUnit r) → s.op ≤ n

@@ -14,6 +14,7 @@ use Rattle.df_model.specs.declared.errors.BlockError.{BlockError}
 use Rattle.df_state.specs.declared.file.DataFile.{DataFile}
 use Rattle.df_state.specs.State.{Capture, IsCourse, IsState, State, course_in, grid_with, memory}
 use Rattle.df_replica.specs.Blocks.{MayWriteNext, address_or, with_blocks}
+use Rattle.df_replica.proofs.BeginState.{with_course}
 
 -- ---- other live blocks
 
@@ -47,24 +48,7 @@ course_live file f head b live (Some r) is = record {
 }
 
 pub live_state : (s : State) (live : List (ℕ × ℕ)) → IsState s → IsState (with_blocks s (lives s.blocks live))
-live_state s live is = record {
-  cluster = is.cluster;
-  parent = is.parent;
-  sequence = is.sequence;
-  root = is.root;
-  order = is.order;
-  room = is.room;
-  head_to = is.head_to;
-  waiting = is.waiting;
-  few = is.few;
-  places = is.places;
-  first = is.first;
-  requests = is.requests;
-  asked = is.asked;
-  tracks = is.tracks;
-  ring = is.ring;
-  course = course_live s.file s.fields s.head s.blocks live s.running is.course;
-}
+live_state s live is = with_course s (lives s.blocks live) s.running is (course_live s.file s.fields s.head s.blocks live s.running is.course)
 
 -- ---- an address that isn't live
 
@@ -80,17 +64,6 @@ address_given (Some e) a n is = absurd (cc)
 pub refusal_given : (o : Option BlockError) (a : ℕ) (e : BlockError) → Err e ≡ address_or o a → o ≡ Some e
 refusal_given None a e is = absurd (cc)
 refusal_given (Some x) a e is = ap (λ (y : BlockError). Some y) (let same : x ≡ e = cc in same)
-
--- what isn't refused may be written at the address
-pub may_write : (s : State) (kind : ℕ) (body : List ℕ) (address : ℕ) → first_refusal (block_refusals (memory s) kind body) ≡ None → address ≡ next_address (memory s) → IsUnheld (grid_with s.file s.blocks) address
-    → MayWriteNext s kind (length body)
-may_write s kind body address none here free =
-    let tests = all_pass (block_refusals (memory s) kind body) none in
-    record {
-      named = (let some = eqb-false _ _ tests.0 in omega (arith, some));
-      fits = (let fits = ltb-false _ _ tests.1.0 in omega (arith, fits, s.file.layout.block_size_within.0));
-      free = subst (IsUnheld (grid_with s.file s.blocks)) here free;
-    }
 
 -- ---- the grid behind a write
 

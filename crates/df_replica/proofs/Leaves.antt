@@ -75,10 +75,6 @@ pub shown_after : (events : List Event) (t : Told) → (told_after events t).sho
 shown_after [] t = refl
 shown_after (e ∷ es) t = shown_after es (did e t)
 
-pub logged_after : (events : List Event) (t : Told) → (told_after events t).log ≡ adds events t.log
-logged_after [] t = refl
-logged_after (e ∷ es) t = logged_after es (did e t)
-
 -- what isn't loose stays so where nothing is written
 pub stays_firm : (events : List Event) (log : Log) (sector : ℕ) → loose log sector ≡ false → writes_to events sector ≡ false → loose (adds events log) sector ≡ false
 stays_firm [] log sector firm dry = firm

@@ -103,11 +103,3 @@ client_at client (x ∷ ss) s at = go (x.client == client) refl at (λ there. cl
     go false same there more = more there
 
 -- ---- blocks
-
-entry_case : (f : ℕ → Option ℕ) (a x : ℕ) (o : Option ℕ) (rest : List (ℕ × ℕ)) (c : ℕ) → f x ≡ o → sum_at a (entry x o rest) ≡ Some c → (sum_at a rest ≡ Some c → f a ≡ Some c) → f a ≡ Some c
-entry_case f a x None rest c known is more = more is
-entry_case f a x (Some d) rest c known is more = go (x == a) refl is
-  where
-    go : (b : Bool) → (x == a) ≡ b → (if b then Some d else sum_at a rest) ≡ Some c → f a ≡ Some c
-    go true same found = ap f (sym (eqb-true x a same)) ∙ known ∙ found
-    go false same found = more found

@@ -31,10 +31,6 @@ prints_turn text old new (Err e) prints = prints.part
 pub not_fault : (text : List ℕ) (old new : Option (List ℕ)) (turn : Turn) → IsPrinted text old new turn → turn ≡ Ends DiskFault → ⊥
 not_fault text old new turn printed is = subst (λ (u : Turn). IsPrinted text old new u) is printed
 
-pub prints_last : {T E : Type 0} (text : List ℕ) (old new : Option (List ℕ)) (r : Result T E) → Prints text old new r → IsLastPrinted text old new (last_turn r)
-prints_last text old new (Ok x) prints = prints.whole
-prints_last text old new (Err e) prints = prints.part
-
 last_not_fault : (text : List ℕ) (old new : Option (List ℕ)) (turn : Turn) → IsLastPrinted text old new turn → turn ≡ Ends DiskFault → ⊥
 last_not_fault text old new turn printed is = subst (λ (u : Turn). IsLastPrinted text old new u) is printed
 
@@ -94,14 +90,6 @@ disk_same before now (Ends status) same other = record { rose = λ is. absurd (o
 
 pub disk_rose : (before now : ℕ) (turn : Turn) → turn ≡ Ends DiskFault → Rose before now → BlamesIfEnds DiskFault before now turn
 disk_rose before now turn is rose = subst (λ (u : Turn). BlamesIfEnds DiskFault before now u) (sym is) (record { rose = λ yes. rose; same = λ no. absurd (no refl) })
-
-pub sink_turn : {T E : Type 0} (before now : ℕ) (r : Result T E) → ((e : E) → r ≡ Err e → Rose before now) → ((x : T) → r ≡ Ok x → now ≡ before) → BlamesIfEnds WriteFault before now (printed_turn r)
-sink_turn before now (Ok x) rose same = same x refl
-sink_turn before now (Err e) rose same = record { rose = λ yes. rose e refl; same = λ no. absurd (no refl) }
-
-pub last_sink : {T E : Type 0} (before now : ℕ) (r : Result T E) → ((e : E) → r ≡ Err e → Rose before now) → ((x : T) → r ≡ Ok x → now ≡ before) → BlamesIfEnds WriteFault before now (last_turn r)
-last_sink before now (Ok x) rose same = record { rose = λ no. absurd (cc); same = λ no. same x refl }
-last_sink before now (Err e) rose same = record { rose = λ yes. rose e refl; same = λ no. absurd (no refl) }
 
 -- ---- what a call comes to
 

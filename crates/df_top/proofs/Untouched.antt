@@ -42,10 +42,6 @@ firm_on ((Stop changes) ∷ es) log sector none firm = firm_on es (add (Stop cha
 
 -- ---- blocks of the durable checkpoint
 
-one_of : (a : ℕ) (x : ℕ × Block) (xs : List (ℕ × Block)) (b : Bool) → (a == x.0) ≡ b → (b || is_of a xs) ≡ true → (is_of a xs ≡ true → (y : Block) × InChain a y xs) → (y : Block) × InChain a y (x ∷ xs)
-one_of a x xs true same is more = (x.1, inl (eqb-true a x.0 same, refl))
-one_of a x xs false same is more = let rest = more is in (rest.0, inr rest.1)
-
 -- no address of the running trailer is one of theirs
 module _ (w : Work) (clear : (r : Running) → w.running ≡ Some r → AtEachOf (IsClear w.live w.view.checkpoint) r.left) where
   clear_is_none : (a : ℕ) → IsClear w.live w.view.checkpoint a → is_durable w a ≡ true → ⊥

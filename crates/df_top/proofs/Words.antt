@@ -16,9 +16,3 @@ same_cluster_asked words layout other cluster another one two = let same : Forma
 -- and those that ask for a making ask for nothing of a file that is there
 pub makes_alone : (words : List (List ℕ)) (layout : Layout) (cluster : ℕ) (mode : Mode) → Means words (Format layout cluster) → Means words mode → IsOfFile mode → ⊥
 makes_alone words layout cluster mode one other of = subst IsOfFile (one_mode words mode (Format layout cluster) other one) of
-
-pub asks_no_making : (words : List (List ℕ)) (layout : Layout) (cluster : ℕ) → AsksOfFile words → Means words (Format layout cluster) → ⊥
-asks_no_making words layout cluster asks means = makes_alone words layout cluster asks.mode means asks.means asks.of_file
-
-pub asks_something : (words : List (List ℕ)) → AsksOfFile words → MeansNothing words → ⊥
-asks_something words asks none = none asks.mode asks.means

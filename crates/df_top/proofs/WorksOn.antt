@@ -43,10 +43,6 @@ pub printed_line : {T E : Type 0} (text : List ℕ) (given : Status) (old new : 
 printed_line text given old new (Ok x) prints = inl (refl, prints.whole)
 printed_line text given old new (Err e) prints = inr (refl, prints.part)
 
-pub printed_blame : {T E : Type 0} (given : Status) (before now : ℕ) (r : Result T E) → (given ≡ WriteFault → ⊥) → HasCause before now r → Blames WriteFault before now (status_or given r)
-printed_blame given before now (Ok x) other cause = record { rose = λ is. absurd (other is); same = λ no. cause.same }
-printed_blame given before now (Err e) other cause = record { rose = λ is. cause.failed; same = λ no. absurd (no refl) }
-
 -- the report of a run that came to its end
 pub prints_done : {T A E : Type 0} (run : Run) (t : Replica) (worked : Result T Fault) (x : T) (report : Workload) (old new : Option (List ℕ)) (r : Result A E) (status : Status) → worked ≡ Ok x → report ≡ workload_of run t
     → Prints (workload_text report) old new r → status ≡ status_or Done r → PrintsRun run t worked old new status
