@@ -8,16 +8,12 @@ use std::alloc::Global;
 use std::test::Fail;
 
 fn append(client: u8, request: u8, size: u16, wanted: Result<u64, AppendError>) -> (Call, Answer) {
-    let call = Call::Append {
-        client,
-        request,
-        size,
-    };
+    let call = Call::Append(client, request, size);
     (call, Answer::Appended(wanted))
 }
 
 fn reply(op: u8, size: u16, wanted: Result<(), ReplyError>) -> (Call, Answer) {
-    (Call::Reply { op, size }, Answer::Replied(wanted))
+    (Call::Reply(op, size), Answer::Replied(wanted))
 }
 
 // The first of the calls that isn't answered as the row says, and its answer.

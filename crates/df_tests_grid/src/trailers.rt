@@ -54,7 +54,8 @@ impl Captured for Counted {
     }
 }
 
-fn layout_of(blocks: u32) -> Layout
+/// A layout of so many blocks of 4,096 bytes.
+pub(crate) fn layout_of(blocks: u32) -> Layout
     requires some { 8 ≤ blocks }
     requires most { blocks ≤ 16384 }
     ensures blocks { result.blocks ≡ blocks }

@@ -6,8 +6,9 @@ ghost use Rattle.df_format.specs.Own.{own_place};
 ghost use Rattle.df_format.specs.Making.{for_body};
 
 use df_base::{HEADER, check};
+use df_buffers::{Identity, Wanted};
 use df_format::{Header, Kind};
-use df_layout::Zone;
+use df_layout::{Layout, Place, Zone};
 
 /// The bytes of a header that aren't zero, but for its checksums and what all headers have.
 pub(crate) type Fields = &'static [(usize, u8)];
@@ -61,6 +62,18 @@ pub(crate) fn changed(fields: Fields, at: usize, byte: u8) -> [u8; 256] {
 /// The header without a body.
 pub(crate) fn spelled(fields: Fields) -> [u8; 256] {
     changed(fields, 122, 1)
+}
+
+/// What is wanted at a place of cluster 7.
+pub(crate) fn identity_at(layout: Layout, zone: Zone, index: u64, wanted: Wanted) -> Identity
+    ensures { result ≡ record { layout = layout; cluster = 7; place = record { zone = zone; index = index }; wanted = wanted } }
+{
+    Identity {
+        layout,
+        cluster: 7,
+        place: Place { zone, index },
+        wanted,
+    }
 }
 
 /// The prepare as its maker gives it.
