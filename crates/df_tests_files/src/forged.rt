@@ -18,7 +18,7 @@ pub(crate) enum Part {
     Session(u64, u64, u64),
 }
 
-/// A checkpoint of sequence 2 that nobody made.
+/// A checkpoint of sequence 2 that nobody made, but for its text.
 #[derive(Clone, Copy)]
 pub(crate) struct Forged {
     pub(crate) layout: &'static str,
@@ -32,7 +32,6 @@ pub(crate) struct Forged {
     pub(crate) index: u64,
     /// How many bytes the superblock says that the text has beyond those that it has.
     pub(crate) beyond: u64,
-    pub(crate) text: &'static [Part],
 }
 
 fn add_number(text: &mut Vec<u8>, number: u64, bytes: usize) -> Result<(), Fail> {
@@ -117,10 +116,10 @@ fn forge_copies(
     Ok(())
 }
 
-/// A disk in memory with that file.
-pub(crate) fn forge(alloc: Global, forged: &Forged) -> Result<MemoryDisk, Fail> {
+/// A disk in memory with that file, whose trailer has this text.
+pub(crate) fn forge(alloc: Global, forged: &Forged, text: &[Part]) -> Result<MemoryDisk, Fail> {
     let mut disk = made_file(alloc, forged.layout, &[])?;
-    let text = text_of(alloc, forged.text)?;
+    let text = text_of(alloc, text)?;
     let sector = trailer_sector(&text, forged.index);
     disk.write(u64::from(forged.grid), &sector)?;
     let mut trailer = [0u8; 16];

@@ -104,7 +104,7 @@ fn expect_torn(
     for (first, second) in PAIRS {
         let loose = [(sectors.0, first), (sectors.1, second)];
         let mut disk = cut_file(alloc, calls, 1, &loose)?;
-        let (mends, wanted) = if (first, second) == PAIRS[0] {
+        let (mends, wanted): (&[Mend], Summary) = if (first, second) == PAIRS[0] {
             whole
         } else {
             (&[], torn)
