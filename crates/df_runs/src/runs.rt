@@ -75,8 +75,8 @@ pub fn word(alloc: Global, text: &str) -> Result<WordList, Fail> {
     words(alloc, &[text])
 }
 
-// A run, of which a caller's proof is told nothing.
-fn run_in(
+/// A run, of which a caller's proof is told nothing.
+pub fn run_in(
     alloc: Global,
     words: &[String],
     source: &mut MemorySource,

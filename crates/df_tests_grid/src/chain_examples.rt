@@ -1,6 +1,6 @@
 // Grids and readers of a layout in cluster 7, superblocks that name a trailer, and chains over a disk in memory.
 ghost use Rattle.std.specs.Prelude.{◌≡◌, ◌+◌, ◌-◌, ◌/◌, ◌≤◌, ◌<◌, [], IfOk, IfSome, OnOk, length};
-ghost use Rattle.df_trailer.specs.Reading.{HasRead};
+ghost use Rattle.df_trailer.specs.Reading.{HasRead, bytes_read};
 ghost use Rattle.df_units.specs.Superblocks.{AreFieldsOf};
 ghost use Rattle.df_grid.specs.Table.{IsIdle, no_blocks};
 ghost use Rattle.df_tests_grid.specs.Examples.{IsLeft};
@@ -52,7 +52,8 @@ pub(crate) fn grid_of(alloc: Global, layout: Layout) -> Result<Grid, Failed>
 
 // A reader of the layout and op that was fed nothing.
 pub(crate) fn new_reader(alloc: Global, layout: Layout, op: u64) -> Result<Reader, AllocError>
-    ensures { IfOk result (λ reader. HasRead layout op reader []) }
+    ensures read { IfOk result (λ reader. HasRead layout op reader []) }
+    ensures empty { IfOk result (λ reader. bytes_read reader ≡ 0) }
 {
     let bits = vec![in alloc; 0u64; (layout.blocks as usize + 63) / 64]?;
     let checks = vec![in alloc; [0u8; 16]; layout.blocks as usize]?;
