@@ -44,10 +44,8 @@ impl ProbeRoom {
             Raw::reserve(alloc, &layout)?,
             Raw::reserve(alloc, &layout)?,
         ];
-        match Vec::from_array(alloc, copies) {
-            Ok(copies) => Ok(ProbeRoom { copies }),
-            Err(_) => Err(OutOfMemory),
-        }
+        let copies = Vec::from_array(alloc, copies)?;
+        Ok(ProbeRoom { copies })
     }
 
     /// The room of the copy with this number, 0 to 3.

@@ -46,14 +46,11 @@ impl<K: RoomKind> Raw<K> {
         ensures { IfOk result (λ room. room ≡ record { layout = layout.now; bytes = replicate (room_size layout.now K.ZONE) 0 }) }
     {
         let size = room_size(layout, K::ZONE);
-        match vec![in alloc; 0u8; size] {
-            Ok(bytes) => Ok(Raw {
-                layout: *layout,
-                bytes,
-                kind: PhantomData,
-            }),
-            Err(_) => Err(OutOfMemory),
-        }
+        Ok(Raw {
+            layout: *layout,
+            bytes: vec![in alloc; 0u8; size]?,
+            kind: PhantomData,
+        })
     }
 
     /// The bytes of the room, which keeps its length.

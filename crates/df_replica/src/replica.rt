@@ -1,6 +1,7 @@
 // A replica: what it keeps in memory of the file that it works on, and what it tells of it.
 ghost use Rattle.std.specs.Prelude.{◌≡◌, slice_get};
 ghost use Rattle.df_replica.specs.Replica.{summary_of};
+ghost use Rattle.df_replica.specs.Stopping.{stopped};
 
 use arrayvec::ArrayVec;
 use df_base::Check;
@@ -127,6 +128,13 @@ impl Replica {
         ensures { result ≡ self.now.live }
     {
         self.live
+    }
+
+    // The disk failed, or doesn't show what was written: no call may follow.
+    pub(crate) fn stop(&mut self)
+        ensures { self.new ≡ stopped self.old }
+    {
+        self.live = false;
     }
 
     /// The numbers of the state.

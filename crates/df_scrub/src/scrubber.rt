@@ -38,15 +38,13 @@ impl Scrubber {
     pub fn reserve(alloc: Global) -> Result<Scrubber, OutOfMemory>
         ensures { IfOk result (λ scrubber. scrubber ≡ new_scrub) }
     {
-        match HeapCircularBuffer::with_capacity(alloc, FINDINGS) {
-            Ok(findings) => Ok(Scrubber {
-                last: 0,
-                checked: 0,
-                failing: 0,
-                findings,
-            }),
-            Err(_) => Err(OutOfMemory),
-        }
+        let findings = HeapCircularBuffer::with_capacity(alloc, FINDINGS)?;
+        Ok(Scrubber {
+            last: 0,
+            checked: 0,
+            failing: 0,
+            findings,
+        })
     }
 
     /// Begins with another file: the tour is at its start, and there is no finding.

@@ -4,6 +4,7 @@ use Rattle.df_base.specs.Image.{Image, IsImage}
 use Rattle.df_base.specs.Log.{Sync}
 use Rattle.df_disk.specs.Adds.{AddsPart}
 use Rattle.df_disk.specs.Told.{Told, after, did}
+use Rattle.df_disk.proofs.Laws.{goes_told}
 use Rattle.df_inspect.specs.Reports.{inspection_text, summary_text}
 use Rattle.df_layout.specs.declared.damage.Mend.{Mend}
 use Rattle.df_layout.specs.declared.layout.Layout.{Layout}
@@ -33,7 +34,7 @@ use Rattle.df_top.specs.Reporting.{FailsToSurvey, Inspects, Recovers, report_of,
 use Rattle.df_top.specs.Scrubs.{PrintsTour, ScrubsFile}
 use Rattle.df_top.specs.declared.status.Status.{Status}
 use Rattle.df_top.specs.declared.status.Status.TheVariants.{Done}
-use Rattle.df_top.proofs.Kept.{goes_told, keeps_over, opened_over}
+use Rattle.df_top.proofs.Kept.{keeps_over, opened_over}
 use Rattle.df_top.proofs.Served.{by_fault, refuses}
 
 -- ---- the barrier

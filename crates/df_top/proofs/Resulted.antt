@@ -1,6 +1,7 @@
 -- A session's answers are the result, and its text is the machine's.
 use Rattle.std.specs.List.{range_with_len, slice_get}
 use Rattle.std.proofs.Common.{◌≡◌, ℕ, zero, suc, ◌+◌, ◌-◌, ◌≤◌, List, [], ◌∷◌, ◌++◌, length, map, Option, Some, None, refl, sym, ◌∙◌, ap, subst, arith, length-drop}
+use Rattle.std.proofs.lemmas.List.{map-append}
 use Rattle.df_base.specs.Image.{Image, IsImage}
 use Rattle.df_base.specs.Log.{Sync}
 use Rattle.df_disk.specs.Told.{Told, did}
@@ -64,10 +65,6 @@ append_splits (x ∷ xs) (u ∷ us) ys vs same all =
     let behind : xs ++ ys ≡ us ++ vs = cc all in
     let rest = append_splits xs us ys vs (omega (arith, same)) behind in
     ((λ i. first i ∷ rest.0 i), rest.1)
-
-map_append : {A B : Type 0} (f : A → B) (xs ys : List A) → map f (xs ++ ys) ≡ map f xs ++ map f ys
-map_append f [] ys = refl
-map_append f (x ∷ xs) ys = ap (λ (l : List _). f x ∷ l) (map_append f xs ys)
 
 map_length : {A B : Type 0} (f : A → B) (xs : List A) → length (map f xs) ≡ length xs
 map_length f [] = refl
@@ -207,7 +204,7 @@ module _ (sh : Shape) (codec : Codec) where
       let cs = commands_of t.said in
       let behind : Shown = last_shown sh codec shown w cs in
       let u : Work = last_work sh codec shown w cs in
-      let commands : map command_in (t.acts ++ all_acts turns) ≡ cs ++ map command_in (all_acts turns) = map_append command_in t.acts (all_acts turns) ∙ ap (λ (l : List Command). l ++ map command_in (all_acts turns)) are.0.0 in
+      let commands : map command_in (t.acts ++ all_acts turns) ≡ cs ++ map command_in (all_acts turns) = map-append command_in t.acts (all_acts turns) ∙ ap (λ (l : List Command). l ++ map command_in (all_acts turns)) are.0.0 in
       let all : t.answers ++ all_answers turns ≡ result sh codec shown w cs ++ result sh codec behind u (map command_in (all_acts turns)) =
       answers ∙ ap (result sh codec shown w) commands ∙ result_append shown w cs (map command_in (all_acts turns)) in
       let many : length t.answers ≡ length (result sh codec shown w cs) = are.0.1 ∙ sym (map_length command_in t.acts) ∙ ap length are.0.0 ∙ sym (result_length shown w cs) in

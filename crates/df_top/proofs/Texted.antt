@@ -23,7 +23,7 @@ use Rattle.df_model.specs.Supply.{Shown}
 use Rattle.df_model.specs.Work.{Work, opened}
 use Rattle.df_replica.specs.Below.{DataFile, IsOpened, State as Replica, shape}
 use Rattle.df_replica.specs.Reading.{shown_of}
-use Rattle.df_replica.proofs.Laws.{one_super}
+use Rattle.df_replica.proofs.Laws.{one_super, same_file}
 use Rattle.df_result.specs.Agreeing.{AgreeShown}
 use Rattle.df_top.specs.Lines.{Turned, all_text, printed, said_in}
 use Rattle.df_top.specs.OneText.{IsThrough, OneText, ShowSame, TextIsResult, status_by, text_by}
@@ -33,7 +33,6 @@ use Rattle.df_top.specs.Run.{ServesScript, script_budget, start}
 use Rattle.df_top.specs.Session.{EndsText, EndsWith, Failing, act_of, said_of}
 use Rattle.df_top.specs.declared.status.Status.{Status}
 use Rattle.df_top.specs.declared.status.Status.TheVariants.{Done, Script, Words, Refused, Memory, DiskFault, ReadFault, WriteFault, Found}
-use Rattle.df_top.proofs.OneReport.{same_file}
 
 -- ---- how a text ends
 
