@@ -1,6 +1,6 @@
 // Stops within the steps of a checkpoint, and within the prepare that reuses a slot behind one.
 use crate::cut::{served, stopped_within};
-use crate::left::{Left, Numbers, has_root, is_left};
+use crate::left::{Found, Left, Numbers, has_root, is_left};
 use df_images::Fate;
 use df_layout::{Class, Zone};
 use df_memdisk::Strike;
@@ -9,14 +9,7 @@ use std::test::Fail;
 
 // A stop within a step behind a script, at the step's device call of this number, with the fate of the sector that is loose; what is
 // left, and the copies that are to be mended with their classes.
-type Stop = (
-    &'static str,
-    u64,
-    u16,
-    Fate,
-    Left,
-    &'static [(Zone, u64, Class)],
-);
+type Stop = (&'static str, u64, u16, Fate, Left, &'static [Found]);
 
 const BEGUN: &str = "append 1 1 -\ncheckpoint 01\n";
 
@@ -57,32 +50,27 @@ const TO_SECOND: &str = "begun 1\nworking 1\ndone 2\n";
 const STEPS: [Stop; 7] = [
     (BEGUN, 1, 80, Fate::Filled, FIRST, &[]),
     (WRITTEN, 1, 80, Fate::Filled, FIRST, &[]),
-    (WRITTEN, 2, 0, Fate::Filled, FIRST, &[GARBLED[0]]),
-    (WRITTEN, 4, 1, Fate::Filled, FIRST, &[STALE[0], GARBLED[1]]),
-    (
-        WRITTEN,
-        4,
-        1,
-        Fate::AsWritten,
-        SECOND,
-        &[STALE[2], STALE[3]],
-    ),
-    (WRITTEN, 6, 2, Fate::Filled, SECOND, &[GARBLED[2], STALE[3]]),
-    (WRITTEN, 8, 3, Fate::Filled, SECOND, &[GARBLED[3]]),
+    (WRITTEN, 2, 0, Fate::Filled, FIRST, &[GARBLED_0]),
+    (WRITTEN, 4, 1, Fate::Filled, FIRST, &[STALE_0, GARBLED_1]),
+    (WRITTEN, 4, 1, Fate::AsWritten, SECOND, &[STALE_2, STALE_3]),
+    (WRITTEN, 6, 2, Fate::Filled, SECOND, &[GARBLED_2, STALE_3]),
+    (WRITTEN, 8, 3, Fate::Filled, SECOND, &[GARBLED_3]),
 ];
 
-const GARBLED: [(Zone, u64, Class); 4] = copies(Class::Garbled);
+// Copies that are to be mended.
+const GARBLED_0: Found = (Zone::Superblock, 0, Class::Garbled);
 
-const STALE: [(Zone, u64, Class); 4] = copies(Class::Stale);
+const GARBLED_1: Found = (Zone::Superblock, 1, Class::Garbled);
 
-const fn copies(class: Class) -> [(Zone, u64, Class); 4] {
-    [
-        (Zone::Superblock, 0, class),
-        (Zone::Superblock, 1, class),
-        (Zone::Superblock, 2, class),
-        (Zone::Superblock, 3, class),
-    ]
-}
+const GARBLED_2: Found = (Zone::Superblock, 2, Class::Garbled);
+
+const GARBLED_3: Found = (Zone::Superblock, 3, Class::Garbled);
+
+const STALE_0: Found = (Zone::Superblock, 0, Class::Stale);
+
+const STALE_2: Found = (Zone::Superblock, 2, Class::Stale);
+
+const STALE_3: Found = (Zone::Superblock, 3, Class::Stale);
 
 #[test]
 fn a_checkpoint_that_is_stopped_was_done_or_not(rt: HostRuntime) -> Result<(), Fail> {

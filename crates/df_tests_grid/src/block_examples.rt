@@ -27,19 +27,10 @@ fn block_header(address: u64, body: &[u8]) -> Header
     ensures own { (layout : AnyLayout) → address ≤ layout.blocks → IsSome (own_place layout Zone.Grid result) }
 {
     Header {
-        checksum: [0; 16],
         checksum_body: check(body),
-        cluster: 7,
-        parent: [0; 16],
-        client: 0,
         op: address,
-        request: 0,
-        mark: 0,
-        checkpoint: 0,
-        size: 256,
-        slot: 0,
-        kind: Kind::Block,
         block_kind: 1,
+        ..Header::of(Kind::Block, 7)
     }
 }
 

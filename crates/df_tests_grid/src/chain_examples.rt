@@ -75,13 +75,6 @@ pub(crate) fn super_of(layout: &Layout, last: Reference, size: u64, op: u64) -> 
     let checksum = last.checksum;
     let op_checksum = if op == 0 { [0; 16] } else { [9; 16] };
     let fields = SuperFields {
-        version: 1,
-        slots: layout.slots,
-        message_size: layout.message_size,
-        clients: layout.clients,
-        block_size: layout.block_size,
-        blocks: layout.blocks,
-        cluster: 7,
         sequence: 2,
         op,
         op_checksum,
@@ -90,8 +83,7 @@ pub(crate) fn super_of(layout: &Layout, last: Reference, size: u64, op: u64) -> 
         trailer_address: last.address,
         trailer_checksum: checksum,
         trailer_size: size,
-        boot: 0,
-        first_nonzero: None,
+        ..SuperFields::of(layout, 7)
     };
     match test_fields(&fields) {
         Ok(content) => Some(content),

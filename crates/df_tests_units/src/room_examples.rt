@@ -85,19 +85,13 @@ pub(crate) fn prepare(body: &[u8]) -> Header
     ensures own { (layout : AnyLayout) → layout.slots ≡ 32 → IsSome (own_place layout Zone.WalPrepares result) }
 {
     Header {
-        checksum: [0; 16],
         checksum_body: check(body),
-        cluster: 7,
-        parent: [0; 16],
         client: 5,
         op: 1,
         request: 1,
-        mark: 0,
         checkpoint: 1,
-        size: 256,
         slot: 1,
-        kind: Kind::Prepare,
-        block_kind: 0,
+        ..Header::of(Kind::Prepare, 7)
     }
 }
 
@@ -110,19 +104,15 @@ pub(crate) fn reply(body: &[u8]) -> Header
     ensures own { (layout : AnyLayout) → layout.clients ≡ 4 → IsSome (own_place layout Zone.ClientReplies result) }
 {
     Header {
-        checksum: [0; 16],
         checksum_body: check(body),
-        cluster: 7,
         parent: [3; 16],
         client: 5,
         op: 1,
         request: 1,
         mark: 1,
         checkpoint: 1,
-        size: 256,
         slot: 2,
-        kind: Kind::Reply,
-        block_kind: 0,
+        ..Header::of(Kind::Reply, 7)
     }
 }
 
@@ -135,19 +125,10 @@ pub(crate) fn block(body: &[u8]) -> Header
     ensures own { (layout : AnyLayout) → layout.blocks ≡ 64 → IsSome (own_place layout Zone.Grid result) }
 {
     Header {
-        checksum: [0; 16],
         checksum_body: check(body),
-        cluster: 7,
-        parent: [0; 16],
-        client: 0,
         op: 9,
-        request: 0,
-        mark: 0,
-        checkpoint: 0,
-        size: 256,
-        slot: 0,
-        kind: Kind::Block,
         block_kind: 1,
+        ..Header::of(Kind::Block, 7)
     }
 }
 
@@ -160,18 +141,9 @@ pub(crate) fn trailer(body: &[u8]) -> Header
     ensures own { (layout : AnyLayout) → layout.blocks ≡ 64 → IsSome (own_place layout Zone.Grid result) }
 {
     Header {
-        checksum: [0; 16],
         checksum_body: check(body),
-        cluster: 7,
-        parent: [0; 16],
-        client: 0,
         op: 9,
-        request: 0,
-        mark: 0,
         checkpoint: 2,
-        size: 256,
-        slot: 0,
-        kind: Kind::Trailer,
-        block_kind: 0,
+        ..Header::of(Kind::Trailer, 7)
     }
 }

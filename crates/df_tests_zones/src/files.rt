@@ -30,9 +30,7 @@ pub(crate) fn prepare_header(op: u64, request: u64, parent: Check) -> Header
     ensures own { (layout : AnyLayout) → layout.slots ≡ 32 → IsSome (own_place layout Zone.WalPrepares result) }
 {
     Header {
-        checksum: [0; 16],
         checksum_body: check(&[]),
-        cluster: 7,
         parent: if op == 1 { [0; 16] } else { parent },
         client: 5,
         op,
@@ -41,8 +39,7 @@ pub(crate) fn prepare_header(op: u64, request: u64, parent: Check) -> Header
         checkpoint: 1,
         size: 256,
         slot: (op % 32) as u32,
-        kind: Kind::Prepare,
-        block_kind: 0,
+        ..Header::of(Kind::Prepare, 7)
     }
 }
 

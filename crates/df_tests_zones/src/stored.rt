@@ -103,19 +103,14 @@ fn header_of(stored: &Stored, body: &[u8]) -> Header
 {
     let op = u64::from(stored.op.max(1));
     Header {
-        checksum: [0; 16],
         checksum_body: check(body),
-        cluster: 7,
-        parent: [0; 16],
         client: u128::from(stored.client.max(1)),
         op,
         request: u64::from(stored.request.max(1)),
         mark: op + u64::from(stored.ahead),
         checkpoint: u64::from(stored.checkpoint.max(1)),
-        size: 0,
         slot: u32::from(stored.slot % 4),
-        kind: Kind::Reply,
-        block_kind: 0,
+        ..Header::of(Kind::Reply, 7)
     }
 }
 
