@@ -44,8 +44,10 @@ impl ProbeRoom {
             Raw::reserve(alloc, &layout)?,
             Raw::reserve(alloc, &layout)?,
         ];
-        let copies = Vec::from_array(alloc, copies)?;
-        Ok(ProbeRoom { copies })
+        match Vec::from_array(alloc, copies) {
+            Ok(copies) => Ok(ProbeRoom { copies }),
+            Err(_) => Err(OutOfMemory),
+        }
     }
 
     /// The room of the copy with this number, 0 to 3.

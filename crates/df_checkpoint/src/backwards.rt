@@ -1,5 +1,5 @@
 // The walk from the last block of the chain, which the superblock refers to, back to index 0.
-ghost use Rattle.std.specs.Prelude.{◌≡◌, ◌+◌, ◌-◌, ◌≤◌, ◌<◌, ◌++◌, [], ◌∷◌, ℕ, length, true, false, IfOk, OnOk};
+ghost use Rattle.std.specs.Prelude.{◌≡◌, ◌+◌, ◌-◌, ◌≤◌, ◌<◌, ℕ, length, IfOk, OnOk};
 ghost use Rattle.arrayvec.specs.ArrayVec.{array_vec_len};
 ghost use Rattle.df_base.specs.Causes.{IsBlamed};
 ghost use Rattle.df_theory.specs.Shape.{Shape};
@@ -15,6 +15,7 @@ use arrayvec::ArrayVec;
 use df_disk::Disk;
 use df_format::SuperFields;
 use df_grid::Grid;
+use df_layout::LINKS;
 
 // Whether an address is one of those that were read.
 fn is_among(blocks: &[Link], address: u64) -> bool
@@ -29,7 +30,7 @@ fn take_link<D: Disk>(
     disk: &mut D,
     content: &SuperFields,
     grid: &mut Grid,
-    blocks: &mut ArrayVec<Link, 70>,
+    blocks: &mut ArrayVec<Link, LINKS>,
     at: Link,
     index: u64,
 ) -> Result<Link, TrailerFault>
@@ -64,7 +65,7 @@ pub(crate) fn walk<D: Disk>(
     content: &SuperFields,
     grid: &mut Grid,
     count: u64,
-) -> Result<ArrayVec<Link, 70>, TrailerFault>
+) -> Result<ArrayVec<Link, LINKS>, TrailerFault>
     requires inside { HasAddress grid.old content.now.trailer_address }
     requires few { (0 < count) × (count ≤ 70) }
     requires count { IsCount (grid.old.layout.block_size - 256) content.now.trailer_size count }

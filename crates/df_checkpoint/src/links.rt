@@ -1,5 +1,5 @@
 // One link of the chain: the block that is asked for, and the reference that it has to the one before.
-ghost use Rattle.std.specs.Prelude.{◌≡◌, ◌+◌, ◌-◌, ◌≤◌, ◌<◌, length, true, false, IfOk, MatchResult};
+ghost use Rattle.std.specs.Prelude.{◌≡◌, ◌-◌, ◌<◌, length, true, false, IfOk, MatchResult};
 ghost use Rattle.df_base.specs.Causes.{IsBlamed};
 ghost use Rattle.df_layout.specs.declared.fields.Field.TheVariants.{TrailerChain};
 ghost use Rattle.df_theory.specs.Shape.{Shape};

@@ -24,7 +24,7 @@ use df_base::HEADER;
 use df_disk::Disk;
 use df_format::{Super, SuperFields};
 use df_grid::{Grid, chains_have_room};
-use df_layout::Layout;
+use df_layout::{LINKS, Layout};
 use df_trailer::Reader;
 
 // How many blocks a trailer of the superblock's size has.
@@ -41,7 +41,7 @@ fn find_chain<D: Disk>(
     disk: &mut D,
     content: &SuperFields,
     grid: &mut Grid,
-) -> Result<ArrayVec<Link, 70>, TrailerFault>
+) -> Result<ArrayVec<Link, LINKS>, TrailerFault>
     requires named { content.now.trailer_address ≢ 0 }
     requires usable { IsSuper content.now }
     requires file { AreFieldsOf grid.old.layout grid.old.cluster content.now }

@@ -1,6 +1,5 @@
 // The 256 bytes of a header: how they are written, and how they are tested and read. A header has one spelling.
 ghost use Rattle.std.specs.Prelude.{◌≡◌, ◌+◌, ◌≤◌, ◌++◌, ◌∷◌, [], length, take, drop};
-ghost use Rattle.std.specs.Str.{bytes_eq};
 ghost use Rattle.df_format.specs.Spelling.{sealed, spelling, spelling_rest, code_of, tail_of};
 ghost use Rattle.df_format.specs.Rules.{ObeysRules, IsSealed};
 ghost use Rattle.df_format.specs.Reading.{kind_of, fields_of, has_tail, is_spelled, header_in};

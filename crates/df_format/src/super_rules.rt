@@ -1,7 +1,7 @@
 // The rules of a superblock's fields: whether it can be used, or which field is the first that breaks its rule.
 ghost use Rattle.std.specs.Prelude.{◌≡◌, ◌==◌, ◌<◌, [], ◌∷◌, if◌then◌else◌, IfOk, IfErr};
 ghost use Rattle.std.specs.Result.{result_err};
-ghost use Rattle.df_format.specs.SuperRules.{IsSuper, IsUsable, FaultsAreBrokenRules, is_between, is_whole_between, is_zero_check, greatest_trailer, has_trailer_size, test, size_tests, checkpoint_tests, progress_tests, trailer_tests, zero_tests, field_tests, first_failing, fault_of};
+ghost use Rattle.df_format.specs.SuperRules.{IsSuper, IsUsable, FaultsAreBrokenRules, is_whole_between, is_zero_check, greatest_trailer, has_trailer_size, test, size_tests, checkpoint_tests, progress_tests, trailer_tests, zero_tests, field_tests, first_failing, fault_of};
 
 use crate::{NO_CHECKSUM, SuperFault, SuperFields};
 use df_base::{Check, u128_at};

@@ -8,7 +8,6 @@ ghost use Rattle.df_format.specs.Rules.{ObeysRules};
 ghost use Rattle.df_format.specs.Spelling.{IsCheck};
 ghost use Rattle.df_format.specs.Whole.{greatest_size};
 ghost use Rattle.df_model.specs.Blocks.{block_written, is_held_in};
-ghost use Rattle.df_model.specs.Making.{first_of};
 ghost use Rattle.df_theory.specs.Device.{AreSteps};
 ghost use Rattle.df_units.specs.Format.{format_of};
 ghost use Rattle.df_units.specs.Meaning.{block_of, number_of};

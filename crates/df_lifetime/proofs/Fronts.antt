@@ -2,7 +2,7 @@
 use Rattle.std.proofs.Common.{◌≡◌, ◌⊎◌, inl, inr, ℕ, ◌+◌, ◌-◌, suc, Bool, true, false, List, [], ◌∷◌, ◌++◌, append_assoc, length, length-append, map, Option, Some, None, refl, sym, ◌∙◌, ap, subst, arith}
 use Rattle.std.specs.Prelude.{take}
 use Rattle.std.proofs.Math.Seq.{take-length}
-use Rattle.std.proofs.lemmas.List.{append-nil, take-append-le, map-append}
+use Rattle.std.proofs.lemmas.List.{append-nil, take-append-le, map-append, length-map}
 use Rattle.df_base.specs.Streams.{Appends, AppendsPart}
 use Rattle.df_base.specs.Log.{Sync}
 use Rattle.df_disk.specs.Adds.{after_all}
@@ -95,10 +95,6 @@ over_front sh by shown w (Ring ∷ xs) ys =
     let more = over_front sh by shown w xs ys in
     (more.0, ap (λ (l : List ℕ). recent_text w.findings ++ l) more.1 ∙ sym (append_assoc (recent_text w.findings) (joined (printed sh by shown w xs)) more.0))
 
-count_map : {A B : Type 0} (f : A → B) (xs : List A) → length (map f xs) ≡ length xs
-count_map f [] = refl
-count_map f (x ∷ xs) = ap suc (count_map f xs)
-
 text_front : (file : DataFile) (shown : Shown) (w : Work) (lines says : List Said) → IsFront lines says → IsFront (text_over file shown w lines) (text_over file shown w says)
 text_front file shown w lines says (more, is) =
     let front = over_front (shape file) (codec file) shown w (map line_of lines) (map line_of more) in
@@ -148,7 +144,7 @@ module _ (layout : Layout) (t : Told) (old new : Outside) (status : Status) (s :
       front_on (all_text turns) (says_over s.says) (whole_text s) (subst (λ (l : List ℕ). IsFront l (says_over s.says)) (sym lines_text) text) (by_front s.script.ends (length s.says) (says_over s.says))
   printed_front left rest begins true refused =
       let cut = cut_text (line_bound layout) script_budget s.text (map said_in turns) s.says s.script left rest begins (refused refl) in
-      let count : length s.says + 1 ≡ 0 + length turns + 1 = omega (arith, sym (ap length cut.0) ∙ count_map said_in turns) in
+      let count : length s.says + 1 ≡ 0 + length turns + 1 = omega (arith, sym (ap length cut.0) ∙ length-map turns said_in) in
       let line : says_over s.says ≡ all_text turns = sym (lines_text ∙ ap says_over cut.0) in (
         [],
         cut.1 (length s.says) (says_over s.says) ∙ (λ i. line i ++ script_text (count i)) ∙ sym (append-nil (prints 0 turns true)),

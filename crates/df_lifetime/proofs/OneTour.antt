@@ -21,6 +21,7 @@ use Rattle.df_script_model.specs.Texts.{scrubbed_text}
 use Rattle.df_top.specs.Outside.{PrintsLine}
 use Rattle.df_top.specs.Scrubs.{PrintsTour, ScrubsFile, failing_blocks, tour_report, tour_status}
 use Rattle.df_top.specs.declared.status.Status.{Status}
+use Rattle.df_top.proofs.Laws.{unit_spared}
 use Rattle.df_lifetime.specs.Printed.{HasEnded, PrintsOne, ScrubHasOneText, SparedScrubHasOneText, Twice}
 use Rattle.df_lifetime.proofs.Alike.{agree_there, file_alike, memory_alike}
 use Rattle.df_lifetime.proofs.OneText.{same_prints}
@@ -94,14 +95,6 @@ scrub_has_one_text layout runs agree = tours_print_one layout runs agree
 
 -- ---- what a mending left
 
--- it agrees with what was there, both ways
-spared_unit : (file : DataFile) (before after : Image) → SparesReads file before after → (place : Place) → IsReadPlace file.layout place → unit_at file.layout file.cluster after place ≡ unit_at file.layout file.cluster before place
-spared_unit file before after spares (CopyPlace k) read = absurd read
-spared_unit file before after spares (HeaderPlace k) read = absurd read
-spared_unit file before after spares (PreparePlace k) read = spares.units.prepare k
-spared_unit file before after spares (ReplyPlace k) read = spares.units.reply k
-spared_unit file before after spares (BlockPlace k) read = spares.units.block k
-
 -- two images that agree, each behind its mending
 spared_agree : (file : DataFile) (a b before after : Image) → SparesReads file a before → SparesReads file b after → AgreeShown file.layout (shown_of file a) (shown_of file b) → AgreeShown file.layout (shown_of file before) (shown_of file after)
 spared_agree file a b before after one other agree = record {
@@ -110,7 +103,7 @@ spared_agree file a b before after one other agree = record {
     reply = λ k. one.units.reply k ∙ agree.units.reply k ∙ sym (other.units.reply k);
     block = λ k. one.units.block k ∙ agree.units.block k ∙ sym (other.units.block k);
   };
-  classes = λ place read none. one.classes place read ∙ agree.classes place read (sym (spared_unit file a before one place read) ∙ none) ∙ sym (other.classes place read);
+  classes = λ place read none. one.classes place read ∙ agree.classes place read (sym (unit_spared file a before one place read) ∙ none) ∙ sym (other.classes place read);
 }
 
 pub spared_scrub_has_one_text : SparedScrubHasOneText

@@ -43,8 +43,9 @@ use Rattle.df_top.specs.Working.{WorksThrough}
 use Rattle.df_top.specs.Works.{workload_of}
 use Rattle.df_top.specs.declared.status.Status.{Status}
 use Rattle.df_top.specs.declared.status.Status.TheVariants.{Done}
+use Rattle.df_top.proofs.Laws.{agree_self}
 use Rattle.df_lifetime.specs.Printed.{HasEnded, IsRun, OneRun, RunTextIsResult, run_text, workload_by}
-use Rattle.df_lifetime.proofs.OneRun.{Numbers, after_answer, after_answers, agree_self, asks_none, by_end, last_numbers, numbers_in, opened_here, same_run}
+use Rattle.df_lifetime.proofs.OneRun.{Numbers, after_answer, after_answers, asks_none, by_end, last_numbers, numbers_in, opened_here, same_run}
 
 -- ---- what is counted
 

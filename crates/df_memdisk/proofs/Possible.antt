@@ -1,7 +1,7 @@
 -- The log of a disk in memory is one that a disk can have.
-use Rattle.std.proofs.Common.{◌≡◌, ℕ, zero, suc, ◌+◌, ◌<◌, true, List, [], ◌∷◌, ◌++◌, length, take, get_or, replicate, refl, sym, ap, subst, ◌∙◌, arith}
+use Rattle.std.proofs.Common.{◌≡◌, ℕ, ◌+◌, ◌<◌, true, List, [], ◌∷◌, ◌++◌, length, take, get_or, replicate, refl, sym, ap, subst, ◌∙◌}
 use Rattle.std.proofs.lemmas.List.{take_more, map-append, length-replicate}
-use Rattle.df_base.specs.Image.{IsSector, IsImage, blank}
+use Rattle.df_base.specs.Image.{IsSector, blank}
 use Rattle.df_base.specs.Log.{Event, AreLoose, loose_of}
 use Rattle.df_base.proofs.Laws.{AreBytes-zeros}
 use Rattle.df_memdisk.specs.History.{changes_of}

@@ -6,7 +6,7 @@ use Rattle.std.proofs.Math.Path.{fun_ext}
 use Rattle.std.proofs.Math.Seq.{drop-length}
 use Rattle.df_base.specs.Image.{Image, blank, changed}
 use Rattle.df_base.specs.Log.{Event, now, now_of, after_event}
-use Rattle.df_disk.specs.Told.{Told, IsHonest, did}
+use Rattle.df_disk.specs.Told.{Told, did}
 use Rattle.df_memdisk.specs.History.{event_of, events_of}
 use Rattle.df_memdisk.specs.Newest.{given_by}
 use Rattle.df_memdisk.specs.Struck.{first_events, events_since, strike_of, left_of, shown_after, AreBehind}

@@ -1,5 +1,5 @@
 // The checkpoint that a superblock names is read: its trailer's chain and text into the grid and the table of sessions.
-ghost use Rattle.std.specs.Prelude.{◌≡◌, ◌≢◌, ◌+◌, ◌/◌, IfErr, IfOk, vec_len};
+ghost use Rattle.std.specs.Prelude.{◌≡◌, ◌≢◌, ◌/◌, IfErr, IfOk, vec_len};
 ghost use Rattle.df_base.specs.Causes.{IsBlamed};
 ghost use Rattle.df_units.specs.Superblocks.{AreFieldsOf};
 ghost use Rattle.df_model.specs.Faults.{is_open_fault};
@@ -13,7 +13,7 @@ use df_checkpoint::{TrailerFault, pending, read_chain};
 use df_disk::Disk;
 use df_format::Super;
 use df_grid::Grid;
-use df_layout::{Field, Place, Zone};
+use df_layout::{Field, Place, ROOT, Zone};
 use df_sessions::{Session, SessionTable};
 use df_state::{DataFile, GridRooms, TrailerRooms};
 use df_trailer::{Parts, Reader};
@@ -23,7 +23,7 @@ use df_trailer::{Parts, Reader};
 pub struct Checkpoint {
     pub grid: Grid,
     pub trailer: TrailerRooms,
-    pub root: ArrayVec<u8, 1024>,
+    pub root: ArrayVec<u8, ROOT>,
     pub sessions: SessionTable,
 }
 
@@ -32,7 +32,7 @@ pub struct Checkpoint {
 pub struct Text {
     pub grid: Grid,
     pub trailer: TrailerRooms,
-    pub root: ArrayVec<u8, 1024>,
+    pub root: ArrayVec<u8, ROOT>,
     pub sessions: ArrayVec<Session, 64>,
 }
 

@@ -1,5 +1,5 @@
 -- A block stays where it is as long as its address is held: no command puts another one there.
-use Rattle.std.proofs.Common.{◌≡◌, ◌⊎◌, inl, inr, ℕ, ◌<◌, ◌==◌, Bool, true, false, not, ◌||◌, if◌then◌else◌, List, [], ◌∷◌, Option, Some, None, refl, sym, ap, subst, ◌∙◌, arith, eqb-true}
+use Rattle.std.proofs.Common.{◌≡◌, ◌⊎◌, inl, inr, ℕ, ◌<◌, ◌==◌, Bool, true, false, not, ◌||◌, if◌then◌else◌, List, [], ◌∷◌, Option, Some, None, refl, sym, ap, subst, ◌∙◌, arith, eqb-true, eq-eqb}
 use Rattle.std.specs.Prelude.{Ok}
 use Rattle.std.proofs.lemmas.Bool.Decides.{nat_tests}
 use Rattle.std.proofs.lemmas.Bool.{or_left, or_right}
@@ -173,12 +173,9 @@ backed_shows file t w a c backed (IsLive is) = backed.live a c is
 backed_shows file t w a c backed (IsCaptured r runs is) = backed.captured r runs a c is
 backed_shows file t w a c backed (IsDurable is) = backed.standing.shown a c is
 
-equal_number : (n : ℕ) → (n == n) ≡ true
-equal_number n = grind (arith, nat_tests)
-
 read_gives : (class : Class) (b : Block) → 0 < b.kind → no_trailer (block_given (Some b.checksum) (Some (BlockUnit b)) class) ≡ Ok b
 read_gives class b some =
-    ap (λ (e : Bool). no_trailer (given_if e b class)) (equal_number b.checksum) ∙ ap (λ (e : Bool). given_if e b Stale) (not_zero b.kind some)
+    ap (λ (e : Bool). no_trailer (given_if e b class)) (eq-eqb b.checksum b.checksum refl) ∙ ap (λ (e : Bool). given_if e b Stale) (not_zero b.kind some)
 
 shows_held : (file : DataFile) (t : Told) (a c : ℕ) → ShowsOwnBlock (now (units_log (format file) t.log)) a c → ShowsHeld file a c (Some t)
 shows_held file t a c own honest =

@@ -4,6 +4,7 @@ use Rattle.std.specs.Prelude.{nat_lt}
 use Rattle.std.specs.List.{slice_get}
 use Rattle.std.proofs.lemmas.Bool.Decides.{nat_tests}
 use Rattle.df_layout.specs.declared.places.Zone.TheVariants.{ClientReplies}
+use Rattle.df_format.specs.declared.header.Header.{Header}
 use Rattle.df_format.specs.declared.kind.Kind.TheVariants.{Reply as AsReply}
 use Rattle.df_format.specs.Making.{blank_header, for_body}
 use Rattle.df_format.specs.Own.{own_place}
@@ -18,15 +19,15 @@ use Rattle.df_state.specs.State.{IsState, State}
 use Rattle.df_replica.specs.Replying.{MayReplyNext, first_check, place_waiting, reply_given, session_waiting}
 use Rattle.df_replica.proofs.ReplyTests.{client_named, place_inside, session_told, waiting_told}
 
--- the header of these parts
-pub header_is : (s : State) (parent : List ℕ) (client place sequence : ℕ) (r : told.Session) → client ≡ r.client → parent ≡ first_check s.waiting → place ≡ place_waiting s → slice_get s.table.sessions place ≡ Some r → sequence ≡ s.fields.sequence
-    → record (blank_header AsReply s.file.cluster) { parent = parent; client = client; op = s.replies + 1; request = r.request; mark = s.head; checkpoint = sequence; slot = place }
+-- the header of these parts, over a blank one
+pub header_is : (s : State) (blank : Header) (parent : List ℕ) (client place sequence : ℕ) (r : told.Session) → blank ≡ blank_header AsReply s.file.cluster → client ≡ r.client → parent ≡ first_check s.waiting → place ≡ place_waiting s → slice_get s.table.sessions place ≡ Some r → sequence ≡ s.fields.sequence
+    → record blank { parent = parent; client = client; op = s.replies + 1; request = r.request; mark = s.head; checkpoint = sequence; slot = place }
     ≡ reply_given s
-header_is s parent client place sequence r client_here parent_is place_is at sequence_is =
+header_is s blank parent client place sequence r blank_is client_here parent_is place_is at sequence_is =
     let there : session_waiting s ≡ Some (session_of r) = session_told s.table.sessions (place_waiting s) r (subst (λ (k : ℕ). slice_get s.table.sessions k ≡ Some r) place_is at) in
     let client_is : client ≡ client_of (session_waiting s) = client_here ∙ ap client_of (sym there) in
     let request_is : r.request ≡ request_of (session_waiting s) = ap request_of (sym there) in
-    λ i. record (blank_header AsReply s.file.cluster) {
+    λ i. record (blank_is i) {
       parent = parent_is i;
       client = client_is i;
       op = s.replies + 1;

@@ -14,7 +14,7 @@ use Rattle.df_format.specs.Making.{blank_header, for_body}
 use Rattle.df_format.specs.Message.{Message, sectors_of}
 use Rattle.df_format.specs.Own.{own_place}
 use Rattle.df_format.specs.Rules.{ObeysRules}
-use Rattle.df_format.specs.Spelling.{sealed}
+use Rattle.df_format.specs.Spelling.{no_checksum, sealed}
 use Rattle.df_format.specs.Valid.{IsUnit}
 use Rattle.df_format.specs.Whole.{greatest_size}
 use Rattle.df_sessions.specs.Requests.{sessions_of}

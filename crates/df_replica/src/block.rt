@@ -1,6 +1,6 @@
 // The calls that write a block and let one go. A block is made in its own room and written to the least address that isn't held,
 // without a sync: the next checkpoint makes it durable.
-ghost use Rattle.std.specs.Prelude.{◌≡◌, ◌+◌, ◌<◌, ◌≤◌, ℕ, List, Option, length, slice_get, true, Some, IfOk, IsSome, OnErr, OnOk};
+ghost use Rattle.std.specs.Prelude.{◌≡◌, ◌<◌, ℕ, List, Option, length, slice_get, true, Some, IfOk, IsSome, OnErr, OnOk};
 ghost use Rattle.df_base.specs.Causes.{HasCause, IsBlamed};
 ghost use Rattle.df_disk.specs.Adds.{Adds};
 ghost use Rattle.df_disk.specs.Told.{Told};
@@ -21,7 +21,7 @@ ghost use Rattle.df_model.specs.Refusals.{block_refusals, first_refusal};
 ghost use Rattle.df_state.specs.State.{IsState, grid_with, memory};
 ghost use Rattle.df_replica.specs.Answering.{Serves, answer_of, as_write_block, release_answer};
 ghost use Rattle.df_replica.specs.Appending.{IsMadeUnit, unit_of};
-ghost use Rattle.df_replica.specs.Blocks.{IsRelease, IsWriteBlock, MayPut, MayWriteNext, address_or, block_events, block_given, next_block, released, written};
+ghost use Rattle.df_replica.specs.Blocks.{IsRelease, IsWriteBlock, MayPut, MayWriteNext, address_or, block_events, block_given, next_block, written};
 
 use crate::Replica;
 use df_base::{Check, Failed, HEADER};

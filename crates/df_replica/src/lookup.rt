@@ -6,7 +6,6 @@ ghost use Rattle.df_base.specs.Causes.{HasCause, IsBlamed};
 ghost use Rattle.df_layout.specs.declared.places.Zone.TheVariants.{ClientReplies};
 ghost use Rattle.df_format.specs.declared.kind.Kind.TheVariants.{Reply as AsReply};
 ghost use Rattle.df_format.specs.Own.{place_in};
-ghost use Rattle.df_format.specs.Spelling.{IsCheck};
 ghost use Rattle.df_buffers.specs.Sounds.{Holding};
 ghost use Rattle.df_units.specs.Meaning.{number_of};
 ghost use Rattle.df_model.specs.Commands.{ReadReply, ToReadReply};

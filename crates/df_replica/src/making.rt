@@ -22,12 +22,9 @@ use df_buffers::{HeaderSector, ProbeRoom, Raw};
 use df_disk::Disk;
 use df_format::Super;
 use df_headers::HeaderTable;
-use df_layout::Layout;
+use df_layout::{Layout, SECTOR_HEADERS};
 use df_state::LogRooms;
 use df_superblock::{first_written, read_all, write_copy};
-
-// How many headers a sector of the header ring has.
-const HEADERS: u32 = 16;
 
 // Whether the sectors of the copies hold zeros alone.
 fn test_blank<D: Disk>(disk: &mut D, room: &mut ProbeRoom) -> Result<(), FormatError>
@@ -71,7 +68,7 @@ fn write_headers<D: Disk>(
     ensures cause { HasCause (D.faults disk.old) (D.faults disk.new) result }
 {
     let mut sector = 0;
-    while sector < layout.slots / HEADERS {
+    while sector < layout.slots / SECTOR_HEADERS {
         match headers.write_sector(disk, room, sector) {
             Ok(()) => sector += 1,
             Err(failed) => return Err(failed),

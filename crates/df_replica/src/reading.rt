@@ -1,5 +1,5 @@
 // The reads of a replica: a unit is lent from the room that it was read into, exactly where its place shows the one that is known.
-ghost use Rattle.std.specs.Prelude.{◌≡◌, ◌<◌, ◌%◌, true, length, slice_get, IfOk};
+ghost use Rattle.std.specs.Prelude.{◌≡◌, ◌<◌, ◌%◌, true, slice_get, IfOk};
 ghost use Rattle.std.specs.Borrow.{sem};
 ghost use Rattle.std.specs.Io.BufRead.{Rests};
 ghost use Rattle.df_base.specs.Causes.{HasCause, IsBlamed};

@@ -7,7 +7,7 @@ use arrayvec::ArrayVec;
 use df_base::Check;
 use df_format::Super;
 use df_grid::Grid;
-use df_layout::Layout;
+use df_layout::{Layout, ROOT};
 use df_model::Summary;
 use df_sessions::{Session, SessionTable};
 use df_state::{Captured, DataFile, GridRooms, LogRooms, Rooms, ScrubRooms, TrailerRooms};
@@ -18,7 +18,7 @@ pub struct Replica {
     pub(crate) file: DataFile,
     pub(crate) content: Super,
     // The durable checkpoint's root.
-    pub(crate) root: ArrayVec<u8, 1024>,
+    pub(crate) root: ArrayVec<u8, ROOT>,
     pub(crate) head: u64,
     pub(crate) head_checksum: Check,
     pub(crate) replies: u64,

@@ -1,6 +1,6 @@
 // The reply of a replica: the next reply is made in its room, and is durable in its client's slot before anything in memory
 // moves on. Replies are stored in order of op.
-ghost use Rattle.std.specs.Prelude.{◌≡◌, ◌<◌, ◌≤◌, ◌+◌, ◌^◌, ℕ, List, length, slice_get, true, Some, IsSome, IfOk, OnErr, OnOk};
+ghost use Rattle.std.specs.Prelude.{◌≡◌, ◌<◌, ◌+◌, ◌^◌, ℕ, List, length, slice_get, true, Some, IsSome, IfOk, OnErr, OnOk};
 ghost use Rattle.df_base.specs.Causes.{HasCause, IsBlamed};
 ghost use Rattle.df_disk.specs.Adds.{Adds};
 ghost use Rattle.df_layout.specs.declared.places.Zone.TheVariants.{ClientReplies};

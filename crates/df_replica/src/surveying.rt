@@ -18,6 +18,7 @@ use crate::{DataFile, OpenError, Rooms, Surveyed};
 use arrayvec::ArrayVec;
 use df_base::Check;
 use df_disk::Disk;
+use df_layout::ROOT;
 use df_recovery::{
     Copies, Scanned, Traces, find_state, plan, scan_file, store_replies, waiting_of,
 };
@@ -91,7 +92,7 @@ fn waiting_in(
 }
 
 // A root has at most 1,024 bytes.
-fn root_fits(root: &ArrayVec<u8, 1024>)
+fn root_fits(root: &ArrayVec<u8, ROOT>)
     ensures { length root.now.items ≤ 1024 }
 {
     let _bytes = root.as_slice();

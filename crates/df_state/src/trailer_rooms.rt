@@ -1,5 +1,5 @@
 // The rooms that a trailer is read into and written from, and in which a new block is made.
-ghost use Rattle.std.specs.Prelude.{◌≡◌, ◌+◌, ◌-◌, ◌/◌, length, vec_len, IfOk};
+ghost use Rattle.std.specs.Prelude.{◌≡◌, ◌+◌, ◌-◌, ◌/◌, vec_len, IfOk};
 
 use df_base::{Check, HEADER, OutOfMemory};
 use df_buffers::{Block, Raw};

@@ -1,19 +1,16 @@
 -- The write of one unit.
-use Rattle.std.proofs.Common.{◌≡◌, ℕ, ◌==◌, Bool, if◌then◌else◌, true, false, Some, None, refl, sym, ap, arith, eqb-true}
+use Rattle.std.proofs.Common.{◌≡◌, ℕ, ◌==◌, Bool, if◌then◌else◌, true, false, Some, None, refl, sym, ap, arith, eqb-true, eq-eqb}
 use Rattle.std.proofs.lemmas.Bool.Decides.{nat_tests}
 use Rattle.df_theory.specs.Units.{AnyUnit, BlockPlace, CopyPlace, HeaderPlace, Place, PreparePlace, ReplyPlace}
 use Rattle.df_theory.specs.UnitLog.{same_place}
 use Rattle.df_theory.specs.WriterLaws.{PutOneLaw}
 
-eq_same : (a : ℕ) → (a == a) ≡ true
-eq_same a = grind (arith, nat_tests)
-
 pub same_here : (place : Place) → same_place place place ≡ true
-same_here (CopyPlace n) = eq_same n
-same_here (HeaderPlace n) = eq_same n
-same_here (PreparePlace n) = eq_same n
-same_here (ReplyPlace n) = eq_same n
-same_here (BlockPlace n) = eq_same n
+same_here (CopyPlace n) = eq-eqb n n refl
+same_here (HeaderPlace n) = eq-eqb n n refl
+same_here (PreparePlace n) = eq-eqb n n refl
+same_here (ReplyPlace n) = eq-eqb n n refl
+same_here (BlockPlace n) = eq-eqb n n refl
 
 pub same_is : (place other : Place) → same_place place other ≡ true → other ≡ place
 same_is (CopyPlace n) (CopyPlace m) is = ap CopyPlace (sym (eqb-true n m is))

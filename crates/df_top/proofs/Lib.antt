@@ -30,3 +30,4 @@ mod Hurts
 mod WorksOn
 mod Made
 mod SafelyServed
+pub mod Laws

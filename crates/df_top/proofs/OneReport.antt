@@ -61,7 +61,7 @@ texts_same place (s ∷ ss) (u ∷ us) one two =
     text_is place s ∙ ap (λ (x : Units.Session). model_text place x (stored_sum s)) first ∙ ap (model_text place (session_of u)) stored ∙ sym (text_is place u) in
     ap (λ (l : List ℕ). l ++ each_text session_text (place + 1) ss) line ∙ ap (λ (l : List ℕ). session_text place u ++ l) rest
 
-count_is : (ss : List Session) → length (sessions_of ss) ≡ length ss
+pub count_is : (ss : List Session) → length (sessions_of ss) ≡ length ss
 count_is [] = refl
 count_is (s ∷ ss) = omega (arith, count_is ss)
 
