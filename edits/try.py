@@ -1,8 +1,9 @@
 """Tries the edits below this folder, which the prover must refuse: python3 edits/try.py [CRATE ..], from anywhere.
 
-They are bugs like those of crates/NAME/must-fail, which the gate tries. They stand here so that the gate keeps within its time: most
-read as if a neighbour there told the same, and some are of crates that no write goes through (printed texts, the generator of a run,
-the device for tests). So they are to be tried by hand, when their crate is touched. The crates, or those
+They are bugs like those of crates/NAME/must-fail, which the gate tries. They stand here so that the gate keeps within its time: some
+read as if a neighbour there told the same, some are of definitions and laws, which have no body to be wrong, and the rest are of crates
+whose bugs tests or a crate above would show (layouts, rooms, the free set, printed texts, the generator of a run, the device for tests).
+So they are to be tried by hand, when their crate is touched. The crates, or those
 that are named, are copied into a folder for temporary files together with all below them, with these edits in place of the gate's,
 and `rt must-fail` is run there. It proves the crates below first, from nothing. The status is 0 where each edit was refused.
 """

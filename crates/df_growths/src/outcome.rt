@@ -2,8 +2,8 @@
 use crate::worked::{SCRIPT, file_for};
 use df_base::{MemorySink, MemorySource, Source};
 use df_memdisk::MemoryDisk;
-use df_runs::run_words;
-use df_top::{Status, run};
+use df_runs::{run_in, run_words};
+use df_top::Status;
 use std::alloc::Global;
 use std::test::Fail;
 
@@ -22,17 +22,6 @@ pub struct Outcome {
     /// How a recovery ends behind them.
     pub recovered: Status,
     pub sink: MemorySink,
-}
-
-// A run, of which a caller's proof is told nothing.
-fn run_in(
-    alloc: Global,
-    words: &[String],
-    source: &mut MemorySource,
-    sink: &mut MemorySink,
-    disk: &mut MemoryDisk,
-) -> Status {
-    run(alloc, words, source, sink, disk)
 }
 
 // How many bytes are left of the script.

@@ -10,8 +10,10 @@ use std::test::Fail;
 /// A call with a body of so many bytes, each of them the request's or the op's number.
 #[derive(Clone, Copy, Debug, PartialEq, Eq)]
 pub enum Call {
-    Append { client: u8, request: u8, size: u16 },
-    Reply { op: u8, size: u16 },
+    /// By its client, its request, and the bytes of its body.
+    Append(u8, u8, u16),
+    /// By its op, and the bytes of its body.
+    Reply(u8, u16),
 }
 
 /// What a call answered: the op of an append, and that a reply is stored; or the refusal.
@@ -33,13 +35,9 @@ pub fn ops_of_one(alloc: Global, count: u8) -> Result<Vec<Call>, Fail> {
     let mut calls = Vec::new(alloc);
     for before in 0..count {
         let op = before + 1;
-        let append = Call::Append {
-            client: 1,
-            request: op,
-            size: 0,
-        };
+        let append = Call::Append(1, op, 0);
         calls.push(append)?;
-        calls.push(Call::Reply { op, size: 0 })?;
+        calls.push(Call::Reply(op, 0))?;
     }
     Ok(calls)
 }
@@ -47,11 +45,7 @@ pub fn ops_of_one(alloc: Global, count: u8) -> Result<Vec<Call>, Fail> {
 /// So many ops of client 1, each with its reply, and its next append.
 pub fn ops_and_append(alloc: Global, count: u8) -> Result<Vec<Call>, Fail> {
     let mut calls = ops_of_one(alloc, count)?;
-    calls.push(Call::Append {
-        client: 1,
-        request: count.saturating_add(1),
-        size: 0,
-    })?;
+    calls.push(Call::Append(1, count.saturating_add(1), 0))?;
     Ok(calls)
 }
 
@@ -96,15 +90,11 @@ pub fn make_call(
     call: &Call,
 ) -> Result<Answer, Fail> {
     match *call {
-        Call::Append {
-            client,
-            request,
-            size,
-        } => {
+        Call::Append(client, request, size) => {
             let body = vec![in alloc; request; usize::from(size)]?;
             append(disk, replica, client, request, &body)
         }
-        Call::Reply { op, size } => {
+        Call::Reply(op, size) => {
             let body = vec![in alloc; op; usize::from(size)]?;
             reply(disk, replica, op, &body)
         }

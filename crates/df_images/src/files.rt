@@ -1,5 +1,8 @@
-// Files of cluster 7 on a disk in memory: how they are made, hurt, surveyed and opened. What a call of the replica promises
-// isn't passed on, so that a test's proof doesn't carry it.
+// Files of cluster 7 on a disk in memory: how they are made, hurt, forged, surveyed and opened. What a call of the replica
+// promises isn't passed on, so that a test's proof doesn't carry it.
+use df_base::SECTOR;
+use df_disk::Disk;
+use df_format::{SuperFields, decode_copy, encode_copy, test_fields};
 use df_layout::{Layout, Mend};
 use df_memdisk::{MemoryDisk, Strike};
 use df_model::Summary;
@@ -54,6 +57,29 @@ pub fn small_file(alloc: Global, failing: u64) -> Result<MemoryDisk, Fail> {
 pub fn strike(disk: &mut MemoryDisk, sectors: &[u64], byte: u8) -> Result<(), Fail> {
     for sector in sectors {
         disk.strike(*sector, Strike::Fill { byte })?;
+    }
+    Ok(())
+}
+
+/// What the first copy of a file's superblock says.
+pub fn first_copy(disk: &mut MemoryDisk) -> Result<SuperFields, Fail> {
+    let mut sector = [0u8; SECTOR];
+    disk.read(0, &mut sector)?;
+    match decode_copy(&sector) {
+        Some(copy) => Ok(copy.fields),
+        None => Err("no copy is there".into()),
+    }
+}
+
+/// Lets all four copies say this, with right checksums.
+pub fn forge_copies(disk: &mut MemoryDisk, fields: &SuperFields) -> Result<(), Fail> {
+    let Ok(content) = test_fields(fields) else {
+        return Err("a superblock that can't be used".into());
+    };
+    for number in 0..4u8 {
+        let mut sector = [0u8; SECTOR];
+        encode_copy(&content, number, &mut sector);
+        disk.write(u64::from(number), &sector)?;
     }
     Ok(())
 }

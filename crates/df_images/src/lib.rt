@@ -14,7 +14,7 @@ pub use df_replica::{
     PrepareError, Progress, ReadError, Replica, ReplyError, StepError,
 };
 pub use files::{
-    SURVEY_CALLS, format_in, found, lists, new_file, open, open_in, rooms_of, small_file, strike,
-    survey_in, survey_small,
+    SURVEY_CALLS, first_copy, forge_copies, format_in, found, lists, new_file, open, open_in,
+    rooms_of, small_file, strike, survey_in, survey_small,
 };
 pub use stops::{FATES, Fate, stop, stop_since};

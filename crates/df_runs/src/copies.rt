@@ -1,8 +1,5 @@
-// The sectors of a new file's copies, as another program wrote them, and the room that copies are read into.
+// The sectors of a new file's copies, as another program wrote them.
 use df_base::{SECTOR, check};
-use df_buffers::ProbeRoom;
-use std::alloc::Global;
-use std::test::Fail;
 
 /// The front of the first copy in layout small and cluster 7, from Python's hashlib and struct: checksum, number, zeros,
 /// version, slots, message_size, clients, cluster, block_size, blocks, sequence.
@@ -26,12 +23,4 @@ pub fn copy(number: u8, changes: &[(usize, u8)]) -> [u8; SECTOR] {
     let sum = check(&bytes[32..]);
     bytes[..16].copy_from_slice(&sum);
     bytes
-}
-
-/// A room for the copies.
-pub fn probe_room(alloc: Global) -> Result<ProbeRoom, Fail> {
-    match ProbeRoom::reserve(alloc) {
-        Ok(room) => Ok(room),
-        Err(_) => Err("no memory for the room of the copies".into()),
-    }
 }

@@ -76,8 +76,8 @@ pub fn word(alloc: Global, text: &str) -> Result<WordList, Fail> {
     words(alloc, &[text])
 }
 
-// A run, of which a caller's proof is told nothing.
-fn run_in<D: Disk>(
+/// A run, of which a caller's proof is told nothing.
+pub fn run_in<D: Disk>(
     alloc: Global,
     words: &[String],
     source: &mut MemorySource,

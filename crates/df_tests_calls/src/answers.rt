@@ -8,16 +8,12 @@ use std::alloc::Global;
 use std::test::Fail;
 
 fn append(client: u8, request: u8, size: u16, wanted: Result<u64, AppendError>) -> (Call, Answer) {
-    let call = Call::Append {
-        client,
-        request,
-        size,
-    };
+    let call = Call::Append(client, request, size);
     (call, Answer::Appended(wanted))
 }
 
 fn reply(op: u8, size: u16, wanted: Result<(), ReplyError>) -> (Call, Answer) {
-    (Call::Reply { op, size }, Answer::Replied(wanted))
+    (Call::Reply(op, size), Answer::Replied(wanted))
 }
 
 // The first of the calls that isn't answered as the row says, and its answer.
@@ -67,17 +63,22 @@ fn a_first_session_is_answered_in_order(rt: HostRuntime) -> Result<(), Fail> {
     Ok(())
 }
 
+// The first requests of so many clients, which get the ops from 1 on.
+fn first_requests(alloc: Global, count: u8) -> Result<Vec<(Call, Answer)>, Fail> {
+    let mut rows = Vec::new(alloc);
+    for before in 0..count {
+        let client = before + 1;
+        rows.push(append(client, 1, 0, Ok(u64::from(client))))?;
+    }
+    Ok(rows)
+}
+
 #[test]
 fn a_fifth_client_has_no_place(rt: HostRuntime) -> Result<(), Fail> {
     let layout = Layout::small();
     let mut disk = new_file(rt.alloc(), &layout, &[])?;
-    let rows = [
-        append(1, 1, 0, Ok(1)),
-        append(2, 1, 0, Ok(2)),
-        append(3, 1, 0, Ok(3)),
-        append(4, 1, 0, Ok(4)),
-        append(5, 1, 0, Err(AppendError::ClientsFull { max: 4 })),
-    ];
+    let mut rows = first_requests(rt.alloc(), 4)?;
+    rows.push(append(5, 1, 0, Err(AppendError::ClientsFull { max: 4 })))?;
     assert_eq!(rt; first_other(rt.alloc(), &mut disk, &layout, &rows)?, None);
     Ok(())
 }
@@ -88,19 +89,11 @@ fn a_ninth_prepare_does_not_wait(rt: HostRuntime) -> Result<(), Fail> {
         return Err("no layout".into());
     };
     let mut disk = new_file(rt.alloc(), &layout, &[])?;
-    let rows = [
-        append(1, 1, 0, Ok(1)),
-        append(2, 1, 0, Ok(2)),
-        append(3, 1, 0, Ok(3)),
-        append(4, 1, 0, Ok(4)),
-        append(5, 1, 0, Ok(5)),
-        append(6, 1, 0, Ok(6)),
-        append(7, 1, 0, Ok(7)),
-        append(8, 1, 0, Ok(8)),
-        append(9, 1, 0, Err(AppendError::PipelineFull { waiting: 8 })),
-        reply(1, 0, Ok(())),
-        append(9, 1, 0, Ok(9)),
-    ];
+    let mut rows = first_requests(rt.alloc(), 8)?;
+    let full = AppendError::PipelineFull { waiting: 8 };
+    rows.push(append(9, 1, 0, Err(full)))?;
+    rows.push(reply(1, 0, Ok(())))?;
+    rows.push(append(9, 1, 0, Ok(9)))?;
     assert_eq!(rt; first_other(rt.alloc(), &mut disk, &layout, &rows)?, None);
     Ok(())
 }

@@ -5,17 +5,9 @@ use std::alloc::Global;
 use std::test::Fail;
 
 const CALLS: [Call; 3] = [
-    Call::Append {
-        client: 1,
-        request: 1,
-        size: 0,
-    },
-    Call::Append {
-        client: 2,
-        request: 1,
-        size: 0,
-    },
-    Call::Reply { op: 1, size: 0 },
+    Call::Append(1, 1, 0),
+    Call::Append(2, 1, 0),
+    Call::Reply(1, 0),
 ];
 
 // What the last call answers, whether the replica is live, and the head and the replies that an open then finds.

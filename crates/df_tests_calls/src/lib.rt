@@ -11,6 +11,8 @@ mod faults;
 #[cfg(test)]
 mod reads;
 #[cfg(test)]
+mod steps;
+#[cfg(test)]
 mod stops;
 #[cfg(test)]
 mod struck;

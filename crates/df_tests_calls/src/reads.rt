@@ -1,145 +1,14 @@
 // Reads of a replica among its other calls: the units that are lent, byte by byte, what refuses a read, and its one device call,
 // which may fail.
-use df_format::Header;
+use crate::steps::{Step, Unit, first_other};
 use df_images::{
-    AppendError, Call, LookupError, PrepareError, Replica, ReplyError, found, make_call, open,
-    served_file, small_file,
+    AppendError, Call, LookupError, PrepareError, ReplyError, found, make_call, open, served_file,
+    small_file,
 };
 use df_layout::Layout;
 use df_memdisk::MemoryDisk;
 use std::alloc::Global;
 use std::test::Fail;
-
-// A unit of the first checkpoint's file, as a read lends it.
-#[derive(Clone, Copy)]
-pub(crate) struct Unit<'a> {
-    pub(crate) client: u128,
-    pub(crate) request: u64,
-    pub(crate) op: u64,
-    pub(crate) mark: u64,
-    pub(crate) body: &'a [u8],
-}
-
-impl<'a> Unit<'a> {
-    // Whether these are its header's fields and its body.
-    fn is(&self, header: &Header, body: &[u8]) -> bool {
-        header.client == self.client
-            && header.request == self.request
-            && header.op == self.op
-            && header.mark == self.mark
-            && header.checkpoint == 1
-            && body == self.body
-    }
-}
-
-// Whether the read of a prepare is answered so; a caller's proof is told nothing of it, nor of the other calls below.
-pub(crate) fn is_prepare(
-    disk: &mut MemoryDisk,
-    replica: &mut Replica,
-    op: u64,
-    wanted: &Result<Unit<'_>, PrepareError>,
-) -> Result<bool, Fail> {
-    if !replica.live() {
-        return Err("the replica isn't live".into());
-    }
-    match (replica.read_prepare(disk, op), wanted) {
-        (Ok(lent), Ok(unit)) => Ok(unit.is(lent.header(), lent.body())),
-        (Err(error), Err(wanted)) => Ok(error == *wanted),
-        _ => Ok(false),
-    }
-}
-
-// Whether the read of a client's reply is answered so.
-pub(crate) fn is_reply(
-    disk: &mut MemoryDisk,
-    replica: &mut Replica,
-    client: u128,
-    wanted: &Result<Unit<'_>, LookupError>,
-) -> Result<bool, Fail> {
-    if !replica.live() {
-        return Err("the replica isn't live".into());
-    }
-    match (replica.read_reply(disk, client), wanted) {
-        (Ok(lent), Ok(unit)) => Ok(unit.is(lent.header(), lent.body())),
-        (Err(error), Err(wanted)) => Ok(error == *wanted),
-        _ => Ok(false),
-    }
-}
-
-fn is_appended(
-    disk: &mut MemoryDisk,
-    replica: &mut Replica,
-    client: u128,
-    request: u64,
-    body: &[u8],
-    wanted: Result<u64, AppendError>,
-) -> Result<bool, Fail> {
-    if !replica.live() {
-        return Err("the replica isn't live".into());
-    }
-    match replica.append(disk, client, request, body) {
-        Ok(receipt) => Ok(wanted == Ok(receipt.op)),
-        Err(error) => Ok(wanted == Err(error)),
-    }
-}
-
-fn is_replied(
-    disk: &mut MemoryDisk,
-    replica: &mut Replica,
-    op: u64,
-    body: &[u8],
-    wanted: Result<(), ReplyError>,
-) -> Result<bool, Fail> {
-    if !replica.live() {
-        return Err("the replica isn't live".into());
-    }
-    match replica.reply(disk, op, body) {
-        Ok(_) => Ok(wanted == Ok(())),
-        Err(error) => Ok(wanted == Err(error)),
-    }
-}
-
-// A call with the answer that is wanted.
-#[derive(Clone, Copy)]
-enum Step<'a> {
-    Append(u128, u64, &'a [u8], Result<u64, AppendError>),
-    Reply(u64, &'a [u8], Result<(), ReplyError>),
-    ReadPrepare(u64, Result<Unit<'a>, PrepareError>),
-    ReadReply(u128, Result<Unit<'a>, LookupError>),
-}
-
-fn is_answered(
-    disk: &mut MemoryDisk,
-    replica: &mut Replica,
-    step: &Step<'_>,
-) -> Result<bool, Fail> {
-    match *step {
-        Step::Append(client, request, body, wanted) => {
-            is_appended(disk, replica, client, request, body, wanted)
-        }
-        Step::Reply(op, body, wanted) => is_replied(disk, replica, op, body, wanted),
-        Step::ReadPrepare(op, wanted) => is_prepare(disk, replica, op, &wanted),
-        Step::ReadReply(client, wanted) => is_reply(disk, replica, client, &wanted),
-    }
-}
-
-// The first row that isn't answered so by so many device calls and events.
-fn first_other(
-    disk: &mut MemoryDisk,
-    replica: &mut Replica,
-    rows: &[(Step<'_>, u64, u64)],
-) -> Result<Option<usize>, Fail> {
-    for (index, (step, calls, events)) in rows.iter().enumerate() {
-        let before = (disk.calls(), disk.events());
-        let answered = is_answered(disk, replica, step)?;
-        let made = disk.calls().saturating_sub(before.0);
-        let added = disk.events().saturating_sub(before.1);
-        if !answered || made != *calls || added != *events {
-            return Ok(Some(index));
-        }
-    }
-    Ok(None)
-}
 
 // A unit of client 5's first or second request, which got the op of that number: each has the mark 1.
 fn lent<'a>(request: u64, body: &'a [u8]) -> Unit<'a> {
@@ -197,14 +66,7 @@ fn what_is_stored_is_lent_byte_by_byte(rt: HostRuntime) -> Result<(), Fail> {
     Ok(())
 }
 
-const CALLS: [Call; 2] = [
-    Call::Append {
-        client: 1,
-        request: 1,
-        size: 0,
-    },
-    Call::Reply { op: 1, size: 0 },
-];
+const CALLS: [Call; 2] = [Call::Append(1, 1, 0), Call::Reply(1, 0)];
 
 // Whether a read behind the two calls is answered so, by one device call, and no call may follow.
 fn ends(alloc: Global, disk: &mut MemoryDisk, step: &Step<'_>) -> Result<bool, Fail> {

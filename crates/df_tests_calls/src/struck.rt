@@ -1,6 +1,6 @@
 // Sectors that are struck between two reads of a replica: the unit there is told by the class of what is shown, the other one is
 // still lent whole, and both are again once the old bytes are written back.
-use crate::reads::{Unit, is_prepare, is_reply};
+use crate::steps::{Unit, is_prepare, is_reply};
 use df_base::SECTOR;
 use df_disk::Disk;
 use df_images::{
@@ -11,34 +11,26 @@ use df_memdisk::{MemoryDisk, Strike};
 use std::alloc::Global;
 use std::test::Fail;
 
-const fn append(client: u8, request: u8, size: u16) -> Call {
-    Call::Append {
-        client,
-        request,
-        size,
-    }
-}
-
 // Prepares 1 to 3 begin at sectors 8, 10 and 12; the replies of clients 1 and 2 begin at sectors 70 and 72. The last two units,
 // of client 1, fill both sectors of their places, and all others fill half a kilobyte at most.
 const fn calls() -> [Call; 6] {
     [
-        append(1, 1, 0),
-        Call::Reply { op: 1, size: 0 },
-        append(2, 1, 0),
-        Call::Reply { op: 2, size: 0 },
-        append(1, 2, 7936),
-        Call::Reply { op: 3, size: 7936 },
+        Call::Append(1, 1, 0),
+        Call::Reply(1, 0),
+        Call::Append(2, 1, 0),
+        Call::Reply(2, 0),
+        Call::Append(1, 2, 7936),
+        Call::Reply(3, 7936),
     ]
 }
 
 // Another file of the cluster, whose second prepare and second reply are another client's.
 const fn other_calls() -> [Call; 4] {
     [
-        append(1, 1, 0),
-        Call::Reply { op: 1, size: 0 },
-        append(3, 1, 0),
-        Call::Reply { op: 2, size: 0 },
+        Call::Append(1, 1, 0),
+        Call::Reply(1, 0),
+        Call::Append(3, 1, 0),
+        Call::Reply(2, 0),
     ]
 }
 

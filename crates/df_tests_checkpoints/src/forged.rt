@@ -1,9 +1,8 @@
 // Files whose four copies were forged, with good checksums, to the greatest op and to the greatest sequence: both open, and
 // there is no next one.
 use crate::cut::served;
-use df_base::SECTOR;
-use df_disk::Disk;
-use df_format::{SuperFields, decode_copy, encode_copy, test_fields};
+use df_format::SuperFields;
+use df_images::{first_copy, forge_copies};
 use df_memdisk::MemoryDisk;
 use df_runs::{Status, printed, run_script};
 use std::alloc::Global;
@@ -11,29 +10,6 @@ use std::test::Fail;
 
 // The greatest op and the greatest sequence, 2^62.
 const GREATEST: u64 = 4_611_686_018_427_387_904;
-
-// What the first copy says.
-fn fields(disk: &mut MemoryDisk) -> Result<SuperFields, Fail> {
-    let mut sector = [0u8; SECTOR];
-    disk.read(0, &mut sector)?;
-    match decode_copy(&sector) {
-        Some(copy) => Ok(copy.fields),
-        None => Err("no copy is there".into()),
-    }
-}
-
-// Lets all four copies say this.
-fn forge(disk: &mut MemoryDisk, fields: &SuperFields) -> Result<(), Fail> {
-    let Ok(content) = test_fields(fields) else {
-        return Err("a superblock that can't be used".into());
-    };
-    for number in 0..4u8 {
-        let mut sector = [0u8; SECTOR];
-        encode_copy(&content, number, &mut sector);
-        disk.write(u64::from(number), &sector)?;
-    }
-    Ok(())
-}
 
 // Whether a script over the file is served, and prints this.
 fn prints(alloc: Global, disk: &mut MemoryDisk, script: &str, text: &str) -> Result<bool, Fail> {
@@ -45,7 +21,7 @@ fn prints(alloc: Global, disk: &mut MemoryDisk, script: &str, text: &str) -> Res
 #[test]
 fn no_op_follows_the_greatest(rt: HostRuntime) -> Result<(), Fail> {
     let mut disk = served(rt.alloc(), b"checkpoint -\nstep\nstep\n")?;
-    let fields = fields(&mut disk)?;
+    let fields = first_copy(&mut disk)?;
     assert_eq!(rt; (fields.sequence, fields.trailer_address), (2, 1));
     let forged = SuperFields {
         op: GREATEST,
@@ -54,7 +30,7 @@ fn no_op_follows_the_greatest(rt: HostRuntime) -> Result<(), Fail> {
         replies: GREATEST,
         ..fields
     };
-    forge(&mut disk, &forged)?;
+    forge_copies(&mut disk, &forged)?;
     let text = "refused OpsSpent\nrefused NothingPending head 4611686018427387904\nbegun 1\n\
         working 1\ndone 3\n";
     let script = "append 1 1 -\nreply 1 -\ncheckpoint -\nstep\nstep\n";
@@ -67,9 +43,9 @@ fn no_sequence_follows_the_greatest(rt: HostRuntime) -> Result<(), Fail> {
     let mut disk = served(rt.alloc(), b"")?;
     let forged = SuperFields {
         sequence: GREATEST,
-        ..fields(&mut disk)?
+        ..first_copy(&mut disk)?
     };
-    forge(&mut disk, &forged)?;
+    forge_copies(&mut disk, &forged)?;
     let text = "refused SequenceSpent\nappended 1\nwrote 1\n";
     let script = "checkpoint -\nappend 1 1 -\nblock 1 -\n";
     assert!(rt; prints(rt.alloc(), &mut disk, script, text)?);

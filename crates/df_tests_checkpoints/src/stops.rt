@@ -1,20 +1,15 @@
 // Stops within the steps of a checkpoint, and within the prepare that reuses a slot behind one.
 use crate::cut::{served, stopped_within};
-use crate::left::{Left, Numbers, has_root, is_left};
+use crate::left::{Found, Left, Numbers, has_root, is_left};
 use df_images::Fate;
 use df_layout::{Class, Zone};
 use df_memdisk::Strike;
 use df_runs::{ops_of_one, printed, run_script};
 use std::test::Fail;
 
-// A stop within a step behind a script, at the step's device call of this number, with the fate of the sector that is loose.
-struct Stop {
-    script: &'static str,
-    number: u64,
-    sector: u16,
-    fate: Fate,
-    left: Left,
-}
+// A stop within a step behind a script, at the step's device call of this number, with the fate of the sector that is loose; what is
+// left, and the copies that are to be mended with their classes.
+type Stop = (&'static str, u64, u16, Fate, Left, &'static [Found]);
 
 const BEGUN: &str = "append 1 1 -\ncheckpoint 01\n";
 
@@ -53,88 +48,37 @@ const TO_SECOND: &str = "begun 1\nworking 1\ndone 2\n";
 // The trailer's one block begins at sector 80. The last step is a sync, and for each copy a write and a sync: the calls 2, 4, 6
 // and 8 write the copies 0 to 3. With copy 1 the new content has its second copy, so that a stop within it decides.
 const STEPS: [Stop; 7] = [
-    Stop {
-        script: BEGUN,
-        number: 1,
-        sector: 80,
-        fate: Fate::Filled,
-        left: FIRST,
-    },
-    Stop {
-        script: WRITTEN,
-        number: 1,
-        sector: 80,
-        fate: Fate::Filled,
-        left: FIRST,
-    },
-    Stop {
-        script: WRITTEN,
-        number: 2,
-        sector: 0,
-        fate: Fate::Filled,
-        left: Left {
-            mends: &[(Zone::Superblock, 0, Class::Garbled)],
-            ..FIRST
-        },
-    },
-    Stop {
-        script: WRITTEN,
-        number: 4,
-        sector: 1,
-        fate: Fate::Filled,
-        left: Left {
-            mends: &[
-                (Zone::Superblock, 0, Class::Stale),
-                (Zone::Superblock, 1, Class::Garbled),
-            ],
-            ..FIRST
-        },
-    },
-    Stop {
-        script: WRITTEN,
-        number: 4,
-        sector: 1,
-        fate: Fate::AsWritten,
-        left: Left {
-            mends: &[
-                (Zone::Superblock, 2, Class::Stale),
-                (Zone::Superblock, 3, Class::Stale),
-            ],
-            ..SECOND
-        },
-    },
-    Stop {
-        script: WRITTEN,
-        number: 6,
-        sector: 2,
-        fate: Fate::Filled,
-        left: Left {
-            mends: &[
-                (Zone::Superblock, 2, Class::Garbled),
-                (Zone::Superblock, 3, Class::Stale),
-            ],
-            ..SECOND
-        },
-    },
-    Stop {
-        script: WRITTEN,
-        number: 8,
-        sector: 3,
-        fate: Fate::Filled,
-        left: Left {
-            mends: &[(Zone::Superblock, 3, Class::Garbled)],
-            ..SECOND
-        },
-    },
+    (BEGUN, 1, 80, Fate::Filled, FIRST, &[]),
+    (WRITTEN, 1, 80, Fate::Filled, FIRST, &[]),
+    (WRITTEN, 2, 0, Fate::Filled, FIRST, &[GARBLED_0]),
+    (WRITTEN, 4, 1, Fate::Filled, FIRST, &[STALE_0, GARBLED_1]),
+    (WRITTEN, 4, 1, Fate::AsWritten, SECOND, &[STALE_2, STALE_3]),
+    (WRITTEN, 6, 2, Fate::Filled, SECOND, &[GARBLED_2, STALE_3]),
+    (WRITTEN, 8, 3, Fate::Filled, SECOND, &[GARBLED_3]),
 ];
+
+// Copies that are to be mended.
+const GARBLED_0: Found = (Zone::Superblock, 0, Class::Garbled);
+
+const GARBLED_1: Found = (Zone::Superblock, 1, Class::Garbled);
+
+const GARBLED_2: Found = (Zone::Superblock, 2, Class::Garbled);
+
+const GARBLED_3: Found = (Zone::Superblock, 3, Class::Garbled);
+
+const STALE_0: Found = (Zone::Superblock, 0, Class::Stale);
+
+const STALE_2: Found = (Zone::Superblock, 2, Class::Stale);
+
+const STALE_3: Found = (Zone::Superblock, 3, Class::Stale);
 
 #[test]
 fn a_checkpoint_that_is_stopped_was_done_or_not(rt: HostRuntime) -> Result<(), Fail> {
-    for (index, stop) in STEPS.iter().enumerate() {
-        let script = stop.script.as_bytes();
-        let loose = [(stop.sector, stop.fate)];
-        let mut disk = stopped_within(rt.alloc(), script, "step\n", stop.number, &loose)?;
-        assert!(rt; is_left(rt.alloc(), &mut disk, &stop.left)?, "row {index}");
+    for (index, (script, number, sector, fate, left, mends)) in STEPS.iter().enumerate() {
+        let loose = [(*sector, *fate)];
+        let mut disk = stopped_within(rt.alloc(), script.as_bytes(), "step\n", *number, &loose)?;
+        let left = Left { mends, ..*left };
+        assert!(rt; is_left(rt.alloc(), &mut disk, &left)?, "row {index}");
     }
     Ok(())
 }

@@ -1,5 +1,6 @@
-//! Tests of files over disks in memory that aren't as they were left: of any length and content, with the superblocks of others, and
-//! with sectors that were struck one at a time or in pairs. Each opens in a state that it had, or is refused by what was hurt.
+//! Tests of files over disks in memory that aren't as they were left: of any length and content, with the superblocks of others, with
+//! sectors that were struck one at a time or in pairs, and with a superblock and a trailer that were forged, with right checksums. Each
+//! opens in a state that it had, or is refused by what was hurt, or by the name and the value of what can't be.
 #![tactic(auto)]
 
 #[cfg(test)]
@@ -9,6 +10,8 @@ mod damage;
 #[cfg(test)]
 mod earlier;
 #[cfg(test)]
+mod forged;
+#[cfg(test)]
 mod lengths;
 #[cfg(test)]
 mod seen;
@@ -16,3 +19,5 @@ mod seen;
 mod superblocks;
 #[cfg(test)]
 mod swapped;
+#[cfg(test)]
+mod trailers;

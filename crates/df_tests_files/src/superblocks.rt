@@ -1,16 +1,17 @@
 // Superblocks that are looked for on a disk in memory: which ones are found, each refusal, and each failing call.
 use df_base::SECTOR;
+use df_buffers::ProbeRoom;
 use df_disk::Disk;
 use df_layout::{Class, Field, Layout, Place, Zone};
 use df_memdisk::{MemoryDisk, Strike};
 use df_replica::{OpenError, probe};
-use df_runs::{blank, copy, probe_room, small_file};
+use df_runs::{blank, copy, small_file};
 use std::alloc::Global;
 use std::test::Fail;
 
 // What a look for the superblock finds; a caller's proof is told nothing.
 fn probed(alloc: Global, disk: &mut MemoryDisk) -> Result<Result<Layout, OpenError>, Fail> {
-    let mut room = probe_room(alloc)?;
+    let mut room = ProbeRoom::reserve(alloc)?;
     Ok(probe(disk, &mut room))
 }
 

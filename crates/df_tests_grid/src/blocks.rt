@@ -3,19 +3,27 @@
 ghost use Rattle.std.specs.Prelude.{◌≡◌};
 ghost use Rattle.df_grid.specs.Table.{IsIdle, IsReady};
 
-use crate::boards::{Board, begin, new_grid, put_all, put_next, write_and_end};
+use crate::block_examples::{begin, put_all, put_next, write_and_end};
+use crate::chain_examples::new_grid;
 use df_base::Failed;
 use df_grid::{Grid, chains_have_room};
+use df_layout::Layout;
+use df_memdisk::MemoryDisk;
 use std::alloc::Global;
 use std::process::Abort;
 use std::test::Fail;
 
 // Writes blocks until one goes elsewhere than to the next address from 1 on, and answers how many didn't.
-fn fill(rt: &impl Abort, alloc: Global, grid: &mut Grid, board: &mut Board) -> Result<u64, Failed>
+fn fill(
+    rt: &impl Abort,
+    alloc: Global,
+    grid: &mut Grid,
+    disk: &mut MemoryDisk,
+) -> Result<u64, Failed>
     requires { grid.old.cluster ≡ 7 }
 {
     for done in 0..100u64 {
-        if put_next(rt, alloc, grid, board, 9)? != Some(done + 1) {
+        if put_next(rt, alloc, grid, disk, 9)? != Some(done + 1) {
             return Ok(done);
         }
     }
@@ -36,9 +44,9 @@ fn release(grid: &mut Grid, address: u64) -> (bool, Option<u64>)
 #[test]
 fn blocks_go_to_the_least_addresses(rt: HostRuntime) -> Result<(), Fail> {
     chains_have_room();
-    let mut board = Board::blank(rt.alloc(), 0)?;
-    let mut grid = new_grid(&rt, rt.alloc())?;
-    assert!(rt; fill(&rt, rt.alloc(), &mut grid, &mut board)? == 64);
+    let mut disk = MemoryDisk::new(rt.alloc(), Vec::new(rt.alloc()));
+    let mut grid = new_grid(rt.alloc(), Layout::small())?;
+    assert!(rt; fill(&rt, rt.alloc(), &mut grid, &mut disk)? == 64);
     assert!(rt; grid.next() == None);
     for first in [true, false] {
         assert!(rt; release(&mut grid, 7) == (first, Some(7)));
@@ -50,18 +58,18 @@ fn blocks_go_to_the_least_addresses(rt: HostRuntime) -> Result<(), Fail> {
 
 #[test]
 fn checkpoints_hold_what_they_captured(rt: HostRuntime) -> Result<(), Fail> {
-    let mut board = Board::blank(rt.alloc(), 0)?;
-    let mut grid = new_grid(&rt, rt.alloc())?;
-    put_all(&rt, rt.alloc(), &mut grid, &mut board, &[1, 2])?;
+    let mut disk = MemoryDisk::new(rt.alloc(), Vec::new(rt.alloc()));
+    let mut grid = new_grid(rt.alloc(), Layout::small())?;
+    put_all(&rt, rt.alloc(), &mut grid, &mut disk, &[1, 2])?;
     begin(&mut grid)?;
-    assert!(rt; put_next(&rt, rt.alloc(), &mut grid, &mut board, 3)? == Some(4));
+    assert!(rt; put_next(&rt, rt.alloc(), &mut grid, &mut disk, 3)? == Some(4));
     assert!(rt; release(&mut grid, 4) == (true, Some(4)));
     assert!(rt; release(&mut grid, 2) == (true, Some(4)));
-    write_and_end(&mut grid, &mut board, 2)?;
+    write_and_end(&mut grid, &mut disk, 2)?;
     assert!(rt; grid.next_referenced(1).map(|r| r.address) == Some(2));
     assert!(rt; grid.referenced() == 3);
     begin(&mut grid)?;
-    write_and_end(&mut grid, &mut board, 3)?;
+    write_and_end(&mut grid, &mut disk, 3)?;
     assert!(rt; grid.next() == Some(2));
     assert!(rt; grid.free() == 62);
     Ok(())

@@ -3,11 +3,13 @@
 ghost use Rattle.std.specs.Prelude.{◌≡◌};
 ghost use Rattle.df_grid.specs.Table.{IsIdle};
 
-use crate::boards::{Board, begin, new_grid, put_all, write_and_end};
+use crate::block_examples::{begin, put_all, write_and_end};
+use crate::chain_examples::new_grid;
 use df_base::Failed;
 use df_format::Reference;
 use df_grid::Grid;
-use df_layout::Class;
+use df_layout::{Class, Layout};
+use df_memdisk::{MemoryDisk, Strike};
 use df_scrub::{Finding, Scrubbed, Scrubber, Verdict};
 use std::alloc::Global;
 use std::process::Abort;
@@ -30,14 +32,14 @@ fn write_five(
     rt: &impl Abort,
     alloc: Global,
     grid: &mut Grid,
-    board: &mut Board,
+    disk: &mut MemoryDisk,
 ) -> Result<(), Failed>
     requires cluster { grid.old.cluster ≡ 7 }
     requires idle { IsIdle grid.old.blocks }
 {
-    put_all(rt, alloc, grid, board, &[0; 5])?;
+    put_all(rt, alloc, grid, disk, &[0; 5])?;
     begin(grid)?;
-    write_and_end(grid, board, 2)
+    write_and_end(grid, disk, 2)
 }
 
 // What the steps of a tour over those answer, from 1 on, where blocks 2 and 4 were struck.
@@ -71,15 +73,15 @@ fn assert_recent(rt: &impl Abort, scrubber: &Scrubber, rows: &[(u64, Option<u64>
 
 #[test]
 fn a_tour_finds_the_blocks_that_were_struck(rt: HostRuntime) -> Result<(), Fail> {
-    let mut board = Board::blank(rt.alloc(), 0)?;
-    let mut grid = new_grid(&rt, rt.alloc())?;
-    write_five(&rt, rt.alloc(), &mut grid, &mut board)?;
+    let mut disk = MemoryDisk::new(rt.alloc(), Vec::new(rt.alloc()));
+    let mut grid = new_grid(rt.alloc(), Layout::small())?;
+    write_five(&rt, rt.alloc(), &mut grid, &mut disk)?;
     for sector in [84, 92, 104] {
-        board.strike(sector);
+        disk.strike(sector, Strike::Fill { byte: 0xa5 })?;
     }
     let mut scrubber = Scrubber::reserve(rt.alloc()).expect(&rt, "memory of a ring");
     for step in 1..8u64 {
-        let scrubbed = scrubber.step(&mut board, &mut grid)?;
+        let scrubbed = scrubber.step(&mut disk, &mut grid)?;
         assert!(rt; scrubbed == answer_of(step), "step {step}");
     }
     let first = Finding {
@@ -95,14 +97,14 @@ fn a_tour_finds_the_blocks_that_were_struck(rt: HostRuntime) -> Result<(), Fail>
 
 #[test]
 fn the_newest_64_findings_stay(rt: HostRuntime) -> Result<(), Fail> {
-    let mut board = Board::blank(rt.alloc(), 3)?;
-    let mut grid = new_grid(&rt, rt.alloc())?;
+    let mut disk = MemoryDisk::new(rt.alloc(), Vec::from_slice(rt.alloc(), &[3])?);
+    let mut grid = new_grid(rt.alloc(), Layout::small())?;
     adopt_lost(&mut grid, 63);
     let mut scrubber = Scrubber::reserve(rt.alloc()).expect(&rt, "memory of a ring");
     let mut report = Vec::with_capacity(rt.alloc(), 64)?;
-    assert!(rt; scrubber.scrub(&mut board, &mut grid, &mut report).is_err());
+    assert!(rt; scrubber.scrub(&mut disk, &mut grid, &mut report).is_err());
     assert!(rt; report.len() == 2);
-    scrubber.scrub(&mut board, &mut grid, &mut report)?;
+    scrubber.scrub(&mut disk, &mut grid, &mut report)?;
     assert!(rt; report.len() == 63);
     let rows = [(0, Some(2)), (1, Some(1)), (63, Some(63)), (64, None)];
     assert_recent(&rt, &scrubber, &rows);

@@ -1,14 +1,14 @@
 // Trailers that are written in pieces and read in others, and texts that nobody wrote.
-ghost use Rattle.std.specs.Prelude.{◌≡◌, ◌≤◌, ◌+◌, ◌/◌, ◌%◌, ◌<◌, ◌^◌, IfOk, length, Some, None, nat_le, if◌then◌else◌, replicate};
+ghost use Rattle.std.specs.Prelude.{◌≡◌, ◌≤◌, ◌+◌, ◌/◌, ◌%◌, ◌<◌, ◌^◌, length, Some, None, nat_le, if◌then◌else◌, replicate};
 ghost use Rattle.df_base.specs.Fields.{field_at};
 ghost use Rattle.df_trailer.specs.Reading.{bytes_read};
 
-use arrayvec::ArrayVec;
+use crate::chain_examples::new_reader;
 use df_base::Check;
 use df_layout::{Field, Layout};
 use df_sessions::Session;
 use df_trailer::{
-    Captured, Fault, Parts, Reader, blocks_needed, parts_have_one_text, piece, refusals_stay,
+    Captured, Fault, Reader, blocks_needed, parts_have_one_text, piece, refusals_stay,
     sizes_are_exact, spelling_is_a_codec, text_has_one_parts,
 };
 use std::alloc::{AllocError, Global};
@@ -54,7 +54,8 @@ impl Captured for Counted {
     }
 }
 
-fn layout_of(blocks: u32) -> Layout
+/// A layout of so many blocks of 4,096 bytes.
+pub(crate) fn layout_of(blocks: u32) -> Layout
     requires some { 8 ≤ blocks }
     requires most { blocks ≤ 16384 }
     ensures blocks { result.blocks ≡ blocks }
@@ -68,23 +69,6 @@ fn layout_of(blocks: u32) -> Layout
         block_size: 4096,
         blocks,
     }
-}
-
-/// A reader of a layout of at most 64 blocks.
-fn reader_of(alloc: Global, layout: Layout, op: u64) -> Result<Reader, AllocError>
-    requires { layout.blocks ≤ 64 }
-    ensures { IfOk result (λ reader. bytes_read reader ≡ 0) }
-{
-    let bits = [0u64; 1].to_vec(alloc)?;
-    let mut checks = [[0u8; 16]; 64].to_vec(alloc)?;
-    checks.truncate(layout.blocks as usize);
-    let parts = Parts {
-        root: ArrayVec::new(),
-        sessions: ArrayVec::new(),
-        bits,
-        checks,
-    };
-    Ok(Reader::new(layout, op, parts))
 }
 
 /// What is answered to a text that comes in two pieces.
@@ -174,8 +158,8 @@ fn answer_to(
     pieces: [&[u8]; 2],
 ) -> Result<Result<(), Fault>, AllocError> {
     let [front, back] = pieces;
-    assert!(rt; layout.blocks <= 64 && front.len() <= 80 && back.len() <= 80);
-    let reader = reader_of(alloc, layout, op)?;
+    assert!(rt; front.len() <= 80 && back.len() <= 80);
+    let reader = new_reader(alloc, layout, op)?;
     Ok(answer_of(reader, front, back))
 }
 
@@ -269,7 +253,7 @@ fn a_text_may_be_cut_anywhere(rt: HostRuntime) -> Result<(), AllocError> {
 #[test]
 fn a_reader_gives_what_was_written(rt: HostRuntime) -> Result<(), AllocError> {
     let text = spelled(&rt);
-    let mut reader = reader_of(rt.alloc(), layout_of(12), 9)?;
+    let mut reader = new_reader(rt.alloc(), layout_of(12), 9)?;
     assert!(rt; reader.feed(&text) == Ok(()));
     let ended = reader.end();
     assert!(rt; ended.is_ok());

@@ -11,17 +11,9 @@ use std::process::Abort;
 use std::test::Fail;
 
 const CALLS: [Call; 3] = [
-    Call::Append {
-        client: 1,
-        request: 1,
-        size: 0,
-    },
-    Call::Reply { op: 1, size: 0 },
-    Call::Append {
-        client: 2,
-        request: 1,
-        size: 0,
-    },
+    Call::Append(1, 1, 0),
+    Call::Reply(1, 0),
+    Call::Append(2, 1, 0),
 ];
 
 // Copies 1 and 3, and the header ring.

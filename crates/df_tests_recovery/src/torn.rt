@@ -6,6 +6,7 @@ use df_layout::{Class, Mend, Zone};
 use df_memdisk::MemoryDisk;
 use df_model::Summary;
 use std::alloc::Global;
+use std::process::Abort;
 use std::test::Fail;
 
 // Sixteen header slots from this one on, which show this class.
@@ -76,67 +77,57 @@ const PAIRS: [(Fate, Fate); 8] = [
 // An append and a reply of 7,936 bytes fill both sectors of their slots: 12 and 13 for op 3, 70 and 71 for the reply, over an
 // earlier one.
 const APPEND: [Call; 5] = [
-    Call::Append {
-        client: 1,
-        request: 1,
-        size: 0,
-    },
-    Call::Reply { op: 1, size: 0 },
-    Call::Append {
-        client: 2,
-        request: 1,
-        size: 0,
-    },
-    Call::Reply { op: 2, size: 0 },
-    Call::Append {
-        client: 2,
-        request: 2,
-        size: 7936,
-    },
+    Call::Append(1, 1, 0),
+    Call::Reply(1, 0),
+    Call::Append(2, 1, 0),
+    Call::Reply(2, 0),
+    Call::Append(2, 2, 7936),
 ];
 
 const REPLY: [Call; 4] = [
-    Call::Append {
-        client: 1,
-        request: 1,
-        size: 0,
-    },
-    Call::Reply { op: 1, size: 0 },
-    Call::Append {
-        client: 1,
-        request: 2,
-        size: 0,
-    },
-    Call::Reply { op: 2, size: 7936 },
+    Call::Append(1, 1, 0),
+    Call::Reply(1, 0),
+    Call::Append(1, 2, 0),
+    Call::Reply(2, 7936),
 ];
 
-#[test]
-fn a_torn_prepare_is_not_there(rt: HostRuntime) -> Result<(), Fail> {
-    let stale = [mend(Zone::WalHeaders, 3, Class::Stale)];
+// What the calls whose last one was torn leave in these two sectors: what is listed and what is found where the unit is whole, and
+// what is found where it isn't, with nothing to mend.
+fn expect_torn(
+    rt: &impl Abort,
+    alloc: Global,
+    calls: &[Call],
+    sectors: (u16, u16),
+    whole: (&[Mend], Summary),
+    torn: Summary,
+) -> Result<(), Fail> {
     for (first, second) in PAIRS {
-        let mut disk = cut_file(rt.alloc(), &APPEND, 1, &[(12, first), (13, second)])?;
-        let whole = (first, second) == PAIRS[0];
-        let outcome = if whole {
-            mended(rt.alloc(), &mut disk, &stale)?
+        let loose = [(sectors.0, first), (sectors.1, second)];
+        let mut disk = cut_file(alloc, calls, 1, &loose)?;
+        let (mends, wanted): (&[Mend], Summary) = if (first, second) == PAIRS[0] {
+            whole
         } else {
-            mended(rt.alloc(), &mut disk, &[])?
+            (&[], torn)
         };
-        let wanted = summary(1, if whole { 3 } else { 2 }, 2, 2);
+        let outcome = mended(alloc, &mut disk, mends)?;
         assert_eq!(rt; outcome, (wanted, true), "{first:?} {second:?}");
     }
     Ok(())
 }
 
 #[test]
+fn a_torn_prepare_is_not_there(rt: HostRuntime) -> Result<(), Fail> {
+    let stale = [mend(Zone::WalHeaders, 3, Class::Stale)];
+    let whole = (stale.as_slice(), summary(1, 3, 2, 2));
+    let torn = summary(1, 2, 2, 2);
+    expect_torn(&rt, rt.alloc(), &APPEND, (12, 13), whole, torn)
+}
+
+#[test]
 fn a_torn_reply_is_not_there(rt: HostRuntime) -> Result<(), Fail> {
-    for (first, second) in PAIRS {
-        let mut disk = cut_file(rt.alloc(), &REPLY, 1, &[(70, first), (71, second)])?;
-        let whole = (first, second) == PAIRS[0];
-        let wanted = summary(1, 2, if whole { 2 } else { 1 }, 1);
-        let outcome = mended(rt.alloc(), &mut disk, &[])?;
-        assert_eq!(rt; outcome, (wanted, true), "{first:?} {second:?}");
-    }
-    Ok(())
+    let whole = ([].as_slice(), summary(1, 2, 2, 1));
+    let torn = summary(1, 2, 1, 1);
+    expect_torn(&rt, rt.alloc(), &REPLY, (70, 71), whole, torn)
 }
 
 // A making that is stopped within the write of copy 2, its twelfth call: all that a copy says stands in its first 512 bytes.

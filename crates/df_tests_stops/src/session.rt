@@ -168,13 +168,6 @@ pub fn push_text(text: &mut Vec<u8>, short: &str) -> Result<(), Fail> {
     Ok(())
 }
 
-// Whether a run printed this text.
-pub fn printed_in_full(alloc: Global, ran: &Ran, short: &str) -> Result<bool, Fail> {
-    let mut text = Vec::new(alloc);
-    push_text(&mut text, short)?;
-    Ok(ran.text.as_slice() == text.as_slice())
-}
-
 // The lines of the session.
 pub fn script(alloc: Global) -> Result<Vec<u8>, Fail> {
     let mut script = Vec::new(alloc);

@@ -1,4 +1,5 @@
-//! Tests of what is printed: each line of an answer, a refusal and a report; and the commands that a generated run asks for.
+//! Tests of texts, as they are read and printed: the lines of a script, their grammar, and how they are read in pieces, within their
+//! bound and the budget; each line of an answer, a refusal and a report; and the commands that a generated run asks for.
 #![tactic(auto)]
 
 #[cfg(test)]
@@ -6,10 +7,16 @@ mod answers;
 #[cfg(test)]
 mod blocks;
 #[cfg(test)]
+mod grammar;
+#[cfg(test)]
 mod openings;
 #[cfg(test)]
 mod printed;
 #[cfg(test)]
+mod refusals;
+#[cfg(test)]
 mod reports;
+#[cfg(test)]
+mod scripts;
 #[cfg(test)]
 mod workloads;

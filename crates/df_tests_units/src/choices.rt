@@ -1,26 +1,12 @@
 // The choice over tables of four slots: rows in which a content is chosen, and rows in which no two copies agree.
+use crate::super_examples::FIRST;
 use df_format::{SuperCopy, SuperFields};
 use df_layout::{Class, Place, Zone};
 use df_quorum::{Chosen, Slot, choose};
 
 const EARLY: SuperFields = SuperFields {
-    version: 1,
-    slots: 32,
-    message_size: 8192,
-    clients: 4,
-    block_size: 16_384,
-    blocks: 64,
-    cluster: 7,
     sequence: 2,
-    op: 0,
-    op_checksum: [0; 16],
-    head: 0,
-    replies: 0,
-    trailer_address: 0,
-    trailer_checksum: [0; 16],
-    trailer_size: 0,
-    boot: 0,
-    first_nonzero: None,
+    ..FIRST
 };
 
 const LATER: SuperFields = SuperFields {

@@ -14,17 +14,8 @@ fn plain(kind: Kind, front: &[u8; 124]) -> Header {
     Header {
         checksum,
         checksum_body: check(&[]),
-        cluster: 7,
-        parent: [0; 16],
-        client: 0,
-        op: 0,
-        request: 0,
-        mark: 0,
-        checkpoint: 0,
         size: 256,
-        slot: 0,
-        kind,
-        block_kind: 0,
+        ..Header::of(kind, 7)
     }
 }
 

@@ -1,5 +1,5 @@
-//! Tests of layouts and units: where places stand, the bytes and classes of headers, units and superblock copies, the choice among
-//! the copies, and rooms.
+//! Tests of layouts and units: where places stand, the bytes and classes of headers, units and superblock copies, rooms, the choice
+//! among the copies, and the copies over disks in memory: updates, reads, repairs, and a disk that loses writes.
 #![tactic(auto)]
 
 #[cfg(test)]
@@ -28,3 +28,5 @@ mod super_examples;
 mod superblocks;
 #[cfg(test)]
 mod units;
+#[cfg(test)]
+mod updates;

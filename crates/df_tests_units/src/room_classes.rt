@@ -1,11 +1,11 @@
 // What rooms of layout small answer to given bytes: the unit wanted, or the class of what is there.
 ghost use Rattle.std.specs.Prelude.{◌≡◌, length, IfOk};
 
-use crate::room_examples::{BLOCK, Fields, PREPARE, REPLY, RESERVED, TRAILER, changed, spelled};
-use df_base::OutOfMemory;
-use df_buffers::{
-    Block, HeaderSector, Identity, Prepare, Raw, Reply, RoomKind, Trailer, UnitKind, Wanted,
+use crate::room_examples::{
+    BLOCK, Fields, PREPARE, REPLY, RESERVED, TRAILER, changed, identity_at, spelled,
 };
+use df_base::OutOfMemory;
+use df_buffers::{Block, HeaderSector, Prepare, Raw, Reply, RoomKind, Trailer, UnitKind, Wanted};
 use df_format::{Header, decode_header};
 use df_layout::{Class, Layout, Place, Zone};
 use std::alloc::Global;
@@ -50,15 +50,7 @@ fn proved<K: UnitKind>(
     let Ok(room) = room_with::<K>(alloc, &layout, front) else {
         return None;
     };
-    let identity = Identity {
-        layout,
-        cluster: 7,
-        place: Place {
-            zone: K::ZONE,
-            index,
-        },
-        wanted,
-    };
+    let identity = identity_at(layout, K::ZONE, index, wanted);
     match room.prove(&identity) {
         Ok(unit) => Some(Ok(*unit.header())),
         Err((_, class)) => Some(Err(class)),
@@ -181,15 +173,7 @@ fn first_header(
     let Ok(room) = room_with::<HeaderSector>(alloc, &layout, front) else {
         return None;
     };
-    let identity = Identity {
-        layout,
-        cluster: 7,
-        place: Place {
-            zone: Zone::WalHeaders,
-            index,
-        },
-        wanted,
-    };
+    let identity = identity_at(layout, Zone::WalHeaders, index, wanted);
     if room.header_at(1, &identity) != Err(Class::Garbled) {
         return None;
     }

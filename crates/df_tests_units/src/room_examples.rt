@@ -6,8 +6,9 @@ ghost use Rattle.df_format.specs.Own.{own_place};
 ghost use Rattle.df_format.specs.Making.{for_body};
 
 use df_base::{HEADER, check};
+use df_buffers::{Identity, Wanted};
 use df_format::{Header, Kind};
-use df_layout::Zone;
+use df_layout::{Layout, Place, Zone};
 
 /// The bytes of a header that aren't zero, but for its checksums and what all headers have.
 pub(crate) type Fields = &'static [(usize, u8)];
@@ -63,6 +64,18 @@ pub(crate) fn spelled(fields: Fields) -> [u8; 256] {
     changed(fields, 122, 1)
 }
 
+/// What is wanted at a place of cluster 7.
+pub(crate) fn identity_at(layout: Layout, zone: Zone, index: u64, wanted: Wanted) -> Identity
+    ensures { result ≡ record { layout = layout; cluster = 7; place = record { zone = zone; index = index }; wanted = wanted } }
+{
+    Identity {
+        layout,
+        cluster: 7,
+        place: Place { zone, index },
+        wanted,
+    }
+}
+
 /// The prepare as its maker gives it.
 #[tactic(auto, unfolding(df_format::specs::Spelling::no_checksum, df_format::specs::Own::own_place))]
 pub(crate) fn prepare(body: &[u8]) -> Header
@@ -72,19 +85,13 @@ pub(crate) fn prepare(body: &[u8]) -> Header
     ensures own { (layout : AnyLayout) → layout.slots ≡ 32 → IsSome (own_place layout Zone.WalPrepares result) }
 {
     Header {
-        checksum: [0; 16],
         checksum_body: check(body),
-        cluster: 7,
-        parent: [0; 16],
         client: 5,
         op: 1,
         request: 1,
-        mark: 0,
         checkpoint: 1,
-        size: 256,
         slot: 1,
-        kind: Kind::Prepare,
-        block_kind: 0,
+        ..Header::of(Kind::Prepare, 7)
     }
 }
 
@@ -97,19 +104,15 @@ pub(crate) fn reply(body: &[u8]) -> Header
     ensures own { (layout : AnyLayout) → layout.clients ≡ 4 → IsSome (own_place layout Zone.ClientReplies result) }
 {
     Header {
-        checksum: [0; 16],
         checksum_body: check(body),
-        cluster: 7,
         parent: [3; 16],
         client: 5,
         op: 1,
         request: 1,
         mark: 1,
         checkpoint: 1,
-        size: 256,
         slot: 2,
-        kind: Kind::Reply,
-        block_kind: 0,
+        ..Header::of(Kind::Reply, 7)
     }
 }
 
@@ -122,19 +125,10 @@ pub(crate) fn block(body: &[u8]) -> Header
     ensures own { (layout : AnyLayout) → layout.blocks ≡ 64 → IsSome (own_place layout Zone.Grid result) }
 {
     Header {
-        checksum: [0; 16],
         checksum_body: check(body),
-        cluster: 7,
-        parent: [0; 16],
-        client: 0,
         op: 9,
-        request: 0,
-        mark: 0,
-        checkpoint: 0,
-        size: 256,
-        slot: 0,
-        kind: Kind::Block,
         block_kind: 1,
+        ..Header::of(Kind::Block, 7)
     }
 }
 
@@ -147,18 +141,9 @@ pub(crate) fn trailer(body: &[u8]) -> Header
     ensures own { (layout : AnyLayout) → layout.blocks ≡ 64 → IsSome (own_place layout Zone.Grid result) }
 {
     Header {
-        checksum: [0; 16],
         checksum_body: check(body),
-        cluster: 7,
-        parent: [0; 16],
-        client: 0,
         op: 9,
-        request: 0,
-        mark: 0,
         checkpoint: 2,
-        size: 256,
-        slot: 0,
-        kind: Kind::Trailer,
-        block_kind: 0,
+        ..Header::of(Kind::Trailer, 7)
     }
 }

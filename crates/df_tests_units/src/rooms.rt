@@ -5,10 +5,10 @@ ghost use Rattle.df_format.specs.Own.{own_place};
 ghost use Rattle.df_format.specs.Whole.{greatest_size};
 ghost use Rattle.df_format.specs.Making.{for_body};
 
-use crate::room_examples::{block, prepare, reply, trailer};
-use df_buffers::{Block, Identity, Prepare, Raw, Reply, Trailer, UnitKind, Wanted};
+use crate::room_examples::{block, identity_at, prepare, reply, trailer};
+use df_buffers::{Block, Prepare, Raw, Reply, Trailer, UnitKind, Wanted};
 use df_format::Header;
-use df_layout::{Layout, Place};
+use df_layout::Layout;
 
 // Whether a sector holds the body behind a header, and zeros up to its end.
 fn is_padded(sectors: &[u8], body: &[u8]) -> bool {
@@ -37,15 +37,7 @@ fn is_made_at<K: UnitKind>(
     let unit = room.make(header, body);
     let made = *unit.header();
     let is_written = is_padded(unit.sectors(), body) && unit.body() == body;
-    let identity = Identity {
-        layout,
-        cluster: 7,
-        place: Place {
-            zone: K::ZONE,
-            index,
-        },
-        wanted: Wanted::Checksum(made.checksum),
-    };
+    let identity = identity_at(layout, K::ZONE, index, Wanted::Checksum(made.checksum));
     let given = Header {
         checksum: made.checksum,
         size: made.size,

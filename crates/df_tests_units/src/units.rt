@@ -15,19 +15,13 @@ fn given(body: &[u8]) -> Header
     ensures { ObeysRules (for_body result body.now) }
 {
     Header {
-        checksum: [0; 16],
         checksum_body: check(body),
-        cluster: 7,
-        parent: [0; 16],
         client: 5,
         op: 1,
         request: 1,
-        mark: 0,
         checkpoint: 1,
-        size: 0,
         slot: 1,
-        kind: Kind::Prepare,
-        block_kind: 0,
+        ..Header::of(Kind::Prepare, 7)
     }
 }
 

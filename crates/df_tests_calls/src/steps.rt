@@ -1,0 +1,222 @@
+// Calls of a replica, each with the answer that is wanted, and how many device calls and events it makes. A caller's proof is told
+// nothing of the calls.
+use df_format::Header;
+use df_images::{
+    AppendError, BeginError, BlockError, LookupError, NotLive, PrepareError, Progress, ReadError,
+    Replica, ReplyError, StepError,
+};
+use df_memdisk::MemoryDisk;
+use std::test::Fail;
+
+// A unit of the first checkpoint's file, as a read lends it.
+#[derive(Clone, Copy)]
+pub(crate) struct Unit<'a> {
+    pub(crate) client: u128,
+    pub(crate) request: u64,
+    pub(crate) op: u64,
+    pub(crate) mark: u64,
+    pub(crate) body: &'a [u8],
+}
+
+impl<'a> Unit<'a> {
+    // Whether these are its header's fields and its body.
+    fn is(&self, header: &Header, body: &[u8]) -> bool {
+        header.client == self.client
+            && header.request == self.request
+            && header.op == self.op
+            && header.mark == self.mark
+            && header.checkpoint == 1
+            && body == self.body
+    }
+}
+
+// A call with the answer that is wanted: an op, a unit, or a block's address, or its kind and its body.
+#[derive(Clone, Copy)]
+pub(crate) enum Step<'a> {
+    Append(u128, u64, &'a [u8], Result<u64, AppendError>),
+    Reply(u64, &'a [u8], Result<(), ReplyError>),
+    ReadPrepare(u64, Result<Unit<'a>, PrepareError>),
+    ReadReply(u128, Result<Unit<'a>, LookupError>),
+    Write(u8, &'a [u8], Result<u64, BlockError>),
+    Release(u64, Result<(), NotLive>),
+    Read(u64, Result<(u8, &'a [u8]), ReadError>),
+    Begin(&'a [u8], Result<u64, BeginError>),
+    Advance(Result<Progress, StepError>),
+}
+
+// Whether the read of a prepare is answered so.
+pub(crate) fn is_prepare(
+    disk: &mut MemoryDisk,
+    replica: &mut Replica,
+    op: u64,
+    wanted: &Result<Unit<'_>, PrepareError>,
+) -> Result<bool, Fail> {
+    if !replica.live() {
+        return Err("the replica isn't live".into());
+    }
+    match (replica.read_prepare(disk, op), wanted) {
+        (Ok(lent), Ok(unit)) => Ok(unit.is(lent.header(), lent.body())),
+        (Err(error), Err(wanted)) => Ok(error == *wanted),
+        _ => Ok(false),
+    }
+}
+
+// Whether the read of a client's reply is answered so.
+pub(crate) fn is_reply(
+    disk: &mut MemoryDisk,
+    replica: &mut Replica,
+    client: u128,
+    wanted: &Result<Unit<'_>, LookupError>,
+) -> Result<bool, Fail> {
+    if !replica.live() {
+        return Err("the replica isn't live".into());
+    }
+    match (replica.read_reply(disk, client), wanted) {
+        (Ok(lent), Ok(unit)) => Ok(unit.is(lent.header(), lent.body())),
+        (Err(error), Err(wanted)) => Ok(error == *wanted),
+        _ => Ok(false),
+    }
+}
+
+fn is_appended(
+    disk: &mut MemoryDisk,
+    replica: &mut Replica,
+    client: u128,
+    request: u64,
+    body: &[u8],
+    wanted: Result<u64, AppendError>,
+) -> Result<bool, Fail> {
+    if !replica.live() {
+        return Err("the replica isn't live".into());
+    }
+    match replica.append(disk, client, request, body) {
+        Ok(receipt) => Ok(wanted == Ok(receipt.op)),
+        Err(error) => Ok(wanted == Err(error)),
+    }
+}
+
+fn is_replied(
+    disk: &mut MemoryDisk,
+    replica: &mut Replica,
+    op: u64,
+    body: &[u8],
+    wanted: Result<(), ReplyError>,
+) -> Result<bool, Fail> {
+    if !replica.live() {
+        return Err("the replica isn't live".into());
+    }
+    match replica.reply(disk, op, body) {
+        Ok(_) => Ok(wanted == Ok(())),
+        Err(error) => Ok(wanted == Err(error)),
+    }
+}
+
+// A written block is known by the checksum that it was answered with.
+fn is_written(
+    disk: &mut MemoryDisk,
+    replica: &mut Replica,
+    kind: u8,
+    body: &[u8],
+    wanted: Result<u64, BlockError>,
+) -> Result<bool, Fail> {
+    if !replica.live() {
+        return Err("the replica isn't live".into());
+    }
+    match replica.write_block(disk, kind, body) {
+        Ok(made) => Ok(
+            wanted == Ok(made.address) && replica.reference(made.address) == Some(made.checksum),
+        ),
+        Err(error) => Ok(wanted == Err(error)),
+    }
+}
+
+// Behind a release nothing is known of the address.
+fn is_released(
+    replica: &mut Replica,
+    address: u64,
+    wanted: Result<(), NotLive>,
+) -> Result<bool, Fail> {
+    if !replica.live() {
+        return Err("the replica isn't live".into());
+    }
+    let answer = replica.release(address);
+    Ok(answer == wanted && replica.reference(address).is_none())
+}
+
+fn is_read(
+    disk: &mut MemoryDisk,
+    replica: &mut Replica,
+    address: u64,
+    wanted: Result<(u8, &[u8]), ReadError>,
+) -> Result<bool, Fail> {
+    if !replica.live() {
+        return Err("the replica isn't live".into());
+    }
+    match (replica.read_block(disk, address), wanted) {
+        (Ok(lent), Ok((kind, body))) => {
+            Ok(lent.header().block_kind == kind && lent.body() == body)
+        }
+        (Err(error), Err(wanted)) => Ok(error == wanted),
+        _ => Ok(false),
+    }
+}
+
+fn is_begun(
+    replica: &mut Replica,
+    root: &[u8],
+    wanted: Result<u64, BeginError>,
+) -> Result<bool, Fail> {
+    if !replica.live() {
+        return Err("the replica isn't live".into());
+    }
+    Ok(replica.checkpoint_begin(root) == wanted)
+}
+
+fn is_advanced(
+    disk: &mut MemoryDisk,
+    replica: &mut Replica,
+    wanted: Result<Progress, StepError>,
+) -> Result<bool, Fail> {
+    if !replica.live() {
+        return Err("the replica isn't live".into());
+    }
+    Ok(replica.checkpoint_step(disk) == wanted)
+}
+
+fn is_answered(
+    disk: &mut MemoryDisk,
+    replica: &mut Replica,
+    step: &Step<'_>,
+) -> Result<bool, Fail> {
+    match *step {
+        Step::Append(client, request, body, wanted) => {
+            is_appended(disk, replica, client, request, body, wanted)
+        }
+        Step::Reply(op, body, wanted) => is_replied(disk, replica, op, body, wanted),
+        Step::ReadPrepare(op, wanted) => is_prepare(disk, replica, op, &wanted),
+        Step::ReadReply(client, wanted) => is_reply(disk, replica, client, &wanted),
+        Step::Write(kind, body, wanted) => is_written(disk, replica, kind, body, wanted),
+        Step::Release(address, wanted) => is_released(replica, address, wanted),
+        Step::Read(address, wanted) => is_read(disk, replica, address, wanted),
+        Step::Begin(root, wanted) => is_begun(replica, root, wanted),
+        Step::Advance(wanted) => is_advanced(disk, replica, wanted),
+    }
+}
+
+// The first row that isn't answered so by so many device calls and events.
+pub(crate) fn first_other(
+    disk: &mut MemoryDisk,
+    replica: &mut Replica,
+    rows: &[(Step<'_>, u64, u64)],
+) -> Result<Option<usize>, Fail> {
+    for (index, (step, calls, events)) in rows.iter().enumerate() {
+        let before = (disk.calls(), disk.events());
+        let answered = is_answered(disk, replica, step)?;
+        let made = disk.calls().saturating_sub(before.0);
+        let added = disk.events().saturating_sub(before.1);
+        if !answered || made != *calls || added != *events {
+            return Ok(Some(index));
+        }
+    }
+    Ok(None)
+}

@@ -1,0 +1,177 @@
+// Trailers that are written and read again, and chains that nobody wrote. Expected values are worked out by hand from the rules of the
+// text and of the chain.
+ghost use Rattle.std.specs.Prelude.{length, ◌≡◌, ◌≤◌, ◌-◌, ◌%◌, Some, None, nat_le, if◌then◌else◌, replicate};
+ghost use Rattle.df_base.specs.Fields.{field_at};
+
+use crate::chain_examples::{Held, begin, grid_of, read, write_one, write_two};
+use crate::trailers::layout_of;
+use arrayvec::ArrayVec;
+use df_base::{Check, Failed};
+use df_checkpoint::{Capture, TrailerFault, pending, write_piece};
+use df_format::Reference;
+use df_layout::{Class, Field, Layout};
+use df_memdisk::{MemoryDisk, Strike};
+use df_sessions::Session;
+use df_trailer::{Captured, piece};
+use std::alloc::Global;
+use std::test::Fail;
+
+// The 232 addresses from 793 on are referenced, each with a checksum of its own number.
+struct Highest;
+
+impl Captured for Highest {
+    ghost captured = { λ s address. if nat_le 793 address then Some (field_at 16 0 (replicate 16 (address % 256))) else None };
+
+    fn captured(&self, address: u64) -> Option<Check> {
+        if address >= 793 {
+            Some([(address % 256) as u8; 16])
+        } else {
+            None
+        }
+    }
+
+    fn counted(&self, _groups: u64) -> Option<u64> {
+        None
+    }
+}
+
+// A text of layout small that references the block at a place, with a checksum of fours, and has no root and no session.
+fn text_with(place: usize) -> [u8; 32] {
+    let mut text = [4; 32];
+    text[..16].fill(0);
+    if place < 64 {
+        text[8 + place / 8] = 1 << (place % 8);
+    }
+    text
+}
+
+fn broken(address: u64) -> Option<Result<Held, TrailerFault>> {
+    Some(Err(TrailerFault::BadField {
+        field: Field::TrailerChain,
+        value: u128::from(address),
+    }))
+}
+
+// A checkpoint with a root of one byte and one session is written as a trailer.
+fn write_captured(
+    alloc: Global,
+    disk: &mut MemoryDisk,
+    room: &mut [u8],
+) -> Result<Option<Reference>, Failed>
+    requires { length room.old ≡ 3840 }
+{
+    let mut grid = grid_of(alloc, layout_of(1024))?;
+    let mut capture = Capture {
+        root: ArrayVec::new(),
+        sessions: ArrayVec::new(),
+        sequence: 2,
+    };
+    capture.root.push(5);
+    capture.sessions.push(Session {
+        client: 7,
+        request: 2,
+        op: 9,
+        reply: None,
+    });
+    begin(&mut grid, 1)?;
+    write_piece(disk, &mut grid, &capture, room, 0)?;
+    Ok(grid.trailer())
+}
+
+#[test]
+fn a_checkpoint_is_written_and_read(rt: HostRuntime) -> Result<(), Fail> {
+    let mut disk = MemoryDisk::new(rt.alloc(), Vec::new(rt.alloc()));
+    let mut room = [0; 3840];
+    let Some(last) = write_captured(rt.alloc(), &mut disk, &mut room)? else {
+        panic!(rt; "the last block is written");
+    };
+    let held = Held {
+        next: Some(2),
+        free: 1023,
+        last: None,
+    };
+    assert_eq!(rt;
+        read(rt.alloc(), &mut disk, layout_of(1024), last, 169, 9),
+        Some(Ok(held))
+    );
+    Ok(())
+}
+
+#[test]
+fn a_chain_of_two_blocks_is_read(rt: HostRuntime) -> Result<(), Fail> {
+    let mut disk = MemoryDisk::new(rt.alloc(), Vec::new(rt.alloc()));
+    let mut front = [0; 3840];
+    let _whole = piece(&layout_of(1024), &[], &[], &Highest, 0, &mut front);
+    let mut back = [0; 3840];
+    let _rest = piece(&layout_of(1024), &[], &[], &Highest, 1, &mut back);
+    let Some(last) = write_two(rt.alloc(), &mut disk, layout_of(1024), &front, &back[..8])? else {
+        panic!(rt; "the last block is written");
+    };
+    let held = Held {
+        next: Some(3),
+        free: 790,
+        last: Some([0; 16]),
+    };
+    assert_eq!(rt;
+        read(rt.alloc(), &mut disk, layout_of(1024), last, 3848, 0),
+        Some(Ok(held))
+    );
+    assert_eq!(rt;
+        read(rt.alloc(), &mut disk, layout_of(1024), last, 3847, 0),
+        broken(2)
+    );
+    disk.strike(22, Strike::Fill { byte: 0xa5 })?;
+    let damaged = TrailerFault::Damaged {
+        address: 1,
+        class: Class::Garbled,
+    };
+    assert_eq!(rt;
+        read(rt.alloc(), &mut disk, layout_of(1024), last, 3848, 0),
+        Some(Err(damaged))
+    );
+    Ok(())
+}
+
+#[test]
+fn a_block_with_another_index_is_refused(rt: HostRuntime) -> Result<(), Fail> {
+    let small = Layout::small();
+    let mut disk = MemoryDisk::new(rt.alloc(), Vec::new(rt.alloc()));
+    let text = text_with(4);
+    let Some(last) = write_two(rt.alloc(), &mut disk, small, &text, &text)? else {
+        panic!(rt; "the last block is written");
+    };
+    assert_eq!(rt; read(rt.alloc(), &mut disk, small, last, 32, 0), broken(2));
+    Ok(())
+}
+
+// The block is written by the first device call, and read by the second.
+#[test]
+fn a_bit_at_an_address_of_the_chain_is_refused(rt: HostRuntime) -> Result<(), Fail> {
+    let small = Layout::small();
+    let failed = Some(Err(TrailerFault::DiskFault));
+    for (failing, answer) in [(0, broken(1)), (2, failed)] {
+        let mut disk = MemoryDisk::new(rt.alloc(), Vec::from_slice(rt.alloc(), &[failing])?);
+        let Some(last) = write_one(rt.alloc(), &mut disk, small, &text_with(0))? else {
+            panic!(rt; "the last block is written");
+        };
+        assert_eq!(rt; read(rt.alloc(), &mut disk, small, last, 32, 0), answer);
+    }
+    Ok(())
+}
+
+#[test]
+fn the_least_op_without_a_session_is_pending(rt: HostRuntime) {
+    let session = |op| Session {
+        client: 7,
+        request: 1,
+        op,
+        reply: None,
+    };
+    let sessions = [session(5), session(3), session(9)];
+    assert_eq!(rt; pending(&sessions, 2, 3), None);
+    assert_eq!(rt; pending(&sessions, 2, 5), Some(4));
+    assert_eq!(rt; pending(&sessions, 4, 9), Some(6));
+    assert_eq!(rt; pending(&sessions, 8, 9), None);
+    assert_eq!(rt; pending(&sessions, 9, 4), None);
+    assert_eq!(rt; pending(&[], 0, 1), Some(1));
+}
