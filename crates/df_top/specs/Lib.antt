@@ -6,6 +6,8 @@ pub mod Lines
 pub mod Resulting
 pub mod Session
 pub mod Step
+pub mod Bridge
+pub mod Calls
 pub mod Turning
 pub mod Refusing
 pub mod Opening

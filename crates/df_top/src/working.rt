@@ -10,11 +10,11 @@ ghost use Rattle.df_top.specs.Works.{BlamesFault, Comes, IsRunning, PrintsFault,
 
 use crate::serving::refuse_file;
 use crate::status::Status;
-use crate::works::{Fault, make, step};
+use crate::works::{Fault, carry_out, make};
 use df_base::{Failed, Sink};
 use df_disk::Disk;
-use df_inspect::{Workload, print_step_refusal, print_workload};
-use df_model::StepError;
+use df_inspect::{Workload, print_answer, print_workload};
+use df_model::{Answer, Command, StepError};
 use df_replica::{Replica, Rooms};
 use df_workload::Generator;
 
@@ -82,7 +82,7 @@ fn end_step<D: Disk>(
     ensures less { OnOk result (steps_left generator.new replica.new < steps_left generator.old replica.old) }
     ensures disk { BlamesFault (D.faults disk.old) (D.faults disk.new) result }
 {
-    match step(disk, replica) {
+    match carry_out(disk, replica, Command::Advance) {
         Ok(outcome) => {
             generator.hear(outcome);
             Ok(())
@@ -166,10 +166,13 @@ fn tell_fault<W: Sink>(sink: &mut W, fault: Fault) -> Status
     ensures sink { Blames Status.WriteFault (W.faults sink.old) (W.faults sink.new) result }
 {
     match fault {
-        Fault::Damaged { place, class } => ended(
-            print_step_refusal(sink, StepError::Damaged { place, class }),
-            Status::Refused,
-        ),
+        Fault::Damaged { place, class } => {
+            let answer = Answer::Advance(Err(StepError::Damaged { place, class }));
+            ended(
+                print_answer(sink, &Command::Advance, &answer),
+                Status::Refused,
+            )
+        }
         Fault::Disk => Status::DiskFault,
     }
 }
