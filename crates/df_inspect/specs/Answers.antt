@@ -1,5 +1,5 @@
 -- The line that the answer of a call prints, by the answer as the call gives it.
-use Rattle.std.specs.Prelude.{◌≡◌, ℕ, Bool, false, List, [], codes, Ok, Err}
+use Rattle.std.specs.Prelude.{ℕ, List, [], codes}
 use Rattle.df_model.specs.Commands.{Advance, Append, Begin, Command, ReadBlock, ReadPrepare, ReadReply, Recent, Release, Reply, Scrub, WriteBlock}
 use Rattle.df_model.specs.declared.commands.Answer.{Answer}
 use Rattle.df_model.specs.declared.commands.Answer.TheVariants as answers
@@ -7,7 +7,6 @@ use Rattle.df_model.specs.declared.commands.Command.{Command as Called}
 use Rattle.df_model.specs.declared.commands.Command.TheVariants as calls
 use Rattle.df_script_model.specs.Script.{address_in, op_in}
 use Rattle.df_script_model.specs.Texts.{append_refusal, begin_refusal, block_refusal, line_of, lookup_refusal, numbered, prepare_refusal, progress_text, read_refusal, reply_refusal, scrubbed_text, step_refusal, text_or}
-use Rattle.df_inspect.specs.Faults.{is_append_fault, is_block_fault, is_lookup_fault, is_prepare_fault, is_read_fault, is_reply_fault, is_step_fault}
 
 -- the machine's command
 abbrev pub command_of : Called → Command
@@ -23,26 +22,7 @@ command_of (calls.ReadBlock address) = ReadBlock address
 command_of calls.Scrub = Scrub
 command_of (calls.Recent place) = Recent place
 
--- the answer says that the disk failed
-abbrev pub is_fault : Answer → Bool
-is_fault (answers.Append (Err e)) = is_append_fault e
-is_fault (answers.Reply (Err e)) = is_reply_fault e
-is_fault (answers.WriteBlock (Err e)) = is_block_fault e
-is_fault (answers.Advance (Err e)) = is_step_fault e
-is_fault (answers.ReadPrepare (Err e)) = is_prepare_fault e
-is_fault (answers.ReadReply (Err e)) = is_lookup_fault e
-is_fault (answers.ReadBlock (Err e)) = is_read_fault e
-is_fault answer = false
-
--- a unit that was read is lent by its call, and so is what the ring holds: they have lines of their own
-abbrev pub LendsNothing : Answer → Type 0
-LendsNothing (answers.ReadPrepare (Ok done)) = ⊥
-LendsNothing (answers.ReadReply (Ok done)) = ⊥
-LendsNothing (answers.ReadBlock (Ok done)) = ⊥
-LendsNothing (answers.Recent found) = ⊥
-LendsNothing answer = Unit {0}
-
--- the line of any other answer: what was done, or why the call is refused
+-- the line: what was done, or why the call is refused. A unit that was read is lent by its call, and so is what the ring holds: they have lines of their own
 abbrev pub text_of : Command → Answer → List ℕ
 text_of c (answers.Append answer) = text_or append_refusal (λ receipt. line_of (numbered (codes "appended") receipt.op)) answer
 text_of c (answers.Reply answer) = text_or reply_refusal (λ check. line_of (numbered (codes "replied") (op_in c))) answer

@@ -1,5 +1,4 @@
 pub mod Prints
-pub mod Faults
 pub mod Answers
 pub mod Opening
 pub mod Messages

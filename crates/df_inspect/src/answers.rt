@@ -1,11 +1,11 @@
-// The one line that the answer of a call prints: what was done, or why the call is refused. A failing disk has no line.
-ghost use Rattle.std.specs.Prelude.{◌≡◌, false};
+// The one line that the answer of a call prints: what was done, or why the call is refused.
+ghost use Rattle.std.specs.Prelude.{◌≡◌};
 ghost use Rattle.df_base.specs.Causes.{HasCause};
 ghost use Rattle.df_model.specs.declared.commands.Answer.TheVariants as answers;
 ghost use Rattle.df_script_model.specs.Script.{address_in, op_in};
 ghost use Rattle.df_model.specs.Commands.{Command as Asked};
 ghost use Rattle.df_script_model.specs.Texts.{progress_text};
-ghost use Rattle.df_inspect.specs.Answers.{LendsNothing, command_of, is_fault, text_of};
+ghost use Rattle.df_inspect.specs.Answers.{command_of, text_of};
 ghost use Rattle.df_inspect.specs.Prints.{Prints};
 
 use crate::blocks::scrubbed_line;
@@ -20,10 +20,8 @@ use df_model::{
     ReplyError, StepError,
 };
 
-/// What was answered to a command that lends nothing, or why one that lends is refused.
+/// What was answered to a command, or why it is refused. A failing disk has no line, nor has a unit that was read, which prints itself.
 pub fn print_answer<W: Sink>(sink: &mut W, command: &Command, answer: &Answer) -> Result<(), Failed>
-    requires lends { LendsNothing answer.now }
-    requires fault { is_fault answer.now ≡ false }
     ensures prints { Prints (text_of (command_of command.now) answer.now) (W.written sink.old) (W.written sink.new) result }
     ensures cause { HasCause (W.faults sink.old) (W.faults sink.new) result }
 {
@@ -31,8 +29,6 @@ pub fn print_answer<W: Sink>(sink: &mut W, command: &Command, answer: &Answer) -
 }
 
 fn answer_line(command: &Command, answer: &Answer) -> Line
-    requires lends { LendsNothing answer.now }
-    requires fault { is_fault answer.now ≡ false }
     ensures { result.items ≡ text_of (command_of command.now) answer.now }
 {
     match *answer {
@@ -49,7 +45,7 @@ fn answer_line(command: &Command, answer: &Answer) -> Line
         Answer::ReadPrepare(Ok(()))
         | Answer::ReadReply(Ok(()))
         | Answer::ReadBlock(Ok(()))
-        | Answer::Recent(_) => unreachable!(),
+        | Answer::Recent(_) => text_line(""),
     }
 }
 
@@ -75,7 +71,6 @@ fn address_in(command: &Command) -> u64
 
 // `appended OP`: the op that the prepare got.
 fn append_line(answer: Result<Receipt, AppendError>) -> Line
-    requires fault { is_fault (answers.Append answer) ≡ false }
     ensures { (c : Asked) → result.items ≡ text_of c (answers.Append answer) }
 {
     match answer {
@@ -86,7 +81,6 @@ fn append_line(answer: Result<Receipt, AppendError>) -> Line
 
 // `replied OP`: the op whose reply is stored.
 fn reply_line(op: u64, answer: Result<Check, ReplyError>) -> Line
-    requires fault { is_fault (answers.Reply answer) ≡ false }
     ensures { (c : Asked) → op ≡ op_in c → result.items ≡ text_of c (answers.Reply answer) }
 {
     match answer {
@@ -97,7 +91,6 @@ fn reply_line(op: u64, answer: Result<Check, ReplyError>) -> Line
 
 // `wrote ADDRESS`: where the block was written.
 fn wrote_line(answer: Result<Reference, BlockError>) -> Line
-    requires fault { is_fault (answers.WriteBlock answer) ≡ false }
     ensures { (c : Asked) → result.items ≡ text_of c (answers.WriteBlock answer) }
 {
     match answer {
@@ -128,7 +121,6 @@ fn begin_line(answer: Result<u64, BeginError>) -> Line
 
 // `working LEFT` or `done SEQUENCE`: how far the running checkpoint came.
 fn step_line(answer: Result<Progress, StepError>) -> Line
-    requires fault { is_fault (answers.Advance answer) ≡ false }
     ensures { (c : Asked) → result.items ≡ text_of c (answers.Advance answer) }
 {
     match answer {

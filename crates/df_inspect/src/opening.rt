@@ -1,7 +1,6 @@
 // The lines that say that a file was made, why one isn't made or opened, and which line of a script is none. A failing disk has no line.
 ghost use Rattle.std.specs.Prelude.{◌≡◌, ◌≤◌, ◌+◌, ◌++◌, length, decimal};
 ghost use Rattle.df_base.specs.Causes.{HasCause};
-ghost use Rattle.df_model.specs.declared.errors.FormatError.TheVariants as formats;
 ghost use Rattle.df_model.specs.declared.errors.OpenError.TheVariants as opens;
 ghost use Rattle.df_script_model.specs.Texts.{spaced};
 ghost use Rattle.df_inspect.specs.Opening.{format_refusal, formatted_text, layout_text, open_refusal, script_text};
@@ -32,7 +31,6 @@ pub fn print_script<W: Sink>(sink: &mut W, line: u64) -> Result<(), Failed>
 
 /// Why a file isn't made.
 pub fn print_format_refusal<W: Sink>(sink: &mut W, error: FormatError) -> Result<(), Failed>
-    requires fault { error ≡ formats.DiskFault → ⊥ }
     ensures prints { Prints (format_refusal error) (W.written sink.old) (W.written sink.new) result }
     ensures cause { HasCause (W.faults sink.old) (W.faults sink.new) result }
 {
@@ -40,19 +38,17 @@ pub fn print_format_refusal<W: Sink>(sink: &mut W, error: FormatError) -> Result
 }
 
 fn format_line(error: FormatError) -> Line
-    requires { error ≡ formats.DiskFault → ⊥ }
     ensures { result.items ≡ format_refusal error }
 {
     match error {
         FormatError::ClusterZero => text_line("refused ClusterZero\n"),
         FormatError::NotBlank { copy } => number_line("refused NotBlank copy", u128::from(copy)),
-        FormatError::DiskFault => unreachable!(),
+        FormatError::DiskFault => text_line(""),
     }
 }
 
 /// Why a file isn't opened.
 pub fn print_open_refusal<W: Sink>(sink: &mut W, error: &OpenError) -> Result<(), Failed>
-    requires fault { error.now ≡ opens.DiskFault → ⊥ }
     ensures prints { Prints (open_refusal error.now) (W.written sink.old) (W.written sink.new) result }
     ensures cause { HasCause (W.faults sink.old) (W.faults sink.new) result }
 {
@@ -60,7 +56,6 @@ pub fn print_open_refusal<W: Sink>(sink: &mut W, error: &OpenError) -> Result<()
 }
 
 fn open_line(error: &OpenError) -> Line
-    requires { error.now ≡ opens.DiskFault → ⊥ }
     ensures { result.items ≡ open_refusal error.now }
 {
     match *error {
@@ -70,7 +65,7 @@ fn open_line(error: &OpenError) -> Line
         OpenError::BadField { field, value } => bad_field_line(field, value),
         OpenError::LayoutDiffers { reserved, found } => layout_differs_line(&reserved, &found),
         OpenError::Damaged { place, class } => damaged_line(place, class),
-        OpenError::DiskFault => unreachable!(),
+        OpenError::DiskFault => text_line(""),
     }
 }
 

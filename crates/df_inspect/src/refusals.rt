@@ -1,8 +1,7 @@
 // The lines that say why a command is refused: the name of the cause and its numbers. A failing disk has no line.
-ghost use Rattle.std.specs.Prelude.{◌≡◌, false};
+ghost use Rattle.std.specs.Prelude.{◌≡◌};
 ghost use Rattle.df_model.specs.declared.errors.AppendError.TheVariants as append;
 ghost use Rattle.df_script_model.specs.Texts.{append_refusal, begin_refusal, block_refusal, lookup_refusal, prepare_refusal, read_refusal, reply_refusal, step_refusal};
-ghost use Rattle.df_inspect.specs.Faults.{is_append_fault, is_block_fault, is_lookup_fault, is_prepare_fault, is_read_fault, is_reply_fault, is_step_fault};
 
 use crate::line::{Line, number_line, text_line, two_numbers_line};
 use crate::names::damaged_line;
@@ -13,7 +12,6 @@ use df_model::{
 
 /// Why a prepare isn't appended.
 pub(crate) fn append_refusal(error: AppendError) -> Line
-    requires { is_append_fault error ≡ false }
     ensures { result.items ≡ append_refusal error }
 {
     match error {
@@ -30,7 +28,7 @@ pub(crate) fn append_refusal(error: AppendError) -> Line
         }
         AppendError::WalFull { op, checkpoint_op } => wal_full_line(op, checkpoint_op),
         AppendError::OpsSpent => text_line("refused OpsSpent\n"),
-        AppendError::DiskFault => unreachable!(),
+        AppendError::DiskFault => text_line(""),
     }
 }
 
@@ -48,7 +46,6 @@ fn wal_full_line(op: u64, checkpoint_op: u64) -> Line
 
 /// Why a reply isn't stored.
 pub(crate) fn reply_refusal(error: ReplyError) -> Line
-    requires { is_reply_fault error ≡ false }
     ensures { result.items ≡ reply_refusal error }
 {
     match error {
@@ -59,13 +56,12 @@ pub(crate) fn reply_refusal(error: ReplyError) -> Line
             number_line("refused ReplyOrder expected", u128::from(expected))
         }
         ReplyError::BodyTooLong { max } => number_line("refused BodyTooLong max", u128::from(max)),
-        ReplyError::DiskFault => unreachable!(),
+        ReplyError::DiskFault => text_line(""),
     }
 }
 
 /// Why a block isn't written.
 pub(crate) fn block_refusal(error: BlockError) -> Line
-    requires { is_block_fault error ≡ false }
     ensures { result.items ≡ block_refusal error }
 {
     match error {
@@ -74,7 +70,7 @@ pub(crate) fn block_refusal(error: BlockError) -> Line
         BlockError::GridFull { blocks } => {
             number_line("refused GridFull blocks", u128::from(blocks))
         }
-        BlockError::DiskFault => unreachable!(),
+        BlockError::DiskFault => text_line(""),
     }
 }
 
@@ -97,19 +93,17 @@ pub(crate) fn begin_refusal(error: BeginError) -> Line
 
 /// Why a step of a checkpoint isn't done.
 pub(crate) fn step_refusal(error: StepError) -> Line
-    requires { is_step_fault error ≡ false }
     ensures { result.items ≡ step_refusal error }
 {
     match error {
         StepError::NotRunning => text_line("refused NotRunning\n"),
         StepError::Damaged { place, class } => damaged_line(place, class),
-        StepError::DiskFault => unreachable!(),
+        StepError::DiskFault => text_line(""),
     }
 }
 
 /// Why a prepare isn't read.
 pub(crate) fn prepare_refusal(error: PrepareError) -> Line
-    requires { is_prepare_fault error ≡ false }
     ensures { result.items ≡ prepare_refusal error }
 {
     match error {
@@ -120,31 +114,29 @@ pub(crate) fn prepare_refusal(error: PrepareError) -> Line
             u128::from(last),
         ),
         PrepareError::Damaged { place, class } => damaged_line(place, class),
-        PrepareError::DiskFault => unreachable!(),
+        PrepareError::DiskFault => text_line(""),
     }
 }
 
 /// Why a client's reply isn't read.
 pub(crate) fn lookup_refusal(error: LookupError) -> Line
-    requires { is_lookup_fault error ≡ false }
     ensures { result.items ≡ lookup_refusal error }
 {
     match error {
         LookupError::NoClient => text_line("refused NoClient\n"),
         LookupError::ReplyPending { op } => number_line("refused ReplyPending op", u128::from(op)),
         LookupError::Damaged { place, class } => damaged_line(place, class),
-        LookupError::DiskFault => unreachable!(),
+        LookupError::DiskFault => text_line(""),
     }
 }
 
 /// Why a block isn't read.
 pub(crate) fn read_refusal(error: ReadError) -> Line
-    requires { is_read_fault error ≡ false }
     ensures { result.items ≡ read_refusal error }
 {
     match error {
         ReadError::NotLive => text_line("refused NotLive\n"),
         ReadError::Damaged { place, class } => damaged_line(place, class),
-        ReadError::DiskFault => unreachable!(),
+        ReadError::DiskFault => text_line(""),
     }
 }

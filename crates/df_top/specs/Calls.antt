@@ -21,7 +21,7 @@ use Rattle.df_replica.specs.Below.{State as Replica}
 use Rattle.df_replica.specs.Blocks.{IsRelease, IsWriteBlock}
 use Rattle.df_replica.specs.Replying.{IsReply}
 use Rattle.df_replica.specs.Stepping.{IsStep}
-use Rattle.df_inspect.specs.Faults.{is_append_fault, is_block_fault, is_lookup_fault, is_prepare_fault, is_read_fault, is_reply_fault}
+use Rattle.df_top.specs.Faults.{is_append_fault, is_block_fault, is_lookup_fault, is_prepare_fault, is_read_fault, is_reply_fault, is_step_fault}
 use Rattle.df_top.specs.Bridge.{answer_of, as_append, as_reply, as_write_block, is_step_unanswered}
 
 -- an answer tells all of it: a read lends its unit and the ring its findings, and a check has none that tells of a failing disk
@@ -32,6 +32,25 @@ HasAnswer (ReadBlock address) = ⊥
 HasAnswer Scrub = ⊥
 HasAnswer (Recent place) = ⊥
 HasAnswer command = Unit {0}
+
+-- the answer says that the disk failed
+abbrev pub is_fault : Answer → Bool
+is_fault (answers.Append (Err e)) = is_append_fault e
+is_fault (answers.Reply (Err e)) = is_reply_fault e
+is_fault (answers.WriteBlock (Err e)) = is_block_fault e
+is_fault (answers.Advance (Err e)) = is_step_fault e
+is_fault (answers.ReadPrepare (Err e)) = is_prepare_fault e
+is_fault (answers.ReadReply (Err e)) = is_lookup_fault e
+is_fault (answers.ReadBlock (Err e)) = is_read_fault e
+is_fault answer = false
+
+-- no unit that was read is lent with it, nor what the ring holds
+abbrev pub LendsNothing : Answer → Type 0
+LendsNothing (answers.ReadPrepare (Ok done)) = ⊥
+LendsNothing (answers.ReadReply (Ok done)) = ⊥
+LendsNothing (answers.ReadBlock (Ok done)) = ⊥
+LendsNothing (answers.Recent found) = ⊥
+LendsNothing answer = Unit {0}
 
 -- the answer is that of the call, which is exact
 abbrev pub IsExact : Command → (s t : Replica) → (old new : Option Told) → Answer → Type 0

@@ -5,7 +5,6 @@ use Rattle.df_base.specs.Streams.{Appends, AppendsPart}
 use Rattle.df_disk.specs.Told.{Told}
 use Rattle.df_inspect.specs.Reports.{workload_text}
 use Rattle.df_inspect.specs.declared.counts.Workload.{Workload}
-use Rattle.df_inspect.specs.Answers.{is_fault}
 use Rattle.df_model.specs.Commands.{Answer as Answered, Command}
 use Rattle.df_model.specs.declared.answers.Progress.TheVariants as progress
 use Rattle.df_model.specs.declared.commands.Answer.{Answer}
@@ -22,6 +21,7 @@ use Rattle.df_workload.specs.Sound.{flag}
 use Rattle.df_workload.specs.declared.outcome.Outcome.{Outcome}
 use Rattle.df_workload.specs.declared.outcome.Outcome.TheVariants.{Refused, Accepted, Wrote, Finished}
 use Rattle.df_workload.specs.declared.state.State.{State as Run}
+use Rattle.df_top.specs.Calls.{is_fault}
 use Rattle.df_top.specs.Lines.{command_in}
 use Rattle.df_top.specs.Outside.{PrintsLine}
 use Rattle.df_top.specs.Session.{AreCalls, Calls, EndsCalls, IsDamaged}

@@ -1,6 +1,6 @@
 // Errors of which one case blames the device.
 ghost use Rattle.std.specs.Prelude.{◌≡◌, Bool};
-ghost use Rattle.df_inspect.specs.Faults.{is_append_fault, is_block_fault, is_lookup_fault, is_prepare_fault, is_read_fault, is_reply_fault, is_step_fault};
+ghost use Rattle.df_top.specs.Faults.{is_append_fault, is_block_fault, is_lookup_fault, is_prepare_fault, is_read_fault, is_reply_fault, is_step_fault};
 
 use df_model::{
     AppendError, BlockError, LookupError, PrepareError, ReadError, ReplyError, StepError,

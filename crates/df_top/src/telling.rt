@@ -1,7 +1,7 @@
 // What becomes of a session by an answer: its line is printed, or it ends.
 ghost use Rattle.std.specs.Prelude.{◌≡◌, true};
-ghost use Rattle.df_inspect.specs.Answers.{LendsNothing, command_of, is_fault};
-ghost use Rattle.df_top.specs.Calls.{HasAnswer, is_damaged};
+ghost use Rattle.df_inspect.specs.Answers.{command_of};
+ghost use Rattle.df_top.specs.Calls.{HasAnswer, is_damaged, is_fault};
 ghost use Rattle.df_top.specs.Step.{Answers};
 ghost use Rattle.df_top.specs.Turning.{BlamesIfEnds, Tells, last_turn, printed_turn};
 
@@ -85,7 +85,6 @@ fn is_damaged(answer: &Answer) -> bool
 
 /// Prints what was answered. A failing disk has no line and ends the session; a damaged superblock ends it by its line.
 pub fn tell<W: Sink>(sink: &mut W, command: &Command, answer: &Answer) -> Turn
-    requires lends { LendsNothing answer.now }
     ensures told { Tells (command_of command.now) answer.now (W.written sink.old) (W.written sink.new) result }
     ensures sink { BlamesIfEnds Status.WriteFault (W.faults sink.old) (W.faults sink.new) result }
 {

@@ -78,7 +78,8 @@ pub(crate) fn carry_out<D: Disk>(
     ensures steps { command_of command ≡ Advance → StepsOn replica.old replica.new result }
     ensures disk { BlamesFault (D.faults disk.old) (D.faults disk.new) result }
 {
-    hear(&call(disk, replica, command))
+    let answer = call(disk, replica, command);
+    hear(&answer)
 }
 
 /// Makes the call that a run asks for.

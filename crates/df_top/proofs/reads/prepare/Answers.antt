@@ -6,7 +6,7 @@ use Rattle.df_model.specs.Commands.{ReadPrepare}
 use Rattle.df_replica.specs.Reading.{prepare_leaves}
 use Rattle.df_top.specs.Step.{Answers}
 use Rattle.df_top.proofs.ReadTurns.{prepare_ends, prepare_shown, shown_turn}
-use Rattle.df_top.proofs.calls.prepare.Goals as goal
+use Rattle.df_top.proofs.reads.prepare.Goals as goal
 
 pub returns-in-Ok-clause-answers : goal.returns-in-Ok-clause-answers
 returns-in-Ok-clause-answers g c =
@@ -20,5 +20,5 @@ returns-in-Ok-clause-answers g c =
 
 pub returns-in-Err-clause-answers : goal.returns-in-Err-clause-answers
 returns-in-Err-clause-answers g c =
-    prepare_ends c.args.replica.now c.read_prepare.follows.lender-at-none c.read_prepare.result c.in-Err.error (g.D.Disk.told c.args.disk.now) (g.D.Disk.told c.read_prepare.new.disk) c.in-Err.ensures.same (g.W.Sink.written c.args.sink.now) (g.W.Sink.written c.tell_prepare_refusal.new.sink)
-    (g.D.Disk.faults c.args.disk.now) (g.D.Disk.faults c.read_prepare.new.disk) c.tell_prepare_refusal.result c.args.op c.read_prepare.follows.holds-at-none c.in-Err.is c.in-Err.ensures.call c.in-Err.ensures.cause c.tell_prepare_refusal.ensures.told
+    prepare_ends c.args.replica.now c.read_prepare.follows.lender-at-none c.read_prepare.result c.in-Err.error (g.D.Disk.told c.args.disk.now) (g.D.Disk.told c.read_prepare.new.disk) c.in-Err.ensures.same (g.W.Sink.written c.args.sink.now) (g.W.Sink.written c.tell.new.sink)
+    (g.D.Disk.faults c.args.disk.now) (g.D.Disk.faults c.read_prepare.new.disk) c.tell.result c.args.op c.read_prepare.follows.holds-at-none c.in-Err.is c.in-Err.ensures.call c.in-Err.ensures.cause c.tell.ensures.told

@@ -5,7 +5,7 @@ use Rattle.df_model.specs.Commands.{ReadBlock}
 use Rattle.df_replica.specs.BlockReads.{block_leaves}
 use Rattle.df_top.specs.Step.{Answers}
 use Rattle.df_top.proofs.BlockReadTurns.{block_ends, block_shown, shown_turn}
-use Rattle.df_top.proofs.block_calls.read_block.Goals as goal
+use Rattle.df_top.proofs.reads.read_block.Goals as goal
 
 pub returns-in-Ok-clause-answers : goal.returns-in-Ok-clause-answers
 returns-in-Ok-clause-answers g c =
@@ -19,5 +19,5 @@ returns-in-Ok-clause-answers g c =
 
 pub returns-in-Err-clause-answers : goal.returns-in-Err-clause-answers
 returns-in-Err-clause-answers g c =
-    block_ends c.args.replica.now c.read_block.follows.lender-at-none c.read_block.result c.in-Err.error (g.D.Disk.told c.args.disk.now) (g.D.Disk.told c.read_block.new.disk) c.in-Err.ensures.same (g.W.Sink.written c.args.sink.now) (g.W.Sink.written c.tell_read_refusal.new.sink)
-    (g.D.Disk.faults c.args.disk.now) (g.D.Disk.faults c.read_block.new.disk) c.tell_read_refusal.result c.args.address c.read_block.follows.holds-at-none c.in-Err.is c.in-Err.ensures.call c.in-Err.ensures.cause c.tell_read_refusal.ensures.told
+    block_ends c.args.replica.now c.read_block.follows.lender-at-none c.read_block.result c.in-Err.error (g.D.Disk.told c.args.disk.now) (g.D.Disk.told c.read_block.new.disk) c.in-Err.ensures.same (g.W.Sink.written c.args.sink.now) (g.W.Sink.written c.tell.new.sink)
+    (g.D.Disk.faults c.args.disk.now) (g.D.Disk.faults c.read_block.new.disk) c.tell.result c.args.address c.read_block.follows.holds-at-none c.in-Err.is c.in-Err.ensures.call c.in-Err.ensures.cause c.tell.ensures.told
