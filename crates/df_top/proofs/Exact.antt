@@ -1,5 +1,5 @@
 -- What follows from a call that is exact: what the disk then tells, whether a checkpoint runs behind it, and what its answer is in the machine's words.
-use Rattle.std.proofs.Common.{◌≡◌, ℕ, List, [], Option, Some, None, refl, sym, ◌∙◌, ap, subst, Result, Ok, Err}
+use Rattle.std.proofs.Common.{◌≡◌, ℕ, Bool, List, [], Option, Some, None, refl, sym, ◌∙◌, ap, subst, Result, Ok, Err}
 use Rattle.df_base.specs.Log.{Event}
 use Rattle.df_disk.specs.Adds.{AddsPart, after_all}
 use Rattle.df_disk.specs.Told.{Told}
@@ -36,7 +36,7 @@ use Rattle.df_replica.specs.Stepping.{BlamesStep, IsStep, OfRunning, Tells, bloc
 use Rattle.df_script_model.specs.Texts.{damaged_text}
 use Rattle.df_units.specs.Meaning.{number_of}
 use Rattle.df_top.specs.Bridge.{Blamed, IsBlamed}
-use Rattle.df_top.specs.Calls.{IsExact, LendsNothing, is_fault, machine_answer}
+use Rattle.df_top.specs.Calls.{IsExact, LendsNothing, blames, is_fault, machine_answer}
 use Rattle.df_top.specs.Session.{IsDamaged}
 use Rattle.df_top.specs.Step.{Makes}
 use Rattle.df_top.proofs.Answered.{made, part_told}
@@ -119,21 +119,9 @@ pub record Called (command : Command) (s t : Replica) (old new : Option Told) (b
 abbrev supply : (checksum : ℕ) → Given
 supply checksum = record { checksum = checksum; message = Err Blank; block = Err Blank; verdict = Sound }
 
-append_cause : (before now : ℕ) (r : Result Receipt AppendError) → IsBlamed is_append_fault before now r → Blamed (is_fault (answers.Append r)) before now
-append_cause before now (Ok x) is = is
-append_cause before now (Err e) is = is
-
-reply_cause : (before now : ℕ) (r : Result (List ℕ) ReplyError) → IsBlamed is_reply_fault before now r → Blamed (is_fault (answers.Reply r)) before now
-reply_cause before now (Ok x) is = is
-reply_cause before now (Err e) is = is
-
-write_cause : (before now : ℕ) (r : Result Reference BlockError) → IsBlamed is_block_fault before now r → Blamed (is_fault (answers.WriteBlock r)) before now
-write_cause before now (Ok x) is = is
-write_cause before now (Err e) is = is
-
-step_cause : (before now : ℕ) (r : Result Progress StepError) → IsBlamed is_step_fault before now r → Blamed (is_fault (answers.Advance r)) before now
-step_cause before now (Ok x) is = is
-step_cause before now (Err e) is = is
+cause_of : {T E : Type 0} (is_fault : E → Bool) (before now : ℕ) (r : Result T E) → IsBlamed is_fault before now r → Blamed (blames is_fault r) before now
+cause_of is_fault before now (Ok x) is = is
+cause_of is_fault before now (Err e) is = is
 
 module _ (s t : Replica) (old new : Option Told) (before now : ℕ) where
   pub append_called : (client request : ℕ) (body : List ℕ) (r : Result Receipt AppendError) → IsAppend client request body s t old new r → Serves (Append client request body) s t old new (append_answer r) → BlamesAppend before now r
@@ -143,7 +131,7 @@ module _ (s t : Replica) (old new : Option Told) (before now : ℕ) where
     makes =
         made (Append client request body) (supply (number_of (next_unit s client request body).header.checksum)) s t old new (machine_answer (answers.Append r)) refl
         (subst (λ (x : Option Answered). Serves (Append client request body) s t old new x) (append_in r) serves) (append_moves s t old new client request body r is).0;
-    cause = append_cause before now r (append_blamed before now r blamed);
+    cause = cause_of is_append_fault before now r (append_blamed before now r blamed);
   }
 
   pub reply_called : (op : ℕ) (body : List ℕ) (r : Result (List ℕ) ReplyError) → IsReply op body s t old new r → Serves (Reply op body) s t old new (reply_answer r) → BlamesReply before now r
@@ -153,7 +141,7 @@ module _ (s t : Replica) (old new : Option Told) (before now : ℕ) where
     makes =
         made (Reply op body) (supply (number_of (next_reply s body).header.checksum)) s t old new (machine_answer (answers.Reply r)) refl
         (subst (λ (x : Option Answered). Serves (Reply op body) s t old new x) (reply_in r) serves) (reply_moves s t old new op body r is).0;
-    cause = reply_cause before now r (reply_blamed before now r blamed);
+    cause = cause_of is_reply_fault before now r (reply_blamed before now r blamed);
   }
 
   pub write_called : (kind : ℕ) (body : List ℕ) (r : Result Reference BlockError) → IsWriteBlock kind body s t old new r → Serves (WriteBlock kind body) s t old new (write_block_answer r) → BlamesWriteBlock before now r
@@ -163,7 +151,7 @@ module _ (s t : Replica) (old new : Option Told) (before now : ℕ) where
     makes =
         made (WriteBlock kind body) (supply (number_of (next_block s kind body).header.checksum)) s t old new (machine_answer (answers.WriteBlock r)) refl
         (subst (λ (x : Option Answered). Serves (WriteBlock kind body) s t old new x) (write_in r) serves) (write_moves s t old new kind body r is).0;
-    cause = write_cause before now r (write_blamed before now r blamed);
+    cause = cause_of is_block_fault before now r (write_blamed before now r blamed);
   }
 
   pub step_called : (r : Result Progress StepError) → IsStep s t old new r → Serves Advance s t old new (step_answer r) → BlamesStep {T = Progress} before now r → Called Advance s t old new before now (answers.Advance r)
@@ -172,7 +160,7 @@ module _ (s t : Replica) (old new : Option Told) (before now : ℕ) where
     makes =
         made Advance (supply (made_by s s.running)) s t old new (machine_answer (answers.Advance r)) refl (subst (λ (x : Option Answered). Serves Advance s t old new x) (step_in r) serves)
         (step_told s t old new r is);
-    cause = step_cause before now r (step_blamed before now r blamed);
+    cause = cause_of is_step_fault before now r (step_blamed before now r blamed);
   }
 
 -- those that touch no disk

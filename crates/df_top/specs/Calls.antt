@@ -33,15 +33,20 @@ HasAnswer Scrub = ⊥
 HasAnswer (Recent place) = ⊥
 HasAnswer command = Unit {0}
 
+-- the disk is blamed
+abbrev pub blames : {T E : Type 0} → (is_fault : E → Bool) → Result T E → Bool
+blames is_fault (Ok x) = false
+blames is_fault (Err e) = is_fault e
+
 -- the answer says that the disk failed
 abbrev pub is_fault : Answer → Bool
-is_fault (answers.Append (Err e)) = is_append_fault e
-is_fault (answers.Reply (Err e)) = is_reply_fault e
-is_fault (answers.WriteBlock (Err e)) = is_block_fault e
-is_fault (answers.Advance (Err e)) = is_step_fault e
-is_fault (answers.ReadPrepare (Err e)) = is_prepare_fault e
-is_fault (answers.ReadReply (Err e)) = is_lookup_fault e
-is_fault (answers.ReadBlock (Err e)) = is_read_fault e
+is_fault (answers.Append r) = blames is_append_fault r
+is_fault (answers.Reply r) = blames is_reply_fault r
+is_fault (answers.WriteBlock r) = blames is_block_fault r
+is_fault (answers.Advance r) = blames is_step_fault r
+is_fault (answers.ReadPrepare r) = blames is_prepare_fault r
+is_fault (answers.ReadReply r) = blames is_lookup_fault r
+is_fault (answers.ReadBlock r) = blames is_read_fault r
 is_fault answer = false
 
 -- no unit that was read is lent with it, nor what the ring holds

@@ -1,7 +1,7 @@
 // What becomes of a session by an answer: its line is printed, or it ends.
 ghost use Rattle.std.specs.Prelude.{◌≡◌, true};
 ghost use Rattle.df_inspect.specs.Answers.{command_of};
-ghost use Rattle.df_top.specs.Calls.{HasAnswer, is_damaged, is_fault};
+ghost use Rattle.df_top.specs.Calls.{HasAnswer, blames, is_damaged, is_fault};
 ghost use Rattle.df_top.specs.Step.{Answers};
 ghost use Rattle.df_top.specs.Turning.{BlamesIfEnds, Tells, last_turn, printed_turn};
 
@@ -35,29 +35,29 @@ fn ended(done: Result<(), Failed>) -> Turn
     }
 }
 
+// Whether a call blames the disk.
+fn blames<T, E: BlamesDisk>(answer: &Result<T, E>) -> bool
+    ensures { result ≡ blames E.is_fault answer.now }
+{
+    match answer {
+        Ok(_) => false,
+        Err(error) => error.is_fault(),
+    }
+}
+
 /// Whether the disk failed in a call that answered so.
 pub fn is_fault(answer: &Answer) -> bool
     ensures { result ≡ is_fault answer.now }
 {
-    match *answer {
-        Answer::Append(Err(error)) => error.is_fault(),
-        Answer::Reply(Err(error)) => error.is_fault(),
-        Answer::WriteBlock(Err(error)) => error.is_fault(),
-        Answer::Advance(Err(error)) => error.is_fault(),
-        Answer::ReadPrepare(Err(error)) => error.is_fault(),
-        Answer::ReadReply(Err(error)) => error.is_fault(),
-        Answer::ReadBlock(Err(error)) => error.is_fault(),
-        Answer::Append(Ok(_))
-        | Answer::Reply(Ok(_))
-        | Answer::WriteBlock(Ok(_))
-        | Answer::Release(_)
-        | Answer::Begin(_)
-        | Answer::Advance(Ok(_))
-        | Answer::ReadPrepare(Ok(()))
-        | Answer::ReadReply(Ok(()))
-        | Answer::ReadBlock(Ok(()))
-        | Answer::Scrub(_)
-        | Answer::Recent(_) => false,
+    match answer {
+        Answer::Append(answer) => blames(answer),
+        Answer::Reply(answer) => blames(answer),
+        Answer::WriteBlock(answer) => blames(answer),
+        Answer::Advance(answer) => blames(answer),
+        Answer::ReadPrepare(answer) => blames(answer),
+        Answer::ReadReply(answer) => blames(answer),
+        Answer::ReadBlock(answer) => blames(answer),
+        Answer::Release(_) | Answer::Begin(_) | Answer::Scrub(_) | Answer::Recent(_) => false,
     }
 }
 
