@@ -13,8 +13,8 @@ use df_replica::Replica;
 pub fn call<D: Disk>(disk: &mut D, replica: &mut Replica, command: Command) -> Answer
     requires live { replica.old.live ≡ true }
     requires answer { HasAnswer (command_of command) }
-    ensures exact { IsExact (command_of command) replica.old replica.new (D.told disk.old) (D.told disk.new) result }
-    ensures makes { Makes (command_of command) replica.old replica.new (D.told disk.old) (D.told disk.new) (machine_answer result) }
+    ensures exact { IsExact (command_of command.entry) replica.old replica.new (D.told disk.old) (D.told disk.new) result }
+    ensures makes { Makes (command_of command.entry) replica.old replica.new (D.told disk.old) (D.told disk.new) (machine_answer result) }
     ensures cause { Blamed (is_fault result) (D.faults disk.old) (D.faults disk.new) }
 {
     match command {

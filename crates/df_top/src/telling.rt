@@ -107,7 +107,7 @@ pub fn serve<D: Disk, W: Sink>(
 ) -> Turn
     requires live { replica.old.live ≡ true }
     requires answer { HasAnswer (command_of command) }
-    ensures answers { Answers (command_of command) replica.old replica.new (D.told disk.old) (D.told disk.new) (W.written sink.old) (W.written sink.new) result }
+    ensures answers { Answers (command_of command.entry) replica.old replica.new (D.told disk.old) (D.told disk.new) (W.written sink.old) (W.written sink.new) result }
     ensures disk { BlamesIfEnds Status.DiskFault (D.faults disk.old) (D.faults disk.new) result }
     ensures sink { BlamesIfEnds Status.WriteFault (W.faults sink.old) (W.faults sink.new) result }
 {

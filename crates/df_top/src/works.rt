@@ -73,9 +73,9 @@ pub(crate) fn carry_out<D: Disk>(
 ) -> Result<Outcome, Fault>
     requires live { replica.old.live ≡ true }
     requires answer { HasAnswer (command_of command) }
-    ensures makes { MakesTo (command_of command) replica.old replica.new (D.told disk.old) (D.told disk.new) result }
-    ensures runs { RunsOn (command_of command) replica.old replica.new result }
-    ensures steps { command_of command ≡ Advance → StepsOn replica.old replica.new result }
+    ensures makes { MakesTo (command_of command.entry) replica.old replica.new (D.told disk.old) (D.told disk.new) result }
+    ensures runs { RunsOn (command_of command.entry) replica.old replica.new result }
+    ensures steps { command_of command.entry ≡ Advance → StepsOn replica.old replica.new result }
     ensures disk { BlamesFault (D.faults disk.old) (D.faults disk.new) result }
 {
     let answer = call(disk, replica, command);
