@@ -12,19 +12,19 @@ pub returns-in-Append-clause-answers : goal.returns-in-Append-clause-answers
 returns-in-Append-clause-answers g c =
     subst (λ (l : Line). ServesLine (said_with c.args.session.now.lines.body l) c.args.session.now.replica c.serve.new.replica (g.D.Disk.told c.args.disk.now) (g.D.Disk.told c.serve.new.disk) (g.W.Sink.written c.args.sink.now) (g.W.Sink.written c.serve.new.sink) c.serve.result) (sym c.in-Append.is)
     (serves_line (said_with c.args.session.now.lines.body (asked.Append c.in-Append.client c.in-Append.request c.in-Append.length)) _ refl (λ x. refl) c.args.session.now.replica c.serve.new.replica (g.D.Disk.told c.args.disk.now) (g.D.Disk.told c.serve.new.disk) (g.W.Sink.written c.args.sink.now) (g.W.Sink.written c.serve.new.sink) c.serve.result
-    (subst (λ (b : List ℕ). Answers (Append c.in-Append.client c.in-Append.request b) c.args.session.now.replica c.serve.new.replica (g.D.Disk.told c.args.disk.now) (g.D.Disk.told c.serve.new.disk) (g.W.Sink.written c.args.sink.now) (g.W.Sink.written c.serve.new.sink) c.serve.result) c.body.ensures c.serve.ensures.answers))
+    (subst (λ (b : List ℕ). Answers (Append c.in-Append.client c.in-Append.request b) c.args.session.now.replica c.serve.new.replica (g.D.Disk.told c.args.disk.now) (g.D.Disk.told c.serve.new.disk) (g.W.Sink.written c.args.sink.now) (g.W.Sink.written c.serve.new.sink) c.serve.result) c.body-body.ensures c.serve.ensures.answers))
 
 pub returns-in-Reply-clause-answers : goal.returns-in-Reply-clause-answers
 returns-in-Reply-clause-answers g c =
     subst (λ (l : Line). ServesLine (said_with c.args.session.now.lines.body l) c.args.session.now.replica c.serve-in-Reply.new.replica (g.D.Disk.told c.args.disk.now) (g.D.Disk.told c.serve-in-Reply.new.disk) (g.W.Sink.written c.args.sink.now) (g.W.Sink.written c.serve-in-Reply.new.sink) c.serve-in-Reply.result) (sym c.in-Reply.is)
     (serves_line (said_with c.args.session.now.lines.body (asked.Reply c.in-Reply.op c.in-Reply.length)) _ refl (λ x. refl) c.args.session.now.replica c.serve-in-Reply.new.replica (g.D.Disk.told c.args.disk.now) (g.D.Disk.told c.serve-in-Reply.new.disk) (g.W.Sink.written c.args.sink.now) (g.W.Sink.written c.serve-in-Reply.new.sink) c.serve-in-Reply.result
-    (subst (λ (b : List ℕ). Answers (Reply c.in-Reply.op b) c.args.session.now.replica c.serve-in-Reply.new.replica (g.D.Disk.told c.args.disk.now) (g.D.Disk.told c.serve-in-Reply.new.disk) (g.W.Sink.written c.args.sink.now) (g.W.Sink.written c.serve-in-Reply.new.sink) c.serve-in-Reply.result) c.body-in-Reply.ensures c.serve-in-Reply.ensures.answers))
+    (subst (λ (b : List ℕ). Answers (Reply c.in-Reply.op b) c.args.session.now.replica c.serve-in-Reply.new.replica (g.D.Disk.told c.args.disk.now) (g.D.Disk.told c.serve-in-Reply.new.disk) (g.W.Sink.written c.args.sink.now) (g.W.Sink.written c.serve-in-Reply.new.sink) c.serve-in-Reply.result) c.body-body-in-Reply.ensures c.serve-in-Reply.ensures.answers))
 
 pub returns-in-Block-clause-answers : goal.returns-in-Block-clause-answers
 returns-in-Block-clause-answers g c =
     subst (λ (l : Line). ServesLine (said_with c.args.session.now.lines.body l) c.args.session.now.replica c.serve-in-Block.new.replica (g.D.Disk.told c.args.disk.now) (g.D.Disk.told c.serve-in-Block.new.disk) (g.W.Sink.written c.args.sink.now) (g.W.Sink.written c.serve-in-Block.new.sink) c.serve-in-Block.result) (sym c.in-Block.is)
     (serves_line (said_with c.args.session.now.lines.body (asked.Block c.in-Block.kind c.in-Block.length)) _ refl (λ x. refl) c.args.session.now.replica c.serve-in-Block.new.replica (g.D.Disk.told c.args.disk.now) (g.D.Disk.told c.serve-in-Block.new.disk) (g.W.Sink.written c.args.sink.now) (g.W.Sink.written c.serve-in-Block.new.sink) c.serve-in-Block.result
-    (subst (λ (b : List ℕ). Answers (WriteBlock c.in-Block.kind b) c.args.session.now.replica c.serve-in-Block.new.replica (g.D.Disk.told c.args.disk.now) (g.D.Disk.told c.serve-in-Block.new.disk) (g.W.Sink.written c.args.sink.now) (g.W.Sink.written c.serve-in-Block.new.sink) c.serve-in-Block.result) c.body-in-Block.ensures c.serve-in-Block.ensures.answers))
+    (subst (λ (b : List ℕ). Answers (WriteBlock c.in-Block.kind b) c.args.session.now.replica c.serve-in-Block.new.replica (g.D.Disk.told c.args.disk.now) (g.D.Disk.told c.serve-in-Block.new.disk) (g.W.Sink.written c.args.sink.now) (g.W.Sink.written c.serve-in-Block.new.sink) c.serve-in-Block.result) c.body-body-in-Block.ensures c.serve-in-Block.ensures.answers))
 
 pub returns-in-Release-clause-answers : goal.returns-in-Release-clause-answers
 returns-in-Release-clause-answers g c =
@@ -36,7 +36,7 @@ pub returns-in-Checkpoint-clause-answers : goal.returns-in-Checkpoint-clause-ans
 returns-in-Checkpoint-clause-answers g c =
     subst (λ (l : Line). ServesLine (said_with c.args.session.now.lines.body l) c.args.session.now.replica c.serve-in-Checkpoint.new.replica (g.D.Disk.told c.args.disk.now) (g.D.Disk.told c.serve-in-Checkpoint.new.disk) (g.W.Sink.written c.args.sink.now) (g.W.Sink.written c.serve-in-Checkpoint.new.sink) c.serve-in-Checkpoint.result) (sym c.in-Checkpoint.is)
     (serves_line (said_with c.args.session.now.lines.body (asked.Checkpoint c.in-Checkpoint.length)) _ refl (λ x. refl) c.args.session.now.replica c.serve-in-Checkpoint.new.replica (g.D.Disk.told c.args.disk.now) (g.D.Disk.told c.serve-in-Checkpoint.new.disk) (g.W.Sink.written c.args.sink.now) (g.W.Sink.written c.serve-in-Checkpoint.new.sink) c.serve-in-Checkpoint.result
-    (subst (λ (b : List ℕ). Answers (Begin b) c.args.session.now.replica c.serve-in-Checkpoint.new.replica (g.D.Disk.told c.args.disk.now) (g.D.Disk.told c.serve-in-Checkpoint.new.disk) (g.W.Sink.written c.args.sink.now) (g.W.Sink.written c.serve-in-Checkpoint.new.sink) c.serve-in-Checkpoint.result) c.body-in-Checkpoint.ensures c.serve-in-Checkpoint.ensures.answers))
+    (subst (λ (b : List ℕ). Answers (Begin b) c.args.session.now.replica c.serve-in-Checkpoint.new.replica (g.D.Disk.told c.args.disk.now) (g.D.Disk.told c.serve-in-Checkpoint.new.disk) (g.W.Sink.written c.args.sink.now) (g.W.Sink.written c.serve-in-Checkpoint.new.sink) c.serve-in-Checkpoint.result) c.body-root.ensures c.serve-in-Checkpoint.ensures.answers))
 
 pub returns-in-Step-clause-answers : goal.returns-in-Step-clause-answers
 returns-in-Step-clause-answers g c =

@@ -10,8 +10,8 @@ use Rattle.df_top.proofs.works.make.Goals as goal
 
 pub returns-in-Some-Append : goal.returns-in-Some-Append
 returns-in-Some-Append g c = record {
-  makes = as_asked (λ (d : Command). MakesTo d c.args.replica.now c.carry_out.new.replica (g.D.Disk.told c.args.disk.now) (g.D.Disk.told c.carry_out.new.disk) c.carry_out.result) c.args.generator.now (Append c.in-Some-Append.client c.in-Some-Append.request c.body.result.now) (Append c.in-Some-Append.client c.in-Some-Append.request (drawn_body c.args.generator.now.number)) (asks_so c.args.generator.now c.in-Some-Append.field-0 (asked.Append c.in-Some-Append.client c.in-Some-Append.request) c.in-Some-Append.ensures.some c.in-Some-Append.field-0-is) (ap (Append c.in-Some-Append.client c.in-Some-Append.request) c.body.ensures) c.carry_out.ensures.makes;
-  runs = as_asked (λ (d : Command). RunsOn d c.args.replica.now c.carry_out.new.replica c.carry_out.result) c.args.generator.now (Append c.in-Some-Append.client c.in-Some-Append.request c.body.result.now) (Append c.in-Some-Append.client c.in-Some-Append.request (drawn_body c.args.generator.now.number)) (asks_so c.args.generator.now c.in-Some-Append.field-0 (asked.Append c.in-Some-Append.client c.in-Some-Append.request) c.in-Some-Append.ensures.some c.in-Some-Append.field-0-is) (ap (Append c.in-Some-Append.client c.in-Some-Append.request) c.body.ensures) c.carry_out.ensures.runs;
+  makes = as_asked (λ (d : Command). MakesTo d c.args.replica.now c.carry_out.new.replica (g.D.Disk.told c.args.disk.now) (g.D.Disk.told c.carry_out.new.disk) c.carry_out.result) c.args.generator.now (Append c.in-Some-Append.client c.in-Some-Append.request c.body-body.result.now) (Append c.in-Some-Append.client c.in-Some-Append.request (drawn_body c.args.generator.now.number)) (asks_so c.args.generator.now c.in-Some-Append.field-0 (asked.Append c.in-Some-Append.client c.in-Some-Append.request) c.in-Some-Append.ensures.some c.in-Some-Append.field-0-is) (ap (Append c.in-Some-Append.client c.in-Some-Append.request) c.body-body.ensures) c.carry_out.ensures.makes;
+  runs = as_asked (λ (d : Command). RunsOn d c.args.replica.now c.carry_out.new.replica c.carry_out.result) c.args.generator.now (Append c.in-Some-Append.client c.in-Some-Append.request c.body-body.result.now) (Append c.in-Some-Append.client c.in-Some-Append.request (drawn_body c.args.generator.now.number)) (asks_so c.args.generator.now c.in-Some-Append.field-0 (asked.Append c.in-Some-Append.client c.in-Some-Append.request) c.in-Some-Append.ensures.some c.in-Some-Append.field-0-is) (ap (Append c.in-Some-Append.client c.in-Some-Append.request) c.body-body.ensures) c.carry_out.ensures.runs;
   disk = c.carry_out.ensures.disk;
 }
 
@@ -31,8 +31,8 @@ returns-in-Some-Step g c = record {
 
 pub returns-in-Some-Block : goal.returns-in-Some-Block
 returns-in-Some-Block g c = record {
-  makes = as_asked (λ (d : Command). MakesTo d c.args.replica.now c.carry_out-in-Some-Block.new.replica (g.D.Disk.told c.args.disk.now) (g.D.Disk.told c.carry_out-in-Some-Block.new.disk) c.carry_out-in-Some-Block.result) c.args.generator.now (WriteBlock 1 c.body-in-Some-Block.result.now) (WriteBlock 1 (drawn_body c.args.generator.now.number)) (asks_so c.args.generator.now c.in-Some-Block.field-0 asked.Block c.in-Some-Block.ensures.some c.in-Some-Block.field-0-is) (ap (WriteBlock 1) c.body-in-Some-Block.ensures) c.carry_out-in-Some-Block.ensures.makes;
-  runs = as_asked (λ (d : Command). RunsOn d c.args.replica.now c.carry_out-in-Some-Block.new.replica c.carry_out-in-Some-Block.result) c.args.generator.now (WriteBlock 1 c.body-in-Some-Block.result.now) (WriteBlock 1 (drawn_body c.args.generator.now.number)) (asks_so c.args.generator.now c.in-Some-Block.field-0 asked.Block c.in-Some-Block.ensures.some c.in-Some-Block.field-0-is) (ap (WriteBlock 1) c.body-in-Some-Block.ensures) c.carry_out-in-Some-Block.ensures.runs;
+  makes = as_asked (λ (d : Command). MakesTo d c.args.replica.now c.carry_out-in-Some-Block.new.replica (g.D.Disk.told c.args.disk.now) (g.D.Disk.told c.carry_out-in-Some-Block.new.disk) c.carry_out-in-Some-Block.result) c.args.generator.now (WriteBlock 1 c.body-body-in-Some-Block.result.now) (WriteBlock 1 (drawn_body c.args.generator.now.number)) (asks_so c.args.generator.now c.in-Some-Block.field-0 asked.Block c.in-Some-Block.ensures.some c.in-Some-Block.field-0-is) (ap (WriteBlock 1) c.body-body-in-Some-Block.ensures) c.carry_out-in-Some-Block.ensures.makes;
+  runs = as_asked (λ (d : Command). RunsOn d c.args.replica.now c.carry_out-in-Some-Block.new.replica c.carry_out-in-Some-Block.result) c.args.generator.now (WriteBlock 1 c.body-body-in-Some-Block.result.now) (WriteBlock 1 (drawn_body c.args.generator.now.number)) (asks_so c.args.generator.now c.in-Some-Block.field-0 asked.Block c.in-Some-Block.ensures.some c.in-Some-Block.field-0-is) (ap (WriteBlock 1) c.body-body-in-Some-Block.ensures) c.carry_out-in-Some-Block.ensures.runs;
   disk = c.carry_out-in-Some-Block.ensures.disk;
 }
 
