@@ -195,7 +195,7 @@ def with_quartiles(values: list, places: int = 1) -> str:
 
 
 def show(title: str, head: list, rows: list) -> None:
-    """A table, as docs/BENCHMARKS.md has it."""
+    """A table, as docs/evidence/BENCHMARKS.md has it."""
     print(f"\n{title}\n\n| " + " | ".join(head) + " |\n" + "|---" * len(head) + "|")
     for row in rows:
         print("| " + " | ".join(f"{cell:,}" if isinstance(cell, int) else str(cell) for cell in row) + " |")

@@ -1,4 +1,4 @@
-"""What the program costs, each measured in one run beside its yardstick; docs/BENCHMARKS.md has the tables.
+"""What the program costs, each measured in one run beside its yardstick; docs/evidence/BENCHMARKS.md has the tables.
 
     python3 bench/costs.py PATH-TO-datafile [--disk FOLDER] [--memory FOLDER] [--rounds N] [--seed N] [--tables WORD ..] [--yardstick PATH]
 

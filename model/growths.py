@@ -5,7 +5,7 @@
 The first program carries the words out over a file, the second over a disk, a source and a sink in memory. The C library is told to ask
 the kernel for each piece of memory by a call of its own, and strace refuses the Nth of these calls, for each N that there is. A growth
 within a page of a piece needs no call, and isn't refused. Prints what came of them, in counts, or the first outcome that isn't allowed, with
-status 1. It needs strace, and the C library of GNU. See docs/MODEL-TRIES.md.
+status 1. It needs strace, and the C library of GNU. See docs/evidence/MODEL-TRIES.md.
 """
 
 import os

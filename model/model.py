@@ -3,7 +3,7 @@
     python3 model/model.py PATH-TO-datafile [--knows LEVEL] [--seconds N] [--seed N] [--kind NAME] ..
 
 Prints what was tried, with counts, or the first disagreement and the command that tries it again. Ends with status 1
-where the two disagree. See docs/MODEL-TRIES.md.
+where the two disagree. See docs/evidence/MODEL-TRIES.md.
 """
 
 import sys

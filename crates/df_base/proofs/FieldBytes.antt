@@ -1,6 +1,6 @@
 -- The bytes of fields and checksums: how many they are, that each is below 256, and that a field's
 -- bytes are those of the number that it reads as.
-use Rattle.std.proofs.Common.{◌≡◌, ℕ, zero, suc, ◌+◌, ◌*◌, ◌/◌, ◌%◌, ◌^◌, ◌<◌, ◌≤◌, List, [], ◌∷◌, ◌++◌, length, take, drop, slice_index, refl, sym, ap, ◌∙◌, subst, arith, length-append, length-drop}
+use Rattle.std.proofs.Common.{◌≡◌, ℕ, zero, suc, ◌+◌, ◌*◌, ◌/◌, ◌%◌, ◌^◌, ◌<◌, ◌≤◌, List, [], ◌∷◌, ◌++◌, length, take, drop, replicate, slice_index, refl, sym, ap, ◌∙◌, subst, arith, length-append, length-drop}
 use Rattle.std.proofs.Math.Nat.{div-div-eq-div-mul, div-one, pow-succ'}
 use Rattle.std.proofs.lemmas.List.{get_or-drop, length-take-le}
 use Rattle.std.specs.Int.{w32, byte_at, bytes_low_first, bytes_high_first, to_be_bytes}
@@ -9,26 +9,31 @@ use Rattle.byteorder.specs.Endian.{little_from, little_number}
 use Rattle.byteorder.specs.Numbers.{little_from-cons, little_from-lt, little_from-take, length-bytes_low_first, little_number-reads_back}
 use Rattle.df_base.specs.Fields.{AreBytes, field_at, spelled, check_of}
 
-AreBytes-nil : AreBytes []
+pub AreBytes-nil : AreBytes []
 AreBytes-nil i = omega arith
 
-AreBytes-cons : (x : ℕ) (xs : List ℕ) → x < 256 → AreBytes xs → AreBytes (x ∷ xs)
+pub AreBytes-cons : (x : ℕ) (xs : List ℕ) → x < 256 → AreBytes xs → AreBytes (x ∷ xs)
 AreBytes-cons x xs here there zero = here
 AreBytes-cons x xs here there (suc i) = there i
 
-AreBytes-append : (xs ys : List ℕ) → AreBytes xs → AreBytes ys → AreBytes (xs ++ ys)
+pub AreBytes-append : (xs ys : List ℕ) → AreBytes xs → AreBytes ys → AreBytes (xs ++ ys)
 AreBytes-append [] ys left right = right
 AreBytes-append (x ∷ xs) ys left right = AreBytes-cons x (xs ++ ys) (left 0) (AreBytes-append xs ys (λ i. left (suc i)) right)
 
-AreBytes-take : (n : ℕ) (xs : List ℕ) → AreBytes xs → AreBytes (take n xs)
+pub AreBytes-take : (n : ℕ) (xs : List ℕ) → AreBytes xs → AreBytes (take n xs)
 AreBytes-take zero xs are = AreBytes-nil
 AreBytes-take (suc n) [] are = AreBytes-nil
 AreBytes-take (suc n) (x ∷ xs) are = AreBytes-cons x (take n xs) (are 0) (AreBytes-take n xs (λ i. are (suc i)))
 
-AreBytes-drop : (n : ℕ) (xs : List ℕ) → AreBytes xs → AreBytes (drop n xs)
+pub AreBytes-drop : (n : ℕ) (xs : List ℕ) → AreBytes xs → AreBytes (drop n xs)
 AreBytes-drop n xs are i = rw (get_or-drop n xs i 0) (are (n + i))
 
-byte_at-lt : (k x : ℕ) → byte_at k x < 256
+pub AreBytes-zeros : (n : ℕ) → AreBytes (replicate n 0)
+AreBytes-zeros zero i = omega arith
+AreBytes-zeros (suc n) zero = omega arith
+AreBytes-zeros (suc n) (suc i) = AreBytes-zeros n i
+
+pub byte_at-lt : (k x : ℕ) → byte_at k x < 256
 byte_at-lt zero x = omega arith
 byte_at-lt (suc k) x = omega arith
 

@@ -4,7 +4,7 @@ use Rattle.std.proofs.lemmas.List.Prefix.{end_rest}
 use Rattle.df_base.specs.Log.{Log, Event, add}
 use Rattle.df_base.specs.Moments.{Extends, EachMoment, Passed, adds}
 
-same_log : (a b : Log) → a.events ≡ b.events → a.start ≡ b.start → a ≡ b
+pub same_log : (a b : Log) → a.events ≡ b.events → a.start ≡ b.start → a ≡ b
 same_log a b es st i = record { start = st i; events = es i }
 
 pub extends_self : (log : Log) → Extends log log
@@ -12,6 +12,14 @@ extends_self log = ([], refl, refl)
 
 pub extends_add : (e : Event) (later earlier : Log) → Extends later earlier → Extends (add e later) earlier
 extends_add e later earlier more = (e ∷ more.0, ap (λ (l : List Event). e ∷ l) more.1, more.2)
+
+pub extends_on : (last later earlier : Log) → Extends last later → Extends later earlier → Extends last earlier
+extends_on last later earlier one two =
+    (one.0 ++ two.0, one.1 ∙ ap (λ (l : List Event). one.0 ++ l) two.1 ∙ sym (append_assoc one.0 two.0 earlier.events), one.2 ∙ two.2)
+
+pub adds_on : (es fs : List Event) (log : Log) → adds (es ++ fs) log ≡ adds fs (adds es log)
+adds_on [] fs log = refl
+adds_on (e ∷ es) fs log = adds_on es fs (add e log)
 
 -- the log after an event is the only new moment
 split_until : (e : Event) (mid log : Log) (new : List Event) → e ∷ mid.events ≡ new ++ log.events → mid.start ≡ log.start → (add e mid ≡ log) ⊎ Extends mid log

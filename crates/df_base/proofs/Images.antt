@@ -1,10 +1,19 @@
--- Writes of whole sectors and stops leave images of whole sectors.
+-- Writes of whole sectors and stops leave images of whole sectors, and a write leaves all others as they were.
 use Rattle.std.proofs.Common.{◌≡◌, inl, inr, ℕ, ◌+◌, ◌-◌, ◌*◌, ◌==◌, ◌<◌, ◌≤◌, Bool, true, false, cond, List, [], ◌∷◌, length, take, drop, if◌then◌else◌, refl, arith, length-drop}
-use Rattle.std.proofs.lemmas.Bool.{cases_lt}
+use Rattle.std.proofs.lemmas.Bool.{cases_lt, cond-false}
 use Rattle.std.proofs.lemmas.Bool.Decides.{nat_tests}
-use Rattle.std.proofs.lemmas.List.{get_or-take, get_or-drop, get_or_past, length-take-le}
-use Rattle.df_base.specs.Image.{Image, IsSector, IsImage, IsPiece, covers, written, changed}
+use Rattle.std.proofs.lemmas.List.{get_or-take, get_or-drop, get_or_past, length-replicate, length-take-le}
+use Rattle.df_base.specs.Image.{Image, IsSector, IsImage, IsPiece, blank, covers, written, changed}
 use Rattle.df_base.specs.Log.{Event, Write, Sync, Stop, AreLoose, AreEvents, now_of}
+use Rattle.df_base.proofs.FieldBytes.{AreBytes-zeros}
+
+pub blank_is_image : IsImage blank
+unfolding blank
+blank_is_image = record { sectors = λ sector. record { size = length-replicate {A = ℕ} 4096 0; each = AreBytes-zeros 4096 } }
+
+pub written_else : (at : ℕ) (bytes : List ℕ) (image : Image) (sector : ℕ) → covers at bytes sector ≡ false → written at bytes image sector ≡ image sector
+unfolding written
+written_else at bytes image sector other = cond-false (covers at bytes sector) _ _ other
 
 -- a sector of whole sectors
 part_is_sector : (bytes : List ℕ) (k : ℕ) → IsPiece bytes → 4096 * k < length bytes → IsSector (take 4096 (drop (4096 * k) bytes))

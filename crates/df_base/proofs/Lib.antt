@@ -5,3 +5,5 @@ pub mod Goes
 pub mod Images
 pub mod Laws
 pub mod Pieces
+pub mod Plain
+pub mod Sinks

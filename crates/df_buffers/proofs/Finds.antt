@@ -19,7 +19,7 @@ use Rattle.df_format.specs.Shown.{unit_in, class_of, header_or_class}
 use Rattle.df_format.specs.Valid.{IsUnit}
 use Rattle.df_format.specs.Wanted.{IsWanted, Wanted as Words, Any as AnyOne, Op as WithOp, Checksum as WithChecksum, Answer as AnswerTo}
 use Rattle.df_format.specs.UnitLaws.{place_size}
-use Rattle.df_format.proofs.Laws.{one_unit, valid_stale, body_follows, ring_has_no_body, count_is, front_brings}
+use Rattle.df_format.proofs.Laws.{one_unit, valid_stale, body_follows, ring_has_no_body, count_is, front_brings, fits_slot}
 use Rattle.df_buffers.specs.declared.identity.Identity.{Identity}
 use Rattle.df_buffers.specs.declared.identity.Wanted.{Wanted}
 use Rattle.df_buffers.specs.declared.identity.Wanted.TheVariants.{Any}
@@ -86,15 +86,6 @@ is_no_ring Prepare zone stands same = absurd (subst (λ (z : Zone). StandsIn Pre
 is_no_ring Reply zone stands same = absurd (subst (λ (z : Zone). StandsIn Reply z) same stands)
 is_no_ring Block zone stands same = absurd (subst (λ (z : Zone). StandsIn Block z) same stands)
 is_no_ring Trailer zone stands same = absurd (subst (λ (z : Zone). StandsIn Trailer z) same stands)
-
--- no unit is longer than its slot
-pub fits_slot : (layout : Layout) (zone : Zone) → zone ≢ WalHeaders → greatest_size layout zone ≤ 4096 * place_sectors layout zone
-unfolding place_sectors
-fits_slot layout Superblock other = omega arith
-fits_slot layout WalHeaders other = absurd (other refl)
-fits_slot layout WalPrepares other = omega (arith, layout.message_size_within.2)
-fits_slot layout ClientReplies other = omega (arith, layout.message_size_within.2)
-fits_slot layout Grid other = omega (arith, layout.block_size_within.2)
 
 -- the unit of a slot is its header, and the body that follows it
 pub found_whole : (layout : Layout) (cluster : ℕ) (place : Place) (bytes : List ℕ) (u : Message) (h : Header) → place.zone ≢ WalHeaders → u.header ≡ h → unit_in layout cluster place bytes ≡ Some u → u ≡ unit_with h bytes

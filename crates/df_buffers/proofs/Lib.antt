@@ -1,3 +1,4 @@
 pub mod Finds
 pub mod Making
 pub mod Probes
+pub mod Laws

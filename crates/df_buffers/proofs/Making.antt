@@ -2,6 +2,7 @@
 use Rattle.std.proofs.Common.{◌≡◌, ◌≢◌, ◌≤◌, ◌+◌, ◌-◌, ◌*◌, ℕ, Bool, true, false, List, ◌++◌, length, take, drop, replicate, Option, Some, None, cond, refl, sym, ◌∙◌, ap, subst, append_assoc, arith}
 use Rattle.std.specs.Prelude.{IsSome}
 use Rattle.std.proofs.lemmas.List.{take-append-drop, take_at}
+use Rattle.std.proofs.lemmas.Option.{same_Some}
 use Rattle.df_layout.specs.declared.layout.Layout.{Layout}
 use Rattle.df_layout.specs.declared.places.Place.{Place}
 use Rattle.df_layout.specs.declared.places.Zone.{Zone}
@@ -17,17 +18,14 @@ use Rattle.df_format.specs.Whole.{greatest_size}
 use Rattle.df_format.specs.Making.{for_body}
 use Rattle.df_format.specs.Valid.{IsUnit}
 use Rattle.df_format.specs.UnitLaws.{MadeIsUnit}
-use Rattle.df_format.proofs.Laws.{begun_is_shown}
+use Rattle.df_format.proofs.Laws.{begun_is_shown, fits_slot}
 use Rattle.df_buffers.specs.Rooms.{StandsIn, FillsRoom}
 use Rattle.df_buffers.specs.Sounds.{IsSound, unit_with}
-use Rattle.df_buffers.proofs.Finds.{is_no_ring, fits_slot, found_whole}
+use Rattle.df_buffers.proofs.Finds.{is_no_ring, found_whole}
 
 some_of : {X : Type 0} (o : Option X) → IsSome o → (x : X) × (o ≡ Some x)
 some_of None is = absurd (cc)
 some_of (Some x) is = (x, refl)
-
-some_same : {X : Type 0} {x y : X} → Some x ≡ Some y → x ≡ y
-some_same is = cc
 
 if_true : {X : Type 0} (b : Bool) (o : Option X) (x : X) → cond b o None ≡ Some x → o ≡ Some x
 if_true true o x is = is
@@ -77,10 +75,10 @@ own_same layout zone h body = λ i. cond (slot_same layout h.kind h body i) (ins
 
 -- what a kind's header names lies in its zone
 zone_named : (kind : Kind) (zone : Zone) (h : Header) (place : Place) → StandsIn kind zone → h.kind ≡ kind → named_place zone h ≡ Some place → place.zone ≡ zone
-zone_named Prepare WalPrepares h place stands same is = sym (ap (λ (p : Place). p.zone) (some_same (ap (λ (k : Kind). named_elsewhere k h) (sym same) ∙ is)))
-zone_named Reply ClientReplies h place stands same is = sym (ap (λ (p : Place). p.zone) (some_same (ap (λ (k : Kind). named_elsewhere k h) (sym same) ∙ is)))
-zone_named Block Grid h place stands same is = sym (ap (λ (p : Place). p.zone) (some_same (ap (λ (k : Kind). named_elsewhere k h) (sym same) ∙ is)))
-zone_named Trailer Grid h place stands same is = sym (ap (λ (p : Place). p.zone) (some_same (ap (λ (k : Kind). named_elsewhere k h) (sym same) ∙ is)))
+zone_named Prepare WalPrepares h place stands same is = sym (ap (λ (p : Place). p.zone) (same_Some _ _ (ap (λ (k : Kind). named_elsewhere k h) (sym same) ∙ is)))
+zone_named Reply ClientReplies h place stands same is = sym (ap (λ (p : Place). p.zone) (same_Some _ _ (ap (λ (k : Kind). named_elsewhere k h) (sym same) ∙ is)))
+zone_named Block Grid h place stands same is = sym (ap (λ (p : Place). p.zone) (same_Some _ _ (ap (λ (k : Kind). named_elsewhere k h) (sym same) ∙ is)))
+zone_named Trailer Grid h place stands same is = sym (ap (λ (p : Place). p.zone) (same_Some _ _ (ap (λ (k : Kind). named_elsewhere k h) (sym same) ∙ is)))
 zone_named kind zone h place stands same is = absurd stands
 
 -- the bytes begin with the unit whose sectors were written over them

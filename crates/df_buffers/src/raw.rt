@@ -1,5 +1,5 @@
 // Raw rooms: buffers of the length of a kind's place, with any bytes.
-ghost use Rattle.std.specs.Prelude.{◌≡◌, ◌≤◌, ◌++◌, List, ℕ, length, take, drop, replicate, IfOk};
+ghost use Rattle.std.specs.Prelude.{◌≡◌, ◌++◌, length, take, drop, replicate, IfOk};
 ghost use Rattle.std.specs.Borrow.{sem, Lends, Array, u8 as byte};
 ghost use Rattle.df_buffers.specs.Rooms.{FillsRoom, room_size};
 ghost use Rattle.df_buffers.specs.contracts.raw.Raw.{the_row};
@@ -46,14 +46,11 @@ impl<K: RoomKind> Raw<K> {
         ensures { IfOk result (λ room. room ≡ record { layout = layout.now; bytes = replicate (room_size layout.now K.ZONE) 0 }) }
     {
         let size = room_size(layout, K::ZONE);
-        match vec![in alloc; 0u8; size] {
-            Ok(bytes) => Ok(Raw {
-                layout: *layout,
-                bytes,
-                kind: PhantomData,
-            }),
-            Err(_) => Err(OutOfMemory),
-        }
+        Ok(Raw {
+            layout: *layout,
+            bytes: vec![in alloc; 0u8; size]?,
+            kind: PhantomData,
+        })
     }
 
     /// The bytes of the room, which keeps its length.

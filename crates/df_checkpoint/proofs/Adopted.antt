@@ -1,5 +1,5 @@
 -- What the grid holds after each block that is adopted, and which addresses are free then.
-use Rattle.std.proofs.Common.{◌≡◌, ℕ, zero, suc, ◌+◌, ◌-◌, ◌<◌, ◌≤◌, ◌==◌, ◌||◌, nat_lt, Bool, true, false, Option, Some, None, List, [], ◌∷◌, length, map, drop, get_or, refl, sym, ap, ◌∙◌, subst, arith}
+use Rattle.std.proofs.Common.{◌≡◌, ℕ, zero, suc, ◌+◌, ◌-◌, ◌<◌, ◌≤◌, ◌==◌, ◌||◌, nat_lt, Bool, true, false, Option, Some, None, List, [], ◌∷◌, length, map, drop, get_or, refl, sym, ap, ◌∙◌, subst, arith, le-ltb, ne_eqb}
 use Rattle.std.specs.Prelude.{if◌then◌else◌, OnOk, Result, Ok, Err}
 use Rattle.std.specs.List.{range_with_len}
 use Rattle.std.proofs.lemmas.Bool.Decides.{nat_tests}
@@ -15,21 +15,17 @@ use Rattle.df_trailer.specs.declared.reader.Reader.{Reader}
 use Rattle.df_checkpoint.specs.declared.fault.TrailerFault.{TrailerFault}
 use Rattle.df_checkpoint.specs.declared.fault.TrailerFault.TheVariants.{Damaged, BadField, DiskFault}
 use Rattle.df_checkpoint.specs.Adopting.{AdoptAnswer, blocks_to, chained, pair_of}
-use Rattle.df_checkpoint.proofs.OneLink.{no_eq}
 
 -- blocks that are live and referenced
 abbrev held_by : List (ℕ × ℕ) → Blocks
 held_by xs = record { live = xs; captured = []; written = []; left = []; durable = xs; chain = [] }
 
-no_lt : (a b : ℕ) → b ≤ a → nat_lt a b ≡ false
-no_lt a b le = grind (arith, nat_tests)
-
 -- an entry behind a lower one
 behind : (a c s : ℕ) (o : Option ℕ) (xs : List (ℕ × ℕ)) → s < a → with_entry a c (entry s o xs) ≡ entry s o (with_entry a c xs)
 behind a c s None xs less = refl
 behind a c s (Some d) xs less =
-    ap (λ (b : Bool). if b then (a, c) ∷ (s, d) ∷ xs else (if s == a then (a, c) ∷ xs else (s, d) ∷ with_entry a c xs)) (no_lt a s (omega arith))
-    ∙ ap (λ (b : Bool). if b then (a, c) ∷ xs else (s, d) ∷ with_entry a c xs) (no_eq s a (λ same. omega (arith, same)))
+    ap (λ (b : Bool). if b then (a, c) ∷ (s, d) ∷ xs else (if s == a then (a, c) ∷ xs else (s, d) ∷ with_entry a c xs)) (le-ltb a s (omega arith))
+    ∙ ap (λ (b : Bool). if b then (a, c) ∷ xs else (s, d) ∷ with_entry a c xs) (ne_eqb s a (λ same. omega (arith, same)))
 
 last_some : (f : ℕ → Option ℕ) (s n c : ℕ) → f (s + n) ≡ Some c → with_entry (s + n) c (entries f (range_with_len s n)) ≡ entries f (range_with_len s (suc n))
 last_some f s zero c is = let none : s + 0 ≡ s = omega arith in ap (λ (a : ℕ). (a, c) ∷ []) none ∙ ap (λ (o : Option ℕ). entry s o []) (sym is ∙ ap f none)
@@ -63,7 +59,7 @@ sum_none f s (suc n) a none = go (f s) refl (sum_none f (s + 1) n a (λ from to.
   where
     go : (o : Option ℕ) → f s ≡ o → sum_at a (entries f (range_with_len (s + 1) n)) ≡ None → sum_at a (entry s o (entries f (range_with_len (s + 1) n))) ≡ None
     go None is rest = rest
-    go (Some c) is rest = ap (λ (b : Bool). if b then Some c else sum_at a (entries f (range_with_len (s + 1) n))) (no_eq s a apart) ∙ rest
+    go (Some c) is rest = ap (λ (b : Bool). if b then Some c else sum_at a (entries f (range_with_len (s + 1) n))) (ne_eqb s a apart) ∙ rest
       where
         apart : s ≡ a → ⊥
         apart same = let e : f a ≡ None = none (omega (arith, same)) (omega (arith, same)) in let h : f a ≡ Some c = ap f (sym same) ∙ is in cc

@@ -1,6 +1,7 @@
 -- The text of a chain, as its blocks are shown again from the first to the last.
 use Rattle.std.proofs.Common.{◌≡◌, ℕ, zero, suc, ◌+◌, ◌-◌, ◌<◌, ◌≤◌, Option, Some, None, List, [], ◌∷◌, ◌++◌, length, drop, get_or, refl, sym, ap, ◌∙◌, subst, arith, append_assoc, rules}
 use Rattle.std.specs.Prelude.{◌↔◌, IsOk, Result, Ok, Err}
+use Rattle.df_base.specs.Causes.{IsBlamed}
 use Rattle.df_disk.specs.Told.{Told}
 use Rattle.df_layout.specs.declared.layout.Layout.{Layout}
 use Rattle.df_format.specs.Message.{Message}
@@ -19,7 +20,7 @@ use Rattle.df_grid.specs.Reads.{ReadsTrailer, shown_of}
 use Rattle.df_checkpoint.specs.declared.links.Link.{Link}
 use Rattle.df_checkpoint.specs.declared.fault.TrailerFault.{TrailerFault}
 use Rattle.df_checkpoint.specs.declared.fault.TrailerFault.TheVariants.{Damaged, BadField, DiskFault}
-use Rattle.df_checkpoint.specs.Chain.{AreApart, IsBlamed, Names, OfTold, asked}
+use Rattle.df_checkpoint.specs.Chain.{AreApart, Names, OfTold, asked, is_trailer_fault}
 use Rattle.df_checkpoint.proofs.Walked.{names_length}
 use Rattle.df_checkpoint.specs.Texts.{FeedAnswer, Feeds, HasReadTo, IsBody, TextAnswer, bad_of}
 
@@ -48,10 +49,10 @@ fed_answer g told at r old new u result refers reads feeds = go result feeds
     go (Err DiskFault) feeds = tt
 
 -- a reader doesn't blame the disk
-pub fed_blames : (before now : ℕ) (result : Result (Unit {0}) TrailerFault) (given : Result (Unit {0}) Fault) → now ≡ before → result ≡ bad_of given → IsBlamed before now result
-fed_blames before now result given same is = subst (λ (r : Result (Unit {0}) TrailerFault). IsBlamed before now r) (sym is) (go given)
+pub fed_blames : (before now : ℕ) (result : Result (Unit {0}) TrailerFault) (given : Result (Unit {0}) Fault) → now ≡ before → result ≡ bad_of given → IsBlamed is_trailer_fault before now result
+fed_blames before now result given same is = subst (λ (r : Result (Unit {0}) TrailerFault). IsBlamed is_trailer_fault before now r) (sym is) (go given)
   where
-    go : (given : Result (Unit {0}) Fault) → IsBlamed before now (bad_of given)
+    go : (given : Result (Unit {0}) Fault) → IsBlamed is_trailer_fault before now (bad_of given)
     go (Ok x) = same
     go (Err f) = same
 

@@ -6,10 +6,10 @@ use Rattle.df_theory.specs.Shape.{Shape}
 use Rattle.df_theory.specs.Trailer.{InChain, Links}
 use Rattle.df_theory.specs.Opens.{AreLinks, Arrives, IsLink, IsShown}
 use Rattle.df_model.specs.Supply.{Shown}
+use Rattle.df_model.proofs.Laws.{count_le}
 use Rattle.df_checkpoint.specs.Chain.{asked}
 use Rattle.df_checkpoint.specs.Laws.{BrokenIsShown, WholeIsShown}
 use Rattle.df_checkpoint.proofs.OneLink.{asked_is}
-use Rattle.df_checkpoint.proofs.Unreadable.{count_once}
 
 -- two blocks at one address are one
 one_block : (image : Units) (a e : ℕ) (x y : Block) → a ≡ e → image (BlockPlace a) ≡ Some (BlockUnit x) → image (BlockPlace e) ≡ Some (BlockUnit y) → x ≡ y
@@ -37,8 +37,8 @@ ends_before sh shown c n index (x ∷ xs) (y ∷ ys) address sum a k e d block a
 pub broken_shown : BrokenIsShown
 broken_shown sh shown c at bad e d reads =
     let room : ℕ = sh.layout.block_size - 256 in
-    let one = count_once room c.trailer_size bad.reads.count reads.count bad.reads.counts reads.counts in
-    let two = count_once room c.trailer_size reads.count bad.reads.count reads.counts bad.reads.counts in
+    let one = count_le room c.trailer_size bad.reads.count reads.count bad.reads.counts reads.counts in
+    let two = count_le room c.trailer_size reads.count bad.reads.count reads.counts bad.reads.counts in
     let same : reads.count ≡ length bad.reads.read + (bad.index + 1) = omega (arith, one, two, bad.at) in
     ends_before sh shown c reads.count bad.index bad.reads.read reads.read c.trailer c.trailer_checksum at bad.sum e d bad.block bad.reads.arrives reads.arrives same reads.links bad.is bad.broken
 
@@ -55,5 +55,5 @@ within_chain room image c (x ∷ xs) (y ∷ ys) address sum a k links shows arri
 pub whole_shown : WholeIsShown
 whole_shown sh shown c chain whole e d reads =
     let room : ℕ = sh.layout.block_size - 256 in
-    let most = count_once room c.trailer_size reads.count (length chain) reads.counts whole.count in
+    let most = count_le room c.trailer_size reads.count (length chain) reads.counts whole.count in
     within_chain room shown.units c chain reads.read c.trailer c.trailer_checksum e d whole.links whole.shows reads.arrives (omega (arith, reads.more, most))

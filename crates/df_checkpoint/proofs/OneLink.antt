@@ -1,7 +1,8 @@
 -- One link: what is shown where a block is asked for, and what the tests of a link say of it.
-use Rattle.std.proofs.Common.{◌≡◌, ℕ, ◌-◌, ◌<◌, ◌≤◌, ◌==◌, ◌&&◌, ◌||◌, nat_le, Bool, true, false, Option, Some, None, length, refl, sym, ap, ◌∙◌, subst, arith}
+use Rattle.std.proofs.Common.{◌≡◌, ℕ, ◌-◌, ◌<◌, ◌≤◌, ◌==◌, ◌&&◌, ◌||◌, nat_le, Bool, true, false, Option, Some, None, length, refl, sym, ap, ◌∙◌, subst, arith, eqb-true, eq-eqb, ne_eqb, leb-true, le-leb}
 use Rattle.std.specs.Prelude.{Result, Ok, Err, MatchResult}
 use Rattle.std.proofs.lemmas.Bool.Decides.{nat_tests}
+use Rattle.std.proofs.lemmas.Bool.{and_parts, and_from}
 use Rattle.df_disk.specs.Told.{Told}
 use Rattle.df_layout.specs.declared.damage.Class.{Class}
 use Rattle.df_layout.specs.declared.damage.Class.TheVariants.{Stale}
@@ -27,32 +28,9 @@ use Rattle.df_checkpoint.specs.declared.fault.TrailerFault.{TrailerFault}
 use Rattle.df_checkpoint.specs.declared.fault.TrailerFault.TheVariants.{BadField}
 use Rattle.df_checkpoint.specs.Chain.{LinkAnswer, OfTold, asked, before_of, content_in, is_link}
 
-both : (a b : Bool) → (a && b) ≡ true → (a ≡ true) × (b ≡ true)
-both true b is = (refl, is)
-both false b is = absurd (cc)
-
-and_both : (a b : Bool) → a ≡ true → b ≡ true → (a && b) ≡ true
-and_both true b one two = two
-and_both false b one two = absurd (cc)
-
 either : (a b : Bool) → (a || b) ≡ true → a ≡ false → b ≡ true
 either true b is none = absurd (cc)
 either false b is none = is
-
-pub eq_true : (a b : ℕ) → (a == b) ≡ true → a ≡ b
-eq_true a b is = grind (arith, nat_tests)
-
-yes_eq : (a b : ℕ) → a ≡ b → (a == b) ≡ true
-yes_eq a b same = grind (arith, nat_tests)
-
-pub no_eq : (a b : ℕ) → (a ≡ b → ⊥) → (a == b) ≡ false
-no_eq a b apart = grind (arith, nat_tests)
-
-le_true : (a b : ℕ) → nat_le a b ≡ true → a ≤ b
-le_true a b is = grind (arith, nat_tests)
-
-yes_le : (a b : ℕ) → a ≤ b → nat_le a b ≡ true
-yes_le a b le = grind (arith, nat_tests)
 
 -- the tests of a link, on a unit
 abbrev passes : Layout → SuperFields → ℕ → Message → Bool
@@ -61,23 +39,23 @@ passes layout f index u = is_link layout f index u.header (length u.body)
 -- a block that passes the tests is the link
 pub link_is : (layout : Layout) (f : SuperFields) (index : ℕ) (u : Message) (sh : Shape) → sh.layout ≡ layout_of layout → passes layout f index u ≡ true → IsLink sh (content_in f) index (block_of u)
 link_is layout f index u sh same is =
-    let one = both _ _ is in
-    let two = both _ _ one.1 in
-    let three = both _ _ two.1 in
+    let one = and_parts _ _ is in
+    let two = and_parts _ _ one.1 in
+    let three = and_parts _ _ two.1 in
     record {
-      sequence = eq_true u.header.checkpoint f.sequence one.0;
-      place = eq_true u.header.mark index two.0;
-      size = eq_true (length u.body) (piece_size (layout.block_size - 256) f.trailer_size index) three.0 ∙ ap (λ (l : model.Layout). piece_size (l.block_size - 256) f.trailer_size index) (sym same);
+      sequence = eqb-true u.header.checkpoint f.sequence one.0;
+      place = eqb-true u.header.mark index two.0;
+      size = eqb-true (length u.body) (piece_size (layout.block_size - 256) f.trailer_size index) three.0 ∙ ap (λ (l : model.Layout). piece_size (l.block_size - 256) f.trailer_size index) (sym same);
       before = λ above.
-          let four = both _ _ (either (index == 0) (nat_le 1 u.header.request && nat_le u.header.request layout.blocks) three.1 (no_eq index 0 (λ zeros. omega (arith, zeros, above)))) in
-          (le_true 1 u.header.request four.0, subst (λ (l : model.Layout). u.header.request ≤ l.blocks) (sym same) (le_true u.header.request layout.blocks four.1));
+          let four = and_parts _ _ (either (index == 0) (nat_le 1 u.header.request && nat_le u.header.request layout.blocks) three.1 (ne_eqb index 0 (λ zeros. omega (arith, zeros, above)))) in
+          (leb-true 1 u.header.request four.0, subst (λ (l : model.Layout). u.header.request ≤ l.blocks) (sym same) (leb-true u.header.request layout.blocks four.1));
     }
 
 -- and one that is the link passes them
 pub link_passes : (layout : Layout) (f : SuperFields) (index : ℕ) (u : Message) (sh : Shape) → sh.layout ≡ layout_of layout → IsLink sh (content_in f) index (block_of u) → passes layout f index u ≡ true
 link_passes layout f index u sh same link =
-    and_both _ _ (yes_eq u.header.checkpoint f.sequence link.sequence) (and_both _ _ (yes_eq u.header.mark index link.place)
-    (and_both _ _ (yes_eq (length u.body) (piece_size (layout.block_size - 256) f.trailer_size index) (link.size ∙ ap (λ (l : model.Layout). piece_size (l.block_size - 256) f.trailer_size index) same)) (first index link.before)))
+    and_from _ _ (eq-eqb u.header.checkpoint f.sequence link.sequence) (and_from _ _ (eq-eqb u.header.mark index link.place)
+    (and_from _ _ (eq-eqb (length u.body) (piece_size (layout.block_size - 256) f.trailer_size index) (link.size ∙ ap (λ (l : model.Layout). piece_size (l.block_size - 256) f.trailer_size index) same)) (first index link.before)))
   where
     first : (i : ℕ) → (0 < i → (0 < u.header.request) × (u.header.request ≤ sh.layout.blocks)) → ((i == 0) || (nat_le 1 u.header.request && nat_le u.header.request layout.blocks)) ≡ true
     first i before = go (i == 0) refl
@@ -87,7 +65,7 @@ link_passes layout f index u sh same link =
         go false is =
             let above : 0 < i = grind (arith, nat_tests) in
             let h = before above in
-            and_both _ _ (yes_le 1 u.header.request (omega (arith, h.0))) (yes_le u.header.request layout.blocks (subst (λ (l : model.Layout). u.header.request ≤ l.blocks) same h.1))
+            and_from _ _ (le-leb 1 u.header.request (omega (arith, h.0))) (le-leb u.header.request layout.blocks (subst (λ (l : model.Layout). u.header.request ≤ l.blocks) same h.1))
 
 -- ---- what is shown
 
@@ -104,12 +82,12 @@ asked_is shown a k b is = go (shown.units (BlockPlace a)) (class_at shown (Block
     kind_of x true test e at sum = let same : x ≡ b = cc in record {
       shows = at ∙ ap (λ (y : Block). Some (BlockUnit y)) same;
       sum = ap (λ (y : Block). y.checksum) (sym same) ∙ sum;
-      kind = ap (λ (y : Block). y.kind) (sym same) ∙ eq_true x.kind 0 (sym test);
+      kind = ap (λ (y : Block). y.kind) (sym same) ∙ eqb-true x.kind 0 (sym test);
     }
     kind_of x false test e at sum = absurd (cc)
 
     sum_of : (x : Block) (class : Class) (t : Bool) → t ≡ (x.checksum == k) → trailer_alone (given_if t x class) ≡ Ok b → shown.units (BlockPlace a) ≡ Some (BlockUnit x) → IsAsked shown a k b
-    sum_of x class true test e at = kind_of x (x.kind == 0) refl e at (eq_true x.checksum k (sym test))
+    sum_of x class true test e at = kind_of x (x.kind == 0) refl e at (eqb-true x.checksum k (sym test))
     sum_of x class false test e at = absurd (cc)
 
     go : (o : Option AnyUnit) (class : Class) → shown.units (BlockPlace a) ≡ o → trailer_alone (block_given (Some k) o class) ≡ Ok b → IsAsked shown a k b

@@ -15,6 +15,7 @@ use Rattle.df_theory.specs.Trailer.{IsReference, Says, text_of}
 use Rattle.df_model.specs.Blocks.{Blocks, entries, entry, pair_of}
 use Rattle.df_model.specs.Supply.{Shown}
 use Rattle.df_model.specs.Work.{is_known}
+use Rattle.df_model.proofs.Laws.{entries_same}
 use Rattle.df_units.specs.Meaning.{layout_of, number_of}
 use Rattle.df_units.specs.Superblocks.{AreFieldsOf}
 use Rattle.df_units.proofs.Laws.{usable_passes}
@@ -41,11 +42,6 @@ pub parse_said : (sh : Shape) (op : ℕ) (text : List ℕ) → sh.parse ≡ pars
 parse_said sh op text parse most fine =
     let least : min op (2 ^ 62) ≡ op = omega arith in
     ap (λ (p : ℕ → List ℕ → Option Parts). p op text) parse ∙ ap (λ (n : ℕ). unless (fault sh.layout n text) (parts_of sh.layout text)) least ∙ ap (λ (o : Option Fault). unless o (parts_of sh.layout text)) fine
-
-entries_same : (f h : ℕ → Option ℕ) (s n : ℕ) → ((a : ℕ) → s ≤ a → a < s + n → f a ≡ h a) → entries f (range_with_len s n) ≡ entries h (range_with_len s n)
-entries_same f h s zero same = refl
-entries_same f h s (suc n) same =
-    ap (λ (o : Option ℕ). entry s o (entries f (range_with_len (s + 1) n))) (same s (omega arith) (omega arith)) ∙ ap (entry s (h s)) (entries_same f h (s + 1) n (λ a from to. same a (omega arith) (omega arith)))
 
 pairs_named : (shown : Shown) (refs : List Link) (chain : List (ℕ × Block)) → Names shown refs chain → map adopting.pair_of refs ≡ map pair_of chain
 pairs_named shown [] [] names = refl

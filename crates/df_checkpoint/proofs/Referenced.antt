@@ -1,5 +1,5 @@
 -- The addresses of a chain's links, and the least one that is referenced.
-use Rattle.std.proofs.Common.{◌≡◌, ℕ, ◌<◌, ◌==◌, ◌||◌, Bool, true, false, List, [], ◌∷◌, length, get_or, refl, subst, arith}
+use Rattle.std.proofs.Common.{◌≡◌, ℕ, ◌<◌, ◌==◌, ◌||◌, Bool, true, false, List, [], ◌∷◌, length, get_or, refl, subst, arith, eqb-true}
 use Rattle.std.proofs.lemmas.Bool.Decides.{nat_tests}
 use Rattle.std.proofs.lemmas.List.Folds.{list_any_at}
 use Rattle.df_trailer.specs.declared.reader.Reader.{Reader}
@@ -7,7 +7,6 @@ use Rattle.df_grid.specs.Grid.{GridState, HasAddress}
 use Rattle.df_checkpoint.specs.declared.links.Link.{Link}
 use Rattle.df_checkpoint.specs.Chain.{AreApart, is_among}
 use Rattle.df_checkpoint.specs.Adopting.{IsFirst, LiveRefused}
-use Rattle.df_checkpoint.proofs.OneLink.{eq_true}
 
 -- each link's address is among those of the chain
 pub link_among : (refs : List Link) (i : ℕ) (d : Link) → i < length refs → is_among (get_or refs i d).address refs ≡ true
@@ -19,7 +18,7 @@ among_inside g [] a apart is = absurd (cc)
 among_inside g (r ∷ rs) a apart is = go (r.address == a) refl (λ more. among_inside g rs a apart.2 more) is
   where
     go : (t : Bool) → (r.address == a) ≡ t → (is_among a rs ≡ true → HasAddress g a) → (t || is_among a rs) ≡ true → HasAddress g a
-    go true e others h = subst (λ (n : ℕ). HasAddress g n) (eq_true r.address a e) apart.0
+    go true e others h = subst (λ (n : ℕ). HasAddress g n) (eqb-true r.address a e) apart.0
     go false e others h = others h
 
 -- where one is referenced, nothing is adopted

@@ -1,5 +1,5 @@
 -- A trailer that is refused is that of no checkpoint that can be read: what is shown has one chain, and it has one text.
-use Rattle.std.proofs.Common.{◌≡◌, ℕ, ◌+◌, ◌-◌, ◌*◌, ◌^◌, ◌<◌, ◌≤◌, ◌==◌, Bool, true, false, Option, Some, None, List, [], ◌∷◌, length, min, refl, sym, ap, ◌∙◌, subst, arith, inl, inr}
+use Rattle.std.proofs.Common.{◌≡◌, ℕ, ◌+◌, ◌-◌, ◌*◌, ◌^◌, ◌<◌, ◌≤◌, ◌==◌, Bool, true, false, Option, Some, None, List, [], ◌∷◌, length, min, refl, sym, ap, ◌∙◌, subst, arith, inl, inr, eq-eqb}
 use Rattle.std.specs.Prelude.{Ok}
 use Rattle.std.proofs.lemmas.Bool.{cases_lt}
 use Rattle.std.proofs.lemmas.Bool.Decides.{nat_tests}
@@ -13,6 +13,7 @@ use Rattle.df_theory.specs.Opens.{Arrives, IsLink, IsReadable, IsShown}
 use Rattle.df_theory.specs.View.{Checkpoint}
 use Rattle.df_model.specs.Supply.{Shown, block_given, class_at, given_if}
 use Rattle.df_model.specs.Work.{is_known}
+use Rattle.df_model.proofs.Laws.{count_le}
 use Rattle.df_trailer.specs.declared.fault.Fault.{Fault}
 use Rattle.df_trailer.specs.Text.{fault, parts_of, unless}
 use Rattle.df_grid.specs.Reads.{trailer_alone}
@@ -21,15 +22,12 @@ use Rattle.df_checkpoint.specs.Reads.{IsWhole}
 use Rattle.df_checkpoint.specs.Laws.{BadTextIsUnreadable, BrokenIsUnreadable, DamageIsMissed, ReferencedIsUnreadable, UntrackedIsUnreadable}
 use Rattle.df_checkpoint.proofs.OneLink.{asked_is}
 
-yes_eq : (a b : ℕ) → a ≡ b → (a == b) ≡ true
-yes_eq a b same = grind (arith, nat_tests)
-
 -- a block that is shown as it is wanted is the answer
 shown_asked : (shown : Shown) (a k : ℕ) (is : IsShown shown.units a k) → asked shown a k ≡ Ok is.0
 shown_asked shown a k (b, at, sum, kind) =
     ap (λ (o : Option AnyUnit). trailer_alone (block_given (Some k) o (class_at shown (BlockPlace a)))) at
-    ∙ ap (λ (t : Bool). trailer_alone (given_if t b (class_at shown (BlockPlace a)))) (yes_eq b.checksum k sum)
-    ∙ ap (λ (t : Bool). given_if t b Stale) (yes_eq b.kind 0 kind)
+    ∙ ap (λ (t : Bool). trailer_alone (given_if t b (class_at shown (BlockPlace a)))) (eq-eqb b.checksum k sum)
+    ∙ ap (λ (t : Bool). given_if t b Stale) (eq-eqb b.kind 0 kind)
 
 pub damage_missed : DamageIsMissed
 damage_missed sh shown c a class lacking = record { sum = lacking.sum; reads = lacking.reads; missed = λ is. let one = shown_asked shown a lacking.sum is in let two = lacking.is in cc }
@@ -97,12 +95,6 @@ untracked_unreadable sh shown c n some bad b same readable =
 
 -- ---- a link
 
-pub count_once : (room size n m : ℕ) → IsCount room size n → IsCount room size m → n ≤ m
-count_once room size n m one two = elim (cases_lt m n) [
-  | inl less ↦ let up : room * m ≤ room * (n - 1) = mul-le-mul_left room (omega arith) in absurd (omega (arith, up, one.needed (omega arith), two.holds))
-  | inr most ↦ most
-]
-
 -- the block that is reached in a chain is its link
 link_there : (sh : Shape) (image : Units) (c : Content) (n index : ℕ) (read chain : List (ℕ × Block)) (address sum a k : ℕ) (block : Block) → Arrives image read address sum a k → n ≡ length read + (index + 1) → length chain ≡ n → Links (sh.layout.block_size - 256) c chain address sum
     → ((e : ℕ) (b : Block) → InChain e b chain → e ≤ sh.layout.blocks) → ((e : ℕ) (b : Block) → InChain e b chain → image (BlockPlace e) ≡ Some (BlockUnit b)) → image (BlockPlace a) ≡ Some (BlockUnit block) → IsLink sh c index block
@@ -130,7 +122,7 @@ broken_unreadable sh shown c at bad b same readable =
     let room : ℕ = sh.layout.block_size - 256 in
     let trailer = readable.sound.trailer in
     let counts : IsCount room c.trailer_size (length b.chain) = subst (λ (d : Content). IsCount room d.trailer_size (length b.chain)) same trailer.count in
-    let one = count_once room c.trailer_size bad.reads.count (length b.chain) bad.reads.counts counts in
-    let two = count_once room c.trailer_size (length b.chain) bad.reads.count counts bad.reads.counts in
+    let one = count_le room c.trailer_size bad.reads.count (length b.chain) bad.reads.counts counts in
+    let two = count_le room c.trailer_size (length b.chain) bad.reads.count counts bad.reads.counts in
     let links : Links room c b.chain c.trailer c.trailer_checksum = subst (λ (d : Content). Links room d b.chain d.trailer d.trailer_checksum) same trailer.links in
     bad.broken (link_there sh shown.units c bad.reads.count bad.index bad.reads.read b.chain c.trailer c.trailer_checksum at bad.sum bad.block bad.reads.arrives bad.at (omega (arith, one, two)) links trailer.inside readable.shown (asked_is shown at bad.sum bad.block bad.is).shows)

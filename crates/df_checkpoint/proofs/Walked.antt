@@ -1,5 +1,5 @@
 -- The walk: what was read of the chain, with one link more, or where it ends.
-use Rattle.std.proofs.Common.{◌≡◌, ℕ, ◌+◌, ◌-◌, ◌<◌, ◌==◌, ◌||◌, Bool, true, false, Option, Some, None, List, [], ◌∷◌, ◌++◌, length, refl, sym, ap, ◌∙◌, subst, arith, inl, inr}
+use Rattle.std.proofs.Common.{◌≡◌, ℕ, ◌+◌, ◌-◌, ◌<◌, ◌==◌, ◌||◌, Bool, true, false, Option, Some, None, List, [], ◌∷◌, ◌++◌, length, refl, sym, ap, ◌∙◌, subst, arith, inl, inr, eqb-true, ne_eqb}
 use Rattle.std.specs.Prelude.{Result, Ok, Err}
 use Rattle.std.proofs.lemmas.Bool.Decides.{nat_tests}
 use Rattle.arrayvec.specs.ArrayVec.{ArrayVec}
@@ -11,6 +11,7 @@ use Rattle.df_theory.specs.Units.{Block, BlockPlace, BlockUnit, Content, Units}
 use Rattle.df_theory.specs.Shape.{Shape}
 use Rattle.df_theory.specs.Trailer.{InChain, IsCount}
 use Rattle.df_theory.specs.Opens.{AreLinks, Arrives, IsLink, ReadsTo}
+use Rattle.df_theory.proofs.Laws.{arrives_more, links_more}
 use Rattle.df_model.specs.Supply.{Shown}
 use Rattle.df_units.specs.Meaning.{layout_of, number_of}
 use Rattle.df_grid.specs.Grid.{GridState, HasAddress}
@@ -19,16 +20,7 @@ use Rattle.df_checkpoint.specs.declared.links.Link.{Link}
 use Rattle.df_checkpoint.specs.declared.fault.TrailerFault.{TrailerFault}
 use Rattle.df_checkpoint.specs.declared.fault.TrailerFault.TheVariants.{BadField, Damaged, DiskFault}
 use Rattle.df_checkpoint.specs.Chain.{AreApart, HasWalked, IsBroken, IsLacking, IsTaken, LinkAnswer, Names, OfTold, StepAnswer, WalkAnswer, asked, content_in, is_among}
-use Rattle.df_checkpoint.proofs.OneLink.{asked_is, eq_true, no_eq}
-
-arrives_more : (image : Units) (bs : List (ℕ × Block)) (d : ℕ × Block) (address checksum a k : ℕ) → Arrives image bs address checksum a k → 0 < a → d.0 ≡ a → d.1.checksum ≡ k → d.1.kind ≡ 0 → image (BlockPlace a) ≡ Some (BlockUnit d.1) → Arrives image (bs ++ d ∷ []) address checksum d.1.before d.1.before_checksum
-arrives_more image [] d address checksum a k arrives above place sum kind shown =
-    (omega (arith, arrives.0), place ∙ arrives.0, sum ∙ arrives.1, ap (λ (e : ℕ). image (BlockPlace e)) (sym arrives.0) ∙ shown, kind, (refl, refl))
-arrives_more image (b ∷ bs) d address checksum a k arrives above place sum kind shown = (arrives.0, arrives.1, arrives.2, arrives.3, arrives.4, arrives_more image bs d b.1.before b.1.before_checksum a k arrives.5 above place sum kind shown)
-
-links_more : (sh : Shape) (c : Content) (n i : ℕ) (bs : List (ℕ × Block)) (d : ℕ × Block) → AreLinks sh c n bs → n ≡ length bs + (i + 1) → IsLink sh c i d.1 → AreLinks sh c n (bs ++ d ∷ [])
-links_more sh c n i [] d are count link = (i, omega arith, link, tt)
-links_more sh c n i (b ∷ bs) d are count link = (are.0, are.1, are.2, links_more sh c are.0 i bs d are.3 (omega (arith, are.1)) link)
+use Rattle.df_checkpoint.proofs.OneLink.{asked_is}
 
 names_more : (shown : Shown) (refs : List Link) (chain : List (ℕ × Block)) (r : Link) (b : Block) → Names shown refs chain → asked shown r.address (number_of r.checksum) ≡ Ok b → Names shown (refs ++ r ∷ []) (chain ++ (r.address, b) ∷ [])
 names_more shown [] [] r b names is = (refl, is, tt)
@@ -63,8 +55,8 @@ among_there shown (r ∷ rs) (x ∷ xs) a names is = go (r.address == a) refl (�
     go : (t : Bool) → (r.address == a) ≡ t → (is_among a rs ≡ true → IsThere shown a xs) → (t || is_among a rs) ≡ true → IsThere shown a (x ∷ xs)
     go true e rest is = record {
       block = x.1;
-      inside = inl (sym (eq_true r.address a e) ∙ sym names.0, refl);
-      shows = ap (λ (n : ℕ). shown.units (BlockPlace n)) (sym (eq_true r.address a e)) ∙ (asked_is shown r.address (number_of r.checksum) x.1 names.1).shows;
+      inside = inl (sym (eqb-true r.address a e) ∙ sym names.0, refl);
+      shows = ap (λ (n : ℕ). shown.units (BlockPlace n)) (sym (eqb-true r.address a e)) ∙ (asked_is shown r.address (number_of r.checksum) x.1 names.1).shows;
     }
     go false e rest is = let more = rest is in record { block = more.block; inside = inr more.inside; shows = more.shows }
 
@@ -148,7 +140,7 @@ step_more g (Some t) f index refs at new before answer inside more sh same = λ 
     (subst (λ (rs : List Link). HasWalked sh (shown_of g.layout g.cluster t.shown) (content_in f) n rs before) (sym more) (step_taken sh (shown_of g.layout g.cluster t.shown) (content_in f) n index refs at walked count before (omega (arith, inside.0)) a), a.first)
 
 among_last : (a : ℕ) (refs : List Link) (r : Link) → is_among a refs ≡ false → (r.address ≡ a → ⊥) → is_among a (refs ++ r ∷ []) ≡ false
-among_last a [] r none apart = ap (λ (t : Bool). t || false) (no_eq r.address a apart)
+among_last a [] r none apart = ap (λ (t : Bool). t || false) (ne_eqb r.address a apart)
 among_last a (q ∷ qs) r none apart = go (q.address == a) (λ rest. among_last a qs r rest apart) none
   where
     go : (t : Bool) → (is_among a qs ≡ false → is_among a (qs ++ r ∷ []) ≡ false) → (t || is_among a qs) ≡ false → (t || is_among a (qs ++ r ∷ [])) ≡ false

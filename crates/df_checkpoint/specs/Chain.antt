@@ -1,8 +1,7 @@
 -- The chain of a checkpoint's trailer: what is asked for, what is shown of it, and where it breaks.
-use Rattle.std.specs.Prelude.{◌≡◌, ◌==◌, ◌&&◌, ◌||◌, ◌≤◌, ◌+◌, ◌-◌, ℕ, Bool, false, nat_le, List, [], ◌∷◌, length, Option, Some, None, Result, Ok, Err}
+use Rattle.std.specs.Prelude.{◌≡◌, ◌==◌, ◌&&◌, ◌||◌, ◌+◌, ◌-◌, ℕ, Bool, true, false, nat_le, List, [], ◌∷◌, length, Option, Some, None, Result, Ok, Err}
 use Rattle.std.specs.List.{list_any}
 use Rattle.arrayvec.specs.ArrayVec.{ArrayVec}
-use Rattle.df_base.specs.Causes.{Rose}
 use Rattle.df_disk.specs.Told.{Told}
 use Rattle.df_layout.specs.declared.damage.Class.{Class}
 use Rattle.df_layout.specs.declared.fields.Field.TheVariants.{TrailerChain}
@@ -36,12 +35,10 @@ OfTold g (Some t) P = P (shown_of g.layout g.cluster t.shown)
 abbrev pub asked : Shown → ℕ → ℕ → Result Block Class
 asked shown a k = trailer_alone (block_at shown (Some k) a)
 
--- the disk is blamed exactly where it failed
-abbrev pub IsBlamed : {T : Type 0} → (before now : ℕ) → Result T TrailerFault → Type 0
-IsBlamed before now (Ok x) = now ≡ before
-IsBlamed before now (Err (Damaged address class)) = now ≡ before
-IsBlamed before now (Err (BadField field value)) = now ≡ before
-IsBlamed before now (Err DiskFault) = (before ≤ now) × Rose before now
+-- the one fault that blames the disk
+abbrev pub is_trailer_fault : TrailerFault → Bool
+is_trailer_fault DiskFault = true
+is_trailer_fault fault = false
 
 -- ---- one link
 

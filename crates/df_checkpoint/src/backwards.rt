@@ -1,12 +1,13 @@
 // The walk from the last block of the chain, which the superblock refers to, back to index 0.
-ghost use Rattle.std.specs.Prelude.{◌≡◌, ◌+◌, ◌-◌, ◌≤◌, ◌<◌, ◌++◌, [], ◌∷◌, ℕ, length, true, false, IfOk, OnOk};
+ghost use Rattle.std.specs.Prelude.{◌≡◌, ◌+◌, ◌-◌, ◌≤◌, ◌<◌, ℕ, length, IfOk, OnOk};
 ghost use Rattle.arrayvec.specs.ArrayVec.{array_vec_len};
+ghost use Rattle.df_base.specs.Causes.{IsBlamed};
 ghost use Rattle.df_theory.specs.Shape.{Shape};
 ghost use Rattle.df_theory.specs.Trailer.{IsCount};
 ghost use Rattle.df_units.specs.Meaning.{layout_of};
 ghost use Rattle.df_units.specs.Superblocks.{AreFieldsOf};
 ghost use Rattle.df_grid.specs.Grid.{HasAddress};
-ghost use Rattle.df_checkpoint.specs.Chain.{AreApart, HasWalked, IsBlamed, OfTold, StepAnswer, WalkAnswer, content_in, is_among};
+ghost use Rattle.df_checkpoint.specs.Chain.{AreApart, HasWalked, OfTold, StepAnswer, WalkAnswer, content_in, is_among, is_trailer_fault};
 
 use crate::TrailerFault;
 use crate::links::{Link, broken, read_link};
@@ -14,6 +15,7 @@ use arrayvec::ArrayVec;
 use df_disk::Disk;
 use df_format::SuperFields;
 use df_grid::Grid;
+use df_layout::LINKS;
 
 // Whether an address is one of those that were read.
 fn is_among(blocks: &[Link], address: u64) -> bool
@@ -28,7 +30,7 @@ fn take_link<D: Disk>(
     disk: &mut D,
     content: &SuperFields,
     grid: &mut Grid,
-    blocks: &mut ArrayVec<Link, 70>,
+    blocks: &mut ArrayVec<Link, LINKS>,
     at: Link,
     index: u64,
 ) -> Result<Link, TrailerFault>
@@ -44,7 +46,7 @@ fn take_link<D: Disk>(
     ensures more { OnOk result (array_vec_len blocks.new ≡ array_vec_len blocks.old + 1) }
     ensures grid { grid.new ≡ grid.old }
     ensures same { D.told disk.new ≡ D.told disk.old }
-    ensures cause { IsBlamed (D.faults disk.old) (D.faults disk.new) result }
+    ensures cause { IsBlamed is_trailer_fault (D.faults disk.old) (D.faults disk.new) result }
 {
     let before = match read_link(disk, content, grid, at, index) {
         Ok(before) => before,
@@ -63,7 +65,7 @@ pub(crate) fn walk<D: Disk>(
     content: &SuperFields,
     grid: &mut Grid,
     count: u64,
-) -> Result<ArrayVec<Link, 70>, TrailerFault>
+) -> Result<ArrayVec<Link, LINKS>, TrailerFault>
     requires inside { HasAddress grid.old content.now.trailer_address }
     requires few { (0 < count) × (count ≤ 70) }
     requires count { IsCount (grid.old.layout.block_size - 256) content.now.trailer_size count }
@@ -73,7 +75,7 @@ pub(crate) fn walk<D: Disk>(
     ensures size { IfOk result (λ blocks. array_vec_len blocks ≡ count) }
     ensures grid { grid.new ≡ grid.old }
     ensures same { D.told disk.new ≡ D.told disk.old }
-    ensures cause { IsBlamed (D.faults disk.old) (D.faults disk.new) result }
+    ensures cause { IsBlamed is_trailer_fault (D.faults disk.old) (D.faults disk.new) result }
 {
     let mut blocks = ArrayVec::new();
     let checksum = content.trailer_checksum;

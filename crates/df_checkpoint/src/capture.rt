@@ -14,6 +14,7 @@ use arrayvec::ArrayVec;
 use df_base::Failed;
 use df_disk::Disk;
 use df_grid::Grid;
+use df_layout::ROOT;
 use df_sessions::Session;
 use df_trailer::piece;
 
@@ -21,7 +22,7 @@ use df_trailer::piece;
 #[derive(Drop)]
 pub struct Capture {
     /// What the caller of the checkpoint gave: at most 1,024 bytes.
-    pub root: ArrayVec<u8, 1024>,
+    pub root: ArrayVec<u8, ROOT>,
     /// The sessions in order of their places.
     pub sessions: ArrayVec<Session, 64>,
     /// The superblock's next sequence, 2 to 2^62.

@@ -1,4 +1,8 @@
 // Why a checkpoint's trailer isn't read.
+ghost use Rattle.std.specs.Prelude.{◌≡◌};
+ghost use Rattle.df_checkpoint.specs.Chain.{is_trailer_fault};
+
+use df_base::BlamesDisk;
 use df_layout::{Class, Field};
 
 /// Why a trailer is refused: the first reason in the order of an open.
@@ -11,4 +15,14 @@ pub enum TrailerFault {
     BadField { field: Field, value: u128 },
     /// The disk failed.
     DiskFault,
+}
+
+impl BlamesDisk for TrailerFault {
+    ghost is_fault = { is_trailer_fault };
+
+    fn is_fault(&self) -> bool
+        ensures { result ≡ is_trailer_fault self.now }
+    {
+        *self == TrailerFault::DiskFault
+    }
 }

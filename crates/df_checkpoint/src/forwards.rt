@@ -1,8 +1,9 @@
 // The text of the chain, from its first block to its last one: each is shown again, and its body given to the reader.
-ghost use Rattle.std.specs.Prelude.{◌≡◌, ◌+◌, ◌-◌, ◌*◌, ◌≤◌, ◌<◌, ◌^◌, [], ℕ, length, get_or};
+ghost use Rattle.std.specs.Prelude.{◌≡◌, ◌+◌, ◌-◌, ◌≤◌, ◌<◌, ◌^◌, [], ℕ, length, get_or};
+ghost use Rattle.df_base.specs.Causes.{IsBlamed};
 ghost use Rattle.df_grid.specs.Grid.{HasAddress};
 ghost use Rattle.df_trailer.specs.Reading.{HasRead, bytes_read};
-ghost use Rattle.df_checkpoint.specs.Chain.{AreApart, IsBlamed};
+ghost use Rattle.df_checkpoint.specs.Chain.{AreApart, is_trailer_fault};
 ghost use Rattle.df_checkpoint.specs.Texts.{FeedAnswer, FedAnswer, Feeds, TextAnswer, bad_of};
 
 use crate::TrailerFault;
@@ -47,7 +48,7 @@ fn feed_block<D: Disk>(
     ensures layout { reader.new.layout ≡ reader.old.layout }
     ensures grid { grid.new ≡ grid.old }
     ensures same { D.told disk.new ≡ D.told disk.old }
-    ensures cause { IsBlamed (D.faults disk.old) (D.faults disk.new) result }
+    ensures cause { IsBlamed is_trailer_fault (D.faults disk.old) (D.faults disk.new) result }
 {
     match grid.show_trailer(disk, at.reference()) {
         Ok(Ok(unit)) => feed(reader, unit.body()),
@@ -82,7 +83,7 @@ fn feed_all<D: Disk>(
     ensures layout { reader.new.layout ≡ reader.old.layout }
     ensures grid { grid.new ≡ grid.old }
     ensures same { D.told disk.new ≡ D.told disk.old }
-    ensures cause { IsBlamed (D.faults disk.old) (D.faults disk.new) result }
+    ensures cause { IsBlamed is_trailer_fault (D.faults disk.old) (D.faults disk.new) result }
 {
     for done in 0..blocks.len() {
         match feed_block(disk, grid, link_after(blocks, done), reader) {
@@ -107,7 +108,7 @@ pub(crate) fn read_text<D: Disk>(
     ensures layout { reader.new.layout ≡ reader.old.layout }
     ensures grid { grid.new ≡ grid.old }
     ensures same { D.told disk.new ≡ D.told disk.old }
-    ensures cause { IsBlamed (D.faults disk.old) (D.faults disk.new) result }
+    ensures cause { IsBlamed is_trailer_fault (D.faults disk.old) (D.faults disk.new) result }
 {
     match feed_all(disk, grid, blocks, reader) {
         Ok(()) => as_bad(reader.end()),

@@ -1,12 +1,13 @@
 // One link of the chain: the block that is asked for, and the reference that it has to the one before.
-ghost use Rattle.std.specs.Prelude.{◌≡◌, ◌+◌, ◌-◌, ◌≤◌, ◌<◌, length, true, false, IfOk, MatchResult};
+ghost use Rattle.std.specs.Prelude.{◌≡◌, ◌-◌, ◌<◌, length, true, false, IfOk, MatchResult};
+ghost use Rattle.df_base.specs.Causes.{IsBlamed};
 ghost use Rattle.df_layout.specs.declared.fields.Field.TheVariants.{TrailerChain};
 ghost use Rattle.df_theory.specs.Shape.{Shape};
 ghost use Rattle.df_theory.specs.Trailer.{piece_size};
 ghost use Rattle.df_units.specs.Meaning.{layout_of};
 ghost use Rattle.df_units.specs.Superblocks.{AreFieldsOf};
 ghost use Rattle.df_grid.specs.Grid.{HasAddress};
-ghost use Rattle.df_checkpoint.specs.Chain.{IsBlamed, LinkAnswer, OfTold, before_of, content_in, is_link};
+ghost use Rattle.df_checkpoint.specs.Chain.{LinkAnswer, OfTold, before_of, content_in, is_link, is_trailer_fault};
 
 use crate::TrailerFault;
 use df_base::{Check, HEADER};
@@ -109,7 +110,7 @@ pub(crate) fn read_link<D: Disk>(
     ensures inside { IfOk result (λ before. 0 < index → HasAddress grid.old before.address) }
     ensures grid { grid.new ≡ grid.old }
     ensures same { D.told disk.new ≡ D.told disk.old }
-    ensures cause { IsBlamed (D.faults disk.old) (D.faults disk.new) result }
+    ensures cause { IsBlamed is_trailer_fault (D.faults disk.old) (D.faults disk.new) result }
 {
     let layout = grid.layout();
     match grid.show_trailer(disk, at.reference()) {

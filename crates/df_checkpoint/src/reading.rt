@@ -1,6 +1,7 @@
 // A checkpoint's trailer is read: the chain backwards, the text forwards, and what both name into the grid.
 ghost use Rattle.std.specs.Prelude.{◌≡◌, ◌≢◌, ◌-◌, ◌≤◌, ◌<◌, [], IfOk, OnErr, OnOk};
 ghost use Rattle.arrayvec.specs.ArrayVec.{array_vec_len};
+ghost use Rattle.df_base.specs.Causes.{IsBlamed};
 ghost use Rattle.df_format.specs.SuperRules.{IsSuper};
 ghost use Rattle.df_theory.specs.Shape.{Shape};
 ghost use Rattle.df_theory.specs.Trailer.{IsCount};
@@ -10,7 +11,7 @@ ghost use Rattle.df_trailer.specs.Reading.{HasRead};
 ghost use Rattle.df_trailer.specs.Text.{parse_of};
 ghost use Rattle.df_grid.specs.Table.{IsIdle, no_blocks};
 ghost use Rattle.df_checkpoint.specs.Adopting.{SameFile};
-ghost use Rattle.df_checkpoint.specs.Chain.{AreApart, IsBlamed, OfTold, content_in};
+ghost use Rattle.df_checkpoint.specs.Chain.{AreApart, OfTold, content_in, is_trailer_fault};
 ghost use Rattle.df_checkpoint.specs.Reads.{ChainAnswer, FoundAnswer, IsComplete};
 
 use crate::TrailerFault;
@@ -23,7 +24,7 @@ use df_base::HEADER;
 use df_disk::Disk;
 use df_format::{Super, SuperFields};
 use df_grid::{Grid, chains_have_room};
-use df_layout::Layout;
+use df_layout::{LINKS, Layout};
 use df_trailer::Reader;
 
 // How many blocks a trailer of the superblock's size has.
@@ -40,7 +41,7 @@ fn find_chain<D: Disk>(
     disk: &mut D,
     content: &SuperFields,
     grid: &mut Grid,
-) -> Result<ArrayVec<Link, 70>, TrailerFault>
+) -> Result<ArrayVec<Link, LINKS>, TrailerFault>
     requires named { content.now.trailer_address ≢ 0 }
     requires usable { IsSuper content.now }
     requires file { AreFieldsOf grid.old.layout grid.old.cluster content.now }
@@ -49,7 +50,7 @@ fn find_chain<D: Disk>(
     ensures few { IfOk result (λ blocks. array_vec_len blocks ≤ 70) }
     ensures grid { grid.new ≡ grid.old }
     ensures same { D.told disk.new ≡ D.told disk.old }
-    ensures cause { IsBlamed (D.faults disk.old) (D.faults disk.new) result }
+    ensures cause { IsBlamed is_trailer_fault (D.faults disk.old) (D.faults disk.new) result }
 {
     chains_have_room();
     let count = block_count(&grid.layout(), content);
@@ -79,7 +80,7 @@ pub fn read_chain<D: Disk>(
     ensures refused { OnErr result (grid.new ≡ grid.old) }
     ensures grid { SameFile grid.old grid.new }
     ensures same { D.told disk.new ≡ D.told disk.old }
-    ensures cause { IsBlamed (D.faults disk.old) (D.faults disk.new) result }
+    ensures cause { IsBlamed is_trailer_fault (D.faults disk.old) (D.faults disk.new) result }
 {
     let content = content.fields();
     let blocks = match find_chain(disk, content, grid) {

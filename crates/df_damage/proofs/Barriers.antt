@@ -17,7 +17,7 @@ use Rattle.df_theory.specs.Rests.{RestsOn}
 use Rattle.df_theory.specs.UnitLog.{UnitEvent, UnitLog, now, settled}
 use Rattle.df_theory.specs.Units.{AnyUnit, Content, CopyPlace, CopyUnit, Place, Units}
 use Rattle.df_theory.specs.View.{View}
-use Rattle.df_theory.proofs.Laws.{disk_barrier_law, found_was_of_log_law, now_units, settled_law}
+use Rattle.df_theory.proofs.Laws.{disk_barrier_law, found_was_of_log_law, now_units, settled_law, pool_pools}
 use Rattle.df_units.specs.Bytes.{unit_at}
 use Rattle.df_units.specs.Format.{format_of}
 use Rattle.df_units.specs.Meaning.{place_of}
@@ -28,11 +28,6 @@ use Rattle.df_damage.specs.Hurt.{HasTwoCopies, IsUnhurtZone}
 use Rattle.df_damage.specs.Past.{WasHad}
 use Rattle.df_damage.proofs.Pasts.{AreAmong, among_images, from_blank, settled_blank, was_held}
 use Rattle.df_damage.proofs.Sectors.{in_zone, same_copies}
-
--- a unit of the pool is one of the pools
-pub in_pools : (start : Units) (es : List UnitEvent) (place : Place) (x : AnyUnit) → InPool (record { start = start; events = es }) place x → InPools start es place x
-in_pools start [] place x is = is
-in_pools start (e ∷ es) place x is = inl is
 
 module _ (file : DataFile) (view : View) (t : Told) (may : MayBeHurt file view t) where
   -- the log of units behind the barrier, and what is shown
@@ -58,7 +53,7 @@ module _ (file : DataFile) (view : View) (t : Told) (may : MayBeHurt file view t
   empty = from_blank (shape file) (settled log) view rests.grows (settled_blank log.start log.events (λ place. ap (λ (image : Image). unit_at file.layout file.cluster image place) may.empty ∙ blank_empty file.layout file.cluster place))
 
   pub distinct : AreDistinct (settled (units_log (format_of file.layout file.cluster) (logs.add Sync t.log)))
-  distinct place other x y one two = may.no_chance.distinct place other x y (in_pools log.start log.events place x (inl one)) (in_pools log.start log.events other y (inl two))
+  distinct place other x y one two = may.no_chance.distinct place other x y (pool_pools log.start log.events place x (inl one)) (pool_pools log.start log.events other y (inl two))
 
   pub shows_settled : ShowsSettled (settled (units_log (format_of file.layout file.cluster) (logs.add Sync t.log))) (unit_at file.layout file.cluster t.shown)
   shows_settled place x is = elim (pooled place x is) [

@@ -4,15 +4,11 @@ use Rattle.df_base.specs.Image.{Image, changed, covers, written}
 use Rattle.df_base.specs.Log.{AreLoose, Event, IsLeft, Log, Stop, Sync, Write, add, after_event, loose, loose_of, now}
 use Rattle.df_disk.specs.Told.{IsHonest, Told, did}
 use Rattle.df_disk.specs.Adds.{AddsPart}
+use Rattle.df_disk.proofs.Laws.{honest_did}
 use Rattle.df_damage.specs.Anew.{AddedIsTold, BarrierBegins, BegunIsHonest, HonestStays, LeavesTheSame, PartIsEvents, SameGoesOn, StopsAlike, begun, told_after}
 
 pub begun_is_honest : BegunIsHonest
 begun_is_honest t = record { shows = λ sector. refl }
-
-honest_did : (e : Event) (t : Told) → IsHonest t → IsHonest (did e t)
-honest_did (Write at bytes) t honest = record { shows = λ sector i. written at bytes (λ s. honest.shows s i) sector }
-honest_did Sync t honest = record { shows = honest.shows }
-honest_did (Stop changes) t honest = record { shows = λ sector i. changed changes (λ s. honest.shows s i) sector }
 
 pub honest_stays : HonestStays
 honest_stays [] t honest = honest

@@ -7,7 +7,6 @@ pub use Rattle.df_damage.proofs.Tails.{whole_tail_is_found}
 pub use Rattle.df_damage.proofs.Refused.{probe_is_of_hurt, refusals_are_of_damage, refusals_blame_hurt}
 pub use Rattle.df_damage.proofs.Answered.{answer_is_of_hurt}
 -- ---- what was written
-pub use Rattle.df_damage.proofs.Barriers.{in_pools}
 pub use Rattle.df_damage.proofs.Written.{had_is_written, opened_is_written}
 -- ---- logs begun anew
 pub use Rattle.df_damage.proofs.Begun.{added_is_told, honest_stays, same_goes_on, stops_alike}

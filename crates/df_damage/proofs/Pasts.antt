@@ -9,6 +9,7 @@ use Rattle.df_theory.specs.UnitLog.{Stopped, Synced, UnitEvent, Wrote, now_of, s
 use Rattle.df_theory.specs.Grown.{Grows}
 use Rattle.df_theory.specs.Past.{FromEmpty, Was}
 use Rattle.df_theory.specs.Device.{Format, all_units}
+use Rattle.df_theory.proofs.Laws.{unheld}
 use Rattle.df_damage.specs.Past.{IsOneOf}
 
 -- ---- views
@@ -50,13 +51,6 @@ settled_blank start [] blank = blank
 settled_blank start ((Wrote touches stands after) ∷ es) blank = settled_blank start es blank
 settled_blank start (Synced ∷ es) blank = blank_more (now_of start es) (settled_of start es) (settled_blank start es blank)
 settled_blank start ((Stopped after) ∷ es) blank = blank_more after (settled_of start es) (settled_blank start es blank)
-
--- an image that shows nothing has no view
-unheld : (sh : Shape) (u : Units) (v : View) → ((place : Place) → u place ≡ None) → Holds sh u v → ⊥
-unheld sh u v blank holds =
-    let none : u (CopyPlace holds.chosen.agreed.first) ≡ None = blank (CopyPlace holds.chosen.agreed.first) in
-    let some : u (CopyPlace holds.chosen.agreed.first) ≡ Some (CopyUnit v.checkpoint.content) = holds.chosen.agreed.at_first in
-    cc
 
 pub from_blank : (sh : Shape) (images : List Units) (v : View) (grows : Grows sh images v) → EndsBlank images → FromEmpty sh images v grows
 from_blank sh [] v grows ends = grows

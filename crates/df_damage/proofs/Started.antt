@@ -11,11 +11,10 @@ use Rattle.df_theory.specs.Shape.{Shape}
 use Rattle.df_theory.specs.Shows.{Agrees, AgreesCopy}
 use Rattle.df_theory.specs.UnitLog.{UnitLog}
 use Rattle.df_theory.specs.View.{Checkpoint, View}
-use Rattle.df_theory.proofs.Laws.{disk_barrier_law}
+use Rattle.df_theory.proofs.Laws.{disk_barrier_law, pool_pools}
 use Rattle.df_units.specs.Format.{format_of}
 use Rattle.df_recovery.specs.Below.{shape}
 use Rattle.df_damage.specs.Anew.{HurtMayBegin}
-use Rattle.df_damage.proofs.Barriers.{in_pools}
 
 -- whatever is of the pool agrees with the view that the log rests on
 pool_agrees : (sh : Shape) (log : UnitLog) (v : View) → RestsOn sh log v → (place : Place) (x : AnyUnit) → InPool log place x → Agrees sh v place x
@@ -41,5 +40,5 @@ hurt_may_begin file view found t may finds same =
       found = finds;
       clean = λ n c there. subst (λ (b : Checkpoint). AgreesCopy (record view { checkpoint = b }) n c) (sym same) (clean n c there);
       distinct = λ place other x y one two.
-          may.no_chance.distinct place other x y (in_pools log.start log.events place x (may.no_chance.pooled place x one)) (in_pools log.start log.events other y (may.no_chance.pooled other y two));
+          may.no_chance.distinct place other x y (pool_pools log.start log.events place x (may.no_chance.pooled place x one)) (pool_pools log.start log.events other y (may.no_chance.pooled other y two));
     }

@@ -4,10 +4,10 @@ use Rattle.std.proofs.lemmas.Nat.{mod_below}
 use Rattle.df_theory.specs.Tails.{In}
 use Rattle.df_theory.specs.Units.{Header, Message, PreparePlace, PrepareUnit}
 use Rattle.df_theory.specs.View.{Checkpoint}
-use Rattle.df_theory.proofs.Laws.{chain_ops, read_law}
+use Rattle.df_theory.proofs.Laws.{chain_ops, read_law, pool_pools}
 use Rattle.df_recovery.specs.Below.{shape}
 use Rattle.df_damage.specs.Openings.{WholeTailIsFound}
-use Rattle.df_damage.proofs.Barriers.{in_pools, log, rests, shown}
+use Rattle.df_damage.proofs.Barriers.{log, rests, shown}
 use Rattle.df_damage.proofs.Files.{opened_found}
 use Rattle.df_damage.proofs.Opened.{headers_tell}
 
@@ -24,6 +24,6 @@ whole_tail_is_found file view t s may whole headers copies is p there =
     let q : Message = each.0 in
     let wrote = (rests file view t may).pooled (PreparePlace slot) (PrepareUnit p) (bears.needs (PreparePlace slot) (PrepareUnit p) (p, there, refl, refl)) in
     let same : p ≡ q = read_law (log file view t may) (shown file view t may) (PreparePlace slot) (PreparePlace (q.header.op % file.layout.slots)) (PrepareUnit p) (PrepareUnit q) may.no_chance
-    (in_pools (log file view t may).start (log file view t may).events (PreparePlace slot) (PrepareUnit p) wrote)
+    (pool_pools (log file view t may).start (log file view t may).events (PreparePlace slot) (PrepareUnit p) wrote)
     ((opened_found file view t may s is).tail.takes q each.1).shown (ap (λ (h : Header). h.checksum) own ∙ sym each.3) in
     subst (λ (x : Message). In x is.view.tail) (sym same) each.1

@@ -7,12 +7,11 @@ use Rattle.df_theory.specs.Chance.{InImages, InPools}
 use Rattle.df_theory.specs.Device.{Format, all_units, units_log, units_of}
 use Rattle.df_theory.specs.UnitLog.{settled}
 use Rattle.df_theory.specs.Units.{AnyUnit, Place, Units}
-use Rattle.df_theory.proofs.Laws.{settled_law}
+use Rattle.df_theory.proofs.Laws.{settled_law, pool_pools}
 use Rattle.df_units.specs.Format.{format_of}
 use Rattle.df_recovery.specs.Below.{DataFile}
 use Rattle.df_damage.specs.Past.{IsOneOf}
 use Rattle.df_damage.specs.Written.{HadIsWritten, OpenedIsWritten, WasWritten}
-use Rattle.df_damage.proofs.Barriers.{in_pools}
 use Rattle.df_damage.proofs.Opened.{found_was_had}
 
 -- what an image of the list shows is of the images
@@ -40,7 +39,7 @@ had_is_written file log later view had (new, grew, same) = record {
   needs = λ place x need.
       let old : InImages (settled (units_log (format_of file.layout file.cluster) log)) place x =
       subst (λ (us : List Units). InImages us place x) (sym (settled_law (format_of file.layout file.cluster) log)) (among (format_of file.layout file.cluster) (logs.settled log) had.image place x had.durable (had.holds.bears.needs place x need)) in
-      later_pools (format_of file.layout file.cluster) log later.start later.events new place x same grew (in_pools (units_log (format_of file.layout file.cluster) log).start (units_log (format_of file.layout file.cluster) log).events place x (inl old));
+      later_pools (format_of file.layout file.cluster) log later.start later.events new place x same grew (pool_pools (units_log (format_of file.layout file.cluster) log).start (units_log (format_of file.layout file.cluster) log).events place x (inl old));
 }
 
 pub opened_is_written : OpenedIsWritten

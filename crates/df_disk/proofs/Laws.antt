@@ -1,13 +1,14 @@
--- What a call says of its moments that added some events, or a part of them.
-use Rattle.std.proofs.Common.{◌≡◌, inl, inr, List, [], ◌∷◌, ◌++◌, Option, Some, None, refl, sym, subst, Result, Ok, Err}
-use Rattle.df_base.specs.Log.{Event, Log}
-use Rattle.df_base.specs.Moments.{adds}
-use Rattle.df_base.proofs.Laws.{AtEach, stands, goes_on}
-use Rattle.df_disk.specs.Told.{Told, after, did}
+-- What a call says of its moments that added some events, or a part of them; and events that are told one after the other.
+use Rattle.std.proofs.Common.{◌≡◌, inl, inr, List, [], ◌∷◌, ◌++◌, Option, Some, None, refl, sym, ap, ◌∙◌, subst, Result, Ok, Err}
+use Rattle.df_base.specs.Image.{changed, written}
+use Rattle.df_base.specs.Log.{Event, Log, Stop, Sync, Write}
+use Rattle.df_base.specs.Moments.{Extends, adds}
+use Rattle.df_base.proofs.Laws.{AtEach, extends_on, extends_self, stands, goes_on}
+use Rattle.df_disk.specs.Told.{IsHonest, Told, after, did}
 use Rattle.df_disk.specs.Adds.{Adds, AddsPart, PassedTo, after_all}
 
 -- all events are a part of them
-all_is_part : (es : List Event) (old new : Option Told) → new ≡ after_all es old → AddsPart es old new
+pub all_is_part : (es : List Event) (old new : Option Told) → new ≡ after_all es old → AddsPart es old new
 all_is_part [] old new is = is
 all_is_part (e ∷ es) old new is = inr (all_is_part es (after e old) new is)
 
@@ -40,3 +41,38 @@ all_then (e ∷ es) fs old mid new is later = inr (all_then es fs (after e old) 
 pub told_log : (es : List Event) (t : Told) → (u : Told) × (after_all es (Some t) ≡ Some u) × (u.log ≡ adds es t.log)
 told_log [] t = (t, refl, refl)
 told_log (e ∷ es) t = told_log es (did e t)
+
+pub after_append : (es fs : List Event) (old : Option Told) → after_all (es ++ fs) old ≡ after_all fs (after_all es old)
+after_append [] fs old = refl
+after_append (e ∷ es) fs old = after_append es fs (after e old)
+
+-- events, and a call that adds others behind them
+pub adds_then : {T E : Type 0} → (es fs : List Event) (old mid new : Option Told) (result : Result T E) → mid ≡ after_all es old → Adds fs mid new result → Adds (es ++ fs) old new result
+adds_then es fs old mid new (Ok x) is adds = adds ∙ ap (after_all fs) is ∙ sym (after_append es fs old)
+adds_then es fs old mid new (Err e) is adds = all_then es fs old mid new is adds
+
+-- a disk that tells goes on telling
+pub tells_on : (es : List Event) (t : Told) → AddsPart es (Some t) None → ⊥
+tells_on [] t part = cc
+tells_on (e ∷ es) t (inl same) = cc
+tells_on (e ∷ es) t (inr more) = tells_on es (did e t) more
+
+-- an honest disk stays honest over an event
+pub honest_did : (e : Event) (t : Told) → IsHonest t → IsHonest (did e t)
+honest_did (Write at bytes) t honest = record { shows = λ sector i. written at bytes (λ s. honest.shows s i) sector }
+honest_did Sync t honest = record { shows = honest.shows }
+honest_did (Stop changes) t honest = record { shows = λ sector i. changed changes (λ s. honest.shows s i) sector }
+
+-- what a disk that tells comes to: the log went on, and an honest disk stayed so
+pub record Goes (t n : Told) : Type 0 where
+  pub grew : Extends n.log t.log
+  pub honest : IsHonest t → IsHonest n
+
+pub goes_by : (es : List Event) (t : Told) (new : Option Told) → new ≡ after_all es (Some t) → (n : Told) × (new ≡ Some n) × Goes t n
+goes_by [] t new is = (t, is, record { grew = extends_self t.log; honest = λ h. h })
+goes_by (e ∷ es) t new is =
+    let rest = goes_by es (did e t) new is in
+    (rest.0, rest.1, record { grew = extends_on rest.0.log (did e t).log t.log rest.2.grew (e ∷ [], refl, refl); honest = λ h. rest.2.honest (honest_did e t h) })
+
+pub goes_told : (t : Told) (new : Option Told) → (es : List Event) × (new ≡ after_all es (Some t)) → (n : Told) × (new ≡ Some n) × Goes t n
+goes_told t new told = goes_by told.0 t new told.1

@@ -1,6 +1,7 @@
 -- A kind has one code, and a code one kind; and what equal options hold.
 use Rattle.std.proofs.Common.{◌≡◌, ◌==◌, ℕ, Bool, true, false, Option, Some, None, cond, refl, ◌∙◌, ap}
 use Rattle.std.proofs.lemmas.Bool.{eqb-true}
+use Rattle.std.proofs.lemmas.Option.{same_Some}
 use Rattle.df_format.specs.declared.kind.Kind.{Kind}
 use Rattle.df_format.specs.declared.kind.Kind.TheVariants.{Reserved, Prepare, Reply, Block, Trailer}
 use Rattle.df_format.specs.Spelling.{code_of}
@@ -14,12 +15,9 @@ kind_of-code Reply = refl
 kind_of-code Block = refl
 kind_of-code Trailer = refl
 
-pub some-eq : {X : Type 0} {x y : X} → Some x ≡ Some y → x ≡ y
-some-eq is = cc
-
 -- one test of a code: it has passed, or a later one
 code_by : (code : ℕ) (b : Bool) (first kind : Kind) (o : Option Kind) → (code == code_of first) ≡ b → cond b (Some first) o ≡ Some kind → (o ≡ Some kind → code ≡ code_of kind) → code ≡ code_of kind
-code_by code true first kind o is found later = eqb-true _ _ is ∙ ap code_of (some-eq found)
+code_by code true first kind o is found later = eqb-true _ _ is ∙ ap code_of (same_Some _ _ found)
 code_by code false first kind o is found later = later found
 
 pub code_of-kind : (code : ℕ) (kind : Kind) → kind_of code ≡ Some kind → code ≡ code_of kind

@@ -1,9 +1,10 @@
 -- What an image shows at the copies' places: the laws that the superblock rests on.
-use Rattle.std.proofs.Common.{◌≡◌, ◌≢◌, inl, inr, ◌+◌, ◌==◌, ℕ, false, List, length, take, drop, Option, Some, None, refl, ◌∙◌, ap, subst, arith}
-use Rattle.std.proofs.lemmas.Bool.{cond-true, cond-false, cases_order, eq-eqb}
+use Rattle.std.proofs.Common.{◌≡◌, ◌≢◌, inl, inr, ◌+◌, ◌==◌, ℕ, List, length, take, drop, Option, Some, None, refl, ◌∙◌, ap, subst, arith}
+use Rattle.std.proofs.lemmas.Bool.{cond-true, cases_order, eq-eqb}
 use Rattle.std.proofs.lemmas.List.{take_all}
 use Rattle.df_base.specs.Fields.{check_of}
-use Rattle.df_base.specs.Image.{Image, covers, written}
+use Rattle.df_base.specs.Image.{Image, written}
+use Rattle.df_base.proofs.Laws.{written_else}
 use Rattle.df_format.specs.declared.superblock.SuperCopy.{SuperCopy}
 use Rattle.df_format.specs.Super.{covered_bytes, copy_bytes}
 use Rattle.df_format.specs.Copies.{copy_in, if_here, copy_at, content_of}
@@ -18,17 +19,13 @@ written_here at bytes image size =
     let all : take 4096 (drop 0 bytes) ≡ bytes = take_all 4096 bytes (omega arith) in
     subst (λ (s : ℕ). written at bytes image s ≡ bytes) here (covered at bytes image 0 (omega arith) ∙ all)
 
-not_written : (at : ℕ) (bytes : List ℕ) (image : Image) (sector : ℕ) → covers at bytes sector ≡ false → written at bytes image sector ≡ image sector
-unfolding written
-not_written at bytes image sector is = cond-false (covers at bytes sector) _ _ is
-
 -- and no other sector
 pub written_beside : (at : ℕ) (bytes : List ℕ) (image : Image) (sector : ℕ) → length bytes ≡ 4096 → sector ≢ at → written at bytes image sector ≡ image sector
 written_beside at bytes image sector size other = elim (cases_order sector at) [
   | inl same ↦ absurd (other same)
   | inr differ ↦ elim differ [
-    | inl before ↦ not_written at bytes image sector (uncovered_below at bytes sector before)
-    | inr behind ↦ not_written at bytes image sector (uncovered_above at bytes sector 1 (omega arith) (omega arith))
+    | inl before ↦ written_else at bytes image sector (uncovered_below at bytes sector before)
+    | inr behind ↦ written_else at bytes image sector (uncovered_above at bytes sector 1 (omega arith) (omega arith))
   ]
 ]
 

@@ -4,18 +4,17 @@ use Rattle.std.specs.Prelude.{nat_lt, position, option_map}
 use Rattle.std.proofs.lemmas.Bool.{cond-true, and_parts, and_from, ltb-true, lt-ltb}
 use Rattle.std.proofs.lemmas.List.{take_at, length-take-le, length-drop, length-replicate}
 use Rattle.std.proofs.lemmas.Slice.Eq.{bytes_eq-Decides}
+use Rattle.std.proofs.lemmas.Option.{cond_some}
 use Rattle.df_base.specs.Fields.{AreBytes, field_at, spelled, check_of}
 use Rattle.df_base.specs.Image.{IsSector}
-use Rattle.df_base.proofs.Laws.{length-check_of, AreBytes-check_of, length-spelled, AreBytes-spelled, field_spelled, field_at-lt, spelled-field_at}
+use Rattle.df_base.proofs.Laws.{length-check_of, AreBytes-check_of, length-spelled, AreBytes-spelled, field_spelled, field_at-lt, spelled-field_at, AreBytes-append, AreBytes-take, AreBytes-drop, AreBytes-zeros}
 use Rattle.df_format.specs.declared.superblock.SuperFields.{SuperFields}
 use Rattle.df_format.specs.declared.superblock.SuperCopy.{SuperCopy}
 use Rattle.df_format.specs.Spelling.{IsCheck}
 use Rattle.df_format.specs.Super.{FitsSuper, fields_bytes, covered_bytes, copy_bytes}
 use Rattle.df_format.specs.Copies.{first_nonzero_of, super_fields_of, has_checksum, has_zeros, is_copy, copy_in}
 use Rattle.df_format.specs.CopyLaws.{IsWritten, CopiesHaveOneSpelling}
-use Rattle.df_format.proofs.Messages.{AreBytes-zeros}
-use Rattle.df_format.proofs.Parts.{bytes-take, bytes-drop, bytes-append, piece, past}
-use Rattle.df_format.proofs.Spelled.{guard_is}
+use Rattle.df_format.proofs.Parts.{piece, past}
 use Rattle.df_format.proofs.CopyParts.{no_other, all_zeros}
 
 length-fields : (f : SuperFields) → FitsSuper f → length (fields_bytes f) ≡ 128
@@ -33,15 +32,15 @@ length-copy number f fits = simp length-append (omega (arith, length-check_of (c
 AreBytes-fields : (f : SuperFields) → FitsSuper f → AreBytes (fields_bytes f)
 unfolding fields_bytes
 AreBytes-fields f fits =
-    bytes-append _ _ (AreBytes-spelled 4 f.version) (bytes-append _ _ (AreBytes-spelled 4 f.slots) (bytes-append _ _ (AreBytes-spelled 4 f.message_size) (bytes-append _ _ (AreBytes-spelled 4 f.clients)
-    (bytes-append _ _ (AreBytes-spelled 16 f.cluster) (bytes-append _ _ (AreBytes-spelled 4 f.block_size) (bytes-append _ _ (AreBytes-spelled 4 f.blocks) (bytes-append _ _ (AreBytes-spelled 8 f.sequence)
-    (bytes-append _ _ (AreBytes-spelled 8 f.op) (bytes-append _ _ (AreBytes-spelled 8 f.head) (bytes-append _ _ (AreBytes-spelled 8 f.replies) (bytes-append _ _ (AreBytes-spelled 8 f.trailer_address)
-    (bytes-append _ _ fits.op_checksum.each (bytes-append _ _ fits.trailer_checksum.each (bytes-append _ _ (AreBytes-spelled 8 f.trailer_size) (AreBytes-spelled 8 f.boot)))))))))))))))
+    AreBytes-append _ _ (AreBytes-spelled 4 f.version) (AreBytes-append _ _ (AreBytes-spelled 4 f.slots) (AreBytes-append _ _ (AreBytes-spelled 4 f.message_size) (AreBytes-append _ _ (AreBytes-spelled 4 f.clients)
+    (AreBytes-append _ _ (AreBytes-spelled 16 f.cluster) (AreBytes-append _ _ (AreBytes-spelled 4 f.block_size) (AreBytes-append _ _ (AreBytes-spelled 4 f.blocks) (AreBytes-append _ _ (AreBytes-spelled 8 f.sequence)
+    (AreBytes-append _ _ (AreBytes-spelled 8 f.op) (AreBytes-append _ _ (AreBytes-spelled 8 f.head) (AreBytes-append _ _ (AreBytes-spelled 8 f.replies) (AreBytes-append _ _ (AreBytes-spelled 8 f.trailer_address)
+    (AreBytes-append _ _ fits.op_checksum.each (AreBytes-append _ _ fits.trailer_checksum.each (AreBytes-append _ _ (AreBytes-spelled 8 f.trailer_size) (AreBytes-spelled 8 f.boot)))))))))))))))
 
 AreBytes-copy : (number : ℕ) (f : SuperFields) → FitsSuper f → AreBytes (copy_bytes number f)
 unfolding copy_bytes covered_bytes
 AreBytes-copy number f fits =
-    bytes-append _ _ (AreBytes-check_of (covered_bytes f)) (bytes-append _ _ (AreBytes-spelled 4 number) (bytes-append (replicate 12 0) _ (AreBytes-zeros 12) (bytes-append _ (replicate 3936 0) (AreBytes-fields f fits) (AreBytes-zeros 3936))))
+    AreBytes-append _ _ (AreBytes-check_of (covered_bytes f)) (AreBytes-append _ _ (AreBytes-spelled 4 number) (AreBytes-append (replicate 12 0) _ (AreBytes-zeros 12) (AreBytes-append _ (replicate 3936 0) (AreBytes-fields f fits) (AreBytes-zeros 3936))))
 
 -- a copy's bytes are those of a sector
 pub copy_is_sector : (number : ℕ) (f : SuperFields) → FitsSuper f → IsSector (copy_bytes number f)
@@ -235,7 +234,7 @@ module _ (bytes : List ℕ) (is : IsSector bytes) (sum : take 16 bytes ≡ check
   check_here : (at : ℕ) → at + 16 ≤ 4096 → IsCheck (take 16 (drop at bytes))
   check_here at fits = record {
     size = length-take-le 16 (drop at bytes) (omega (arith, length-drop at bytes, is.size, fits));
-    each = bytes-take 16 (drop at bytes) (bytes-drop at bytes is.each);
+    each = AreBytes-take 16 (drop at bytes) (AreBytes-drop at bytes is.each);
   }
 
   all_fit : FitsSuper (super_fields_of bytes)
@@ -269,7 +268,7 @@ pub record IsRead (bytes : List ℕ) (copy : SuperCopy) : Type 0 where
 pub read_as : (bytes : List ℕ) (copy : SuperCopy) → copy_in bytes ≡ Some copy → IsRead bytes copy
 unfolding copy_in is_copy
 read_as bytes copy is =
-    let parts = guard_is _ _ copy is in
+    let parts = cond_some _ _ copy is in
     let tests = and_parts _ _ parts.0 in
     let front = and_parts _ _ tests.0 in
     record {

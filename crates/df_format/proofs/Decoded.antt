@@ -1,7 +1,8 @@
 -- The answers of the decoder: the header of the unit that is valid at a place, or the class of what stands there.
 use Rattle.std.proofs.Common.{◌≡◌, ◌≢◌, ℕ, true, false, List, Option, Some, None, cond, refl, sym, ◌∙◌, ap}
 use Rattle.std.specs.Prelude.{Result, Ok, Err}
-use Rattle.std.proofs.lemmas.Bool.{cond-true, cond-false}
+use Rattle.std.proofs.lemmas.Bool.{cond-true, cond-false, false_from_ne_true}
+use Rattle.std.proofs.lemmas.Option.{same_Some}
 use Rattle.df_layout.specs.declared.damage.Class.{Class}
 use Rattle.df_layout.specs.declared.damage.Class.TheVariants.{Blank, Elsewhere, Stale}
 use Rattle.df_layout.specs.declared.layout.Layout.{Layout}
@@ -11,8 +12,7 @@ use Rattle.df_format.specs.Message.{Message}
 use Rattle.df_format.specs.Whole.{Whole, whole_in, owner_of}
 use Rattle.df_format.specs.Shown.{same_place, if_own, unit_in, is_blank, class_of_none, class_of_whole, class_of, header_or_class}
 use Rattle.df_format.proofs.Owned.{same_place-true, same_place-self}
-use Rattle.df_format.proofs.Codes.{some-eq}
-use Rattle.df_format.proofs.Wholes.{false_unless, whole_is_not_blank}
+use Rattle.df_format.proofs.Wholes.{whole_is_not_blank}
 
 -- the answer by the whole unit
 abbrev answer : Place → List ℕ → Option Whole → Result Header Class
@@ -37,7 +37,7 @@ record IsOwner (o : Option Whole) (h : Header) (own : Place) : Type 0 where
 an_owner : (o : Option Whole) (h : Header) (own : Place) → Some (h, own) ≡ owner_of o → IsOwner o h own
 an_owner None h own is = absurd (cc)
 an_owner (Some w) h own is =
-    let same : (h, own) ≡ (w.unit.header, w.own) = some-eq is in
+    let same : (h, own) ≡ (w.unit.header, w.own) = same_Some _ _ is in
     record { whole = w; is = refl; header = ap (λ (x : Header × Place). x.0) (sym same); place = ap (λ (x : Header × Place). x.1) (sym same) }
 
 pub decoded_none : (layout : Layout) (cluster : ℕ) (place : Place) (bytes : List ℕ) (class : Class) → None ≡ owner_of (whole_in layout cluster place.zone bytes) → class ≡ class_of_none bytes
@@ -57,7 +57,7 @@ pub decoded_there : (layout : Layout) (cluster : ℕ) (place : Place) (bytes : L
     → Err (Elsewhere own) ≡ header_or_class (unit_in layout cluster place bytes) (class_of layout cluster place bytes)
 decoded_there layout cluster place bytes h own some other =
     let w = an_owner _ h own some in
-    let differ : same_place w.whole.own place ≡ false = false_unless _ (λ same. other (sym w.place ∙ same_place-true w.whole.own place same)) in
+    let differ : same_place w.whole.own place ≡ false = false_from_ne_true _ (λ same. other (sym w.place ∙ same_place-true w.whole.own place same)) in
     let there : cond (is_blank bytes) Blank (class_of_whole place (Some w.whole)) ≡ Elsewhere own =
     cond-false _ Blank _ (whole_is_not_blank layout cluster place.zone bytes w.whole w.is) ∙ cond-false _ Stale _ differ ∙ ap (λ (p : Place). Elsewhere p) w.place in
     (λ i. header_or_class (sym (cond-false _ (Some w.whole.unit) None differ) i) (sym there i))

@@ -22,7 +22,8 @@ kind_sealed Reply h is = record { client = is.client; op = is.op; request = is.r
 kind_sealed Block h is = record { parent = is.parent; client = is.client; op = is.op; request = is.request; mark = is.mark; checkpoint = is.checkpoint; slot = is.slot; block_kind = is.block_kind }
 kind_sealed Trailer h is = record { first = is.first; client = is.client; op = is.op; request = is.request; checkpoint = is.checkpoint; slot = is.slot; block_kind = is.block_kind }
 
-sealed_is : (h : Header) → ObeysRules h → IsSealed (sealed h)
+-- so a header that is sealed obeys them
+pub sealed_is : (h : Header) → ObeysRules h → IsSealed (sealed h)
 unfolding spelling_rest
 sealed_is h is = record {
   rules = record {

@@ -1,15 +1,14 @@
 -- The bytes of a unit: their length, and that they are bytes.
-use Rattle.std.proofs.Common.{◌≡◌, ◌<◌, ◌+◌, ◌-◌, ℕ, zero, suc, List, ◌∷◌, ◌++◌, length, replicate, sym, subst, arith, length-append}
+use Rattle.std.proofs.Common.{◌≡◌, ◌<◌, ◌+◌, ◌-◌, ℕ, List, ◌∷◌, ◌++◌, length, replicate, sym, subst, arith, length-append}
 use Rattle.std.proofs.lemmas.List.{length-replicate}
 use Rattle.df_base.specs.Fields.{AreBytes, spelled}
-use Rattle.df_base.proofs.Laws.{AreBytes-check_of, AreBytes-spelled}
+use Rattle.df_base.proofs.Laws.{AreBytes-check_of, AreBytes-spelled, AreBytes-append, AreBytes-cons, AreBytes-zeros}
 use Rattle.df_format.specs.declared.header.Header.{Header}
 use Rattle.df_format.specs.declared.kind.Kind.{Kind}
 use Rattle.df_format.specs.declared.kind.Kind.TheVariants.{Reserved, Prepare, Reply, Block, Trailer}
-use Rattle.df_format.specs.Spelling.{code_of, version_bytes, spelling, spelling_rest, tail_bytes}
+use Rattle.df_format.specs.Spelling.{code_of, header_version, spelling, spelling_rest, tail_of}
 use Rattle.df_format.specs.Rules.{IsSealed}
 use Rattle.df_format.specs.Message.{Message, unit_of, sectors_of, sectors_end}
-use Rattle.df_format.proofs.Parts.{bytes-append}
 use Rattle.df_format.proofs.Spelled.{length-spelling}
 
 length-unit : (u : Message) → IsSealed u.header → length (unit_of u) ≡ 256 + length u.body
@@ -21,18 +20,9 @@ length-sectors u is =
     let n : ℕ = 256 + length u.body in
     omega (arith, length-append (unit_of u) (replicate (sectors_end n - n) 0), length-unit u is, length-replicate {A = ℕ} (sectors_end n - n) 0)
 
-pub AreBytes-zeros : (n : ℕ) → AreBytes (replicate n 0)
-AreBytes-zeros zero i = omega arith
-AreBytes-zeros (suc n) zero = omega arith
-AreBytes-zeros (suc n) (suc i) = AreBytes-zeros n i
-
-bytes-cons : (x : ℕ) (xs : List ℕ) → x < 256 → AreBytes xs → AreBytes (x ∷ xs)
-bytes-cons x xs small are zero = small
-bytes-cons x xs small are (suc i) = are i
-
-AreBytes-version : AreBytes version_bytes
-unfolding version_bytes
-AreBytes-version = bytes-cons 1 (0 ∷ replicate 132 0) (omega arith) (bytes-cons 0 (replicate 132 0) (omega arith) (AreBytes-zeros 132))
+AreBytes-tail : (number : ℕ) → AreBytes (tail_of number)
+unfolding tail_of
+AreBytes-tail number = AreBytes-append (spelled 2 number) (replicate 132 0) (AreBytes-spelled 2 number) (AreBytes-zeros 132)
 
 code-small : (kind : Kind) → code_of kind < 256
 code-small Reserved = omega arith
@@ -41,31 +31,30 @@ code-small Reply = omega arith
 code-small Block = omega arith
 code-small Trailer = omega arith
 
-AreBytes-tail : (kind : Kind) (block_kind : ℕ) → block_kind < 256 → AreBytes (tail_bytes kind block_kind)
-unfolding tail_bytes
-AreBytes-tail kind block_kind small =
-    bytes-cons (code_of kind) (block_kind ∷ version_bytes) (code-small kind) (bytes-cons block_kind version_bytes small AreBytes-version)
+AreBytes-kind : (kind : Kind) (block_kind : ℕ) (rest : List ℕ) → block_kind < 256 → AreBytes rest → AreBytes (code_of kind ∷ (block_kind ∷ rest))
+AreBytes-kind kind block_kind rest small are = AreBytes-cons (code_of kind) (block_kind ∷ rest) (code-small kind) (AreBytes-cons block_kind rest small are)
 
 number : (n x : ℕ) (rest : List ℕ) → AreBytes rest → AreBytes (spelled n x ++ rest)
-number n x rest are = bytes-append (spelled n x) rest (AreBytes-spelled n x) are
+number n x rest are = AreBytes-append (spelled n x) rest (AreBytes-spelled n x) are
 
 AreBytes-rest : (h : Header) → IsSealed h → AreBytes (spelling_rest h)
 unfolding spelling_rest
 AreBytes-rest h is =
-    let r116 : List ℕ = spelled 4 h.slot ++ tail_bytes h.kind h.block_kind in
+    let r120 : List ℕ = code_of h.kind ∷ (h.block_kind ∷ tail_of header_version) in
+    let r116 : List ℕ = spelled 4 h.slot ++ r120 in
     let r112 : List ℕ = spelled 4 h.size ++ r116 in
     let r104 : List ℕ = spelled 8 h.checkpoint ++ r112 in
     let r96 : List ℕ = spelled 8 h.mark ++ r104 in
     let r88 : List ℕ = spelled 8 h.request ++ r96 in
     let r80 : List ℕ = spelled 8 h.op ++ r88 in
     let r64 : List ℕ = spelled 16 h.client ++ r80 in
-    let b80 : AreBytes r80 = number 8 h.op r88 (number 8 h.request r96 (number 8 h.mark r104 (number 8 h.checkpoint r112 (number 4 h.size r116 (number 4 h.slot (tail_bytes h.kind h.block_kind) (AreBytes-tail h.kind h.block_kind is.rules.fits.block_kind)))))) in
-    let b48 : AreBytes (h.parent ++ r64) = bytes-append h.parent r64 is.rules.fits.parent.each (number 16 h.client r80 b80) in
-    bytes-append h.checksum_body (spelled 16 h.cluster ++ (h.parent ++ r64)) is.rules.fits.body.each (number 16 h.cluster (h.parent ++ r64) b48)
+    let b80 : AreBytes r80 = number 8 h.op r88 (number 8 h.request r96 (number 8 h.mark r104 (number 8 h.checkpoint r112 (number 4 h.size r116 (number 4 h.slot r120 (AreBytes-kind h.kind h.block_kind (tail_of header_version) is.rules.fits.block_kind (AreBytes-tail header_version))))))) in
+    let b48 : AreBytes (h.parent ++ r64) = AreBytes-append h.parent r64 is.rules.fits.parent.each (number 16 h.client r80 b80) in
+    AreBytes-append h.checksum_body (spelled 16 h.cluster ++ (h.parent ++ r64)) is.rules.fits.body.each (number 16 h.cluster (h.parent ++ r64) b48)
 
 pub AreBytes-spelling : (h : Header) → IsSealed h → AreBytes (spelling h)
-AreBytes-spelling h is = bytes-append h.checksum (spelling_rest h) (subst (λ (l : List ℕ). AreBytes l) (sym is.checksum) (AreBytes-check_of (spelling_rest h))) (AreBytes-rest h is)
+AreBytes-spelling h is = AreBytes-append h.checksum (spelling_rest h) (subst (λ (l : List ℕ). AreBytes l) (sym is.checksum) (AreBytes-check_of (spelling_rest h))) (AreBytes-rest h is)
 
 pub AreBytes-sectors : (u : Message) → IsSealed u.header → AreBytes u.body → AreBytes (sectors_of u)
 unfolding sectors_of
-AreBytes-sectors u is are = bytes-append (unit_of u) _ (bytes-append (spelling u.header) u.body (AreBytes-spelling u.header is) are) (AreBytes-zeros _)
+AreBytes-sectors u is are = AreBytes-append (unit_of u) _ (AreBytes-append (spelling u.header) u.body (AreBytes-spelling u.header is) are) (AreBytes-zeros _)

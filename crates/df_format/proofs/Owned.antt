@@ -1,6 +1,8 @@
 -- The own place of a unit: the layout has it, and the unit's header says what belongs there.
-use Rattle.std.proofs.Common.{◌≡◌, ◌⊎◌, inl, inr, ℕ, Bool, true, false, Option, Some, None, cond, refl, sym, ◌∙◌, ap, subst}
+use Rattle.std.proofs.Common.{◌≡◌, ◌⊎◌, inl, inr, ℕ, true, Option, Some, None, refl, sym, ◌∙◌, ap, subst}
 use Rattle.std.proofs.lemmas.Bool.{cond-true, and_parts, and_from, ltb-true, lt-ltb, leb-true, le-leb, eqb-true, eq-eqb}
+use Rattle.std.proofs.lemmas.Option.{cond_some, same_Some}
+use Rattle.df_base.proofs.Laws.{cond_there}
 use Rattle.df_layout.specs.declared.layout.Layout.{Layout}
 use Rattle.df_layout.specs.declared.places.Place.{Place}
 use Rattle.df_layout.specs.declared.places.Zone.{Zone}
@@ -12,8 +14,6 @@ use Rattle.df_format.specs.declared.kind.Kind.TheVariants.{Reserved, Prepare, Re
 use Rattle.df_format.specs.Own.{place_in, named_in_ring, named_elsewhere, named_place, has_op_of_slot, has_index, inside, own_place}
 use Rattle.df_format.specs.Shown.{same_zone, same_place}
 use Rattle.df_format.specs.Valid.{IsInSlot, IsForSlot, IsOfSession, IsAtAddress, Belongs}
-use Rattle.df_format.proofs.Codes.{some-eq}
-use Rattle.df_format.proofs.Spelled.{guard_is}
 
 same_zone-true : (a b : Zone) → same_zone a b ≡ true → a ≡ b
 same_zone-true Superblock Superblock is = refl
@@ -63,17 +63,13 @@ pub record IsOwn (layout : Layout) (zone : Zone) (h : Header) (place : Place) : 
 inside_is : (layout : Layout) (o : Option Place) (place : Place) → inside layout o ≡ Some place → (o ≡ Some place) × HasPlace layout place
 inside_is layout None place is = absurd (cc)
 inside_is layout (Some named) place is =
-    let parts = guard_is _ _ place is in
+    let parts = cond_some _ _ place is in
     (ap Some parts.1, subst (λ (p : Place). HasPlace layout p) parts.1 (has-true layout named.zone named.index parts.0))
-
-cond_some : {X : Type 0} (b : Bool) (o : Option X) (x : X) → cond b o None ≡ Some x → (b ≡ true) × (o ≡ Some x)
-cond_some true o x is = (refl, is)
-cond_some false o x is = absurd (cc)
 
 pub own_is : (layout : Layout) (zone : Zone) (h : Header) (place : Place) → own_place layout zone h ≡ Some place → IsOwn layout zone h place
 unfolding own_place
 own_is layout zone h place is =
-    let parts = cond_some _ _ place is in
+    let parts = cond_there _ _ place is in
     let there = inside_is layout _ place parts.1 in
     record { op = parts.0; named = there.0; has = there.1 }
 
@@ -86,10 +82,10 @@ is_own layout zone h place is =
 
 -- two names of a place
 same_index : (z w : Zone) (i j : ℕ) → Some (place_in z i) ≡ Some (place_in w j) → i ≡ j
-same_index z w i j is = ap (λ (p : Place). p.index) (some-eq is)
+same_index z w i j is = ap (λ (p : Place). p.index) (same_Some _ _ is)
 
 same_zones : (z w : Zone) (i j : ℕ) → Some (place_in z i) ≡ Some (place_in w j) → z ≡ w
-same_zones z w i j is = ap (λ (p : Place). p.zone) (some-eq is)
+same_zones z w i j is = ap (λ (p : Place). p.zone) (same_Some _ _ is)
 
 ring_belongs : (layout : Layout) (kind : Kind) (h : Header) (index : ℕ) → h.kind ≡ kind → has_op_of_slot layout kind h ≡ true → named_in_ring kind h ≡ Some (place_in WalHeaders index)
     → IsForSlot index h ⊎ IsInSlot layout index h

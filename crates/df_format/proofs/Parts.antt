@@ -1,21 +1,6 @@
 -- Parts of bytes are bytes, and a list is its pieces one behind the other.
-use Rattle.std.proofs.Common.{◌≡◌, ℕ, zero, suc, ◌+◌, List, [], ◌∷◌, ◌++◌, length, take, drop, sym, ◌∙◌, ap, arith}
-use Rattle.std.proofs.lemmas.List.{take-append-drop, drop-drop, drop_at, get_or-drop}
-use Rattle.df_base.specs.Fields.{AreBytes}
-
-pub bytes-take : (n : ℕ) (bytes : List ℕ) → AreBytes bytes → AreBytes (take n bytes)
-bytes-take zero bytes are i = omega arith
-bytes-take (suc n) [] are i = omega arith
-bytes-take (suc n) (x ∷ xs) are zero = are 0
-bytes-take (suc n) (x ∷ xs) are (suc i) = bytes-take n xs (λ j. are (suc j)) i
-
-pub bytes-drop : (n : ℕ) (bytes : List ℕ) → AreBytes bytes → AreBytes (drop n bytes)
-bytes-drop n bytes are i = rw (get_or-drop n bytes i 0) (are (n + i))
-
-pub bytes-append : (front rest : List ℕ) → AreBytes front → AreBytes rest → AreBytes (front ++ rest)
-bytes-append [] rest one two i = two i
-bytes-append (x ∷ xs) rest one two zero = one 0
-bytes-append (x ∷ xs) rest one two (suc i) = bytes-append xs rest (λ j. one (suc j)) two i
+use Rattle.std.proofs.Common.{◌≡◌, ℕ, ◌+◌, List, ◌++◌, length, take, drop, sym, ◌∙◌, ap}
+use Rattle.std.proofs.lemmas.List.{take-append-drop, drop-drop, drop_at}
 
 -- what stands from an offset on is a piece and what stands behind it
 pub piece : (at n : ℕ) (bytes front rest : List ℕ) → front ≡ take n (drop at bytes) → drop (at + n) bytes ≡ rest → drop at bytes ≡ front ++ rest

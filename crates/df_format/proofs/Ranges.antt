@@ -27,7 +27,7 @@ passes_counter n is = and_from _ _ (lt-ltb 0 n is.0) (le-leb n (2 ^ 62) is.1)
 no_bytes : (a b : List ℕ) → bytes_eq a b ≡ true → a ≡ b
 no_bytes a b is = (bytes_eq-Decides a b).0 is
 
-same_bytes : (a b : List ℕ) → a ≡ b → bytes_eq a b ≡ true
+pub same_bytes : (a b : List ℕ) → a ≡ b → bytes_eq a b ≡ true
 same_bytes a b is = (bytes_eq-Decides a b).1 is
 
 first_of_all : (op : ℕ) (parent : List ℕ) → (not (op == 1) || bytes_eq parent no_checksum) ≡ true → op ≡ 1 → parent ≡ no_checksum

@@ -2,11 +2,10 @@
 use Rattle.std.proofs.Common.{◌≡◌, inl, inr, ◌<◌, ◌≤◌, ◌+◌, ◌-◌, ◌*◌, ℕ, false, zero, suc, List, [], ◌++◌, length, take, drop, refl, sym, ◌∙◌, ap, subst, arith, append_assoc, length-append}
 use Rattle.std.proofs.lemmas.Bool.{and_left, and_right, cases_lt, le-ltb, lt-leb}
 use Rattle.std.proofs.lemmas.Bool.Decides.{nat_tests}
-use Rattle.std.proofs.lemmas.List.{drop_all, take-append-drop, drop-drop, length-replicate}
+use Rattle.std.proofs.lemmas.List.{drop_all, take-append-drop, drop-drop}
 use Rattle.df_base.specs.Fields.{AreBytes}
-use Rattle.df_base.specs.Image.{Image, IsImage, blank, bytes_at, covers, written}
-use Rattle.df_format.proofs.Messages.{AreBytes-zeros}
-use Rattle.df_format.proofs.Parts.{bytes-append}
+use Rattle.df_base.specs.Image.{Image, IsImage, bytes_at, covers, written}
+use Rattle.df_base.proofs.Laws.{AreBytes-append}
 
 pub length-bytes_at : (image : Image) (at n : ℕ) → IsImage image → length (bytes_at image at n) ≡ 4096 * n
 length-bytes_at image at zero is = refl
@@ -14,7 +13,7 @@ length-bytes_at image at (suc n) is = omega (arith, length-append (image at) (by
 
 pub AreBytes-bytes_at : (image : Image) (at n : ℕ) → IsImage image → AreBytes (bytes_at image at n)
 AreBytes-bytes_at image at zero is = λ i. omega arith
-AreBytes-bytes_at image at (suc n) is = bytes-append (image at) (bytes_at image (at + 1) n) (is.sectors at).each (AreBytes-bytes_at image (at + 1) n is)
+AreBytes-bytes_at image at (suc n) is = AreBytes-append (image at) (bytes_at image (at + 1) n) (is.sectors at).each (AreBytes-bytes_at image (at + 1) n is)
 
 same_first : (one two : Image) (at n : ℕ) → ((k : ℕ) → k < suc n → one (at + k) ≡ two (at + k)) → one at ≡ two at
 same_first one two at n same = let here : at + 0 ≡ at = omega arith in subst (λ (s : ℕ). one s ≡ two s) here (same 0 (omega arith))
@@ -72,8 +71,3 @@ uncovered_below at bytes sector order = and_left _ _ (lt-leb at sector order)
 pub uncovered_above : (at : ℕ) (bytes : List ℕ) (sector n : ℕ) → length bytes ≤ 4096 * n → at + n ≤ sector → covers at bytes sector ≡ false
 unfolding covers
 uncovered_above at bytes sector n fits order = and_right _ _ (le-ltb (4096 * (sector - at)) (length bytes) (omega arith))
-
--- a blank image is whole sectors
-pub blank_image : IsImage blank
-unfolding blank
-blank_image = record { sectors = λ sector. record { size = length-replicate {A = ℕ} 4096 0; each = AreBytes-zeros 4096 } }

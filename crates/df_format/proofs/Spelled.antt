@@ -1,40 +1,29 @@
 -- A header is read from its spelling, and what is read as a header is its spelling.
-use Rattle.std.proofs.Common.{◌≡◌, ℕ, ◌+◌, ◌≤◌, ◌&&◌, Bool, true, false, List, [], ◌∷◌, ◌++◌, length, take, drop, Option, Some, None, cond, refl, sym, ◌∙◌, ap, subst, arith, length-append, drop-cons}
+use Rattle.std.proofs.Common.{◌≡◌, ℕ, ◌+◌, ◌≤◌, ◌&&◌, true, List, [], ◌∷◌, ◌++◌, length, take, drop, replicate, Option, Some, None, cond, refl, sym, ◌∙◌, ap, subst, arith, length-append, drop-cons}
 use Rattle.std.specs.Prelude.{slice_index}
 use Rattle.std.proofs.lemmas.Bool.{cond-true, and_parts, and_from}
 use Rattle.std.proofs.lemmas.List.{take_at, take_all, drop_at, length-take-le, length-drop, get_or-drop}
 use Rattle.std.proofs.lemmas.Slice.Eq.{bytes_eq-Decides}
-use Rattle.std.specs.Str.{bytes_eq}
+use Rattle.std.proofs.lemmas.Option.{cond_some}
 use Rattle.df_base.specs.Fields.{AreBytes, field_at, spelled, check_of}
-use Rattle.df_base.proofs.Laws.{length-check_of, length-spelled, field_spelled, field_at-lt, spelled-field_at}
+use Rattle.df_base.proofs.Laws.{length-check_of, length-spelled, field_spelled, field_at-lt, spelled-field_at, AreBytes-take, AreBytes-drop}
 use Rattle.df_format.specs.declared.header.Header.{Header}
 use Rattle.df_format.specs.declared.kind.Kind.{Kind}
-use Rattle.df_format.specs.Spelling.{code_of, version_bytes, tail_bytes, spelling, spelling_rest, IsCheck}
+use Rattle.df_format.specs.Spelling.{code_of, header_version, tail_of, spelling, spelling_rest, IsCheck}
 use Rattle.df_format.specs.Rules.{ObeysRules, IsSealed}
 use Rattle.df_format.specs.Reading.{kind_of, fields_of, has_numbers, is_spelled, header_of_kind, header_in}
 use Rattle.df_format.specs.UnitLaws.{HeadersHaveOneSpelling}
 use Rattle.df_format.proofs.Codes.{kind_of-code, code_of-kind}
-use Rattle.df_format.proofs.Parts.{bytes-take, bytes-drop, piece, past}
-use Rattle.df_format.proofs.Ranges.{AreInRange, in_range, passes}
+use Rattle.df_format.proofs.Parts.{piece, past}
+use Rattle.df_format.proofs.Ranges.{AreInRange, in_range, passes, same_bytes}
 
-pub guard_is : {X : Type 0} (b : Bool) (x y : X) → cond b (Some x) None ≡ Some y → (b ≡ true) × (x ≡ y)
-guard_is true x y is = (refl, cc)
-guard_is false x y is = absurd (cc)
-
-same_bytes : (a b : List ℕ) → a ≡ b → bytes_eq a b ≡ true
-same_bytes a b is = (bytes_eq-Decides a b).1 is
-
-length-version : length version_bytes ≡ 134
-unfolding version_bytes
-length-version = refl
-
-length-tail : (kind : Kind) (block_kind : ℕ) → length (tail_bytes kind block_kind) ≡ 136
-unfolding tail_bytes
-length-tail kind block_kind = omega (arith, length-version)
+pub length-tail : (number : ℕ) → length (tail_of number) ≡ 134
+unfolding tail_of
+length-tail number = length-append (spelled 2 number) (replicate 132 0) ∙ ap (λ (n : ℕ). n + 132) (length-spelled 2 number)
 
 pub length-spelling_rest : (h : Header) → ObeysRules h → length (spelling_rest h) ≡ 240
 unfolding spelling_rest
-length-spelling_rest h is = simp length-append (omega (arith, is.fits.body.size, is.fits.parent.size, length-spelled 16 h.cluster, length-spelled 16 h.client, length-spelled 8 h.op, length-spelled 8 h.request, length-spelled 8 h.mark, length-spelled 8 h.checkpoint, length-spelled 4 h.size, length-spelled 4 h.slot, length-tail h.kind h.block_kind))
+length-spelling_rest h is = simp length-append (omega (arith, is.fits.body.size, is.fits.parent.size, length-spelled 16 h.cluster, length-spelled 16 h.client, length-spelled 8 h.op, length-spelled 8 h.request, length-spelled 8 h.mark, length-spelled 8 h.checkpoint, length-spelled 4 h.size, length-spelled 4 h.slot, length-tail header_version))
 
 pub length-checksum : (h : Header) → IsSealed h → length h.checksum ≡ 16
 length-checksum h is = ap length is.checksum ∙ length-check_of (spelling_rest h)
@@ -49,7 +38,7 @@ kind_of-fields kind bytes h is = ap (λ (x : Header). x.kind) is
 -- what the parts of a header's test say
 pub record IsRead (bytes : List ℕ) (h : Header) : Type 0 where
   pub sum : take 16 bytes ≡ check_of (take 240 (drop 16 bytes))
-  pub version : take 134 (drop 122 bytes) ≡ version_bytes
+  pub version : take 134 (drop 122 bytes) ≡ tail_of header_version
   pub code : slice_index bytes 120 ≡ code_of h.kind
   pub fields : fields_of h.kind bytes ≡ h
   pub ranges : AreInRange h
@@ -58,7 +47,7 @@ read_of_kind : (bytes : List ℕ) (h : Header) (o : Option Kind) → header_of_k
 unfolding is_spelled
 read_of_kind bytes h None is from = absurd (cc)
 read_of_kind bytes h (Some kind) is from =
-    let parts = guard_is _ _ h is in
+    let parts = cond_some _ _ h is in
     let tests = and_parts _ _ parts.0 in
     let fixed = and_parts _ _ tests.0 in
     let same : kind ≡ h.kind = kind_of-fields kind bytes h parts.1 in
@@ -88,7 +77,7 @@ module _ (h : Header) (sealed : IsSealed h) where
   bytes = spelling h
 
   abbrev tail : List ℕ
-  tail = tail_bytes h.kind h.block_kind
+  tail = code_of h.kind ∷ (h.block_kind ∷ tail_of header_version)
 
   e16 : drop 16 bytes ≡ spelling_rest h
   e16 = drop_at h.checksum (spelling_rest h) 16 (length-checksum h sealed)
@@ -140,15 +129,12 @@ module _ (h : Header) (sealed : IsSealed h) where
   f_parent = ap (λ (l : List ℕ). take 16 l) e48 ∙ take_at h.parent _ 16 rules.fits.parent.size
 
   f_block_kind : slice_index bytes 121 ≡ h.block_kind
-  unfolding tail_bytes
-  f_block_kind = byte_at 121 bytes h.block_kind version_bytes (past 120 1 bytes (code_of h.kind ∷ []) _ e120 refl)
+  f_block_kind = byte_at 121 bytes h.block_kind (tail_of header_version) (past 120 1 bytes (code_of h.kind ∷ []) _ e120 refl)
 
   f_code : slice_index bytes 120 ≡ code_of h.kind
-  unfolding tail_bytes
-  f_code = byte_at 120 bytes (code_of h.kind) (h.block_kind ∷ version_bytes) e120
+  f_code = byte_at 120 bytes (code_of h.kind) (h.block_kind ∷ tail_of header_version) e120
 
-  f_version : drop 122 bytes ≡ version_bytes
-  unfolding tail_bytes
+  f_version : drop 122 bytes ≡ tail_of header_version
   f_version = past 120 2 bytes (code_of h.kind ∷ (h.block_kind ∷ [])) _ e120 refl
 
   is_fields : fields_of h.kind bytes ≡ h
@@ -182,7 +168,7 @@ module _ (h : Header) (sealed : IsSealed h) where
   unfolding is_spelled
   fixed_ok =
       let rest : take 240 (drop 16 bytes) ≡ spelling_rest h = ap (λ (l : List ℕ). take 240 l) e16 ∙ take_all 240 (spelling_rest h) (omega (arith, length-spelling_rest h rules)) in
-      let version : take 134 (drop 122 bytes) ≡ version_bytes = ap (λ (l : List ℕ). take 134 l) f_version ∙ take_all 134 version_bytes (omega (arith, length-version)) in
+      let version : take 134 (drop 122 bytes) ≡ tail_of header_version = ap (λ (l : List ℕ). take 134 l) f_version ∙ take_all 134 (tail_of header_version) (omega (arith, length-tail header_version)) in
       and_from _ _ (same_bytes _ _ (f_checksum ∙ sealed.checksum ∙ ap check_of (sym rest))) (same_bytes _ _ version)
 
   header_ok : (is_spelled bytes && has_numbers (fields_of h.kind bytes)) ≡ true
@@ -195,15 +181,14 @@ module _ (h : Header) (sealed : IsSealed h) where
       ∙ cond-true (is_spelled bytes && has_numbers (fields_of h.kind bytes)) (Some (fields_of h.kind bytes)) None header_ok
       ∙ ap Some is_fields
 
-module _ (bytes : List ℕ) (size : length bytes ≡ 256) (are : AreBytes bytes) (kind : Kind) (code : slice_index bytes 120 ≡ code_of kind) (version : take 134 (drop 122 bytes) ≡ version_bytes) where
+module _ (bytes : List ℕ) (size : length bytes ≡ 256) (are : AreBytes bytes) (kind : Kind) (code : slice_index bytes 120 ≡ code_of kind) (version : take 134 (drop 122 bytes) ≡ tail_of header_version) where
   number : (n at : ℕ) → at + n ≤ 256 → spelled n (field_at n at bytes) ≡ take n (drop at bytes)
   number n at fits = spelled-field_at n at bytes are (omega (arith, size, fits))
 
-  d122 : drop 122 bytes ≡ version_bytes
+  d122 : drop 122 bytes ≡ tail_of header_version
   d122 = sym (take_all 134 (drop 122 bytes) (omega (arith, length-drop 122 bytes, size))) ∙ version
 
-  d120 : drop 120 bytes ≡ tail_bytes kind (slice_index bytes 121)
-  unfolding tail_bytes
+  d120 : drop 120 bytes ≡ code_of kind ∷ (slice_index bytes 121 ∷ tail_of header_version)
   d120 =
       drop-cons bytes 120 0 (omega (arith, size))
       ∙ (λ i. code i ∷ (drop-cons bytes 121 0 (omega (arith, size)) ∙ ap (λ (l : List ℕ). slice_index bytes 121 ∷ l) d122) i)
@@ -230,7 +215,7 @@ module _ (bytes : List ℕ) (size : length bytes ≡ 256) (are : AreBytes bytes)
   check_here : (at : ℕ) → at + 16 ≤ 256 → IsCheck (take 16 (drop at bytes))
   check_here at fits = record {
     size = length-take-le 16 (drop at bytes) (omega (arith, length-drop at bytes, size, fits));
-    each = bytes-take 16 (drop at bytes) (bytes-drop at bytes are);
+    each = AreBytes-take 16 (drop at bytes) (AreBytes-drop at bytes are);
   }
 
   obeys : AreInRange (fields_of kind bytes) → ObeysRules (fields_of kind bytes)

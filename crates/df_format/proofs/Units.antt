@@ -1,18 +1,19 @@
 -- What an image shows at its places, and what a write of a unit leaves of it.
-use Rattle.std.proofs.Common.{◌≡◌, ◌≢◌, inl, inr, ◌<◌, ◌≤◌, ◌+◌, ◌-◌, ◌*◌, ◌/◌, ◌%◌, ◌||◌, ℕ, Bool, zero, suc, false, List, [], ◌∷◌, ◌++◌, length, take, drop, replicate, Some, refl, sym, ◌∙◌, ap, arith, append_assoc, length-append}
+use Rattle.std.proofs.Common.{◌≡◌, ◌≢◌, inl, inr, ◌<◌, ◌≤◌, ◌+◌, ◌-◌, ◌*◌, ◌/◌, ◌%◌, ℕ, zero, suc, false, List, [], ◌∷◌, ◌++◌, length, take, drop, replicate, Some, refl, sym, ◌∙◌, ap, arith, append_assoc, length-append}
 use Rattle.std.specs.Prelude.{slice_get}
-use Rattle.std.proofs.lemmas.Bool.{cond-true, cond-false}
+use Rattle.std.proofs.lemmas.Bool.{cond-true, or_from}
 use Rattle.std.proofs.lemmas.List.{length-replicate, length-take-le, length-drop, take-append-le, drop-append-le, take-replicate, drop-replicate, take_all, take_at, drop_at, drop-drop, append-nil}
 use Rattle.df_base.specs.Fields.{AreBytes}
 use Rattle.df_base.specs.Image.{Image, IsImage, blank, bytes_at, covers, written}
 use Rattle.df_base.specs.Log.{now}
+use Rattle.df_base.proofs.Laws.{AreBytes-append, AreBytes-take, AreBytes-drop, written_else}
 use Rattle.df_layout.specs.declared.damage.Class.TheVariants.{Blank}
 use Rattle.df_layout.specs.declared.layout.Layout.{Layout}
 use Rattle.df_layout.specs.declared.places.Place.{Place}
 use Rattle.df_layout.specs.declared.places.Zone.{Zone}
 use Rattle.df_layout.specs.declared.places.Zone.TheVariants.{Superblock, WalHeaders, WalPrepares, ClientReplies, Grid}
 use Rattle.df_layout.specs.Spans.{HasPlace, place_sectors, sectors_before, span_of}
-use Rattle.df_layout.proofs.Laws.{are_apart}
+use Rattle.df_layout.proofs.Laws.{are_apart, some_sectors}
 use Rattle.df_format.specs.declared.header.Header.{Header}
 use Rattle.df_format.specs.Spelling.{spelling}
 use Rattle.df_format.specs.Rules.{IsSealed}
@@ -23,7 +24,6 @@ use Rattle.df_format.specs.Valid.{IsBodyOf, HasBody, IsUnit}
 use Rattle.df_format.specs.UnitLaws.{place_size, IsAtPlace, ShownBelongs, ReadBelongs, ValidBelongs, ShownIsUnit, AgreeAt, SameIsShown, ReadIsShown, WrittenIsShown, SectorsFitPlace, IsOther, WrittenIsApart, SectorIsShown, headers_bytes, HeadersFillSector, HeaderIsShown, BlankShowsNone, LeftIsApart}
 use Rattle.df_format.proofs.Messages.{length-sectors, AreBytes-sectors, AreBytes-spelling}
 use Rattle.df_format.proofs.Owned.{own_is, belongs}
-use Rattle.df_format.proofs.Parts.{bytes-take, bytes-drop, bytes-append}
 use Rattle.df_format.proofs.Codes.{none_unless}
 use Rattle.df_format.proofs.Sectors.{length-bytes_at, AreBytes-bytes_at, same_sectors, uncovered_above, uncovered_below, written_begins}
 use Rattle.df_format.proofs.Spelled.{length-spelling}
@@ -55,7 +55,7 @@ length-part Grid index bytes layout size = size
 
 AreBytes-part : (zone : Zone) (index : ℕ) (bytes : List ℕ) → AreBytes bytes → AreBytes (part_in zone index bytes)
 AreBytes-part Superblock index bytes are = are
-AreBytes-part WalHeaders index bytes are = bytes-take 256 (drop (256 * (index % 16)) bytes) (bytes-drop (256 * (index % 16)) bytes are)
+AreBytes-part WalHeaders index bytes are = AreBytes-take 256 (drop (256 * (index % 16)) bytes) (AreBytes-drop (256 * (index % 16)) bytes are)
 AreBytes-part WalPrepares index bytes are = are
 AreBytes-part ClientReplies index bytes are = are
 AreBytes-part Grid index bytes are = are
@@ -135,10 +135,6 @@ written_shown layout cluster image place u other whole is =
     let all = part_whole place.zone place.index (bytes_at (written span.first (sectors_of u) image) span.first span.count) other ∙ begun.1 in
     begun_is_shown layout cluster place _ u (record { is = is; rest = _; spelled = all ∙ append_assoc (unit_of u) _ begun.0 })
 
-pub kept : (at : ℕ) (bytes : List ℕ) (image : Image) (sector : ℕ) → covers at bytes sector ≡ false → written at bytes image sector ≡ image sector
-unfolding written
-kept at bytes image sector outside = cond-false _ _ _ outside
-
 -- a write that fits a place covers no sector of another
 uncovered : (layout : Layout) (place other : Place) (bytes : List ℕ) → HasPlace layout place → IsOther layout place other → length bytes ≤ 4096 * (span_of layout place).count
     → (k : ℕ) → k < (span_of layout other).count → covers (span_of layout place).first bytes ((span_of layout other).first + k) ≡ false
@@ -155,25 +151,22 @@ uncovered layout place other bytes has is fits k inside = elim (are_apart layout
 
 pub written_apart : WrittenIsApart
 written_apart layout cluster image place other bytes has is fits =
-    same_shown layout cluster other _ image (λ k inside. kept _ bytes image _ (uncovered layout place other bytes has is fits k inside))
-
-or_false : (a b : Bool) → a ≡ false → b ≡ false → (a || b) ≡ false
-or_false a b one two = cc (one, two)
+    same_shown layout cluster other _ image (λ k inside. written_else _ bytes image _ (uncovered layout place other bytes has is fits k inside))
 
 pub left_apart : LeftIsApart
 left_apart layout cluster log image place other bytes has is fits quiet left =
     same_shown layout cluster other image (now log) (λ k inside.
     let outside = uncovered layout place other bytes has is fits k inside in
-    left.kept ((span_of layout other).first + k) (or_false _ _ outside (quiet k inside)) ∙ kept _ bytes (now log) _ outside)
+    left.kept ((span_of layout other).first + k) (or_from _ _ outside (quiet k inside)) ∙ written_else _ bytes (now log) _ outside)
 
 -- slots of one header sector have its sector
-one_sector : (layout : Layout) (index slot : ℕ) → index / 16 ≡ slot / 16 → (span_of layout (place_in WalHeaders index)).first ≡ (span_of layout (place_in WalHeaders slot)).first
+pub header_first : (layout : Layout) (index slot : ℕ) → index / 16 ≡ slot / 16 → (span_of layout (place_in WalHeaders index)).first ≡ (span_of layout (place_in WalHeaders slot)).first
 unfolding span_of sectors_before
-one_sector layout index slot same = omega arith
+header_first layout index slot same = omega arith
 
-one_count : (layout : Layout) (slot : ℕ) → (span_of layout (place_in WalHeaders slot)).count ≡ 1
+pub header_count : (layout : Layout) (slot : ℕ) → (span_of layout (place_in WalHeaders slot)).count ≡ 1
 unfolding span_of place_sectors
-one_count layout slot = refl
+header_count layout slot = refl
 
 part_of_front : (slot : ℕ) (bytes rest : List ℕ) → length bytes ≡ 4096 → part_in WalHeaders slot (bytes ++ rest) ≡ part_in WalHeaders slot bytes
 part_of_front slot bytes rest size =
@@ -188,7 +181,7 @@ sector_shown layout cluster image index slot bytes size same =
     let at : ℕ = (span_of layout (place_in WalHeaders index)).first in
     let begun = written_begins at bytes image 1 (omega (arith, size)) in
     let there : bytes_at (written at bytes image) (span_of layout place).first (span_of layout place).count ≡ bytes ++ begun.0 =
-    (λ i. bytes_at (written at bytes image) (sym (one_sector layout index slot same) i) (one_count layout slot i)) ∙ begun.1 in
+    (λ i. bytes_at (written at bytes image) (sym (header_first layout index slot same) i) (header_count layout slot i)) ∙ begun.1 in
     ap (λ (l : List ℕ). unit_in layout cluster place (part_in WalHeaders slot l)) there
     ∙ ap (λ (l : List ℕ). unit_in layout cluster place l) (part_of_front slot bytes begun.0 size)
 
@@ -206,7 +199,7 @@ length-headers (h ∷ headers) each =
 
 AreBytes-headers : (headers : List Header) → AreSealed headers → AreBytes (headers_bytes headers)
 AreBytes-headers [] each i = omega arith
-AreBytes-headers (h ∷ headers) each i = bytes-append (spelling h) (headers_bytes headers) (AreBytes-spelling h (each 0 h refl)) (AreBytes-headers headers (later_sealed h headers each)) i
+AreBytes-headers (h ∷ headers) each i = AreBytes-append (spelling h) (headers_bytes headers) (AreBytes-spelling h (each 0 h refl)) (AreBytes-headers headers (later_sealed h headers each)) i
 
 one_header : (headers : List Header) (i : ℕ) (h : Header) → AreSealed headers → slice_get headers i ≡ Some h → take 256 (drop (256 * i) (headers_bytes headers)) ≡ spelling h
 one_header [] i h each is = absurd (cc)
@@ -226,7 +219,7 @@ headers_fill layout index headers sixteen =
     let size = length-headers headers sixteen.each in
     record {
       piece = record { some = omega (arith, sixteen.count); whole = omega (arith, sixteen.count); each = AreBytes-headers headers sixteen.each };
-      fits = omega (arith, sixteen.count, one_count layout index);
+      fits = omega (arith, sixteen.count, header_count layout index);
     }
 
 no_body : (h : Header) → (spelling h ++ []) ++ [] ≡ spelling h
@@ -238,15 +231,6 @@ header_shown layout cluster image index slot headers h sixteen same is unit =
     let spelled : part_in WalHeaders slot (headers_bytes headers) ≡ spelling h = one_header headers (slot % 16) h sixteen.each is in
     sector_shown layout cluster image index slot (headers_bytes headers) size same
     ∙ begun_is_shown layout cluster (place_in WalHeaders slot) _ (record { header = h; body = [] }) (record { is = unit; rest = []; spelled = spelled ∙ sym (no_body h) })
-
--- a blank place
-some_sectors : (layout : Layout) (zone : Zone) → 0 < place_sectors layout zone
-unfolding place_sectors
-some_sectors layout Superblock = omega arith
-some_sectors layout WalHeaders = omega arith
-some_sectors layout WalPrepares = omega (arith, layout.message_size_within.0)
-some_sectors layout ClientReplies = omega (arith, layout.message_size_within.0)
-some_sectors layout Grid = omega (arith, layout.block_size_within.0)
 
 blank_front : (at n : ℕ) → 0 < n → (k : ℕ) → k + 256 ≤ 4096 → take 256 (drop k (bytes_at blank at n)) ≡ replicate 256 0
 unfolding blank

@@ -1,10 +1,13 @@
 -- Which unit the bytes of a place show: exactly the one that they begin with.
 use Rattle.std.proofs.Common.{◌≡◌, ◌≢◌, ◌≤◌, ◌-◌, ◌*◌, ℕ, Bool, true, false, List, ◌++◌, length, take, drop, replicate, Option, Some, None, cond, refl, sym, ◌∙◌, ap, subst, arith, append_assoc}
-use Rattle.std.proofs.lemmas.Bool.{cond-true, cond-false, and_parts, and_from, eqb-true, eq-eqb, leb-true, le-leb}
+use Rattle.std.proofs.lemmas.Bool.{cond-true, cond-false, and_parts, and_from, eqb-true, eq-eqb, leb-true, le-leb, false_from_ne_true}
 use Rattle.std.proofs.lemmas.List.{take_at, drop_at, take-append-drop, length-take-le, length-drop}
 use Rattle.std.proofs.lemmas.Slice.Eq.{bytes_eq-Decides}
 use Rattle.std.specs.Str.{bytes_eq}
-use Rattle.df_base.specs.Fields.{AreBytes, check_of}
+use Rattle.std.proofs.lemmas.Option.{cond_some, same_Some}
+use Rattle.df_base.specs.Fields.{AreBytes, check_of, spelled}
+use Rattle.df_base.proofs.Laws.{AreBytes-take, AreBytes-drop, cond_there}
+use Rattle.df_base.specs.Image.{Image}
 use Rattle.df_layout.specs.declared.damage.Class.{Class}
 use Rattle.df_layout.specs.declared.damage.Class.TheVariants.{Blank, Elsewhere, Stale}
 use Rattle.df_layout.specs.declared.layout.Layout.{Layout}
@@ -13,18 +16,16 @@ use Rattle.df_layout.specs.declared.places.Zone.{Zone}
 use Rattle.df_layout.specs.declared.places.Zone.TheVariants.{Superblock, WalHeaders, WalPrepares, ClientReplies, Grid}
 use Rattle.df_layout.specs.Spans.{HasPlace, place_sectors}
 use Rattle.df_format.specs.declared.header.Header.{Header}
-use Rattle.df_format.specs.Spelling.{spelling, version_bytes}
+use Rattle.df_format.specs.Spelling.{header_version, spelling, tail_of}
 use Rattle.df_format.specs.Rules.{IsSealed}
 use Rattle.df_format.specs.Reading.{header_in}
 use Rattle.df_format.specs.Message.{Message}
 use Rattle.df_format.specs.Own.{own_place}
 use Rattle.df_format.specs.Whole.{Whole, greatest_size, body_in, has_body, is_unit, with_own, if_unit, whole_in}
-use Rattle.df_format.specs.Shown.{same_place, if_own, unit_in, is_blank, class_of_whole, class_of}
+use Rattle.df_format.specs.Shown.{same_place, if_own, unit_in, unit_at, bytes_of, is_blank, class_of_whole, class_of, class_at}
 use Rattle.df_format.specs.Valid.{IsBodyOf, HasBody, Begins}
 use Rattle.df_format.specs.UnitLaws.{place_size, UnitsHaveOneSpelling, BodyFollows, RingHasNoBody, ValidIsStale, StaleIsValid, ElsewhereIsOther}
-use Rattle.df_format.proofs.Parts.{bytes-take, bytes-drop}
-use Rattle.df_format.proofs.Codes.{some-eq}
-use Rattle.df_format.proofs.Spelled.{guard_is, read_as, reads, was_spelled, length-spelling}
+use Rattle.df_format.proofs.Spelled.{read_as, reads, was_spelled, length-spelling}
 use Rattle.df_format.proofs.Owned.{own_is, same_place-true, same_place-self}
 
 -- how a whole unit was found
@@ -40,18 +41,14 @@ with_parts : (zone : Zone) (bytes : List ℕ) (h : Header) (o : Option Place) (w
     → (o ≡ Some w.own) × (h ≡ w.unit.header) × (body_in zone h.size bytes ≡ w.unit.body)
 with_parts zone bytes h None w is = absurd (cc)
 with_parts zone bytes h (Some own) w is =
-    let same = some-eq is in
+    let same = same_Some _ _ is in
     (ap (λ (x : Whole). Some x.own) same, ap (λ (x : Whole). x.unit.header) same, ap (λ (x : Whole). x.unit.body) same)
-
-cond_some : {X : Type 0} (b : Bool) (o : Option X) (x : X) → cond b o None ≡ Some x → (b ≡ true) × (o ≡ Some x)
-cond_some true o x is = (refl, is)
-cond_some false o x is = absurd (cc)
 
 unit_parts : (layout : Layout) (cluster : ℕ) (zone : Zone) (bytes : List ℕ) (o : Option Header) (w : Whole) → if_unit layout cluster zone bytes o ≡ Some w → o ≡ header_in (take 256 bytes)
     → IsFound layout cluster zone bytes w.unit w.own
 unit_parts layout cluster zone bytes None w is from = absurd (cc)
 unit_parts layout cluster zone bytes (Some h) w is from =
-    let parts = cond_some _ _ w is in
+    let parts = cond_there _ _ w is in
     let own = with_parts zone bytes h (own_place layout zone h) w parts.1 in
     let tests = and_parts _ _ parts.0 in
     let fixed = and_parts _ _ tests.0 in
@@ -81,7 +78,7 @@ found_whole layout cluster zone bytes u own is =
 own_parts : (place : Place) (o : Option Whole) (u : Message) → if_own place o ≡ Some u → o ≡ Some (record { unit = u; own = place })
 own_parts place None u is = absurd (cc)
 own_parts place (Some w) u is =
-    let parts = guard_is _ _ u is in
+    let parts = cond_some _ _ u is in
     let here = same_place-true w.own place parts.0 in
     λ i. Some (record { unit = parts.1 i; own = here i })
 
@@ -127,7 +124,7 @@ body_is h bytes are least fits tested =
     record {
       size = omega (arith, long);
       checksum = (bytes_eq-Decides _ _).0 tested;
-      each = bytes-take (h.size - 256) (drop 256 bytes) (bytes-drop 256 bytes are);
+      each = AreBytes-take (h.size - 256) (drop 256 bytes) (AreBytes-drop 256 bytes are);
     }
 
 -- no unit is longer than its slot
@@ -168,7 +165,7 @@ module _ (layout : Layout) (cluster : ℕ) (place : Place) (bytes : List ℕ) (u
   was : IsSealed u.header × (take 256 bytes ≡ spelling u.header)
   was =
       let least = length-take-le 256 bytes (omega (arith, size, least_size layout place.zone)) in
-      was_spelled (take 256 bytes) u.header least (bytes-take 256 bytes are) (read_as _ _ is.header)
+      was_spelled (take 256 bytes) u.header least (AreBytes-take 256 bytes are) (read_as _ _ is.header)
 
   begins : Begins layout cluster place bytes u
   begins =
@@ -227,13 +224,13 @@ one_unit layout cluster place bytes u size are = (
   λ begun. begun_is_shown layout cluster place bytes u begun,
 )
 
-zeros_are_no_version : take 134 (drop 122 (replicate 256 0)) ≡ version_bytes → ⊥
-unfolding version_bytes
+zeros_are_no_version : take 134 (drop 122 (replicate 256 0)) ≡ tail_of header_version → ⊥
+unfolding tail_of spelled
 zeros_are_no_version is = cc
 
 -- zeros are no header
 pub zeros_are_none : (bytes : List ℕ) (h : Header) → take 256 bytes ≡ replicate 256 0 → header_in (take 256 bytes) ≡ Some h → ⊥
-zeros_are_none bytes h zeros is = zeros_are_no_version (subst (λ (l : List ℕ). take 134 (drop 122 l) ≡ version_bytes) zeros (read_as _ _ is).version)
+zeros_are_none bytes h zeros is = zeros_are_no_version (subst (λ (l : List ℕ). take 134 (drop 122 l) ≡ tail_of header_version) zeros (read_as _ _ is).version)
 
 pub blank-true : (bytes : List ℕ) → is_blank bytes ≡ true → take 256 bytes ≡ replicate 256 0
 unfolding is_blank
@@ -243,14 +240,10 @@ pub blank-from : (bytes : List ℕ) → take 256 bytes ≡ replicate 256 0 → i
 unfolding is_blank
 blank-from bytes is = (bytes_eq-Decides _ _).1 is
 
-pub false_unless : (b : Bool) → (b ≡ true → ⊥) → b ≡ false
-false_unless true never = absurd (never refl)
-false_unless false never = refl
-
 -- blank bytes are no whole unit
 pub whole_is_not_blank : (layout : Layout) (cluster : ℕ) (zone : Zone) (bytes : List ℕ) (w : Whole) → whole_in layout cluster zone bytes ≡ Some w → is_blank bytes ≡ false
 whole_is_not_blank layout cluster zone bytes w is =
-    false_unless _ (λ blank. zeros_are_none bytes w.unit.header (blank-true bytes blank) (whole_found layout cluster zone bytes w is).header)
+    false_from_ne_true _ (λ blank. zeros_are_none bytes w.unit.header (blank-true bytes blank) (whole_found layout cluster zone bytes w is).header)
 
 pub valid_stale : ValidIsStale
 unfolding class_of
@@ -259,6 +252,11 @@ valid_stale layout cluster place bytes u is =
     cond-false _ Blank _ (whole_is_not_blank layout cluster place.zone bytes _ whole)
     ∙ ap (λ (o : Option Whole). class_of_whole place o) whole
     ∙ cond-true _ Stale (Elsewhere place) (same_place-self place)
+
+-- a place that shows a unit, where another one is wanted, is stale
+pub shown_stale : (layout : Layout) (cluster : ℕ) (image : Image) (place : Place) (u : Message) → unit_at layout cluster image place ≡ Some u → class_at layout cluster image place ≡ Stale
+unfolding unit_at class_at
+shown_stale layout cluster image place u shown = valid_stale layout cluster place (bytes_of layout image place) u shown
 
 stale_by : (b : Bool) (own : Place) → cond b Stale (Elsewhere own) ≡ Stale → b ≡ true
 stale_by true own is = refl

@@ -1,13 +1,13 @@
--- The first superblock of a file, which every copy of a new file says.
+-- The fields that a superblock has by its file alone, and the first superblock of a file, which every copy of a new file says.
 use Rattle.std.specs.Prelude.{ℕ, None}
 use Rattle.df_layout.specs.declared.layout.Layout.{Layout}
 use Rattle.df_format.specs.Spelling.{no_checksum}
 use Rattle.df_format.specs.Copies.{Content, content_with}
 use Rattle.df_format.specs.declared.superblock.SuperFields.{SuperFields}
 
--- the fields of a new file: sequence 1, and no checkpoint
-unfoldable pub first_super : Layout → ℕ → SuperFields
-first_super layout cluster = record {
+-- the fields of a file of this layout and cluster, of version 1 and with nothing else
+abbrev pub blank_super : Layout → ℕ → SuperFields
+blank_super layout cluster = record {
   version = 1;
   slots = layout.slots;
   message_size = layout.message_size;
@@ -15,7 +15,7 @@ first_super layout cluster = record {
   block_size = layout.block_size;
   blocks = layout.blocks;
   cluster = cluster;
-  sequence = 1;
+  sequence = 0;
   op = 0;
   op_checksum = no_checksum;
   head = 0;
@@ -26,6 +26,10 @@ first_super layout cluster = record {
   boot = 0;
   first_nonzero = None;
 }
+
+-- the fields of a new file: sequence 1, and no checkpoint
+unfoldable pub first_super : Layout → ℕ → SuperFields
+first_super layout cluster = record (blank_super layout cluster) { sequence = 1 }
 
 -- what its copies agree on
 abbrev pub first_content : Layout → ℕ → Content

@@ -1,7 +1,58 @@
--- What follows from the body of a unit that is made.
+-- What the maker of a unit says of it: what its kind names, and nothing else; and what follows from the body.
 use Rattle.std.specs.Prelude.{◌+◌, ℕ, List, length}
 use Rattle.df_base.specs.Fields.{check_of}
 use Rattle.df_format.specs.declared.header.Header.{Header}
+use Rattle.df_format.specs.declared.kind.Kind.{Kind}
+use Rattle.df_format.specs.declared.kind.Kind.TheVariants.{Reserved, Prepare, Reply, Block, Trailer}
+use Rattle.df_format.specs.Spelling.{no_checksum}
+
+-- a header of this kind and cluster that says nothing else: all other fields are zero
+abbrev pub blank_header : Kind → ℕ → Header
+blank_header kind cluster = record {
+  checksum = no_checksum;
+  checksum_body = no_checksum;
+  cluster = cluster;
+  parent = no_checksum;
+  client = 0;
+  op = 0;
+  request = 0;
+  mark = 0;
+  checkpoint = 0;
+  size = 0;
+  slot = 0;
+  kind = kind;
+  block_kind = 0;
+}
+
+-- the fields that each kind names, as a header has them; size and checksums follow from these and the body, and all others are zero
+abbrev pub of_kind : Kind → ℕ → Header → Header
+of_kind Reserved cluster h = record (blank_header Reserved cluster) { slot = h.slot }
+of_kind Prepare cluster h = record (blank_header Prepare cluster) {
+  parent = h.parent;
+  client = h.client;
+  op = h.op;
+  request = h.request;
+  mark = h.mark;
+  checkpoint = h.checkpoint;
+  slot = h.slot;
+}
+of_kind Reply cluster h = record (blank_header Reply cluster) {
+  parent = h.parent;
+  client = h.client;
+  op = h.op;
+  request = h.request;
+  mark = h.mark;
+  checkpoint = h.checkpoint;
+  slot = h.slot;
+}
+of_kind Block cluster h = record (blank_header Block cluster) { op = h.op; block_kind = h.block_kind }
+of_kind Trailer cluster h = record (blank_header Trailer cluster) {
+  parent = h.parent;
+  op = h.op;
+  request = h.request;
+  mark = h.mark;
+  checkpoint = h.checkpoint;
+}
 
 -- a header with the fields that follow from the body
 abbrev pub for_body : Header → List ℕ → Header

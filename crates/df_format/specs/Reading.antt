@@ -5,7 +5,7 @@ use Rattle.df_base.specs.Fields.{field_at, check_of}
 use Rattle.df_format.specs.declared.header.Header.{Header}
 use Rattle.df_format.specs.declared.kind.Kind.{Kind}
 use Rattle.df_format.specs.declared.kind.Kind.TheVariants.{Reserved, Prepare, Reply, Block, Trailer}
-use Rattle.df_format.specs.Spelling.{no_checksum, version_bytes}
+use Rattle.df_format.specs.Spelling.{header_version, no_checksum, tail_of}
 
 -- the kind of a code
 unfoldable pub kind_of : ℕ → Option Kind
@@ -100,9 +100,13 @@ is_of_kind Trailer h = is_trailer h
 abbrev pub has_numbers : Header → Bool
 has_numbers h = nat_lt 0 h.cluster && nat_le 256 h.size && is_of_kind h.kind h
 
--- the checksum is right, and the bytes that are the same in every header are as they have to be
+-- the tail is that of a version
+abbrev pub has_tail : ℕ → List ℕ → Bool
+has_tail number bytes = bytes_eq (take 134 (drop 122 bytes)) (tail_of number)
+
+-- the checksum is right, and the tail is that of the version
 unfoldable pub is_spelled : List ℕ → Bool
-is_spelled bytes = bytes_eq (take 16 bytes) (check_of (take 240 (drop 16 bytes))) && bytes_eq (take 134 (drop 122 bytes)) version_bytes
+is_spelled bytes = bytes_eq (take 16 bytes) (check_of (take 240 (drop 16 bytes))) && has_tail header_version bytes
 
 -- the header of this kind, where the bytes pass every test that needs no layout
 abbrev pub header_of_kind : List ℕ → Option Kind → Option Header

@@ -17,19 +17,19 @@ code_of Reply = 3
 code_of Block = 4
 code_of Trailer = 5
 
--- bytes 122 to 256: version 1, boot 0, and zeros
-unfoldable pub version_bytes : List ℕ
-version_bytes = 1 ∷ 0 ∷ replicate 132 0
+-- the version of every header
+abbrev pub header_version : ℕ
+header_version = 1
 
--- bytes 120 to 256: the kind, the block's kind, and what is the same in every header
-unfoldable pub tail_bytes : Kind → ℕ → List ℕ
-tail_bytes kind block_kind = (code_of kind) ∷ (block_kind ∷ version_bytes)
+-- bytes 122 to 256 of a header, by its version: version 1 has its number there, boot 0, and zeros
+unfoldable pub tail_of : ℕ → List ℕ
+tail_of number = spelled 2 number ++ replicate 132 0
 
--- bytes 16 to 256, one piece for each field
+-- bytes 16 to 256: one piece for each field that a kind may name, then the tail of the version
 unfoldable pub spelling_rest : Header → List ℕ
 spelling_rest h =
     h.checksum_body ++ (spelled 16 h.cluster ++ (h.parent ++ (spelled 16 h.client ++ (spelled 8 h.op ++ (spelled 8 h.request ++ (spelled 8 h.mark ++ (spelled 8 h.checkpoint
-    ++ (spelled 4 h.size ++ (spelled 4 h.slot ++ tail_bytes h.kind h.block_kind)))))))))
+    ++ (spelled 4 h.size ++ (spelled 4 h.slot ++ (code_of h.kind ∷ (h.block_kind ∷ tail_of header_version)))))))))))
 
 -- the 256 bytes of a header
 abbrev pub spelling : Header → List ℕ

@@ -1,32 +1,25 @@
 // The 256 bytes of a header: how they are written, and how they are tested and read. A header has one spelling.
-ghost use Rattle.std.specs.Prelude.{◌≡◌, ◌+◌, ◌≤◌, ◌++◌, length, take, drop};
-ghost use Rattle.std.specs.Str.{bytes_eq};
-ghost use Rattle.df_format.specs.Spelling.{sealed, spelling, spelling_rest, code_of, tail_bytes};
+ghost use Rattle.std.specs.Prelude.{◌≡◌, ◌+◌, ◌≤◌, ◌++◌, ◌∷◌, [], length, take, drop};
+ghost use Rattle.df_format.specs.Spelling.{sealed, spelling, spelling_rest, code_of, tail_of};
 ghost use Rattle.df_format.specs.Rules.{ObeysRules, IsSealed};
-ghost use Rattle.df_format.specs.Reading.{kind_of, fields_of, is_spelled, header_in};
+ghost use Rattle.df_format.specs.Reading.{kind_of, fields_of, has_tail, is_spelled, header_in};
 
 use crate::pieces::put_bytes;
 use crate::rules::has_numbers;
 use crate::{Header, Kind};
-use df_base::{Check, HEADER, check, put_u32, put_u64, put_u128, u32_at, u64_at, u128_at};
+use df_base::{Check, HEADER, check, put_u16, put_u32, put_u64, put_u128, u32_at, u64_at, u128_at};
 
 // The end of the checksum, which covers all that follows it.
 const SUMMED: usize = 16;
 
-// Where the kind begins, and behind it version, boot and zeros.
-const TAIL: usize = 120;
+// Where the kind stands, and what its owner says of a block behind it.
+const KIND: usize = 120;
 
-// Where the version begins, and behind it boot and zeros.
-const VERSION: usize = 122;
+// Where the fields end that a kind may name, and the tail of the version begins.
+const TAIL: usize = 122;
 
-// Bytes 122 to 256 of every header: version 1, boot 0, and zeros.
-const VERSION_BYTES: [u8; 134] = [
-    1, 0, 0, 0, 0, 0, 0, 0, 0, 0, 0, 0, 0, 0, 0, 0, 0, 0, 0, 0, 0, 0, 0, 0, 0, 0, 0, 0, 0, 0, 0, 0,
-    0, 0, 0, 0, 0, 0, 0, 0, 0, 0, 0, 0, 0, 0, 0, 0, 0, 0, 0, 0, 0, 0, 0, 0, 0, 0, 0, 0, 0, 0, 0, 0,
-    0, 0, 0, 0, 0, 0, 0, 0, 0, 0, 0, 0, 0, 0, 0, 0, 0, 0, 0, 0, 0, 0, 0, 0, 0, 0, 0, 0, 0, 0, 0, 0,
-    0, 0, 0, 0, 0, 0, 0, 0, 0, 0, 0, 0, 0, 0, 0, 0, 0, 0, 0, 0, 0, 0, 0, 0, 0, 0, 0, 0, 0, 0, 0, 0,
-    0, 0, 0, 0, 0, 0,
-];
+// The version of every header.
+const VERSION: u16 = 1;
 
 // Writes a checksum over 16 bytes.
 pub(crate) fn put_check(into: &mut [u8], at: usize, value: &Check)
@@ -50,13 +43,30 @@ fn code_of(kind: Kind) -> u8
     }
 }
 
-#[tactic(auto, unfolding(crate::specs::Spelling::tail_bytes, crate::specs::Spelling::version_bytes))]
-fn put_tail(into: &mut [u8], kind: Kind, block_kind: u8)
+// Writes the kind, and what its owner says of a block.
+fn put_kind(into: &mut [u8], kind: Kind, block_kind: u8)
     requires { length into.old ≡ 256 }
-    ensures { into.new ≡ take 120 into.old ++ tail_bytes kind block_kind }
+    ensures { take 122 into.new ≡ take 120 into.old ++ (code_of kind ∷ block_kind ∷ []) }
 {
-    put_bytes(into, TAIL, &[code_of(kind), block_kind]);
-    put_bytes(into, VERSION, &VERSION_BYTES);
+    put_bytes(into, KIND, &[code_of(kind), block_kind]);
+}
+
+// Bytes 122 to 256 of a header, by its version: version 1 has its number there, boot 0, and zeros.
+#[tactic(auto, unfolding(crate::specs::Spelling::tail_of))]
+fn tail_of(version: u16) -> [u8; HEADER - TAIL]
+    ensures { result ≡ tail_of version }
+{
+    let mut tail = [0; HEADER - TAIL];
+    put_u16(&mut tail, 0, version);
+    tail
+}
+
+// Writes the tail of a version.
+fn put_tail(into: &mut [u8], version: u16)
+    requires { length into.old ≡ 256 }
+    ensures { into.new ≡ take 122 into.old ++ tail_of version }
+{
+    put_bytes(into, TAIL, &tail_of(version));
 }
 
 // Writes all that the checksum covers.
@@ -74,7 +84,8 @@ fn put_fields(into: &mut [u8], header: &Header)
     put_u64(into, 104, header.checkpoint);
     put_u32(into, 112, header.size);
     put_u32(into, 116, header.slot);
-    put_tail(into, header.kind, header.block_kind);
+    put_kind(into, header.kind, header.block_kind);
+    put_tail(into, VERSION);
 }
 
 /// The header with the checksum that its other fields give.
@@ -147,13 +158,20 @@ fn kind_of(code: u8) -> Option<Kind>
     }
 }
 
-#[tactic(auto, unfolding(crate::specs::Reading::is_spelled, crate::specs::Spelling::version_bytes))]
+// Whether the tail is that of a version.
+fn has_tail(bytes: &[u8], version: u16) -> bool
+    requires { length bytes.now ≡ 256 }
+    ensures { result ≡ has_tail version bytes.now }
+{
+    &bytes[TAIL..HEADER] == tail_of(version).as_slice()
+}
+
+#[tactic(auto, unfolding(crate::specs::Reading::is_spelled))]
 fn is_spelled(bytes: &[u8]) -> bool
     requires { length bytes.now ≡ 256 }
     ensures { result ≡ is_spelled bytes.now }
 {
-    &bytes[..SUMMED] == check(&bytes[SUMMED..HEADER]).as_slice()
-        && &bytes[VERSION..HEADER] == VERSION_BYTES.as_slice()
+    &bytes[..SUMMED] == check(&bytes[SUMMED..HEADER]).as_slice() && has_tail(bytes, VERSION)
 }
 
 /// The header that 256 bytes are the spelling of; None where they are that of no header that obeys the rules of its
@@ -163,7 +181,7 @@ pub fn decode_header(bytes: &[u8]) -> Option<Header>
     requires { length bytes.now ≡ 256 }
     ensures { result ≡ header_in bytes.now }
 {
-    let kind = kind_of(bytes[TAIL])?;
+    let kind = kind_of(bytes[KIND])?;
     let header = fields_of(kind, bytes);
     if is_spelled(bytes) && has_numbers(&header) {
         Some(header)

@@ -1,6 +1,12 @@
 // The message header: what it says of a unit. Fields that its kind has no use for are zero.
+ghost use Rattle.std.specs.Prelude.{◌≡◌};
+ghost use Rattle.df_format.specs.Making.{blank_header};
+
 use crate::Kind;
 use df_base::Check;
+
+/// What stands in place of a checksum where there is none, or where it is set later.
+pub const NO_CHECKSUM: Check = [0; 16];
 
 /// The header of a unit, 256 bytes in the file.
 #[derive(Clone, Copy, Debug, PartialEq, Eq)]
@@ -30,4 +36,29 @@ pub struct Header {
     pub kind: Kind,
     /// What its owner says of a block, from 1; 0 in all other kinds.
     pub block_kind: u8,
+}
+
+impl Header {
+    /// A header of this kind and cluster with all other fields zero: what it has to say besides is set by its maker, and size
+    /// and checksums as it is made (`make_unit`).
+    #[tactic(auto, unfolding(crate::specs::Spelling::no_checksum))]
+    pub fn of(kind: Kind, cluster: u128) -> Header
+        ensures { result ≡ blank_header kind cluster }
+    {
+        Header {
+            checksum: NO_CHECKSUM,
+            checksum_body: NO_CHECKSUM,
+            cluster,
+            parent: NO_CHECKSUM,
+            client: 0,
+            op: 0,
+            request: 0,
+            mark: 0,
+            checkpoint: 0,
+            size: 0,
+            slot: 0,
+            kind,
+            block_kind: 0,
+        }
+    }
 }

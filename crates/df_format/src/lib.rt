@@ -22,7 +22,7 @@ pub use copy_laws::{
     written_copy_is_shown,
 };
 pub use decode::decode_unit;
-pub use header::Header;
+pub use header::{Header, NO_CHECKSUM};
 pub use kind::Kind;
 pub use make::{Made, make_unit};
 pub use own::own_place;

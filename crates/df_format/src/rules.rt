@@ -2,14 +2,11 @@
 ghost use Rattle.std.specs.Prelude.{◌≡◌};
 ghost use Rattle.df_format.specs.Reading.{is_counter, has_no_parent, is_prepare, is_reply, is_bare, is_reserved, is_block, is_linked, is_trailer, is_of_kind, has_numbers};
 
-use crate::{Header, Kind};
-use df_base::{Check, HEADER, check};
+use crate::{Header, Kind, NO_CHECKSUM};
+use df_base::{HEADER, check};
 
 // The greatest op, request and sequence.
 const GREATEST: u64 = 1 << 62;
-
-// What stands in place of a checksum where there is none.
-const NO_CHECKSUM: Check = [0; 16];
 
 fn is_counter(n: u64) -> bool
     ensures { result ≡ is_counter n }

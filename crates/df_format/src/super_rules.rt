@@ -1,9 +1,9 @@
 // The rules of a superblock's fields: whether it can be used, or which field is the first that breaks its rule.
 ghost use Rattle.std.specs.Prelude.{◌≡◌, ◌==◌, ◌<◌, [], ◌∷◌, if◌then◌else◌, IfOk, IfErr};
 ghost use Rattle.std.specs.Result.{result_err};
-ghost use Rattle.df_format.specs.SuperRules.{IsSuper, IsUsable, FaultsAreBrokenRules, is_between, is_whole_between, is_zero_check, greatest_trailer, has_trailer_size, test, size_tests, checkpoint_tests, progress_tests, trailer_tests, zero_tests, field_tests, first_failing, fault_of};
+ghost use Rattle.df_format.specs.SuperRules.{IsSuper, IsUsable, FaultsAreBrokenRules, is_whole_between, is_zero_check, greatest_trailer, has_trailer_size, test, size_tests, checkpoint_tests, progress_tests, trailer_tests, zero_tests, field_tests, first_failing, fault_of};
 
-use crate::{SuperFault, SuperFields};
+use crate::{NO_CHECKSUM, SuperFault, SuperFields};
 use df_base::{Check, u128_at};
 use df_layout::{Field, Layout};
 use std::marker::Model;
@@ -16,9 +16,6 @@ const GREATEST: u64 = 1 << 62;
 
 // How many more ops than replies there may be.
 const PIPELINE: u64 = 8;
-
-// Where a checksum would stand.
-const NO_CHECKSUM: Check = [0; 16];
 
 /// A superblock that can be used: version 1, and every field within its range. `test_fields` alone makes one. Contracts
 /// see its fields.

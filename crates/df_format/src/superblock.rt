@@ -1,7 +1,10 @@
 // The superblock: what its copies say, and which of their numbers are within their limits.
+ghost use Rattle.std.specs.Prelude.{◌≡◌};
+ghost use Rattle.df_format.specs.First.{blank_super};
 
+use crate::NO_CHECKSUM;
 use df_base::Check;
-use df_layout::Field;
+use df_layout::{Field, Layout};
 
 /// What a copy of the superblock says, its number aside.
 #[derive(Clone, Copy, Debug, PartialEq, Eq)]
@@ -37,6 +40,35 @@ pub struct SuperFields {
     pub boot: u64,
     /// The offset in the sector of the first byte behind these fields that isn't zero.
     pub first_nonzero: Option<u64>,
+}
+
+impl SuperFields {
+    /// The fields of a file of this layout and cluster, of version 1 and with nothing else: the numbers of its update and its
+    /// checkpoint are set by their maker.
+    #[tactic(auto, unfolding(crate::specs::Spelling::no_checksum))]
+    pub fn of(layout: &Layout, cluster: u128) -> SuperFields
+        ensures { result ≡ blank_super layout.now cluster }
+    {
+        SuperFields {
+            version: 1,
+            slots: layout.slots,
+            message_size: layout.message_size,
+            clients: layout.clients,
+            block_size: layout.block_size,
+            blocks: layout.blocks,
+            cluster,
+            sequence: 0,
+            op: 0,
+            op_checksum: NO_CHECKSUM,
+            head: 0,
+            replies: 0,
+            trailer_address: 0,
+            trailer_checksum: NO_CHECKSUM,
+            trailer_size: 0,
+            boot: 0,
+            first_nonzero: None,
+        }
+    }
 }
 
 /// A sound copy of the superblock: its checksum covers all but itself and the number.

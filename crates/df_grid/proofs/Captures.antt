@@ -1,19 +1,20 @@
 -- What a capture and its end are for the machine, and that what holds of a table still does.
-use Rattle.std.proofs.Common.{◌≡◌, ℕ, zero, suc, ◌+◌, ◌≤◌, ◌==◌, ◌||◌, Bool, true, false, cond, Some, None, List, [], ◌∷◌, length, map, take, refl, sym, ap, subst, ◌∙◌, arith}
+use Rattle.std.proofs.Common.{◌≡◌, ℕ, zero, suc, ◌+◌, ◌≤◌, ◌==◌, ◌||◌, Bool, true, false, cond, Some, None, List, [], ◌∷◌, length, map, take, refl, sym, ap, subst, ◌∙◌, arith, eqb-true}
 use Rattle.std.specs.Prelude.{slice_get}
 use Rattle.std.proofs.lemmas.List.{length-map, length-take}
+use Rattle.std.proofs.lemmas.Option.{slice_get_within}
+use Rattle.std.proofs.Math.Bool.{or-false}
 use Rattle.df_model.specs.Work.{is_in}
 use Rattle.df_model.specs.Blocks.{blocks_captured, capture_finished, sum_at}
 use Rattle.df_model.specs.Sense.{RiseFrom}
+use Rattle.df_model.proofs.Laws.{rise_take}
 use Rattle.df_units.specs.Meaning.{number_of}
 use Rattle.df_grid.specs.declared.entry.Entry.{Entry}
 use Rattle.df_grid.specs.Entries.{is_marked}
 use Rattle.df_grid.specs.Table.{AreTaken, IsTable, blocks_in, capturing, finishing, is_captured, is_durable, is_live, open_from, paired, picked}
-use Rattle.df_grid.proofs.Single.{eq_true}
 use Rattle.df_grid.proofs.Picks.{pick_at, pick_map, pick_none}
 use Rattle.df_grid.proofs.Chains.{pair_same, sum_map}
-use Rattle.df_grid.proofs.Held.{within}
-use Rattle.df_grid.proofs.Free.{open_rise, rise_take}
+use Rattle.df_grid.proofs.Free.{open_rise}
 
 -- an entry of a changed list is one of the list, changed
 pub get_map : (f : Entry → Entry) (es : List Entry) (i : ℕ) (x : Entry) → slice_get (map f es) i ≡ Some x → (e : Entry) × (slice_get es i ≡ Some e) × (x ≡ f e)
@@ -46,12 +47,8 @@ open_free a s (true ∷ ts) has = let later = open_free a (s + 1) ts has in (suc
 open_free a s (false ∷ ts) has = go (a == s) refl has (λ there. open_free a (s + 1) ts there)
   where
     go : (b : Bool) → (a == s) ≡ b → (b || is_in a (open_from (s + 1) ts)) ≡ true → (is_in a (open_from (s + 1) ts) ≡ true → (i : ℕ) × (a ≡ s + 1 + i) × (slice_get ts i ≡ Some false)) → (i : ℕ) × (a ≡ s + i) × (slice_get (false ∷ ts) i ≡ Some false)
-    go true same has more = (0, (let e : a ≡ s = eq_true a s same in omega (arith, e)), refl)
+    go true same has more = (0, (let e : a ≡ s = eqb-true a s same in omega (arith, e)), refl)
     go false same has more = let later = more has in (suc later.0, omega (arith, later.1), later.2)
-
-or_none : (b : Bool) → (b || false) ≡ b
-or_none true = refl
-or_none false = refl
 
 unknown : (b : Bool) (n : ℕ) → cond b (Some n) None ≡ None → b ≡ false
 unknown true n is = absurd (cc)
@@ -70,7 +67,7 @@ module _ (es : List Entry) (taken : List Bool) (chain : List ℕ) (is : IsTable 
   same_marks i e at = marks_stay e.live e.captured e.written e.durable e.chained (not_captured i e at) (is.writes (suc i) i e refl at)
 
   was_taken : (a i : ℕ) (e : Entry) → a ≡ suc i → slice_get es i ≡ Some e → slice_get taken i ≡ Some (is_marked e)
-  was_taken a i e there at = is.holds a i e there at ∙ ap Some (or_none (is_marked e))
+  was_taken a i e there at = is.holds a i e there at ∙ ap Some (or-false (is_marked e))
 
   left_free : (a : ℕ) → is_in a left ≡ true → (i : ℕ) × (a ≡ 1 + i) × (slice_get taken i ≡ Some false)
   left_free a has = open_free a 1 taken (in_take a n (open_from 1 taken) (subst (λ (l : List ℕ). is_in a l ≡ true) so.least has))
@@ -97,7 +94,7 @@ module _ (es : List Entry) (taken : List Bool) (chain : List ℕ) (is : IsTable 
         let same : Some (is_marked was.0) ≡ Some false = sym (was_taken a j was.0 there was.1) ∙ at in
         let clear : is_marked was.0 ≡ false = cc in
         ap (λ (y : Entry). is_marked y) was.2 ∙ same_marks j was.0 was.1 ∙ clear);
-    inside = λ a has. (let free = left_free a has in (omega (arith, free.1), omega (arith, free.1, within taken free.0 false free.2, is.size, length-map es capturing)));
+    inside = λ a has. (let free = left_free a has in (omega (arith, free.1), omega (arith, free.1, slice_get_within taken free.0 false free.2, is.size, length-map es capturing)));
     once = subst (λ (l : List ℕ). RiseFrom 1 l) (sym so.least) (rise_take n 1 (open_from 1 taken) (open_rise 1 taken));
     room = omega (arith, few, ap length so.least, length-take n (open_from 1 taken));
   }
@@ -114,7 +111,7 @@ module _ (es : List Entry) (taken : List Bool) (written chain : List ℕ) (is : 
   pub finished_kept : IsTable (map finishing es) after [] [] written
   finished_kept = record {
     size = size ∙ sym (length-map es finishing);
-    holds = λ a j x there found. marks j x found ∙ ap Some (sym (or_none (is_marked x)));
+    holds = λ a j x there found. marks j x found ∙ ap Some (sym (or-false (is_marked x)));
     writes = λ a j x there found. ap (λ (y : Entry). y.written) (get_map finishing es j x found).2;
     chains = λ a j x there found. (let was = get_map finishing es j x found in ap (λ (y : Entry). y.chained) was.2 ∙ is.writes a j was.0 there was.1);
     spare = λ a j x there found has. absurd (cc);

@@ -1,13 +1,13 @@
 -- Addresses with their checksums: what is looked up among them, and what changes of the table make of them.
-use Rattle.std.proofs.Common.{◌≡◌, ◌≢◌, ℕ, zero, suc, ◌+◌, ◌<◌, ◌==◌, ◌||◌, Bool, true, false, cond, Some, None, List, [], ◌∷◌, map, set, refl, sym, ap, ◌∙◌, arith}
+use Rattle.std.proofs.Common.{◌≡◌, ◌≢◌, ℕ, zero, suc, ◌+◌, ◌<◌, ◌==◌, ◌||◌, Bool, true, false, cond, Some, None, List, [], ◌∷◌, map, set, refl, sym, ap, ◌∙◌, arith, ne_eqb, eqb-true}
 use Rattle.std.specs.Prelude.{slice_get}
+use Rattle.df_base.proofs.Laws.{same_test}
 use Rattle.df_model.specs.Work.{is_in}
 use Rattle.df_model.specs.Blocks.{sum_at}
 use Rattle.df_model.specs.Sense.{RiseFrom}
 use Rattle.df_units.specs.Meaning.{number_of}
 use Rattle.df_grid.specs.declared.entry.Entry.{Entry}
 use Rattle.df_grid.specs.Table.{paired, sum_from, sum_of}
-use Rattle.df_grid.proofs.Single.{eq_true, no_eq, same_test}
 
 -- the checksum of an entry's address
 pub sum_there : (a i : ℕ) (es : List Entry) (e : Entry) → a ≡ suc i → slice_get es i ≡ Some e → sum_of es a ≡ number_of e.checksum
@@ -24,7 +24,7 @@ pair_at es a [] = refl
 pair_at es a (x ∷ xs) = ap (λ (b : Bool). cond b (Some (sum_of es x)) (sum_at a (paired es xs))) (same_test x a) ∙ go (a == x) refl (pair_at es a xs)
   where
     go : (b : Bool) → (a == x) ≡ b → sum_at a (paired es xs) ≡ cond (is_in a xs) (Some (sum_of es a)) None → cond b (Some (sum_of es x)) (sum_at a (paired es xs)) ≡ cond (b || is_in a xs) (Some (sum_of es a)) None
-    go true is more = ap (λ (k : ℕ). Some (sum_of es k)) (sym (eq_true a x is))
+    go true is more = ap (λ (k : ℕ). Some (sum_of es k)) (sym (eqb-true a x is))
     go false is more = more
 
 -- tables with the same checksums
@@ -72,7 +72,7 @@ sum_map f (suc i) es same = from_map f i es same
 -- those that rise above an address don't have it
 pub rise_out : (a b : ℕ) (xs : List ℕ) → RiseFrom b xs → a < b → is_in a xs ≡ false
 rise_out a b [] rise less = refl
-rise_out a b (x ∷ xs) rise less = ap (λ (e : Bool). e || is_in a xs) (no_eq a x (λ same. omega (arith, rise.0))) ∙ rise_out a (x + 1) xs rise.1 (omega (arith, rise.0))
+rise_out a b (x ∷ xs) rise less = ap (λ (e : Bool). e || is_in a xs) (ne_eqb a x (λ same. omega (arith, rise.0))) ∙ rise_out a (x + 1) xs rise.1 (omega (arith, rise.0))
 
 -- an entry that is changed and keeps its checksum leaves all of them
 pub sum_keep : (i : ℕ) (es : List Entry) (e old : Entry) (a : ℕ) → slice_get es i ≡ Some old → e.checksum ≡ old.checksum → sum_of (set es i e) a ≡ sum_of es a

@@ -1,13 +1,15 @@
 -- The free addresses of a set: the least one is the first, and as it is taken the others stay.
-use Rattle.std.proofs.Common.{◌≡◌, ℕ, zero, suc, ◌+◌, ◌-◌, ◌<◌, ◌==◌, ◌||◌, not, Bool, true, false, cond, Some, List, [], ◌∷◌, ◌++◌, length, take, drop, set, refl, sym, ap, ◌∙◌, arith}
+use Rattle.std.proofs.Common.{◌≡◌, ℕ, zero, suc, ◌+◌, ◌-◌, ◌<◌, ◌==◌, ◌||◌, not, Bool, true, false, cond, Some, List, [], ◌∷◌, ◌++◌, length, take, drop, set, refl, sym, ap, ◌∙◌, arith, eqb-true}
 use Rattle.std.specs.Prelude.{slice_get}
 use Rattle.std.proofs.lemmas.List.{length-set}
 use Rattle.std.proofs.lemmas.List.Sums.{sum_by-cons}
+use Rattle.std.proofs.lemmas.Bool.{eqb-false}
+use Rattle.df_base.proofs.Laws.{get_set_other}
 use Rattle.df_freeset.specs.Addresses.{AreAllTaken, IsLeastFree, free_of}
 use Rattle.df_model.specs.Work.{is_in}
 use Rattle.df_model.specs.Sense.{RiseFrom}
 use Rattle.df_grid.specs.Table.{AreTaken, open_from}
-use Rattle.df_grid.proofs.Single.{eq_false, eq_true, get_set_other, get_set_same}
+use Rattle.df_grid.proofs.Single.{get_set_same}
 
 free_cons : (b : Bool) (taken : List Bool) → free_of (b ∷ taken) ≡ cond (not b) 1 0 + free_of taken
 free_cons b taken = sum_by-cons (λ x. cond (not x) 1 0) b taken
@@ -94,10 +96,10 @@ with_false false false = refl
 module _ (a : ℕ) (after : List Bool) (left : List ℕ) (least : IsLeastFree after a) (k i : ℕ) (b : Bool) (there : k ≡ suc i) (at : slice_get after i ≡ Some (b || is_in k left)) where
   each_case : (e : Bool) → (k == a) ≡ e → slice_get (set after (a - 1) true) i ≡ Some (b || (is_in k left || e))
   each_case true same =
-      let here : k ≡ a = eq_true k a same in
+      let here : k ≡ a = eqb-true k a same in
       ap (λ (j : ℕ). slice_get (set after (a - 1) true) j) (omega (arith, there, here)) ∙ get_set_same after (a - 1) false true least.free ∙ ap Some (sym (with_true b (is_in k left)))
   each_case false same =
-      let other : k ≡ a → ⊥ = eq_false k a same in
+      let other : k ≡ a → ⊥ = eqb-false k a same in
       get_set_other after (a - 1) i true (λ here. other (omega (arith, there, here, least.has.0))) ∙ at ∙ ap Some (sym (with_false b (is_in k left)))
 
   each_one : slice_get (set after (a - 1) true) i ≡ Some (b || is_in k (left ++ a ∷ []))
@@ -123,8 +125,3 @@ open_rise s (true ∷ ts) = lower s (open_from (s + 1) ts) (open_rise (s + 1) ts
     lower s [] rise = tt
     lower s (x ∷ xs) rise = (omega (arith, rise.0), rise.1)
 open_rise s (false ∷ ts) = (omega arith, open_rise (s + 1) ts)
-
-pub rise_take : (n a : ℕ) (xs : List ℕ) → RiseFrom a xs → RiseFrom a (take n xs)
-rise_take zero a xs rise = tt
-rise_take (suc n) a [] rise = tt
-rise_take (suc n) a (x ∷ xs) rise = (rise.0, rise_take n (x + 1) xs rise.1)

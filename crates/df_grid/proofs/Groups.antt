@@ -7,7 +7,7 @@ use Rattle.std.specs.Option.{option_copied}
 use Rattle.std.specs.Slice.{IsItemAt}
 use Rattle.std.proofs.lemmas.List.{length-append, length-set}
 use Rattle.std.proofs.lemmas.List.Sums.{sum_by-cons}
-use Rattle.std.proofs.lemmas.Option.{slice_get-get_or, slice_get_past, slice_get_read}
+use Rattle.std.proofs.lemmas.Option.{slice_get-get_or, slice_get_past, slice_get_read, slice_get_within}
 use Rattle.df_model.specs.Blocks.{sum_at}
 use Rattle.df_units.specs.Meaning.{number_of}
 use Rattle.df_trailer.specs.Writing.{referenced_among}
@@ -15,7 +15,6 @@ use Rattle.df_grid.specs.declared.entry.Entry.{Entry}
 use Rattle.df_grid.specs.Table.{AreCounts, IsCounted, captured_among, is_captured, picked}
 use Rattle.df_grid.proofs.Counted.{counted_from}
 use Rattle.df_grid.proofs.Picks.{pick_at}
-use Rattle.df_grid.proofs.Held.{within}
 
 -- ---- what a count stands for
 
@@ -112,7 +111,7 @@ none_counted es few = record { few = few; each = λ g count at. absurd (cc); all
 pub all_counted : (es : List Entry) (left counts : List ℕ) → length es ≤ 16384 → AreCounts es (length es) counts → IsCounted es left counts
 all_counted es left counts few so = record {
   few = few;
-  each = λ g count at. (omega (arith, within counts g count at, so.size), so.each g count at);
+  each = λ g count at. (omega (arith, slice_get_within counts g count at, so.size), so.each g count at);
   all = λ some. so.size;
 }
 

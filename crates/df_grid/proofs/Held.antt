@@ -2,6 +2,7 @@
 use Rattle.std.proofs.Common.{◌≡◌, ℕ, zero, suc, ◌+◌, ◌<◌, ◌≤◌, ◌||◌, not, Bool, true, false, cond, Option, Some, None, List, [], ◌∷◌, length, refl, sym, ap, subst, ◌∙◌, arith}
 use Rattle.std.specs.Prelude.{slice_get}
 use Rattle.std.specs.List.{filter, range_with_len}
+use Rattle.std.proofs.lemmas.Option.{slice_get_within}
 use Rattle.df_model.specs.Work.{is_in, is_known, or_known}
 use Rattle.df_model.specs.Blocks.{entries, entry, is_held_in, reference_in, sum_at}
 use Rattle.df_units.specs.Meaning.{number_of}
@@ -11,7 +12,7 @@ use Rattle.df_grid.specs.Table.{IsTable, blocks_in, entry_at, is_captured, is_du
 use Rattle.df_grid.proofs.Picks.{below, past, pick_at}
 use Rattle.df_grid.proofs.Chains.{pair_at, sum_there}
 
-known_if : (b : Bool) (c : ℕ) → is_known (cond b (Some c) None) ≡ b
+pub known_if : (b : Bool) (c : ℕ) → is_known (cond b (Some c) None) ≡ b
 known_if true c = refl
 known_if false c = refl
 
@@ -92,16 +93,11 @@ entry_there [] i less = absurd (omega arith)
 entry_there (e ∷ es) zero less = (e, refl)
 entry_there (e ∷ es) (suc i) less = entry_there es i (omega arith)
 
-pub within : {X : Type 0} (xs : List X) (i : ℕ) (x : X) → slice_get xs i ≡ Some x → i < length xs
-within [] i x at = absurd (cc)
-within (y ∷ xs) zero x at = omega arith
-within (y ∷ xs) (suc i) x at = omega (arith, within xs i x at)
-
 module _ (es : List Entry) (taken : List Bool) (written left chain : List ℕ) (is : IsTable es taken written left chain) where
   pub unheld_open : unheld (length es) (blocks_in es written left chain) ≡ open_from 1 taken
   unheld_open = subst (λ (n : ℕ). filter (λ a. not (is_held_in (blocks_in es written left chain) a)) (range_with_len 1 n) ≡ open_from 1 taken) is.size
       (open_unheld (is_held_in (blocks_in es written left chain)) 1 taken (λ i b at.
-      let some = entry_there es i (omega (arith, within taken i b at, is.size)) in
+      let some = entry_there es i (omega (arith, slice_get_within taken i b at, is.size)) in
       let same : Some b ≡ Some (is_marked some.0 || is_in (1 + i) left) = sym at ∙ is.holds (1 + i) i some.0 (omega arith) some.1 in
       let b_is : b ≡ (is_marked some.0 || is_in (1 + i) left) = cc in
       b_is ∙ sym (held_at es taken written left chain is (1 + i) i some.0 (omega arith) some.1)))

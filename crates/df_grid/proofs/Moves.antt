@@ -1,6 +1,7 @@
 -- What a change at one address is for the machine, and that what holds of a table still does.
-use Rattle.std.proofs.Common.{◌≡◌, ℕ, suc, ◌+◌, ◌==◌, ◌||◌, Bool, true, false, Some, List, [], ◌∷◌, set, refl, sym, ap, subst, ◌∙◌, arith}
+use Rattle.std.proofs.Common.{◌≡◌, ℕ, suc, ◌+◌, ◌==◌, ◌||◌, Bool, true, false, Some, List, [], ◌∷◌, set, refl, sym, ap, subst, ◌∙◌, arith, eq-eqb, ne_eqb}
 use Rattle.std.specs.Prelude.{slice_get}
+use Rattle.std.proofs.lemmas.Bool.{or_left, false_from_ne_true}
 use Rattle.df_model.specs.Work.{is_in}
 use Rattle.df_model.specs.Blocks.{block_released, block_written, trailer_written}
 use Rattle.df_model.specs.Sense.{RiseFrom}
@@ -8,7 +9,7 @@ use Rattle.df_units.specs.Meaning.{number_of}
 use Rattle.df_grid.specs.declared.entry.Entry.{Entry}
 use Rattle.df_grid.specs.Entries.{HasEntry, is_marked}
 use Rattle.df_grid.specs.Table.{IsTable, adopted, blocks_in, is_captured, is_durable, is_live, paired, sum_of}
-use Rattle.df_grid.proofs.Single.{get_set_same, no_eq, not_both, or_left, unequal, yes_eq}
+use Rattle.df_grid.proofs.Single.{get_set_same, not_both}
 use Rattle.df_grid.proofs.Picks.{pick_keep, pick_set, pick_unset}
 use Rattle.df_grid.proofs.Chains.{pair_same, rise_out, sum_keep, sum_other, sum_there}
 use Rattle.df_grid.proofs.Keeping.{Agrees, HasNone, has_none, kept}
@@ -22,7 +23,7 @@ module _ (es : List Entry) (taken : List Bool) (written left chain : List ℕ) (
 
   -- a marked address isn't to come
   pub marked_gone : is_marked old ≡ true → is_in a left ≡ false
-  marked_gone marked = unequal (is_in a left) (λ coming. not_both (is_marked old) marked (is.spare a i old there at coming))
+  marked_gone marked = false_from_ne_true (is_in a left) (λ coming. not_both (is_marked old) marked (is.spare a i old there at coming))
 
   -- a list that doesn't have the address keeps its checksums
   pairs_keep : (e : Entry) (xs : List ℕ) → is_in a xs ≡ false → paired (set es i e) xs ≡ paired es xs
@@ -107,9 +108,9 @@ module _ (es : List Entry) (taken : List Bool) (written left chain : List ℕ) (
       pub chained_kept : is_in a left ≡ false → IsTable (set es i now_chained) (set taken i (is_marked now_chained)) written left (a ∷ chain)
       chained_kept gone = kept es taken written left chain is a i old now_chained there at written left (a ∷ chain) (record {
         writes = is.writes a i old there at;
-        chains = sym (or_left (a == a) (is_in a chain) (yes_eq a a refl));
+        chains = sym (or_left (a == a) (is_in a chain) (eq-eqb a a refl));
         gone = gone;
-        others = λ k other. (refl, refl, ap (λ (b : Bool). b || is_in k chain) (no_eq k a other));
+        others = λ k other. (refl, refl, ap (λ (b : Bool). b || is_in k chain) (ne_eqb k a other));
         inside = is.inside;
         once = is.once;
         room = is.room;
@@ -159,10 +160,10 @@ aside false w m = refl
 pub written_kept : (es : List Entry) (taken : List Bool) (written more chain : List ℕ) (a i : ℕ) (old : Entry) (c : List ℕ) → IsTable es taken written (a ∷ more) chain → a ≡ suc i → slice_get es i ≡ Some old
     → IsTable (set es i (record old { checksum = c; written = true })) (set taken i (is_marked (record old { checksum = c; written = true }))) (a ∷ written) more chain
 written_kept es taken written more chain a i old c is there at = kept es taken written (a ∷ more) chain is a i old (record old { checksum = c; written = true }) there at (a ∷ written) more chain (record {
-  writes = sym (or_left (a == a) (is_in a written) (yes_eq a a refl));
+  writes = sym (or_left (a == a) (is_in a written) (eq-eqb a a refl));
   chains = is.chains a i old there at;
   gone = rise_out a (a + 1) more is.once.1 (omega arith);
-  others = λ k other. (ap (λ (b : Bool). b || is_in k written) (no_eq k a other), sym (ap (λ (b : Bool). b || is_in k more) (no_eq k a other)), refl);
+  others = λ k other. (ap (λ (b : Bool). b || is_in k written) (ne_eqb k a other), sym (ap (λ (b : Bool). b || is_in k more) (ne_eqb k a other)), refl);
   inside = λ k one. is.inside k (sym (aside (k == a) (is_in k written) (is_in k more)) ∙ one);
   once = lower a more is.once.1;
   room = omega (arith, is.room);
@@ -170,11 +171,11 @@ written_kept es taken written more chain a i old c is there at = kept es taken w
 
 -- the address that is next isn't marked
 pub next_spare : (es : List Entry) (taken : List Bool) (written more chain : List ℕ) (a i : ℕ) (old : Entry) → IsTable es taken written (a ∷ more) chain → a ≡ suc i → slice_get es i ≡ Some old → is_marked old ≡ false
-next_spare es taken written more chain a i old is there at = is.spare a i old there at (or_left (a == a) (is_in a more) (yes_eq a a refl))
+next_spare es taken written more chain a i old is there at = is.spare a i old there at (or_left (a == a) (is_in a more) (eq-eqb a a refl))
 
 -- and is one of the table's
 pub next_inside : (es : List Entry) (taken : List Bool) (written more chain : List ℕ) (a : ℕ) → IsTable es taken written (a ∷ more) chain → HasEntry es a
-next_inside es taken written more chain a is = is.inside a (right (is_in a written) (or_left (a == a) (is_in a more) (yes_eq a a refl)))
+next_inside es taken written more chain a is = is.inside a (right (is_in a written) (or_left (a == a) (is_in a more) (eq-eqb a a refl)))
   where
     right : (b : Bool) {c : Bool} → c ≡ true → (b || c) ≡ true
     right true holds = refl

@@ -1,11 +1,11 @@
 -- The entries that pass a test: what is looked up among them, and what a change of one entry makes of them.
-use Rattle.std.proofs.Common.{◌≡◌, ℕ, zero, suc, ◌+◌, ◌<◌, ◌≤◌, ◌==◌, Bool, true, false, cond, nat_lt, Some, None, List, [], ◌∷◌, length, map, set, refl, sym, ap, ◌∙◌, arith}
+use Rattle.std.proofs.Common.{◌≡◌, ℕ, zero, suc, ◌+◌, ◌<◌, ◌≤◌, ◌==◌, Bool, true, false, cond, nat_lt, Some, None, List, [], ◌∷◌, length, map, set, refl, sym, ap, ◌∙◌, arith, eq-eqb, ne_eqb, lt-ltb, le-ltb}
 use Rattle.std.specs.Prelude.{slice_get}
+use Rattle.std.proofs.lemmas.Bool.{cond-true, cond-false}
 use Rattle.df_model.specs.Blocks.{sum_at, with_entry, without_entry}
 use Rattle.df_units.specs.Meaning.{number_of}
 use Rattle.df_grid.specs.declared.entry.Entry.{Entry}
 use Rattle.df_grid.specs.Table.{picked}
-use Rattle.df_grid.proofs.Single.{if_no, if_yes, no_eq, no_lt, yes_eq, yes_lt}
 
 module _ (test : Entry → Bool) where
   -- nothing is picked below the first address
@@ -14,7 +14,7 @@ module _ (test : Entry → Bool) where
   below a s (e ∷ es) less = go (test e) (below a (s + 1) es (omega arith))
     where
       go : (b : Bool) → sum_at a (picked test (s + 1) es) ≡ None → sum_at a (cond b ((s, number_of e.checksum) ∷ picked test (s + 1) es) (picked test (s + 1) es)) ≡ None
-      go true more = if_no (s == a) (Some (number_of e.checksum)) (sum_at a (picked test (s + 1) es)) (no_eq s a (λ same. omega arith)) ∙ more
+      go true more = cond-false (s == a) (Some (number_of e.checksum)) (sum_at a (picked test (s + 1) es)) (ne_eqb s a (λ same. omega arith)) ∙ more
       go false more = more
 
   -- what is looked up at an address is its entry's checksum, where the entry passes
@@ -25,12 +25,12 @@ module _ (test : Entry → Bool) where
       ap (λ (y : Entry). sum_at a (cond (test y) ((s, number_of y.checksum) ∷ picked test (s + 1) es) (picked test (s + 1) es))) same ∙ go (test e)
     where
       go : (b : Bool) → sum_at a (cond b ((s, number_of e.checksum) ∷ picked test (s + 1) es) (picked test (s + 1) es)) ≡ cond b (Some (number_of e.checksum)) None
-      go true = if_yes (s == a) (Some (number_of e.checksum)) (sum_at a (picked test (s + 1) es)) (yes_eq s a (omega arith))
+      go true = cond-true (s == a) (Some (number_of e.checksum)) (sum_at a (picked test (s + 1) es)) (eq-eqb s a (omega arith))
       go false = below a (s + 1) es (omega arith)
   pick_at a s (suc i) (x ∷ es) e is at = go (test x) (pick_at a (s + 1) i es e (omega arith) at)
     where
       go : (b : Bool) → sum_at a (picked test (s + 1) es) ≡ cond (test e) (Some (number_of e.checksum)) None → sum_at a (cond b ((s, number_of x.checksum) ∷ picked test (s + 1) es) (picked test (s + 1) es)) ≡ cond (test e) (Some (number_of e.checksum)) None
-      go true more = if_no (s == a) (Some (number_of x.checksum)) (sum_at a (picked test (s + 1) es)) (no_eq s a (λ same. omega arith)) ∙ more
+      go true more = cond-false (s == a) (Some (number_of x.checksum)) (sum_at a (picked test (s + 1) es)) (ne_eqb s a (λ same. omega arith)) ∙ more
       go false more = more
 
   -- nothing is picked past the last one
@@ -39,7 +39,7 @@ module _ (test : Entry → Bool) where
   past a s (e ∷ es) le = go (test e) (past a (s + 1) es (omega arith))
     where
       go : (b : Bool) → sum_at a (picked test (s + 1) es) ≡ None → sum_at a (cond b ((s, number_of e.checksum) ∷ picked test (s + 1) es) (picked test (s + 1) es)) ≡ None
-      go true more = if_no (s == a) (Some (number_of e.checksum)) (sum_at a (picked test (s + 1) es)) (no_eq s a (λ same. omega arith)) ∙ more
+      go true more = cond-false (s == a) (Some (number_of e.checksum)) (sum_at a (picked test (s + 1) es)) (ne_eqb s a (λ same. omega arith)) ∙ more
       go false more = more
 
   -- ---- a new entry
@@ -49,27 +49,27 @@ module _ (test : Entry → Bool) where
   in_front a c s (e ∷ es) less = go (test e) (in_front a c (s + 1) es (omega arith))
     where
       go : (b : Bool) → with_entry a c (picked test (s + 1) es) ≡ (a, c) ∷ picked test (s + 1) es → with_entry a c (cond b ((s, number_of e.checksum) ∷ picked test (s + 1) es) (picked test (s + 1) es)) ≡ (a, c) ∷ cond b ((s, number_of e.checksum) ∷ picked test (s + 1) es) (picked test (s + 1) es)
-      go true more = if_yes (nat_lt a s) ((a, c) ∷ (s, number_of e.checksum) ∷ picked test (s + 1) es) _ (yes_lt a s less)
+      go true more = cond-true (nat_lt a s) ((a, c) ∷ (s, number_of e.checksum) ∷ picked test (s + 1) es) _ (lt-ltb a s less)
       go false more = more
 
   -- an entry that passes now is one of them
   pub pick_set : (a s i : ℕ) (es : List Entry) (e old : Entry) → a ≡ s + i → slice_get es i ≡ Some old → test e ≡ true → picked test s (set es i e) ≡ with_entry a (number_of e.checksum) (picked test s es)
   pick_set a s i [] e old is at passes = absurd (cc)
   pick_set a s zero (x ∷ es) e old is at passes =
-      if_yes (test e) ((s, number_of e.checksum) ∷ picked test (s + 1) es) (picked test (s + 1) es) passes ∙ ap (λ (k : ℕ). (k, number_of e.checksum) ∷ picked test (s + 1) es) here ∙ sym (go (test x))
+      cond-true (test e) ((s, number_of e.checksum) ∷ picked test (s + 1) es) (picked test (s + 1) es) passes ∙ ap (λ (k : ℕ). (k, number_of e.checksum) ∷ picked test (s + 1) es) here ∙ sym (go (test x))
     where
       here : s ≡ a
       here = omega arith
 
       go : (b : Bool) → with_entry a (number_of e.checksum) (cond b ((s, number_of x.checksum) ∷ picked test (s + 1) es) (picked test (s + 1) es)) ≡ (a, number_of e.checksum) ∷ picked test (s + 1) es
-      go true = if_no (nat_lt a s) _ (cond (s == a) ((a, number_of e.checksum) ∷ picked test (s + 1) es) ((s, number_of x.checksum) ∷ with_entry a (number_of e.checksum) (picked test (s + 1) es))) (no_lt a s (omega arith)) ∙ if_yes (s == a) ((a, number_of e.checksum) ∷ picked test (s + 1) es) _ (yes_eq s a here)
+      go true = cond-false (nat_lt a s) _ (cond (s == a) ((a, number_of e.checksum) ∷ picked test (s + 1) es) ((s, number_of x.checksum) ∷ with_entry a (number_of e.checksum) (picked test (s + 1) es))) (le-ltb a s (omega arith)) ∙ cond-true (s == a) ((a, number_of e.checksum) ∷ picked test (s + 1) es) _ (eq-eqb s a here)
       go false = in_front a (number_of e.checksum) (s + 1) es (omega arith)
   pick_set a s (suc i) (x ∷ es) e old is at passes = go (test x) (pick_set a (s + 1) i es e old (omega arith) at passes)
     where
       go : (b : Bool) → picked test (s + 1) (set es i e) ≡ with_entry a (number_of e.checksum) (picked test (s + 1) es) → cond b ((s, number_of x.checksum) ∷ picked test (s + 1) (set es i e)) (picked test (s + 1) (set es i e)) ≡ with_entry a (number_of e.checksum) (cond b ((s, number_of x.checksum) ∷ picked test (s + 1) es) (picked test (s + 1) es))
       go true rest = ap (λ (l : List (ℕ × ℕ)). (s, number_of x.checksum) ∷ l) rest
-          ∙ sym (if_no (nat_lt a s) _ (cond (s == a) ((a, number_of e.checksum) ∷ picked test (s + 1) es) ((s, number_of x.checksum) ∷ with_entry a (number_of e.checksum) (picked test (s + 1) es))) (no_lt a s (omega arith))
-          ∙ if_no (s == a) _ ((s, number_of x.checksum) ∷ with_entry a (number_of e.checksum) (picked test (s + 1) es)) (no_eq s a (λ same. omega arith)))
+          ∙ sym (cond-false (nat_lt a s) _ (cond (s == a) ((a, number_of e.checksum) ∷ picked test (s + 1) es) ((s, number_of x.checksum) ∷ with_entry a (number_of e.checksum) (picked test (s + 1) es))) (le-ltb a s (omega arith))
+          ∙ cond-false (s == a) _ ((s, number_of x.checksum) ∷ with_entry a (number_of e.checksum) (picked test (s + 1) es)) (ne_eqb s a (λ same. omega arith)))
       go false rest = rest
 
   -- ---- an entry less
@@ -79,21 +79,21 @@ module _ (test : Entry → Bool) where
   without_below a s (e ∷ es) less = go (test e) (without_below a (s + 1) es (omega arith))
     where
       go : (b : Bool) → without_entry a (picked test (s + 1) es) ≡ picked test (s + 1) es → without_entry a (cond b ((s, number_of e.checksum) ∷ picked test (s + 1) es) (picked test (s + 1) es)) ≡ cond b ((s, number_of e.checksum) ∷ picked test (s + 1) es) (picked test (s + 1) es)
-      go true more = if_no (s == a) _ ((s, number_of e.checksum) ∷ without_entry a (picked test (s + 1) es)) (no_eq s a (λ same. omega arith)) ∙ ap (λ (l : List (ℕ × ℕ)). (s, number_of e.checksum) ∷ l) more
+      go true more = cond-false (s == a) _ ((s, number_of e.checksum) ∷ without_entry a (picked test (s + 1) es)) (ne_eqb s a (λ same. omega arith)) ∙ ap (λ (l : List (ℕ × ℕ)). (s, number_of e.checksum) ∷ l) more
       go false more = more
 
   -- an entry that doesn't pass now is none of them
   pub pick_unset : (a s i : ℕ) (es : List Entry) (e old : Entry) → a ≡ s + i → slice_get es i ≡ Some old → test e ≡ false → picked test s (set es i e) ≡ without_entry a (picked test s es)
   pick_unset a s i [] e old is at fails = absurd (cc)
-  pick_unset a s zero (x ∷ es) e old is at fails = if_no (test e) _ (picked test (s + 1) es) fails ∙ sym (go (test x))
+  pick_unset a s zero (x ∷ es) e old is at fails = cond-false (test e) _ (picked test (s + 1) es) fails ∙ sym (go (test x))
     where
       go : (b : Bool) → without_entry a (cond b ((s, number_of x.checksum) ∷ picked test (s + 1) es) (picked test (s + 1) es)) ≡ picked test (s + 1) es
-      go true = if_yes (s == a) (picked test (s + 1) es) _ (yes_eq s a (omega arith))
+      go true = cond-true (s == a) (picked test (s + 1) es) _ (eq-eqb s a (omega arith))
       go false = without_below a (s + 1) es (omega arith)
   pick_unset a s (suc i) (x ∷ es) e old is at fails = go (test x) (pick_unset a (s + 1) i es e old (omega arith) at fails)
     where
       go : (b : Bool) → picked test (s + 1) (set es i e) ≡ without_entry a (picked test (s + 1) es) → cond b ((s, number_of x.checksum) ∷ picked test (s + 1) (set es i e)) (picked test (s + 1) (set es i e)) ≡ without_entry a (cond b ((s, number_of x.checksum) ∷ picked test (s + 1) es) (picked test (s + 1) es))
-      go true rest = ap (λ (l : List (ℕ × ℕ)). (s, number_of x.checksum) ∷ l) rest ∙ sym (if_no (s == a) _ ((s, number_of x.checksum) ∷ without_entry a (picked test (s + 1) es)) (no_eq s a (λ same. omega arith)))
+      go true rest = ap (λ (l : List (ℕ × ℕ)). (s, number_of x.checksum) ∷ l) rest ∙ sym (cond-false (s == a) _ ((s, number_of x.checksum) ∷ without_entry a (picked test (s + 1) es)) (ne_eqb s a (λ same. omega arith)))
       go false rest = rest
 
   -- ---- nothing changes
@@ -122,13 +122,4 @@ pick_map f test before s (e ∷ es) same sum =
 -- no entry passes
 pub pick_none : (test : Entry → Bool) (s : ℕ) (es : List Entry) → ((i : ℕ) (e : Entry) → slice_get es i ≡ Some e → test e ≡ false) → picked test s es ≡ []
 pick_none test s [] none = refl
-pick_none test s (e ∷ es) none = if_no (test e) _ (picked test (s + 1) es) (none 0 e refl) ∙ pick_none test (s + 1) es (λ i x at. none (suc i) x at)
-
--- what isn't there can't be taken away
-pub without_none : (a : ℕ) (xs : List (ℕ × ℕ)) → sum_at a xs ≡ None → without_entry a xs ≡ xs
-without_none a [] none = refl
-without_none a (x ∷ xs) none = go (x.0 == a) refl none (λ there. without_none a xs there)
-  where
-    go : (b : Bool) → (x.0 == a) ≡ b → cond b (Some x.1) (sum_at a xs) ≡ None → (sum_at a xs ≡ None → without_entry a xs ≡ xs) → cond (x.0 == a) xs (x ∷ without_entry a xs) ≡ x ∷ xs
-    go true is there more = absurd (cc)
-    go false is there more = if_no (x.0 == a) xs (x ∷ without_entry a xs) is ∙ ap (λ (l : List (ℕ × ℕ)). x ∷ l) (more there)
+pick_none test s (e ∷ es) none = cond-false (test e) _ (picked test (s + 1) es) (none 0 e refl) ∙ pick_none test (s + 1) es (λ i x at. none (suc i) x at)

@@ -1,5 +1,5 @@
 -- What was read into a room is what the machine reads there.
-use Rattle.std.proofs.Common.{◌≡◌, ◌==◌, inl, inr, ℕ, ◌<◌, Bool, true, false, cond, not, Option, Some, None, List, refl, sym, ap, subst, ◌∙◌, arith}
+use Rattle.std.proofs.Common.{◌≡◌, ◌==◌, inl, inr, ℕ, ◌<◌, Bool, true, false, cond, not, Option, Some, None, List, refl, sym, ap, subst, ◌∙◌, arith, eq-eqb, ne_eqb, eqb-true}
 use Rattle.std.specs.Prelude.{Result, Ok, Err}
 use Rattle.std.specs.Bool.{Decides}
 use Rattle.std.specs.Str.{bytes_eq}
@@ -21,7 +21,7 @@ use Rattle.df_format.specs.Shown.{bytes_of, class_of, header_or_class, unit_in}
 use Rattle.df_format.specs.Spelling.{IsCheck, spelling_rest}
 use Rattle.df_format.specs.Valid.{IsUnit}
 use Rattle.df_format.specs.Rules.{IsSealed, ObeysBlock, ObeysKind, ObeysTrailer}
-use Rattle.df_format.proofs.Laws.{valid_belongs, valid_stale}
+use Rattle.df_format.proofs.Laws.{valid_belongs, valid_stale, shown_stale}
 use Rattle.df_buffers.specs.declared.identity.Identity.{Identity}
 use Rattle.df_buffers.specs.Sounds.{Holding}
 use Rattle.df_theory.specs.Units
@@ -29,22 +29,13 @@ use Rattle.df_theory.specs.Units.{AnyUnit, BlockPlace, BlockUnit}
 use Rattle.df_model.specs.Supply.{block_at, block_given, class_or, given_if, is_sum, no_trailer}
 use Rattle.df_units.specs.Meaning.{block_of, number_of}
 use Rattle.df_units.specs.Bytes.{message_unit}
-use Rattle.df_units.proofs.Laws.{one_number}
+use Rattle.df_units.proofs.Laws.{one_number, sealed_check}
 use Rattle.df_base.proofs.Laws.{AreBytes-check_of, length-check_of}
 use Rattle.df_places.specs.Units.{IsSeen}
 use Rattle.df_grid.specs.Grid.{IsKnownUnit}
 use Rattle.df_places.specs.Shelves.{HoldsFound, IsFound, IsOf, IsRead}
 use Rattle.df_grid.specs.Reads.{IsFaultOf, at_address, ReadsBlock, ReadsTrailer, Tests, class_in, shown_of, trailer_alone}
-use Rattle.df_grid.proofs.Single.{eq_true, no_eq, not_both, yes_eq}
-
--- a sealed header's checksum has sixteen bytes
-sealed_check : (h : Header) → IsSealed h → IsCheck h.checksum
-sealed_check h is = subst IsCheck (sym is.checksum) (record { size = length-check_of (spelling_rest h); each = AreBytes-check_of (spelling_rest h) })
-
--- a place that shows a unit, where another one is wanted, is stale
-shown_stale : (layout : Layout) (cluster : ℕ) (image : Image) (place : Place) (u : Message) → Shown.unit_at layout cluster image place ≡ Some u → Shown.class_at layout cluster image place ≡ Stale
-unfolding Shown.unit_at Shown.class_at
-shown_stale layout cluster image place u shown = valid_stale layout cluster place (bytes_of layout image place) u shown
+use Rattle.df_grid.proofs.Single.{not_both}
 
 -- the machine's answer is one about the message that is shown
 abbrev pub given : Option ℕ → Option Message → Class → Result Units.Block Class
@@ -86,18 +77,18 @@ TellsKind layout cluster a kind p = (u : Message) → IsUnit layout cluster (pla
 
 blocks_tell : (layout : Layout) (cluster a : ℕ) → TellsKind layout cluster a Block (λ b. not (b.kind == 0))
 blocks_tell layout cluster a u is = (
-  λ kind. ap not (no_eq u.header.block_kind 0 (λ zeros. omega (arith, zeros, block_kind layout cluster a u is kind))),
+  λ kind. ap not (ne_eqb u.header.block_kind 0 (λ zeros. omega (arith, zeros, block_kind layout cluster a u is kind))),
   λ some. elim (valid_belongs layout cluster (place_in Grid a) u is).belongs.kind [
     | inl kind ↦ kind
-    | inr kind ↦ absurd (let none : not (u.header.block_kind == 0) ≡ false = ap not (yes_eq u.header.block_kind 0 (trailer_kind layout cluster a u is kind)) in cc)
+    | inr kind ↦ absurd (let none : not (u.header.block_kind == 0) ≡ false = ap not (eq-eqb u.header.block_kind 0 (trailer_kind layout cluster a u is kind)) in cc)
   ],
 )
 
 trailers_tell : (layout : Layout) (cluster a : ℕ) → TellsKind layout cluster a Trailer (λ b. b.kind == 0)
 trailers_tell layout cluster a u is = (
-  λ kind. yes_eq u.header.block_kind 0 (trailer_kind layout cluster a u is kind),
+  λ kind. eq-eqb u.header.block_kind 0 (trailer_kind layout cluster a u is kind),
   λ some. elim (valid_belongs layout cluster (place_in Grid a) u is).belongs.kind [
-    | inl kind ↦ absurd (let none : (u.header.block_kind == 0) ≡ false = no_eq u.header.block_kind 0 (λ zeros. omega (arith, zeros, block_kind layout cluster a u is kind)) in cc)
+    | inl kind ↦ absurd (let none : (u.header.block_kind == 0) ≡ false = ne_eqb u.header.block_kind 0 (λ zeros. omega (arith, zeros, block_kind layout cluster a u is kind)) in cc)
     | inr kind ↦ kind
   ],
 )
@@ -112,7 +103,7 @@ module _ (layout : Layout) (cluster a : ℕ) (check : List ℕ) (image : Image) 
   found_is h found read =
       let u = h.unit in
       let passes : p (block_of u) ≡ true = (tells u found.is).0 found.of_kind in
-      let same : (number_of u.header.checksum == number_of check) ≡ true = yes_eq (number_of u.header.checksum) (number_of check) (ap number_of found.wanted) in
+      let same : (number_of u.header.checksum == number_of check) ≡ true = eq-eqb (number_of u.header.checksum) (number_of check) (ap number_of found.wanted) in
       sym (ap (λ (o : Option Message). sieve p (given (Some (number_of check)) o (Shown.class_at layout cluster image (place_in Grid a)))) read.judges
       ∙ ap (λ (b : Bool). sieve p (given_if b (block_of u) Stale)) same ∙ ap (λ (b : Bool). given_if b (block_of u) Stale) passes)
 
@@ -127,7 +118,7 @@ module _ (layout : Layout) (cluster a : ℕ) (check : List ℕ) (image : Image) 
       go true same false test = ap (λ (x : Bool). given_if x (block_of u) Stale) test
       go true same true test =
           let is = read.valid u shown in
-          let wanted : u.header.checksum ≡ check = one_number u.header.checksum check (sealed_check u.header is.sealed) fits (eq_true (number_of u.header.checksum) (number_of check) same) in
+          let wanted : u.header.checksum ≡ check = one_number u.header.checksum check (sealed_check u.header is.sealed) fits (eqb-true (number_of u.header.checksum) (number_of check) same) in
           absurd (read.judges.0 u shown (record { is = is; of_kind = (tells u is).1 test; wanted = wanted }))
 
   lacks_is : (class : Class) (held : Option Holding) → IsOf kind (at_address layout cluster a check) image (Some class) held → Err class ≡ wanted_answer
@@ -209,8 +200,8 @@ found_case check u class answer is = is.2 ∙ go (bytes_eq u.header.checksum che
     go : (b : Bool) → bytes_eq u.header.checksum check ≡ b → (q : Bool) → (number_of u.header.checksum == number_of check) ≡ q → cond b None (Some Stale) ≡ class_in (given_if q (block_of u) Stale)
     go true same true equal = refl
     go false same false equal = refl
-    go true same false equal = not_both (number_of u.header.checksum == number_of check) (yes_eq (number_of u.header.checksum) (number_of check) (ap number_of (decides_true (bytes_eq u.header.checksum check) (bytes_eq-Decides u.header.checksum check) same))) equal
-    go false same true equal = absurd (decides_false (bytes_eq u.header.checksum check) (bytes_eq-Decides u.header.checksum check) same (one_number u.header.checksum check is.0 is.1 (eq_true (number_of u.header.checksum) (number_of check) equal)))
+    go true same false equal = not_both (number_of u.header.checksum == number_of check) (eq-eqb (number_of u.header.checksum) (number_of check) (ap number_of (decides_true (bytes_eq u.header.checksum check) (bytes_eq-Decides u.header.checksum check) same))) equal
+    go false same true equal = absurd (decides_false (bytes_eq u.header.checksum check) (bytes_eq-Decides u.header.checksum check) same (one_number u.header.checksum check is.0 is.1 (eqb-true (number_of u.header.checksum) (number_of check) equal)))
 
 test_case : (check : List ℕ) (o : Option Message) (class : Class) (answer : Option Class) → IsFaultOf (header_or_class o class) check answer → answer ≡ class_in (given (Some (number_of check)) o class)
 test_case check None class answer is = is

@@ -1,17 +1,19 @@
 -- The turns of loops over the table: a part is changed, a part isn't yet.
-use Rattle.std.proofs.Common.{◌≡◌, ℕ, zero, suc, ◌+◌, ◌<◌, ◌≤◌, Bool, true, false, cond, nat_lt, Some, List, [], ◌∷◌, ◌++◌, length, map, take, drop, set, refl, sym, ap, ◌∙◌, arith}
+use Rattle.std.proofs.Common.{◌≡◌, ℕ, zero, suc, ◌+◌, ◌<◌, ◌≤◌, Bool, true, false, cond, nat_lt, Some, List, [], ◌∷◌, ◌++◌, length, map, take, drop, set, refl, sym, ap, ◌∙◌, arith, lt-ltb, le-ltb}
 use Rattle.std.specs.Prelude.{slice_get}
 use Rattle.std.specs.List.{filter}
 use Rattle.std.proofs.lemmas.List.{length-drop, length-set, length-take}
 use Rattle.std.proofs.lemmas.List.Edits.{map_over_more}
 use Rattle.std.proofs.lemmas.Option.{get_or_from_slice_get}
 use Rattle.std.proofs.lemmas.Bool.Decides.{nat_tests}
+use Rattle.std.proofs.lemmas.Bool.{cond-true, cond-false}
+use Rattle.df_base.proofs.Laws.{get_set_other}
 use Rattle.df_freeset.specs.Addresses.{AreAllTaken, free_of}
 use Rattle.df_units.specs.Meaning.{number_of}
 use Rattle.df_grid.specs.declared.entry.Entry.{Entry}
 use Rattle.df_grid.specs.Entries.{is_marked}
 use Rattle.df_grid.specs.Table.{AreFinished, AreTaken, finishing, open_from, picked}
-use Rattle.df_grid.proofs.Single.{get_set_other, get_set_same, if_no, if_yes, no_lt, yes_lt}
+use Rattle.df_grid.proofs.Single.{get_set_same}
 use Rattle.df_grid.proofs.Free.{all_none, open_count}
 
 -- ---- each entry is changed
@@ -51,7 +53,7 @@ module _ (n i : ℕ) (before es : List Entry) (taken : List Bool) (x : Entry) (s
 
   holds_at : (j : ℕ) (e : Entry) → j < n + 1 → slice_get (set es i (finishing x)) j ≡ Some e → (b : Bool) → (nat_lt j n) ≡ b → slice_get turned j ≡ Some (is_marked e)
   holds_at j e few found true low =
-      let apart : j ≡ i → ⊥ = λ eq. (let low2 : nat_lt j n ≡ false = no_lt j n (omega (arith, eq, same)) in cc) in
+      let apart : j ≡ i → ⊥ = λ eq. (let low2 : nat_lt j n ≡ false = le-ltb j n (omega (arith, eq, same)) in cc) in
       get_set_other taken i j (is_marked (finishing x)) apart ∙ so.holds j e (low_is j n low) (sym (get_set_other es i j (finishing x) apart) ∙ found)
     where
       low_is : (a b : ℕ) → nat_lt a b ≡ true → a < b
@@ -105,7 +107,7 @@ module _ (test : Entry → Bool) (above : ℕ) where
   all_above s (e ∷ es) less = go (test e) (all_above (s + 1) es (omega arith))
     where
       go : (b : Bool) → filter (λ x. nat_lt above x.0) (picked test (s + 1) es) ≡ picked test (s + 1) es → filter (λ x. nat_lt above x.0) (cond b ((s, number_of e.checksum) ∷ picked test (s + 1) es) (picked test (s + 1) es)) ≡ cond b ((s, number_of e.checksum) ∷ picked test (s + 1) es) (picked test (s + 1) es)
-      go true more = if_yes (nat_lt above s) _ (filter (λ x. nat_lt above x.0) (picked test (s + 1) es)) (yes_lt above s less) ∙ ap (λ (l : List (ℕ × ℕ)). (s, number_of e.checksum) ∷ l) more
+      go true more = cond-true (nat_lt above s) _ (filter (λ x. nat_lt above x.0) (picked test (s + 1) es)) (lt-ltb above s less) ∙ ap (λ (l : List (ℕ × ℕ)). (s, number_of e.checksum) ∷ l) more
       go false more = more
 
   pub pick_above : (s k : ℕ) (es : List Entry) → above + 1 ≡ s + k → filter (λ x. nat_lt above x.0) (picked test s es) ≡ picked test (s + k) (drop k es)
@@ -114,7 +116,7 @@ module _ (test : Entry → Bool) (above : ℕ) where
   pick_above s (suc k) (e ∷ es) same = go (test e) ∙ pick_above (s + 1) k es (omega arith) ∙ (let n : s + 1 + k ≡ s + suc k = omega arith in ap (λ (m : ℕ). picked test m (drop k es)) n)
     where
       go : (b : Bool) → filter (λ x. nat_lt above x.0) (cond b ((s, number_of e.checksum) ∷ picked test (s + 1) es) (picked test (s + 1) es)) ≡ filter (λ x. nat_lt above x.0) (picked test (s + 1) es)
-      go true = if_no (nat_lt above s) _ (filter (λ x. nat_lt above x.0) (picked test (s + 1) es)) (no_lt above s (omega arith))
+      go true = cond-false (nat_lt above s) _ (filter (λ x. nat_lt above x.0) (picked test (s + 1) es)) (le-ltb above s (omega arith))
       go false = refl
 
 -- the entry at the front passes

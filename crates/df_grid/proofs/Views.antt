@@ -1,5 +1,5 @@
 -- A table's value after a change, and what its requirements say of its entries.
-use Rattle.std.proofs.Common.{◌≡◌, ℕ, zero, suc, ◌-◌, ◌<◌, ◌≤◌, ◌==◌, ◌||◌, Bool, true, false, cond, Option, Some, None, List, [], ◌∷◌, length, drop, get_or, not, set, refl, sym, ap, subst, ◌∙◌, arith}
+use Rattle.std.proofs.Common.{◌≡◌, ℕ, zero, suc, ◌-◌, ◌<◌, ◌≤◌, ◌==◌, ◌||◌, Bool, true, false, cond, Option, Some, None, List, [], ◌∷◌, length, drop, get_or, not, set, refl, sym, ap, subst, ◌∙◌, arith, eq-eqb}
 use Rattle.std.specs.Prelude.{IfSome, IsNone, ◌↔◌, slice_get, replicate}
 use Rattle.df_freeset.specs.Addresses.{AreAllTaken, IsLeastFree}
 use Rattle.df_model.specs.Work.{is_in, is_known}
@@ -10,12 +10,14 @@ use Rattle.df_grid.specs.declared.entry.Entry.{Entry}
 use Rattle.df_grid.specs.Entries.{HasEntry, entries_of, entry_of, is_marked}
 use Rattle.df_grid.specs.Table.{IsTable, TableState, adopted, blocks_in, entry_at, is_captured, is_durable, is_live, next_written, no_blocks, paired, picked, unheld, written_of}
 use Rattle.std.proofs.lemmas.List.{length-replicate, length-set}
+use Rattle.std.proofs.lemmas.Option.{slice_get_within}
+use Rattle.std.proofs.lemmas.Bool.{or_left}
+use Rattle.df_model.proofs.Laws.{without_none}
 use Rattle.df_grid.proofs.Zips.{length_entries}
 use Rattle.df_grid.proofs.Keeping.{HasNone, has_none}
-use Rattle.df_grid.proofs.Held.{look_some, unheld_open, within}
+use Rattle.df_grid.proofs.Held.{look_some, unheld_open}
 use Rattle.df_grid.proofs.Free.{all_none, least_first}
-use Rattle.df_grid.proofs.Picks.{pick_none, without_none}
-use Rattle.df_grid.proofs.Single.{or_left, yes_eq}
+use Rattle.df_grid.proofs.Picks.{pick_none}
 use Rattle.df_grid.proofs.Chains.{sum_there}
 use Rattle.df_grid.proofs.Moves.{chained_blocks, chained_kept, dead_blocks, dead_kept, durable_blocks, durable_kept, next_inside, next_spare, written_blocks, written_kept}
 
@@ -50,7 +52,7 @@ module _ (cs : List (List ℕ)) (ms : List ℕ) (same : length cs ≡ length ms)
   pub new_table : IsTable (entries_of cs ms) (replicate (length cs) false) [] [] []
   new_table = record {
     size = length-replicate (length cs) false ∙ sym (length_entries cs ms same);
-    holds = λ a i e there at. all_same (length cs) i (omega (arith, within (entries_of cs ms) i e at, length_entries cs ms same)) ∙ ap (λ (b : Bool). Some (b || false)) (sym (new_entry cs ms i e zeros at));
+    holds = λ a i e there at. all_same (length cs) i (omega (arith, slice_get_within (entries_of cs ms) i e at, length_entries cs ms same)) ∙ ap (λ (b : Bool). Some (b || false)) (sym (new_entry cs ms i e zeros at));
     writes = λ a i e there at. (none i e at).written;
     chains = λ a i e there at. (none i e at).chained;
     spare = λ a i e there at has. absurd (cc);
@@ -88,16 +90,12 @@ pub known_number : (b : Bool) (c : List ℕ) → number_in (cond b (Some c) None
 known_number true c = refl
 known_number false c = refl
 
-pub known_if : (b : Bool) (n : ℕ) → is_known (cond b (Some n) None) ≡ b
-known_if true n = refl
-known_if false n = refl
-
 -- the entry of an address that has one
 pub entry_is : (es : List Entry) (a : ℕ) (e : Entry) → entry_at es a ≡ Some e → HasEntry es a × (slice_get es (a - 1) ≡ Some e) × (a ≡ suc (a - 1))
 entry_is es zero e at = absurd (cc)
 entry_is es (suc i) e at =
     let index : suc i - 1 ≡ i = omega arith in
-    ((omega arith, omega (arith, within es i e at)), ap (λ (k : ℕ). slice_get es k) index ∙ at, ap suc (sym index))
+    ((omega arith, omega (arith, slice_get_within es i e at)), ap (λ (k : ℕ). slice_get es k) index ∙ at, ap suc (sym index))
 
 abbrev no_pair : Option (ℕ × ℕ)
 no_pair = None
@@ -115,7 +113,7 @@ first_is (x ∷ xs) a is = let same : x ≡ a = cc in ap (λ (k : ℕ). k ∷ xs
 -- the last written block is one of the table's
 pub written_inside : (es : List Entry) (taken : List Bool) (written left chain : List ℕ) (a : ℕ) → IsTable es taken written left chain → slice_get written 0 ≡ Some a → HasEntry es a
 written_inside es taken written left chain a is first =
-    is.inside a (or_left (is_in a written) (is_in a left) (ap (λ (l : List ℕ). is_in a l) (first_is written a first) ∙ or_left (a == a) (is_in a (drop 1 written)) (yes_eq a a refl)))
+    is.inside a (or_left (is_in a written) (is_in a left) (ap (λ (l : List ℕ). is_in a l) (first_is written a first) ∙ or_left (a == a) (is_in a (drop 1 written)) (eq-eqb a a refl)))
 
 pub written_first : (es : List Entry) (written : List ℕ) (a i : ℕ) (e : Entry) → slice_get written 0 ≡ Some a → a ≡ suc i → slice_get es i ≡ Some e → Some (a, number_of e.checksum) ≡ slice_get (paired es written) 0
 written_first es written a i e first there at =
@@ -177,14 +175,6 @@ module _ (es : List Entry) (taken : List Bool) (written left chain : List ℕ) (
     coming_whole fs ws ls one two three = rw (one, two, three) coming_state
 
 -- ---- releasing
-
-pub un_not : (b : Bool) → not b ≡ true → b ≡ false
-un_not true is = absurd (cc)
-un_not false is = refl
-
-pub un_not_false : (b : Bool) → not b ≡ false → b ≡ true
-un_not_false true is = refl
-un_not_false false is = absurd (cc)
 
 -- where the address isn't live, nothing is taken away
 pub not_live_state : (es : List Entry) (written left chain : List ℕ) (a : ℕ) → sum_at a (picked is_live 1 es) ≡ None → state_of (length es) (blocks_in es written left chain) ≡ state_of (length es) (block_released (blocks_in es written left chain) a)

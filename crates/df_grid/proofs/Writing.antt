@@ -5,7 +5,7 @@ use Rattle.std.proofs.lemmas.List.{take_all}
 use Rattle.std.proofs.lemmas.Bool.Decides.{nat_tests}
 use Rattle.df_base.specs.Log.{Write}
 use Rattle.df_base.specs.Fields.{spelled}
-use Rattle.df_base.proofs.Laws.{AreBytes-check_of, length-check_of, spelled-field_at}
+use Rattle.df_base.proofs.Laws.{spelled-field_at}
 use Rattle.df_layout.specs.declared.layout.Layout.{Layout}
 use Rattle.df_layout.specs.declared.places.Place.{Place}
 use Rattle.df_layout.specs.declared.places.Zone.{Zone}
@@ -13,6 +13,7 @@ use Rattle.df_layout.specs.declared.places.Zone.TheVariants.{Grid}
 use Rattle.df_layout.specs.Spans.{span_of}
 use Rattle.df_format.specs.declared.header.Header.{Header}
 use Rattle.df_format.specs.declared.kind.Kind.{Kind}
+use Rattle.df_format.specs.declared.kind.Kind.TheVariants.{Trailer}
 use Rattle.df_format.specs.declared.reference.Reference.{Reference}
 use Rattle.df_format.specs.Making.{for_body}
 use Rattle.df_format.specs.Message.{Message, sectors_end, sectors_of}
@@ -20,7 +21,7 @@ use Rattle.df_format.specs.Own.{own_place, place_in}
 use Rattle.df_format.specs.Rules.{ObeysRules}
 use Rattle.df_format.specs.Spelling.{IsCheck, no_checksum}
 use Rattle.df_format.specs.Valid.{Belongs, IsAtAddress, IsUnit}
-use Rattle.df_format.proofs.Laws.{valid_belongs}
+use Rattle.df_format.proofs.Laws.{given_obeys, valid_belongs}
 use Rattle.df_buffers.specs.Sounds.{Holding, IsSound}
 use Rattle.df_theory.specs.Device.{AreSteps}
 use Rattle.df_theory.specs.Units
@@ -29,7 +30,7 @@ use Rattle.df_model.specs.Blocks.{Blocks}
 use Rattle.df_model.specs.Making.{first_of}
 use Rattle.df_units.specs.Format.{format_of}
 use Rattle.df_units.specs.Meaning.{block_of, number_of, place_of, unit_of}
-use Rattle.df_units.proofs.Laws.{no_number}
+use Rattle.df_units.proofs.Laws.{no_number, whole_check}
 use Rattle.df_places.specs.Units.{put_events, put_steps}
 use Rattle.df_grid.specs.Grid.{GridState}
 use Rattle.df_grid.specs.Table.{pair_in}
@@ -70,9 +71,6 @@ made_put layout place held header piece is sectors here steps =
 zeros_are : spelled 16 0 ≡ no_checksum
 unfolding spelled no_checksum
 zeros_are = refl
-
-whole_check : (c : List ℕ) → IsCheck c → spelled 16 (number_of c) ≡ c
-whole_check c fits = spelled-field_at 16 0 c fits.each (omega (arith, fits.size)) ∙ take_all 16 c (omega (arith, fits.size))
 
 parent_is : (before : Option Reference) (written : List (ℕ × ℕ)) → pair_in before ≡ slice_get written 0 → IsCheck (checksum_in before) → checksum_in before ≡ spelled 16 (first_sum written)
 parent_is None [] same fits = sym zeros_are
@@ -128,32 +126,18 @@ before_first index (Some r) is = (λ none. absurd (omega (arith, is.1, none)), �
 
 pub header_obeys : (cluster a index sequence : ℕ) (before : Option Reference) (piece : List ℕ) → (0 < cluster) × (cluster < 2 ^ 128) → (0 < a) × (a < 2 ^ 64) → index < 2 ^ 64 → (2 ≤ sequence) × (sequence ≤ 2 ^ 62) → IsBefore index before → IsCheck (checksum_in before)
     → address_in before < 2 ^ 64 → 256 + length piece < 2 ^ 32 → ObeysRules (for_body (header_with cluster a index sequence (address_in before) (checksum_in before)) piece)
-header_obeys cluster a index sequence before piece named at count running is fits low size = record {
-  fits = record {
-    body = record { size = length-check_of piece; each = AreBytes-check_of piece };
-    cluster = named.1;
-    parent = fits;
-    client = omega arith;
-    op = at.1;
-    request = low;
-    mark = count;
-    checkpoint = omega (arith, running.1);
-    size = size;
-    slot = omega arith;
-    block_kind = omega arith;
-  };
-  cluster = named.0;
-  size = omega arith;
-  kind = record {
-    first = parent_first index before is;
-    client = refl;
-    op = at.0;
-    request = before_first index before is;
-    checkpoint = running;
-    slot = refl;
-    block_kind = refl;
-  };
-}
+header_obeys cluster a index sequence before piece named at count running is fits low size =
+    given_obeys cluster named (header_with cluster a index sequence (address_in before) (checksum_in before)) piece Trailer (
+      record {
+        parent = fits;
+        first = parent_first index before is;
+        op = at;
+        request = (before_first index before is, low);
+        mark = count;
+        checkpoint = running;
+      },
+      size,
+    )
 
 pub header_owns : (layout : Layout) (cluster a index sequence before : ℕ) (parent : List ℕ) → (1 ≤ a) × (a ≤ layout.blocks) → IsSome (own_place layout Grid (header_with cluster a index sequence before parent))
 unfolding own_place

@@ -8,7 +8,7 @@ use Rattle.df_layout.specs.Spans.{span_of}
 use Rattle.df_format.specs.declared.header.Header.{Header}
 use Rattle.df_format.specs.declared.kind.Kind.TheVariants.{Trailer}
 use Rattle.df_format.specs.declared.reference.Reference.{Reference}
-use Rattle.df_format.specs.Making.{for_body}
+use Rattle.df_format.specs.Making.{blank_header, for_body}
 use Rattle.df_format.specs.Message.{Message, sectors_of}
 use Rattle.df_format.specs.Own.{place_in}
 use Rattle.df_format.specs.Spelling.{no_checksum, sealed}
@@ -46,20 +46,12 @@ made header body = record { header = sealed (for_body header body); body = body 
 
 -- the header of a trailer block at an address, behind the block with this checksum, if there is one
 abbrev pub header_with : (cluster address index sequence before : ℕ) → List ℕ → Header
-header_with cluster address index sequence before parent = record {
-  checksum = no_checksum;
-  checksum_body = no_checksum;
-  cluster = cluster;
+header_with cluster address index sequence before parent = record (blank_header Trailer cluster) {
   parent = parent;
-  client = 0;
   op = address;
   request = before;
   mark = index;
   checkpoint = sequence;
-  size = 256;
-  slot = 0;
-  kind = Trailer;
-  block_kind = 0;
 }
 
 -- that of the running trailer's next block: its index is how many are written, and before it stands the one that was written last

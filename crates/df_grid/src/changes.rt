@@ -1,5 +1,5 @@
 // How entries and the free set change together: one address, all of them for a capture or its end, and the least free ones.
-ghost use Rattle.std.specs.Prelude.{◌≡◌, ◌-◌, ◌≤◌, List, length, map, slice_get, slice_set, Some};
+ghost use Rattle.std.specs.Prelude.{◌≡◌, ◌-◌, ◌≤◌, length, map, slice_get, slice_set, Some};
 ghost use Rattle.df_freeset.specs.Addresses.{free_of};
 ghost use Rattle.df_grid.specs.declared.entry.Entry.{Entry as AnyEntry};
 ghost use Rattle.df_grid.specs.Entries.{HasEntry, is_marked};
@@ -9,6 +9,7 @@ use crate::entries::Entries;
 use crate::entry::{Entry, is_marked};
 use arrayvec::ArrayVec;
 use df_freeset::FreeSet;
+use df_layout::LINKS;
 
 /// Replaces the entry of an address, which is taken where it is marked, and free where it isn't.
 pub(crate) fn replace(entries: &mut Entries, free: &mut FreeSet, address: u64, entry: &Entry)
@@ -88,7 +89,7 @@ pub(crate) fn finish_all(entries: &mut Entries, free: &mut FreeSet)
 }
 
 /// Takes so many of the least free addresses, and answers them.
-pub(crate) fn take_least(free: &mut FreeSet, blocks: u64) -> ArrayVec<u64, 70>
+pub(crate) fn take_least(free: &mut FreeSet, blocks: u64) -> ArrayVec<u64, LINKS>
     requires enough { blocks ≤ free_of free.old }
     requires few { blocks ≤ 70 }
     ensures { AreTaken blocks free.old free.new result.items }

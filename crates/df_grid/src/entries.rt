@@ -1,5 +1,5 @@
 // The block table: an entry for each address, kept as a checksum and a byte of marks.
-ghost use Rattle.std.specs.Prelude.{◌≡◌, ◌-◌, ◌≤◌, List, ℕ, Some, length, slice_get, slice_set, vec_len};
+ghost use Rattle.std.specs.Prelude.{◌≡◌, ◌-◌, List, Some, length, slice_get, slice_set};
 ghost use Rattle.df_grid.specs.Entries.{HasEntry, entries_of};
 
 use crate::entry::{Entry, entry_of, mark_of};

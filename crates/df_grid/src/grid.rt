@@ -1,7 +1,7 @@
 // The grid: which addresses are held and why, and what a new block, a release and a checkpoint make of that.
-ghost use Rattle.std.specs.Prelude.{◌≡◌, ◌≢◌, ◌*◌, ◌<◌, ◌≤◌, Bool, false, true, List, ℕ, [], length, map, take, replicate, slice_get, All, IfSome, IsSome, nat_lt};
+ghost use Rattle.std.specs.Prelude.{◌≡◌, ◌≢◌, ◌*◌, ◌<◌, ◌≤◌, false, [], length, map, take, replicate, slice_get, All, IfSome, IsSome, nat_lt};
 ghost use Rattle.std.specs.List.{filter};
-ghost use Rattle.df_model.specs.Blocks.{block_released, blocks_captured, capture_finished, is_held_in, sum_at};
+ghost use Rattle.df_model.specs.Blocks.{block_released, blocks_captured, capture_finished, sum_at};
 ghost use Rattle.df_model.specs.Work.{is_known};
 ghost use Rattle.df_trailer.specs.Rooms.{number_in};
 ghost use Rattle.df_trailer.specs.Spelling.{is_referenced};

@@ -10,7 +10,6 @@ ghost use Rattle.df_layout.specs.declared.places.Zone.TheVariants.{Grid as InGri
 ghost use Rattle.df_model.specs.Blocks.{sum_at};
 ghost use Rattle.df_model.specs.Work.{is_known};
 ghost use Rattle.df_units.specs.Meaning.{block_of, number_of};
-ghost use Rattle.df_places.specs.Units.{IsSeen};
 ghost use Rattle.df_grid.specs.Grid.{HasAddress, IsKnownUnit};
 ghost use Rattle.df_grid.specs.Reads.{HoldsKnown, Loads, ReadsBlock, ReadsTrailer, Tests, IsFaultOf, at_address, differs};
 ghost use Rattle.df_grid.specs.contracts.grid.Grid.{the_row};

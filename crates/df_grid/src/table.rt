@@ -1,5 +1,5 @@
 // The block table with the free set and the chains of both checkpoints: what the grid knows, and how that changes.
-ghost use Rattle.std.specs.Prelude.{◌≡◌, ◌≢◌, ◌+◌, ◌-◌, ◌*◌, ◌<◌, ◌≤◌, ◌↔◌, Bool, true, false, List, ℕ, [], ◌∷◌, Some, None, length, map, take, replicate, slice_get, slice_set, All, IfSome, IsSome, nat_lt};
+ghost use Rattle.std.specs.Prelude.{◌≡◌, ◌≢◌, ◌-◌, ◌*◌, ◌<◌, ◌≤◌, true, false, [], Some, None, length, map, take, replicate, slice_get, All, IfSome, IsSome, nat_lt};
 ghost use Rattle.std.specs.List.{filter, range_with_len};
 ghost use Rattle.df_model.specs.Blocks.{block_released, block_written, blocks_captured, capture_finished, entries, is_held_in, reference_in, sum_at};
 ghost use Rattle.df_model.specs.Work.{is_known};
@@ -8,7 +8,6 @@ ghost use Rattle.df_trailer.specs.Spelling.{is_referenced};
 ghost use Rattle.df_trailer.specs.Text.{ones};
 ghost use Rattle.df_trailer.specs.Writing.{captured_blocks, referenced_among};
 ghost use Rattle.df_units.specs.Meaning.{number_of};
-ghost use Rattle.df_grid.specs.Entries.{HasEntry};
 ghost use Rattle.df_grid.specs.Table.{IsIdle, TableState, adopted, last_of, next_written, no_blocks, pair_in, unheld};
 
 use crate::changes::{capture_all, finish_all, replace, take_least};
@@ -21,6 +20,7 @@ use arrayvec::ArrayVec;
 use df_base::Check;
 use df_format::Reference;
 use df_freeset::FreeSet;
+use df_layout::LINKS;
 use std::marker::Model;
 
 /// The table of blocks. Both parts of the running trailer and the durable one's chain are lists of addresses, the chains from the last
@@ -29,9 +29,9 @@ use std::marker::Model;
 pub struct Table {
     entries: Entries,
     free: FreeSet,
-    written: ArrayVec<u64, 70>,
-    left: ArrayVec<u64, 70>,
-    chain: ArrayVec<u64, 70>,
+    written: ArrayVec<u64, LINKS>,
+    left: ArrayVec<u64, LINKS>,
+    chain: ArrayVec<u64, LINKS>,
     counts: ArrayVec<u64, 64>,
 }
 

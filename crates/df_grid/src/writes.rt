@@ -8,7 +8,6 @@ ghost use Rattle.df_format.specs.Rules.{ObeysRules};
 ghost use Rattle.df_format.specs.Spelling.{IsCheck};
 ghost use Rattle.df_format.specs.Whole.{greatest_size};
 ghost use Rattle.df_model.specs.Blocks.{block_written, is_held_in};
-ghost use Rattle.df_model.specs.Making.{first_of};
 ghost use Rattle.df_theory.specs.Device.{AreSteps};
 ghost use Rattle.df_units.specs.Format.{format_of};
 ghost use Rattle.df_units.specs.Meaning.{block_of, number_of};
@@ -21,7 +20,7 @@ use crate::reads::grid_place;
 use df_base::{Check, Failed};
 use df_buffers::{Block, Sound, Trailer};
 use df_disk::Disk;
-use df_format::{Header, Kind, Reference};
+use df_format::{Header, Kind, NO_CHECKSUM, Reference};
 use df_layout::{Layout, Zone};
 use df_places::{Shelf, put_unit};
 
@@ -44,7 +43,7 @@ fn parent_of(before: Option<Reference>) -> Check
             let parent = before.checksum;
             as_check(parent)
         }
-        None => as_check([0; 16]),
+        None => as_check(NO_CHECKSUM),
     }
 }
 
@@ -58,7 +57,6 @@ fn address_of(before: Option<Reference>) -> u64
 }
 
 // The header of a trailer block behind another one, as its maker gives it over a piece.
-#[tactic(auto, unfolding(df_format::specs::Spelling::no_checksum))]
 fn trailer_header(
     cluster: u128,
     address: u64,
@@ -79,19 +77,12 @@ fn trailer_header(
     let parent = parent_of(before);
     let before = address_of(before);
     Header {
-        checksum: [0; 16],
-        checksum_body: [0; 16],
-        cluster,
         parent,
-        client: 0,
         op: address,
         request: before,
         mark: index,
         checkpoint: sequence,
-        size: 256,
-        slot: 0,
-        kind: Kind::Trailer,
-        block_kind: 0,
+        ..Header::of(Kind::Trailer, cluster)
     }
 }
 

@@ -1,2 +1,2 @@
 -- What the proofs above cite of this crate's: tables of headers, and the sixteen of a sector.
-pub use Rattle.df_headers.proofs.Tables.{get_other, get_set, reserved_table, sector_at, sector_has, set_cases, table_kept, table_written}
+pub use Rattle.df_headers.proofs.Tables.{reserved_table, sector_at, sector_has, set_cases, table_kept, table_written}

@@ -4,8 +4,8 @@ use Rattle.std.specs.List.{slice_get}
 use Rattle.std.proofs.lemmas.Bool.{cases_eq}
 use Rattle.std.proofs.lemmas.List.{length-set}
 use Rattle.df_format.specs.declared.header.Header.{Header}
-use Rattle.df_format.proofs.Laws.{some-eq}
-use Rattle.std.proofs.lemmas.Option.{slice_get_within}
+use Rattle.std.proofs.lemmas.Option.{slice_get_within, same_Some}
+use Rattle.df_base.proofs.Laws.{get_set, get_set_other}
 use Rattle.df_units.specs.Sample.{reserved_header}
 use Rattle.df_units.proofs.Laws.{reserved_unit}
 use Rattle.df_headers.specs.Ring.{IsHeader, ReservedIsTable, TableIsKept, TableIsWritten, in_sector}
@@ -20,18 +20,6 @@ set_cases (z ∷ xs) (suc i) (suc k) x y at = elim (set_cases xs i k x y at) [
   | inl here ↦ inl (ap suc here.0, here.1)
   | inr there ↦ inr ((λ same. there.0 (omega (arith, same))), there.1)
 ]
-
-pub get_set : {X : Type 0} (xs : List X) (i : ℕ) (x : X) → i < length xs → slice_get (set xs i x) i ≡ Some x
-get_set [] i x inside = absurd (omega arith)
-get_set (z ∷ xs) zero x inside = refl
-get_set (z ∷ xs) (suc i) x inside = get_set xs i x (omega arith)
-
-pub get_other : {X : Type 0} (xs : List X) (i k : ℕ) (x : X) → k ≢ i → slice_get (set xs i x) k ≡ slice_get xs k
-get_other [] i k x other = refl
-get_other (y ∷ xs) zero zero x other = absurd (other refl)
-get_other (y ∷ xs) zero (suc k) x other = refl
-get_other (y ∷ xs) (suc i) zero x other = refl
-get_other (y ∷ xs) (suc i) (suc k) x other = get_other xs i k x (λ e. other (ap suc e))
 
 pub table_kept : TableIsKept
 table_kept layout cluster slot table h is valid = record {
@@ -85,7 +73,7 @@ pub reserved_more : (cluster k : ℕ) (table : List Header) → k < length table
     → (s : ℕ) → s < k + 1 → slice_get (set table k (reserved_header cluster k)) s ≡ Some (reserved_header cluster s)
 reserved_more cluster k table inside before s less = elim (cases_eq s k) [
   | inl here ↦ ap (slice_get (set table k (reserved_header cluster k))) here ∙ get_set table k (reserved_header cluster k) inside ∙ ap (λ (n : ℕ). Some (reserved_header cluster n)) (sym here)
-  | inr elsewhere ↦ get_other table k s (reserved_header cluster k) elsewhere ∙ before s (omega arith)
+  | inr elsewhere ↦ get_set_other table k s (reserved_header cluster k) elsewhere ∙ before s (omega arith)
 ]
 
 pub reserved_table : ReservedIsTable
@@ -93,6 +81,6 @@ reserved_table layout cluster table named small count are = record {
   count = count;
   each = λ slot h at.
       let inside : slot < length table = slice_get_within table slot h at in
-      let same : reserved_header cluster slot ≡ h = some-eq (sym (are slot inside) ∙ at) in
+      let same : reserved_header cluster slot ≡ h = same_Some _ _ (sym (are slot inside) ∙ at) in
       subst (λ (x : Header). IsHeader layout cluster slot x) same (reserved_unit layout cluster slot named small (omega (arith, inside, count)));
 }

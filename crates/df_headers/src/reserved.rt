@@ -3,29 +3,19 @@ ghost use Rattle.std.specs.Prelude.{◌≡◌, ◌<◌, ◌≤◌, length, slice
 ghost use Rattle.df_units.specs.Sample.{reserved_header};
 ghost use Rattle.df_headers.specs.Ring.{AreReserved};
 
-use df_base::check;
+use df_base::{HEADER, check};
 use df_format::{Header, Kind, seal_header};
 
 /// The header of an empty slot, sealed, for the header ring of a file of this cluster.
-#[tactic(auto, unfolding(df_format::specs::Spelling::no_checksum))]
 pub fn reserved_header(cluster: u128, slot: u32) -> Header
     requires { 0 < cluster }
     ensures { result ≡ reserved_header cluster slot }
 {
     seal_header(Header {
-        checksum: [0; 16],
         checksum_body: check(&[]),
-        cluster,
-        parent: [0; 16],
-        client: 0,
-        op: 0,
-        request: 0,
-        mark: 0,
-        checkpoint: 0,
-        size: 256,
+        size: HEADER as u32,
         slot,
-        kind: Kind::Reserved,
-        block_kind: 0,
+        ..Header::of(Kind::Reserved, cluster)
     })
 }
 

@@ -1,5 +1,5 @@
 // Where the sectors of the header ring lie, and reads of them.
-ghost use Rattle.std.specs.Prelude.{◌≡◌, ◌<◌, ◌*◌, ◌/◌, ◌^◌, length, OnOk};
+ghost use Rattle.std.specs.Prelude.{◌≡◌, ◌<◌, ◌*◌, ◌^◌, length, OnOk};
 ghost use Rattle.df_base.specs.Causes.{HasCause};
 ghost use Rattle.df_disk.specs.Told.{Shows};
 ghost use Rattle.df_layout.specs.declared.layout.Layout.{Layout};

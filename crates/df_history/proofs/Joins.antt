@@ -12,7 +12,7 @@ use Rattle.df_theory.specs.First.{AreMade}
 use Rattle.df_theory.specs.Grown.{AllInHistory, GoesOn, Grows}
 use Rattle.df_theory.specs.Past.{FromEmpty, Was}
 use Rattle.df_theory.specs.HistoryLaws.{ShowsSettled}
-use Rattle.df_theory.proofs.Laws.{one_view, no_made, made_content, made_reply, next_grew}
+use Rattle.df_theory.proofs.Laws.{one_view, no_made, made_content, made_reply, next_grew, unheld}
 use Rattle.df_history.specs.Lives.{Asleep, Awake, Lived, Lives, Starts, Turn, first_of}
 use Rattle.df_history.specs.Histories.{Among, GrowsOn, StaysBare}
 
@@ -54,11 +54,6 @@ made_ends c [] start made ends place = absurd ends
 made_ends c (i ∷ []) start made ends place = ap (λ (j : Units). j place) (sym ends) ∙ made place
 made_ends c (i ∷ j ∷ images) start made ends place = made_ends c (j ∷ images) start made.2 ends place
 
-blank_unheld : (sh : Shape) (image : Units) (v : View) → ((place : Place) → image place ≡ None) → Holds sh image v → ⊥
-blank_unheld sh image v blank holds =
-    let both : Some (CopyUnit v.checkpoint.content) ≡ None = sym holds.chosen.agreed.at_first ∙ blank (CopyPlace holds.chosen.agreed.first) in
-    cc
-
 -- ---- the first log
 
 -- the images of one log from the empty image, as a history
@@ -99,7 +94,7 @@ empty_lives sh images v grows empty = (one_log sh images v grows empty).lives
 
 pub from_blank : (sh : Shape) (images : List Units) (v : View) (grows : Grows sh images v) (start : Units) → EndsWith images start → ((place : Place) → start place ≡ None) → FromEmpty sh images v grows
 from_blank sh [] v grows start ends blank = grows
-from_blank sh (u ∷ []) v (holds, inl begins) start ends blank = blank_unheld sh u v (λ place. ap (λ (j : Units). j place) ends ∙ blank place) holds
+from_blank sh (u ∷ []) v (holds, inl begins) start ends blank = unheld sh u v (λ place. ap (λ (j : Units). j place) ends ∙ blank place) holds
 from_blank sh (u ∷ []) v (holds, inr (history, (before, next, grows))) start ends blank = grows
 from_blank sh (u ∷ older ∷ us) v (holds, inl begins) start ends blank = tt
 from_blank sh (u ∷ older ∷ us) v (holds, inr (history, (before, next, grows))) start ends blank = from_blank sh (older ∷ us) before grows start ends blank
@@ -110,7 +105,7 @@ started_lives sh [] v grows start w ends holds starts = absurd grows
 started_lives sh (image ∷ []) v (here, inl begins) start w ends holds starts =
     (here, inl (refl, subst (λ (i : Units). Starts i [] v) (sym ends) (subst (λ (x : View). Starts start [] x) (one_view sh start w v holds (subst (λ (i : Units). Holds sh i v) ends here)) starts)))
 started_lives sh (image ∷ []) v (here, inr (history, (u, next, grows))) start w ends holds starts = absurd grows
-started_lives sh (image ∷ before ∷ images) v (here, inl begins) start w ends holds starts = absurd (blank_unheld sh start w (made_ends v.checkpoint.content (before ∷ images) start begins.2 ends) holds)
+started_lives sh (image ∷ before ∷ images) v (here, inl begins) start w ends holds starts = absurd (unheld sh start w (made_ends v.checkpoint.content (before ∷ images) start begins.2 ends) holds)
 started_lives sh (image ∷ before ∷ images) v (here, inr (history, (u, next, grows))) start w ends holds starts = (here, inr (u, Awake, inl (history, next), started_lives sh (before ∷ images) u grows start w ends holds starts))
 
 -- ---- a later log

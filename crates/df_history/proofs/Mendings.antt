@@ -12,7 +12,7 @@ use Rattle.df_theory.specs.Rests.{IsDry, IsGoodLog, IsQuiet, RestsOn}
 use Rattle.df_theory.specs.Runs.{AtEach, Puts, Step, Syncs, after_steps}
 use Rattle.df_theory.specs.MakingLaws.{all_puts}
 use Rattle.df_theory.specs.MendLaws.{AllPutCopy, AllPutTable, IsTable, MayMend, copy_steps, header_steps, mend_steps}
-use Rattle.df_theory.proofs.Laws.{after_append, copy_law, each_append, each_weaker, good_rests, header_law, mend_law, mends_whole_law, put_else, quiet_synced, synced_after, one_view, IsUnderWay, header_steps_miss, is_mend, missed, under_way_still}
+use Rattle.df_theory.proofs.Laws.{after_append, copy_law, each_append, each_weaker, good_rests, header_law, mend_law, mends_whole_law, put_else, quiet_synced, synced_after, one_view, IsUnderWay, header_steps_miss, is_mend, missed, under_way_still, dry_copies, dry_headers}
 use Rattle.df_history.specs.Histories.{GrowsOn, IsBegunAnew, IsLived, IsLivedMoment, all_settled}
 use Rattle.df_history.proofs.Joins.{on_holds}
 use Rattle.df_history.specs.OpenLaws.{MendLivedLaw, OpenLivedLaw}
@@ -87,14 +87,6 @@ each_last P (Syncs ∷ ss) log at = each_last P ss (add Synced log) at.1
 
 dry_synced : (log : UnitLog) → IsDry (add Synced log)
 dry_synced log place = refl
-
-dry_copies : (ks : List (ℕ × Units)) (log : UnitLog) → IsDry log → IsDry (after_steps (copy_steps ks) log)
-dry_copies [] log dry = dry
-dry_copies (k ∷ ks) log dry = dry_copies ks (add Synced (wrote k.1 log)) (dry_synced (wrote k.1 log))
-
-dry_headers : (hs : List Units) (log : UnitLog) → IsDry log → IsDry (after_steps (header_steps hs) log)
-dry_headers [] log dry = dry
-dry_headers (h ∷ hs) log dry = subst IsDry (sym (after_append (all_puts (h ∷ hs)) (Syncs ∷ []) log)) (dry_synced (after_steps (all_puts (h ∷ hs)) log))
 
 dry_mend : (hs : List Units) (ks : List (ℕ × Units)) (log : UnitLog) → IsDry log → IsDry (after_steps (mend_steps hs ks) log)
 dry_mend hs ks log dry = subst IsDry (sym (after_append (header_steps hs) (copy_steps ks) log)) (dry_copies ks (after_steps (header_steps hs) log) (dry_headers hs log dry))

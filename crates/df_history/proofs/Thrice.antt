@@ -1,5 +1,5 @@
 -- A sample: a file is damaged and opened three times. The second damage and the third hit the same places: two copies of the superblock, and the header of the only prepare.
-use Rattle.std.proofs.Common.{◌≡◌, ◌⊎◌, inl, inr, ℕ, ◌+◌, ◌<◌, ◌≤◌, ◌==◌, ◌%◌, nat_lt, Bool, true, false, if◌then◌else◌, List, [], ◌∷◌, Option, Some, None, refl, sym, ◌∙◌, ap, subst, arith}
+use Rattle.std.proofs.Common.{◌≡◌, ◌⊎◌, inl, inr, ℕ, ◌+◌, ◌<◌, ◌≤◌, ◌==◌, ◌%◌, nat_lt, Bool, true, false, if◌then◌else◌, List, [], ◌∷◌, Option, Some, None, refl, sym, ◌∙◌, ap, subst, arith, eqb-true}
 use Rattle.std.specs.List.{slice_get}
 use Rattle.std.proofs.lemmas.Bool.Decides.{nat_tests}
 use Rattle.df_theory.specs.CopyPuts.{PutsCopies, update_steps}
@@ -17,7 +17,7 @@ use Rattle.df_theory.specs.Runs.{AtEach, Puts, Step, Syncs, after_steps}
 use Rattle.df_theory.specs.MendLaws.{IsSlotHeader, Reaches, mend_steps}
 use Rattle.df_theory.specs.WriterLaws.{Appends}
 use Rattle.df_theory.specs.Found.{AreOfPlaces, IsFound, IsInRange, IsOfPlace}
-use Rattle.df_theory.proofs.Laws.{anew_law, append_law, each_weaker, four, hurt_law, put_one_law, quiet_synced, rests_law, short_same, holds_found, low_steps, low_update, IsOpen, bears_open, chosen_same, pool_pools, All, now_all, pools_all, copies_of, reserved, sector}
+use Rattle.df_theory.proofs.Laws.{anew_law, append_law, each_weaker, four, hurt_law, put_one_law, quiet_synced, rests_law, short_same, holds_found, low_steps, low_update, IsOpen, bears_open, chosen_same, pool_pools, All, now_all, pools_all, copies_of, reserved, sector, never_kept}
 use Rattle.df_history.specs.Histories.{InHistoryPool, InHistoryPools, IsLived, IsLivedMoment, IsSettled, MayStart}
 use Rattle.df_history.specs.OpenLaws.{IsOpening}
 use Rattle.df_history.specs.Sample.{IsReopened, ThriceSampleLaw, opened}
@@ -119,9 +119,6 @@ hurt copy header image (PreparePlace s) = image (PreparePlace s)
 hurt copy header image (ReplyPlace k) = image (ReplyPlace k)
 hurt copy header image (BlockPlace a) = image (BlockPlace a)
 
-same_number : (m n : ℕ) → (m == n) ≡ true → m ≡ n
-same_number m n e = grind (arith, nat_tests)
-
 abbrev table : ℕ → Header
 table s = if 1 == s then renewed.header else reserved
 
@@ -150,8 +147,8 @@ next log c d copy g = opened d (struck log copy g) (header2 ∷ []) (copy_puts c
 module _ (logs : List UnitLog) (log : UnitLog) (c d : Content) (copy : Option AnyUnit) (g : Header) (is : IsStruck log c d copy g) (lived : IsLived shape (log ∷ logs))
     (ours : (place : Place) (x : AnyUnit) → InHistoryPools (log ∷ logs) place x → IsOurs x) (was : InHistoryPool (log ∷ logs) (HeaderPlace 1) (HeaderUnit g)) where
   copy_pool : (n : ℕ) (x : AnyUnit) (a b : Bool) → (2 == n) ≡ a → (3 == n) ≡ b → (if a then copy else (if b then copy else now log (CopyPlace n))) ≡ Some x → InPool log (CopyPlace n) x
-  copy_pool n x true b at other shows = subst (λ (k : ℕ). InPool log (CopyPlace k) x) (same_number 2 n at) (is.old x shows).0
-  copy_pool n x false true at other shows = subst (λ (k : ℕ). InPool log (CopyPlace k) x) (same_number 3 n other) (is.old x shows).1
+  copy_pool n x true b at other shows = subst (λ (k : ℕ). InPool log (CopyPlace k) x) (eqb-true 2 n at) (is.old x shows).0
+  copy_pool n x false true at other shows = subst (λ (k : ℕ). InPool log (CopyPlace k) x) (eqb-true 3 n other) (is.old x shows).1
   copy_pool n x false false at other shows = is.rests.pooled (CopyPlace n) x shows
 
   torn_pool : (place : Place) (x : AnyUnit) → hurt copy None (now log) place ≡ Some x → InPool log place x
@@ -176,7 +173,7 @@ module _ (logs : List UnitLog) (log : UnitLog) (c d : Content) (copy : Option An
   torn = hurt_law shape log (view c) (hurt copy None (now log)) is.rests torn_pool (record { first = 0; second = 1; apart = omega arith; inside = omega arith; at_first = is.copies 0 (omega arith); at_second = is.copies 1 (omega arith) }) torn_needs
 
   header_open : (s : ℕ) (b : Bool) → (1 == s) ≡ b → (struck log copy g (HeaderPlace s) ≡ hurt copy None (now log) (HeaderPlace s)) ⊎ IsOpen shape (view c) (struck log copy g) (HeaderPlace s)
-  header_open s true at = inr (subst (λ (k : ℕ). IsOpen shape (view c) (struck log copy g) (HeaderPlace k)) (same_number 1 s at) (record {
+  header_open s true at = inr (subst (λ (k : ℕ). IsOpen shape (view c) (struck log copy g) (HeaderPlace k)) (eqb-true 1 s at) (record {
     needless = λ x none. none;
     agrees = λ x shows. (g, (let both : Some (HeaderUnit g) ≡ Some x = shows in let one : x ≡ HeaderUnit g = cc in one), is.older.1);
   }))
@@ -201,7 +198,7 @@ module _ (logs : List UnitLog) (log : UnitLog) (c d : Content) (copy : Option An
   struck_pool (HeaderPlace s) x shows = go (1 == s) refl shows
     where
       go : (b : Bool) → (1 == s) ≡ b → (if b then Some (HeaderUnit g) else now log (HeaderPlace s)) ≡ Some x → InHistoryPool (log ∷ logs) (HeaderPlace s) x
-      go true at old = subst (λ (k : ℕ). InHistoryPool (log ∷ logs) (HeaderPlace k) x) (same_number 1 s at) (subst (λ (y : AnyUnit). InHistoryPool (log ∷ logs) (HeaderPlace 1) y) (let both : Some (HeaderUnit g) ≡ Some x = old in cc) was)
+      go true at old = subst (λ (k : ℕ). InHistoryPool (log ∷ logs) (HeaderPlace k) x) (eqb-true 1 s at) (subst (λ (y : AnyUnit). InHistoryPool (log ∷ logs) (HeaderPlace 1) y) (let both : Some (HeaderUnit g) ≡ Some x = old in cc) was)
       go false at old = inl (is.rests.pooled (HeaderPlace s) x old)
   struck_pool (PreparePlace s) x shows = inl (is.rests.pooled (PreparePlace s) x shows)
   struck_pool (ReplyPlace k) x shows = inl (is.rests.pooled (ReplyPlace k) x shows)
@@ -215,7 +212,7 @@ module _ (logs : List UnitLog) (log : UnitLog) (c d : Content) (copy : Option An
   struck_places (HeaderPlace s) x shows = go (1 == s) refl shows
     where
       go : (b : Bool) → (1 == s) ≡ b → (if b then Some (HeaderUnit g) else now log (HeaderPlace s)) ≡ Some x → IsOfPlace shape (HeaderPlace s) x
-      go true at old = subst (λ (k : ℕ). IsOfPlace shape (HeaderPlace k) x) (same_number 1 s at) (subst (λ (y : AnyUnit). IsOfPlace shape (HeaderPlace 1) y) (let both : Some (HeaderUnit g) ≡ Some x = old in cc) is.older.0)
+      go true at old = subst (λ (k : ℕ). IsOfPlace shape (HeaderPlace k) x) (eqb-true 1 s at) (subst (λ (y : AnyUnit). IsOfPlace shape (HeaderPlace 1) y) (let both : Some (HeaderUnit g) ≡ Some x = old in cc) is.older.0)
       go false at old = (reserved, (let both : Some (HeaderUnit reserved) ≡ Some x = sym (is.headers s at) ∙ old in let one : x ≡ HeaderUnit reserved = cc in one), omega arith, λ some. absurd (omega arith))
   struck_places (PreparePlace s) x shows =
       let a = struck_holds.bears.agrees (PreparePlace s) x shows in
@@ -233,7 +230,7 @@ module _ (logs : List UnitLog) (log : UnitLog) (c d : Content) (copy : Option An
 
   -- the header is written anew, and the two copies
   slot : (s : ℕ) (b : Bool) → (1 == s) ≡ b → IsSlotHeader shape (struck log copy g) (view c) s (table s)
-  slot s true at = subst (λ (k : ℕ). IsSlotHeader shape (struck log copy g) (view c) k (table k)) (same_number 1 s at) (record {
+  slot s true at = subst (λ (k : ℕ). IsSlotHeader shape (struck log copy g) (view c) k (table k)) (eqb-true 1 s at) (record {
     from = inr (inl (renewed, inl refl, refl, refl));
     tail = λ p mine here. elim mine [ inl same ↦ ap (λ (q : Message). q.header) same | inr none ↦ absurd none ];
   })
@@ -285,14 +282,6 @@ module _ (logs : List UnitLog) (log : UnitLog) (c d : Content) (copy : Option An
   next_headers s at = ap (λ (b : Bool). or_else (if b then Some (HeaderUnit renewed.header) else None) (if b then Some (HeaderUnit g) else now log (HeaderPlace s))) at ∙ is.headers s at
 
 -- ---- the boots
-
-never_kept : (o : Option Session) (op : ℕ) (r : Message) → kept o op None ≡ Some r → ⊥
-never_kept None op r none = let both : None ≡ Some r = none in cc
-never_kept (Some s) op r none = go (nat_lt op s.op) none
-  where
-    go : (b : Bool) → (if b then None else None) ≡ Some r → ⊥
-    go true both = (let none : None ≡ Some r = both in cc)
-    go false both = (let none : None ≡ Some r = both in cc)
 
 -- from a boot whose superblock records as many prepares as this
 boots : (b n sum : ℕ) → n ≤ 1 → b < 9 → MayBoot (view (record (content b) { head = n; pin = n; pin_checksum = sum })) (pinned 6 (b + 1))

@@ -1,5 +1,5 @@
 // Stops within a write: what becomes of the sectors that were loose.
-ghost use Rattle.std.specs.Prelude.{◌≤◌, length};
+ghost use Rattle.std.specs.Prelude.{◌≤◌};
 
 use df_base::SECTOR;
 use df_disk::Disk;

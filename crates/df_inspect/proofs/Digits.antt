@@ -4,8 +4,9 @@ use Rattle.std.proofs.lemmas.List.{take-append-drop}
 use Rattle.std.proofs.Math.Seq.{take-add}
 use Rattle.hex.specs.Hex.{encode_lower, encode_with, lower_digits}
 use Rattle.df_base.specs.Streams.{Appends, AppendsPart}
+use Rattle.df_base.proofs.Laws.{appends_none, appends_more, appends_part}
 use Rattle.df_inspect.specs.Prints.{Prints}
-use Rattle.df_inspect.proofs.Written.{appends_none, appends_more, appends_part, prints_front}
+use Rattle.df_inspect.proofs.Written.{prints_front}
 
 digits_append : (t x y : List ℕ) → encode_with t (x ++ y) ≡ encode_with t x ++ encode_with t y
 unfolding encode_with

@@ -15,7 +15,7 @@ use Rattle.df_theory.specs.Found.{NotBehind, NotLost}
 use Rattle.df_units.specs.Meaning.{header_of}
 use Rattle.df_buffers.specs.declared.slots.SlotSeen.{SlotSeen}
 use Rattle.df_journal.specs.Shows.{ShowsHeader, ShowsPrepare, ShowsTable}
-use Rattle.df_journal.specs.Counts.{CountsAll, CountsReplies, CountsRings, RepliesWithin, RingsWithin, checkpoint_in, op_in, with_unit}
+use Rattle.df_journal.specs.Counts.{CountsAll, CountsRings, RepliesWithin, RingsWithin, checkpoint_in, op_in, with_unit}
 
 -- ---- the rings
 
@@ -133,20 +133,6 @@ slots_count table seen image is shows = record {
   ring_op = λ n. then_iff (is.ring_op n) (rings_within image table shows (λ h. h.op) n);
   checkpoint = λ n. then_iff (is.checkpoint n) (rings_within image table shows (λ h. h.checkpoint) n);
   boot = (rings_within image table shows (λ h. h.boot) 0).0 (λ s seen less at. (omega (arith, no_boot seen.header), omega (arith, no_boot seen.prepare)));
-}
-
--- ---- with the replies
-
-pub counts_joined : (image : Units) (rings replies both : Counters) → both.ring_op ≡ rings.ring_op → both.reply_top ≡ replies.reply_top → both.checkpoint ≡ max rings.checkpoint replies.checkpoint
-    → CountsRings image rings → CountsReplies image replies → CountsAll image both
-counts_joined image rings replies both op top checkpoint is are = record {
-  ring_op = λ n. subst (λ (m : ℕ). (m ≤ n) ↔ RingsWithin image (λ h. h.op) n) (sym op) (is.ring_op n);
-  reply_top = λ n. subst (λ (m : ℕ). (m ≤ n) ↔ (RepliesWithin image (λ h. h.op) n × RepliesWithin image (λ h. h.mark) n)) (sym top) (are.reply_top n);
-  checkpoint = λ n. (
-    λ le. ((is.checkpoint n).0 (omega (arith, le, checkpoint)), (are.checkpoint n).0 (omega (arith, le, checkpoint))),
-    λ all. let one = (is.checkpoint n).1 all.0 in let two = (are.checkpoint n).1 all.1 in omega (arith, one, two, checkpoint),
-  );
-  boot = (is.boot, are.boot);
 }
 
 -- ---- what they say of a state

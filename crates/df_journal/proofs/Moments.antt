@@ -7,7 +7,7 @@ use Rattle.df_base.specs.declared.Failed.{Failed}
 use Rattle.df_base.specs.Image.{Image, IsImage, written}
 use Rattle.df_base.specs.Log
 use Rattle.df_base.specs.Log.{Event, IsLeft}
-use Rattle.df_base.proofs.Laws.{now_is_image, written_is_image}
+use Rattle.df_base.proofs.Laws.{now_is_image, written_is_image, get_set}
 use Rattle.df_base.specs.Moments.{EachMoment, adds}
 use Rattle.df_disk.specs.Told.{Told}
 use Rattle.df_disk.specs.Adds.{Adds, AddsPart, after_all}
@@ -40,7 +40,7 @@ use Rattle.df_units.specs.Meaning.{header_of, message_of}
 use Rattle.df_units.specs.Puts.{IsNextSector, header_unit, put_headers}
 use Rattle.df_units.proofs.Laws.{all_added, append_on_disk, headers_put, of_places, part_moments, prepare_put}
 use Rattle.df_headers.specs.Ring.{IsHeader, IsTable, in_sector}
-use Rattle.df_headers.proofs.Laws.{get_set, sector_at, sector_has, set_cases, table_kept, table_written}
+use Rattle.df_headers.proofs.Laws.{sector_at, sector_has, set_cases, table_kept, table_written}
 use Rattle.df_prepares.specs.Slots.{IsInOwnSlot}
 use Rattle.df_journal.specs.Append.{EndsAppended, Leaves, MayAppendOn, OthersStay, ShowsRing, journal_steps, new_sector, with_header}
 

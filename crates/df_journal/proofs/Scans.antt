@@ -4,6 +4,7 @@ use Rattle.std.specs.List.{slice_get}
 use Rattle.std.proofs.lemmas.Bool.{cases_eq}
 use Rattle.std.proofs.lemmas.Option.{slice_get_cases, slice_get_within}
 use Rattle.df_base.specs.Image.{Image, bytes_at}
+use Rattle.df_base.proofs.Laws.{get_set, get_set_other}
 use Rattle.df_disk.specs.Told.{Told, Shows}
 use Rattle.df_layout.specs.declared.damage.Class.{Class}
 use Rattle.df_layout.specs.declared.layout.Layout.{Layout}
@@ -63,25 +64,13 @@ shows_still layout from slot before now bytes even low high same shows =
 pub seen_none : (layout : Layout) (cluster : ℕ) (told : Option Told) (table : List SlotSeen) → AreSeen layout cluster told 0 table
 seen_none layout cluster told table = record { seen = λ s seen less at. absurd (omega arith); valid = λ s seen less at. absurd (omega arith) }
 
-get_set_same : {X : Type 0} (xs : List X) (i : ℕ) (x : X) → i < length xs → slice_get (set xs i x) i ≡ Some x
-get_set_same [] i x within = absurd (omega arith)
-get_set_same (y ∷ xs) zero x within = refl
-get_set_same (y ∷ xs) (suc i) x within = get_set_same xs i x (omega arith)
-
-get_set_other : {X : Type 0} (xs : List X) (i k : ℕ) (x : X) → k ≢ i → slice_get (set xs i x) k ≡ slice_get xs k
-get_set_other [] i k x other = refl
-get_set_other (y ∷ xs) zero zero x other = absurd (other refl)
-get_set_other (y ∷ xs) zero (suc k) x other = refl
-get_set_other (y ∷ xs) (suc i) zero x other = refl
-get_set_other (y ∷ xs) (suc i) (suc k) x other = get_set_other xs i k x (λ e. other (ap suc e))
-
 pub seen_more : (layout : Layout) (cluster : ℕ) (told : Option Told) (k : ℕ) (table new : List SlotSeen) (seen : SlotSeen) → k < length table → new ≡ set table k seen → IsSeen layout cluster told k seen → IsSlot layout cluster k seen
     → AreSeen layout cluster told k table → AreSeen layout cluster told (k + 1) new
 seen_more layout cluster told k table new seen within put is valid are = record {
   seen = λ s other less at. elim (cases_eq s k) [
     | inl here ↦
         let same : s ≡ k = here in
-        let both : Some other ≡ Some seen = sym at ∙ ap (λ (l : List SlotSeen). slice_get l s) put ∙ ap (slice_get (set table k seen)) same ∙ get_set_same table k seen within in
+        let both : Some other ≡ Some seen = sym at ∙ ap (λ (l : List SlotSeen). slice_get l s) put ∙ ap (slice_get (set table k seen)) same ∙ get_set table k seen within in
         let one : seen ≡ other = cc in
         subst (λ (n : ℕ). IsSeen layout cluster told n other) (sym same) (subst (IsSeen layout cluster told k) one is)
     | inr elsewhere ↦ are.seen s other (omega arith) (sym (ap (λ (l : List SlotSeen). slice_get l s) put ∙ get_set_other table k s seen elsewhere) ∙ at)
@@ -89,7 +78,7 @@ seen_more layout cluster told k table new seen within put is valid are = record 
   valid = λ s other less at. elim (cases_eq s k) [
     | inl here ↦
         let same : s ≡ k = here in
-        let both : Some other ≡ Some seen = sym at ∙ ap (λ (l : List SlotSeen). slice_get l s) put ∙ ap (slice_get (set table k seen)) same ∙ get_set_same table k seen within in
+        let both : Some other ≡ Some seen = sym at ∙ ap (λ (l : List SlotSeen). slice_get l s) put ∙ ap (slice_get (set table k seen)) same ∙ get_set table k seen within in
         let one : seen ≡ other = cc in
         subst (λ (n : ℕ). IsSlot layout cluster n other) (sym same) (subst (IsSlot layout cluster k) one valid)
     | inr elsewhere ↦ are.valid s other (omega arith) (sym (ap (λ (l : List SlotSeen). slice_get l s) put ∙ get_set_other table k s seen elsewhere) ∙ at)

@@ -20,12 +20,6 @@ pub record CountsRings (image : Units) (seen : Counters) : Type 0 where
   pub checkpoint : (n : ℕ) → (seen.checkpoint ≤ n) ↔ RingsWithin image (λ h. h.checkpoint) n
   pub boot : RingsWithin image (λ h. h.boot) 0
 
--- of the replies
-pub record CountsReplies (image : Units) (seen : Counters) : Type 0 where
-  pub reply_top : (n : ℕ) → (seen.reply_top ≤ n) ↔ (RepliesWithin image (λ h. h.op) n × RepliesWithin image (λ h. h.mark) n)
-  pub checkpoint : (n : ℕ) → (seen.checkpoint ≤ n) ↔ RepliesWithin image (λ h. h.checkpoint) n
-  pub boot : RepliesWithin image (λ h. h.boot) 0
-
 -- of both
 pub record CountsAll (image : Units) (seen : Counters) : Type 0 where
   pub ring_op : (n : ℕ) → (seen.ring_op ≤ n) ↔ RingsWithin image (λ h. h.op) n

@@ -17,11 +17,8 @@ use df_base::Failed;
 use df_buffers::{HeaderSector, Prepare, Raw, Sound};
 use df_disk::Disk;
 use df_headers::HeaderTable;
-use df_layout::Layout;
+use df_layout::{Layout, SECTOR_HEADERS};
 use df_prepares::write_prepare;
-
-// How many headers a sector of the header ring has.
-const HEADERS: u32 = 16;
 
 // Writes the prepare, syncs, writes its header sector from the table, which has the new header by then, and syncs.
 fn write_both<D: Disk>(
@@ -45,7 +42,7 @@ fn write_both<D: Disk>(
     write_prepare(disk, layout, unit)?;
     let header = *unit.header();
     table.set(header.slot, header);
-    table.write_sector(disk, room, header.slot / HEADERS)?;
+    table.write_sector(disk, room, header.slot / SECTOR_HEADERS)?;
     disk.sync()
 }
 

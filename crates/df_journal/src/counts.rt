@@ -4,7 +4,7 @@ ghost use Rattle.df_theory.specs.Units.{Content, Units};
 ghost use Rattle.df_theory.specs.Shape.{Shape, slots as shape_slots};
 ghost use Rattle.df_theory.specs.Found.{NotBehind, NotLost};
 ghost use Rattle.df_journal.specs.Shows.{ShowsTable};
-ghost use Rattle.df_journal.specs.Counts.{CountsAll, CountsReplies, CountsRings, checkpoint_in, op_in, with_unit};
+ghost use Rattle.df_journal.specs.Counts.{CountsAll, CountsRings, checkpoint_in, op_in, with_unit};
 
 use crate::SlotTable;
 use df_format::Header;
@@ -50,17 +50,6 @@ pub fn count_rings(found: &SlotTable) -> Counters
         seen = with_unit(&with_unit(&seen, &slot.header), &slot.prepare);
     }
     seen
-}
-
-/// The counters of both rings and of the replies, whose own name no op of a ring.
-pub fn join_counts(rings: &Counters, replies: &Counters) -> Counters
-    ensures { (image : Units) → CountsRings image rings.now → CountsReplies image replies.now → CountsAll image result }
-{
-    Counters {
-        ring_op: rings.ring_op,
-        reply_top: replies.reply_top,
-        checkpoint: rings.checkpoint.max(replies.checkpoint),
-    }
 }
 
 /// Whether a unit is of a later checkpoint than that of this sequence and op.

@@ -11,7 +11,7 @@ mod table;
 mod tail;
 
 pub use appends::append;
-pub use counts::{count_rings, is_behind, is_lost, join_counts};
+pub use counts::{count_rings, is_behind, is_lost};
 pub use reads::{scan, scanned_is_shown};
 pub use table::{SlotTable, Start};
 pub use tail::{Tail, find_tail, slot_behind};

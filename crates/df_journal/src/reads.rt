@@ -15,11 +15,8 @@ use df_buffers::{HeaderSector, Identity, Prepare, Raw, SlotSeen, Wanted};
 use df_disk::Disk;
 use df_format::Header;
 use df_headers::read_sector;
-use df_layout::{Class, Layout, Place, Zone};
+use df_layout::{Class, Layout, Place, SECTOR_HEADERS, Zone};
 use df_places::scan_place;
-
-// How many headers a sector of the header ring has.
-const HEADERS: u32 = 16;
 
 fn place_in(zone: Zone, slot: u32) -> Place
     ensures { result ≡ place_in zone slot }
@@ -46,7 +43,7 @@ fn header_seen(
         place: place_in(Zone::WalHeaders, slot),
         wanted: Wanted::Any,
     };
-    sector.header_at(u64::from(slot % HEADERS), &identity)
+    sector.header_at(u64::from(slot % SECTOR_HEADERS), &identity)
 }
 
 // What both rings show at a slot, whose header sector was read.
@@ -100,13 +97,13 @@ fn scan_sector<D: Disk>(
     ensures cause { HasCause (D.faults disk.old) (D.faults disk.new) result.1 }
 {
     let mut room = room;
-    match read_sector(disk, sector, from / HEADERS) {
+    match read_sector(disk, sector, from / SECTOR_HEADERS) {
         Ok(()) => {}
         Err(failed) => return (room, Err(failed)),
     }
     let cluster = found.start.cluster;
     let mut slot = from;
-    while slot < from + HEADERS {
+    while slot < from + SECTOR_HEADERS {
         let (back, seen) = scan_slot(disk, layout, cluster, slot, sector, room);
         room = back;
         match seen {
@@ -142,7 +139,7 @@ fn scan_all<D: Disk>(
         let (back, done) = scan_sector(disk, layout, slot, found, sector, room);
         room = back;
         match done {
-            Ok(()) => slot += HEADERS,
+            Ok(()) => slot += SECTOR_HEADERS,
             Err(failed) => return (room, Err(failed)),
         }
     }

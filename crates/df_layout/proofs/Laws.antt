@@ -2,7 +2,7 @@
 use Rattle.std.proofs.Common.{◌<◌, arith}
 use Rattle.df_layout.specs.declared.layout.Layout.{Layout}
 pub use Rattle.df_layout.proofs.Same.{same_layout}
-pub use Rattle.df_layout.proofs.Spans.{are_apart, lies_inside}
+pub use Rattle.df_layout.proofs.Spans.{are_apart, lies_inside, some_sectors}
 pub use Rattle.df_layout.proofs.Zones.{zones_follow}
 
 pub some_slots : (layout : Layout) → 0 < layout.slots

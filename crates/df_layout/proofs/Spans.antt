@@ -35,7 +35,7 @@ first_below layout place h =
     let fits = fits_zone layout place.zone place.index h in
     omega (arith, zone_in_file layout place.zone, (zones_follow layout).bound)
 
-some_sectors : (layout : Layout) (zone : Zone) → 0 < place_sectors layout zone
+pub some_sectors : (layout : Layout) (zone : Zone) → 0 < place_sectors layout zone
 unfolding place_sectors
 some_sectors layout Superblock = omega arith
 some_sectors layout WalHeaders = omega arith

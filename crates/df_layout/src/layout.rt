@@ -2,16 +2,13 @@
 ghost use Rattle.std.specs.Prelude.{◌≡◌, ◌↔◌, IsTrue, IsOk, IfOk, IfErr};
 ghost use Rattle.df_layout.specs.Limits.{AreSlots, IsMessageSize, AreClients, IsBlockSize, AreBlocks, AreWithin, FirstOutside};
 
-use crate::{Field, Place, Span, Zone};
+use crate::{Field, Place, SECTOR_HEADERS, Span, Zone};
 
 /// Copies of the superblock, one sector each.
 const COPIES: u64 = 4;
 
 /// Bytes of a sector.
 const SECTOR: u32 = 4096;
-
-/// Header slots of one sector.
-const SLOTS_PER_SECTOR: u32 = 16;
 
 /// The sizes of a data file's parts; each number is within its limits.
 #[derive(Clone, Copy, Debug, PartialEq, Eq)]
@@ -50,7 +47,7 @@ impl Layout {
         ensures blocks { IfOk result (λ layout. layout.blocks ≡ blocks) }
         ensures refused { IfErr result (FirstOutside slots message_size clients block_size blocks) }
     {
-        if !(16..=1024).contains(&slots) || !slots.is_multiple_of(SLOTS_PER_SECTOR) {
+        if !(16..=1024).contains(&slots) || !slots.is_multiple_of(SECTOR_HEADERS) {
             return Err(Field::Slots);
         }
         if !(4096..=1_048_576).contains(&message_size) || !message_size.is_multiple_of(SECTOR) {
@@ -165,7 +162,7 @@ impl Layout {
     fn first_sector(&self, zone: Zone) -> u64
         ensures { result ≡ first_sector self.now zone }
     {
-        let prepares = COPIES + u64::from(self.slots / SLOTS_PER_SECTOR);
+        let prepares = COPIES + u64::from(self.slots / SECTOR_HEADERS);
         let replies = prepares + u64::from(self.slots) * self.message_sectors();
         let end = replies + u64::from(self.clients) * self.message_sectors();
         match zone {
@@ -185,7 +182,7 @@ impl Layout {
     {
         match place.zone {
             Zone::Superblock => place.index,
-            Zone::WalHeaders => place.index / u64::from(SLOTS_PER_SECTOR),
+            Zone::WalHeaders => place.index / u64::from(SECTOR_HEADERS),
             Zone::WalPrepares | Zone::ClientReplies => place.index * self.message_sectors(),
             Zone::Grid => (place.index - 1) * self.block_sectors(),
         }

@@ -14,10 +14,9 @@ use Rattle.df_model.specs.Memory.{Memory, memory_of}
 use Rattle.df_model.specs.Work.{opened}
 use Rattle.df_replica.specs.Below.{DataFile, IsOpened, State as Replica, memory, shape, spelling}
 use Rattle.df_replica.specs.Reading.{shown_of}
-use Rattle.df_replica.proofs.Laws.{one_super}
+use Rattle.df_replica.proofs.Laws.{one_super, same_file}
 use Rattle.df_result.specs.Agreeing.{AgreeShown}
 use Rattle.df_top.specs.OneText.{ShowSame}
-use Rattle.df_lifetime.proofs.Files.{same_file}
 
 module _ (layout : Layout) (a b : Image) (same : ShowSame layout a b) where
   pub units_alike : (cluster : ℕ) → unit_at layout cluster a ≡ unit_at layout cluster b

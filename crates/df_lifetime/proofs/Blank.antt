@@ -4,6 +4,7 @@ use Rattle.std.specs.Prelude.{slice_index}
 use Rattle.std.proofs.lemmas.List.{length-replicate}
 use Rattle.df_base.specs.Image.{Image, IsImage, blank}
 use Rattle.df_base.specs.Log.{AreEvents, AreSyncs, Event, Stop, Sync, Write}
+use Rattle.df_base.proofs.Laws.{blank_is_image, AreBytes-zeros}
 use Rattle.df_layout.specs.declared.layout.Layout.{Layout}
 use Rattle.df_format.specs.First.{first_content, first_super}
 use Rattle.df_format.specs.Spelling.{IsCheck, no_checksum}
@@ -13,46 +14,13 @@ use Rattle.df_theory.specs.Device.{units_log}
 use Rattle.df_theory.specs.MakingLaws.{IsMaking}
 use Rattle.df_units.specs.Format.{format_of}
 use Rattle.df_units.specs.Meaning.{content_of}
-use Rattle.df_units.proofs.Laws.{new_is_making}
+use Rattle.df_units.proofs.Laws.{new_is_making, zeros_check}
 use Rattle.df_replica.specs.Below.{shape}
 use Rattle.df_replica.specs.Making.{file_of}
+use Rattle.df_replica.proofs.Laws.{first_is_super}
 use Rattle.df_lifetime.specs.NewDisks.{NewDisksAreMadeOn}
 
 -- ---- its superblock can be used
-
-first_is_super : (layout : Layout) (cluster : ℕ) → 0 < cluster → IsSuper (first_super layout cluster)
-unfolding first_super
-first_is_super layout cluster some = record {
-  version = refl;
-  layout = record {
-    slots_within = layout.slots_within;
-    message_size_within = layout.message_size_within;
-    clients_within = layout.clients_within;
-    block_size_within = layout.block_size_within;
-    blocks_within = layout.blocks_within;
-  };
-  cluster = some;
-  sequence = (omega arith, omega arith);
-  op = omega arith;
-  op_checksum = λ _. refl;
-  head = (omega arith, omega arith, omega arith);
-  replies = (omega arith, omega arith);
-  trailer = (omega arith, λ other. absurd (other refl));
-  trailer_checksum = λ _. refl;
-  no_trailer = λ _. refl;
-  trailer_size = λ other. absurd (other refl);
-  boot = refl;
-  zero = refl;
-}
-
-AreBytes-zeros : (n i : ℕ) → slice_index (replicate n 0) i < 256
-AreBytes-zeros zero i = omega arith
-AreBytes-zeros (suc n) zero = omega arith
-AreBytes-zeros (suc n) (suc i) = AreBytes-zeros n i
-
-no_check : IsCheck no_checksum
-unfolding no_checksum
-no_check = record { size = length-replicate {A = ℕ} 16 0; each = AreBytes-zeros 16 }
 
 first_fits : (layout : Layout) (cluster : ℕ) → cluster < 2 ^ 128 → FitsSuper (first_super layout cluster)
 unfolding first_super
@@ -66,20 +34,16 @@ first_fits layout cluster below = record {
   cluster = below;
   sequence = omega arith;
   op = omega arith;
-  op_checksum = no_check;
+  op_checksum = zeros_check;
   head = omega arith;
   replies = omega arith;
   trailer_address = omega arith;
-  trailer_checksum = no_check;
+  trailer_checksum = zeros_check;
   trailer_size = omega arith;
   boot = omega arith;
 }
 
 -- ---- a blank disk
-
-blank_whole : IsImage blank
-unfolding blank
-blank_whole = record { sectors = λ sector. record { size = length-replicate {A = ℕ} 4096 0; each = AreBytes-zeros 4096 } }
 
 syncs_are_events : (es : List Event) → AreSyncs es → AreEvents es
 syncs_are_events [] syncs = tt
@@ -90,7 +54,7 @@ syncs_are_events ((Stop changes) ∷ es) syncs = absurd syncs
 pub new_disks_are_made_on : NewDisksAreMadeOn
 new_disks_are_made_on layout cluster t named below blank_start syncs = record {
   named = named;
-  is_log = record { start = subst IsImage (sym blank_start) blank_whole; events = syncs_are_events t.log.events syncs };
+  is_log = record { start = subst IsImage (sym blank_start) blank_is_image; events = syncs_are_events t.log.events syncs };
   making =
       subst (λ (image : Image). IsMaking (shape (file_of layout cluster named)) (units_log (format_of layout cluster) (record { start = image; events = t.log.events })) (content_of (first_content layout cluster))) (sym blank_start)
       (new_is_making layout cluster named (shape (file_of layout cluster named)).parse t.log.events (record { rules = first_is_super layout cluster named; fits = first_fits layout cluster below }) syncs);

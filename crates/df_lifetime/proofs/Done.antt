@@ -5,7 +5,7 @@ use Rattle.df_theory.specs.Next.{MayReply}
 use Rattle.df_theory.specs.Shape.{Shape}
 use Rattle.df_theory.specs.Tails.{In}
 use Rattle.df_theory.specs.Units.{Message, Parts}
-use Rattle.df_theory.proofs.Laws.{tracks}
+use Rattle.df_theory.proofs.Laws.{tracks, stored_at}
 use Rattle.df_model.specs.After.{after_running, after_step_of, outcome, with_prepare, with_reply}
 use Rattle.df_model.specs.Commands.{Advance, Append, Command, Given, Reply, ToAdvance, ToAppend, ToReply, after, as_answer}
 use Rattle.df_model.specs.Making.{place_of_reply, prepare_of, reply_of}
@@ -21,9 +21,6 @@ use Rattle.df_lifetime.specs.There.{IsThere}
 at_end : (p : Message) (ps : List Message) → In p (ps ++ p ∷ [])
 at_end p [] = inl refl
 at_end p (x ∷ ps) = inr (at_end p ps)
-
-stored_at : (k place : ℕ) (r : Message) (old : Option Message) → k ≡ place → (if k == place then Some r else old) ≡ Some r
-stored_at k place r old same = grind (arith, nat_tests)
 
 same_number : (n m : ℕ) → not (n == m) ≡ false → n ≡ m
 same_number n m is = grind (arith, nat_tests)

@@ -20,6 +20,7 @@ use Rattle.df_replica.specs.Below.{shape, spelling, DataFile}
 use Rattle.df_replica.specs.HeldBlocks.{AreInputs}
 use Rattle.df_replica.specs.Serving.{next}
 use Rattle.df_replica.specs.Session.{Act, answers_of, work_after}
+use Rattle.df_replica.proofs.Laws.{codec_of}
 use Rattle.df_lifetime.specs.Acknowledged.{AcknowledgedIsFound, AllThere, AreThere}
 use Rattle.df_lifetime.specs.Life.{Chapter, GoesBy, LeadsTo, MayHave, start_of}
 use Rattle.df_lifetime.specs.There.{IsThere}
@@ -28,9 +29,6 @@ use Rattle.df_lifetime.proofs.Lives.{every_life_goes_on}
 use Rattle.df_lifetime.proofs.Next.{stays}
 
 -- ---- a state that is found makes sense
-
-codec_of : (file : DataFile) → IsCodec (shape file) (spelling file)
-codec_of file = codec (shape file) (omega (arith, file.layout.clients_within.1)) (omega (arith, file.layout.block_size_within)) refl
 
 pub start_makes_sense : (file : DataFile) (image : Image) (view : View) → IsImage image → IsFound (shape file) (unit_at file.layout file.cluster image) view → IsWork (shape file) (spelling file) (start_of file image view)
 start_makes_sense file image view whole found =

@@ -2,7 +2,7 @@
 use Rattle.std.proofs.Common.{◌≡◌, ◌⊎◌, inl, inr, ℕ, ◌+◌, ◌-◌, suc, Bool, true, false, List, [], ◌∷◌, ◌++◌, append_assoc, length, length-append, map, Option, Some, None, refl, sym, ◌∙◌, ap, subst, arith}
 use Rattle.std.specs.Prelude.{take}
 use Rattle.std.proofs.Math.Seq.{take-length}
-use Rattle.std.proofs.lemmas.List.{append-nil, take-append-le}
+use Rattle.std.proofs.lemmas.List.{append-nil, take-append-le, map-append, length-map}
 use Rattle.df_base.specs.Streams.{Appends, AppendsPart}
 use Rattle.df_base.specs.Log.{Sync}
 use Rattle.df_disk.specs.Adds.{after_all}
@@ -13,7 +13,7 @@ use Rattle.df_lines.specs.Grammar.{Said, Says}
 use Rattle.df_lines.specs.Room.{line_bound}
 use Rattle.df_lines.specs.Script.{Begins, IsLine, IsRefused, IsScript}
 use Rattle.df_lines.specs.Text.{after_line, line_of as first_line, taken}
-use Rattle.df_lines.proofs.Laws.{nothing_said, one_said, one_script}
+use Rattle.df_lines.proofs.Laws.{nothing_said, one_said, one_script, no_line, begins_one}
 use Rattle.df_theory.specs.Shape.{Shape}
 use Rattle.df_model.specs.Memory.{memory_of}
 use Rattle.df_model.specs.Supply.{Codec, Shown, next, shown_after}
@@ -54,13 +54,6 @@ all_is_part old new xs wrote = (length xs, omega arith, subst (Appends old new) 
 
 -- ---- the lines that were executed
 
--- no line stands where the script ends
-no_line : (bound budget left : ℕ) (text rest : List ℕ) (said : Said) → IsLine bound budget text said → left ≡ budget → rest ≡ text → (rest ≡ []) ⊎ IsRefused bound left rest → ⊥
-no_line bound budget left text rest said line same_left same_rest (inl none) =
-    nothing_said said (subst (λ (t : List ℕ). Says (first_line t) said) (sym same_rest ∙ none) line.says)
-no_line bound budget left text rest said line same_left same_rest (inr refused) =
-    refused.none said (subst (λ (n : ℕ). IsLine bound n rest said) (sym same_left) (subst (λ (t : List ℕ). IsLine bound budget t said) (sym same_rest) line))
-
 -- lines with which a text begins are the first ones of its script
 lines_front : (bound budget : ℕ) (text : List ℕ) (lines says : List Said) (left last : ℕ) (rest end : List ℕ) → Begins bound budget text lines left rest → Begins bound budget text says last end → (end ≡ []) ⊎ IsRefused bound last end → IsFront lines says
 lines_front bound budget text [] says left last rest end first all ends = (says, refl)
@@ -69,10 +62,6 @@ lines_front bound budget text (a ∷ lines) (b ∷ says) left last rest end firs
     let more = lines_front bound (budget - taken text) (after_line text) lines says left last rest end first.1 all.1 ends in
     let same : b ≡ a = one_said (first_line text) b a all.0.says first.0.says in
     (more.0, (λ i. same i ∷ more.1 i))
-
-begins_one : (bound budget : ℕ) (text : List ℕ) (says : List Said) (left other : ℕ) (rest more : List ℕ) → Begins bound budget text says left rest → Begins bound budget text says other more → rest ≡ more
-begins_one bound budget text [] left other rest more one two = one.1 ∙ sym two.1
-begins_one bound budget text (said ∷ says) left other rest more one two = begins_one bound (budget - taken text) (after_line text) says left other rest more one.1 two.1
 
 begins_first : (bound budget : ℕ) (text : List ℕ) (lines more : List Said) (left : ℕ) (rest : List ℕ) → Begins bound budget text (lines ++ more) left rest → (n : ℕ) × (end : List ℕ) × Begins bound budget text lines n end
 begins_first bound budget text [] more left rest begins = (budget, text, (refl, refl))
@@ -106,18 +95,10 @@ over_front sh by shown w (Ring ∷ xs) ys =
     let more = over_front sh by shown w xs ys in
     (more.0, ap (λ (l : List ℕ). recent_text w.findings ++ l) more.1 ∙ sym (append_assoc (recent_text w.findings) (joined (printed sh by shown w xs)) more.0))
 
-map_append : {A B : Type 0} (f : A → B) (xs ys : List A) → map f (xs ++ ys) ≡ map f xs ++ map f ys
-map_append f [] ys = refl
-map_append f (x ∷ xs) ys = ap (λ (l : List _). f x ∷ l) (map_append f xs ys)
-
-count_map : {A B : Type 0} (f : A → B) (xs : List A) → length (map f xs) ≡ length xs
-count_map f [] = refl
-count_map f (x ∷ xs) = ap suc (count_map f xs)
-
 text_front : (file : DataFile) (shown : Shown) (w : Work) (lines says : List Said) → IsFront lines says → IsFront (text_over file shown w lines) (text_over file shown w says)
 text_front file shown w lines says (more, is) =
     let front = over_front (shape file) (codec file) shown w (map line_of lines) (map line_of more) in
-    (front.0, ap (λ (l : List Line). joined (printed (shape file) (codec file) shown w l)) (ap (map line_of) is ∙ map_append line_of lines more) ∙ front.1)
+    (front.0, ap (λ (l : List Line). joined (printed (shape file) (codec file) shown w l)) (ap (map line_of) is ∙ map-append line_of lines more) ∙ front.1)
 
 by_front : {A B : Type 0} (e : A ⊎ B) (n : ℕ) (line : List ℕ) → IsFront line (text_by e n line)
 by_front (inl none) n line = ([], sym (append-nil line))
@@ -163,7 +144,7 @@ module _ (layout : Layout) (t : Told) (old new : Outside) (status : Status) (s :
       front_on (all_text turns) (says_over s.says) (whole_text s) (subst (λ (l : List ℕ). IsFront l (says_over s.says)) (sym lines_text) text) (by_front s.script.ends (length s.says) (says_over s.says))
   printed_front left rest begins true refused =
       let cut = cut_text (line_bound layout) script_budget s.text (map said_in turns) s.says s.script left rest begins (refused refl) in
-      let count : length s.says + 1 ≡ 0 + length turns + 1 = omega (arith, sym (ap length cut.0) ∙ count_map said_in turns) in
+      let count : length s.says + 1 ≡ 0 + length turns + 1 = omega (arith, sym (ap length cut.0) ∙ length-map turns said_in) in
       let line : says_over s.says ≡ all_text turns = sym (lines_text ∙ ap says_over cut.0) in (
         [],
         cut.1 (length s.says) (says_over s.says) ∙ (λ i. line i ++ script_text (count i)) ∙ sym (append-nil (prints 0 turns true)),

@@ -1,5 +1,5 @@
 -- What a read is supplied with is what a log shows over which the disk is honest, so that the machine's laws of reads apply.
-use Rattle.std.proofs.Common.{◌≡◌, ℕ, ◌<◌, ◌≤◌, ◌==◌, ◌&&◌, not, nat_lt, nat_le, zero, suc, Bool, true, false, if◌then◌else◌, List, [], ◌∷◌, Option, Some, None, Result, Ok, refl, sym, ◌∙◌, ap, subst, arith}
+use Rattle.std.proofs.Common.{◌≡◌, ℕ, ◌<◌, ◌≤◌, ◌==◌, ◌&&◌, not, nat_lt, nat_le, zero, suc, Bool, true, false, if◌then◌else◌, List, [], ◌∷◌, Option, Some, None, Result, Ok, refl, sym, ◌∙◌, ap, subst, arith, lt-ltb, le-leb, le-ltb, eq-eqb, eqb-true}
 use Rattle.std.specs.List.{slice_get}
 use Rattle.std.proofs.lemmas.Bool.Decides.{nat_tests}
 use Rattle.df_base.specs.Log as logs
@@ -35,21 +35,6 @@ unrefused true true e one two = refl
 unrefused true false e one two = absurd (cc)
 unrefused false b e one two = absurd (cc)
 
-lt_is : (a b : ℕ) → a < b → nat_lt a b ≡ true
-lt_is a b less = grind (arith, nat_tests)
-
-le_is : (a b : ℕ) → a ≤ b → nat_le a b ≡ true
-le_is a b less = grind (arith, nat_tests)
-
-not_lt : (a b : ℕ) → b ≤ a → nat_lt a b ≡ false
-not_lt a b less = grind (arith, nat_tests)
-
-same_is : (a b : ℕ) → a ≡ b → (a == b) ≡ true
-same_is a b same = grind (arith, nat_tests)
-
-from_same : (a b : ℕ) → (a == b) ≡ true → a ≡ b
-from_same a b same = grind (arith, nat_tests)
-
 -- the session of a client is the one that has it
 abbrev Apart : List Session → Type 0
 Apart ss = (j k : ℕ) (s t : Session) → slice_get ss j ≡ Some s → slice_get ss k ≡ Some t → s.client ≡ t.client → j ≡ k
@@ -62,8 +47,8 @@ client_case x s ss zero b is apart at more = first b is
     first true is = at
     first false is =
         let one : x ≡ s = (let both : Some x ≡ Some s = at in cc) in
-        absurd (let no : true ≡ false = sym (same_is x.client s.client (ap (λ (t : Session). t.client) one)) ∙ is in cc)
-client_case x s ss (suc k) true is apart at more = absurd (let no : 0 ≡ suc k = apart 0 (suc k) x s refl at (from_same x.client s.client is) in omega arith)
+        absurd (let no : true ≡ false = sym (eq-eqb x.client s.client (ap (λ (t : Session). t.client) one)) ∙ is in cc)
+client_case x s ss (suc k) true is apart at more = absurd (let no : 0 ≡ suc k = apart 0 (suc k) x s refl at (eqb-true x.client s.client is) in omega arith)
 client_case x s ss (suc k) false is apart at more = more k at
 
 client_found : (ss : List Session) (s : Session) (k : ℕ) → Apart ss → slice_get ss k ≡ Some s → session_of_client s.client ss ≡ Some s
@@ -73,7 +58,7 @@ client_found (x ∷ ss) s k apart at =
     client_case x s ss k (x.client == s.client) refl apart at (λ j there. client_found ss s j (λ m n a b one two same. let e : suc m ≡ suc n = apart (suc m) (suc n) a b one two same in omega (arith, e)) there)
 
 passes : {E : Type 0} (n op : ℕ) (e : E) → op ≤ n → (if nat_lt n op then Some e else None) ≡ None
-passes n op e low = ap (λ (b : Bool). if b then Some e else None) (not_lt n op low)
+passes n op e low = ap (λ (b : Bool). if b then Some e else None) (le-ltb n op low)
 
 lookup_passes : (m : Memory) (s : Session) → session_of_client s.client m.sessions ≡ Some s → s.op ≤ m.replies → first_refusal (lookup_refusals m s.client) ≡ None
 lookup_passes m s is low =
@@ -130,7 +115,7 @@ pub kept_prepares_are_read : KeptPreparesAreRead
 kept_prepares_are_read g w op x is above below =
     let file = is.state.file in
     let m : Memory = memory_of (shape file) (spelling file) w in
-    let none : first_refusal (prepare_refusals m op) ≡ None = unrefused (nat_lt w.view.checkpoint.content.op op) (nat_le op (head w.view)) _ (lt_is w.view.checkpoint.content.op op above) (le_is op (head w.view) below) in
+    let none : first_refusal (prepare_refusals m op) ≡ None = unrefused (nat_lt w.view.checkpoint.content.op op) (nat_le op (head w.view)) _ (lt-ltb w.view.checkpoint.content.op op above) (le-leb op (head w.view) below) in
     let read = prepare_read_law (shape file) (spells g w (ReadPrepare op) x is) (log g w (ReadPrepare op) x is) (damage g w (ReadPrepare op) x is) w op (by g w (ReadPrepare op) x is) none in
     (read.0, read.1, read.2, answer g w (ReadPrepare op) x is ∙ ap (λ (found : Result Message Class). ToReadPrepare (prepare_answer m found op)) (is.call.supplied.1 ∙ message g w (ReadPrepare op) x is) ∙ read.3)
 

@@ -10,6 +10,7 @@ use Rattle.df_base.specs.Moments.{EachMoment, Extends, IsMoment}
 use Rattle.df_base.proofs.Laws.{changed_is_image, extends_self, from_before, now_is_image, weaker}
 use Rattle.df_disk.specs.Adds.{AddsPart, after_all}
 use Rattle.df_disk.specs.Told.{IsHonest, Told, did}
+use Rattle.df_disk.proofs.Laws.{goes_told}
 use Rattle.df_layout.specs.declared.layout.Layout.{Layout}
 use Rattle.df_theory.specs.Device.{IsSafeDisk, NoChanceOf, units_log}
 use Rattle.df_theory.specs.Found.{IsFound}
@@ -45,7 +46,7 @@ use Rattle.df_lifetime.specs.Life.{Chapter, EveryLifeGoesOn, EveryLifeIsInOrder,
 use Rattle.df_lifetime.specs.Life.Life.{Begun, Ended, Formatted, Made, Ran, Stopped}
 use Rattle.df_lifetime.proofs.Bases.{AnsweredOver, KeepsOver, told_over}
 use Rattle.df_lifetime.proofs.Acts.{HasFront, ends_inputs, first_answers, front_and_rest, has_front, work_on}
-use Rattle.df_lifetime.proofs.Files.{goes_told, one_file, one_told}
+use Rattle.df_lifetime.proofs.Files.{one_file, one_told}
 use Rattle.df_lifetime.proofs.Orders.{Has, Order, after_barrier, goes_on, here, in_order, made_in_order, made_safe, may, none_referenced, order_of, same_moments, stands_shown, synced, synced_moments}
 
 -- what a word leaves that made these calls: an honest disk, and its log in order at the end, and at each moment, by what was answered by then

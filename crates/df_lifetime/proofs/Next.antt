@@ -12,25 +12,13 @@ use Rattle.df_theory.specs.Shape.{Shape}
 use Rattle.df_theory.specs.Tails.{Chain, In}
 use Rattle.df_theory.specs.Units.{Message, Session}
 use Rattle.df_theory.specs.View.{View, head, sequence, sessions}
-use Rattle.df_theory.proofs.Laws.{noted_get, sessions-append, sessions-drop}
+use Rattle.df_theory.proofs.Laws.{noted_get, sessions-append, sessions-drop, in_front, in_drop, stored_else}
 use Rattle.df_model.specs.Commands as commands
 use Rattle.df_model.specs.Commands.{Answer, Command, ToAdvance, ToAppend, ToReply}
 use Rattle.df_model.specs.declared.answers.Progress.TheVariants.{Done}
 use Rattle.df_lifetime.specs.There.{HasPrepare, HasReply, IsThere}
 
 -- ---- prepares
-
-in_front : (p : Message) (ps qs : List Message) → In p ps → In p (ps ++ qs)
-in_front p [] qs at = absurd at
-in_front p (x ∷ ps) qs (inl here) = inl here
-in_front p (x ∷ ps) qs (inr there) = inr (in_front p ps qs there)
-
--- a prepare of a chain whose op is above those that are dropped
-in_drop : (n clients op parent mark : ℕ) (ss : List Session) (ps : List Message) (p : Message) → Chain clients op parent mark ss ps → In p ps → op + n ≤ p.header.op → In p (drop n ps)
-in_drop zero clients op parent mark ss ps p chain at above = at
-in_drop (suc n) clients op parent mark ss [] p chain at above = at
-in_drop (suc n) clients op parent mark ss (x ∷ ps) p chain (inl here) above = absurd (omega (arith, chain.0.op_is, above, ap (λ (q : Message). q.header.op) here))
-in_drop (suc n) clients op parent mark ss (x ∷ ps) p chain (inr there) above = in_drop n clients (op + 1) x.header.checksum x.header.mark (noted x.header ss) ps p chain.1 there (omega (arith, above))
 
 module _ (sh : Shape) (op sum client request : ℕ) (body : List ℕ) where
   prepare_stays : (v u : View) → Sound sh v → Next v u → HasPrepare v op sum client request body → HasPrepare u op sum client request body
@@ -76,9 +64,6 @@ kept_case s op old low = grind (arith, nat_tests)
 
 kept_is : (o : Option Session) (s : Session) (op : ℕ) (old : Option Message) → o ≡ Some s → s.op ≤ op → kept o op old ≡ old
 kept_is o s op old is low = ap (λ (x : Option Session). kept x op old) is ∙ kept_case s op old low
-
-stored_else : (k place : ℕ) (r : Message) (old : Option Message) → (k ≡ place → ⊥) → (if k == place then Some r else old) ≡ old
-stored_else k place r old apart = grind (arith, nat_tests)
 
 same_op : (s t : Session) → Some s ≡ Some t → s.op ≡ t.op
 same_op s t is = let same : s ≡ t = cc in ap (λ (x : Session). x.op) same

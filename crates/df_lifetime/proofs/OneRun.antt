@@ -45,6 +45,7 @@ use Rattle.df_top.specs.Working.{WorksThrough}
 use Rattle.df_top.specs.Works.{Writes, asked_by, workload_of}
 use Rattle.df_top.specs.declared.status.Status.{Status}
 use Rattle.df_top.specs.declared.status.Status.TheVariants.{Done, Script, Words, Refused, Memory as NoMemory, DiskFault, ReadFault, WriteFault, Found}
+use Rattle.df_top.proofs.Laws.{agree_self, found_here}
 use Rattle.df_lifetime.specs.Printed.{HasEnded, PrintsOne, Twice, WorkloadHasOneText}
 use Rattle.df_lifetime.proofs.Alike.{agree_there, file_alike, memory_alike, units_alike, view_alike}
 
@@ -173,12 +174,6 @@ run_ended run t told failed old new NoMemory ended wrote = absurd ended
 run_ended run t told failed old new DiskFault ended wrote = absurd ended
 run_ended run t told failed old new ReadFault ended wrote = absurd ended
 run_ended run t told failed old new WriteFault ended wrote = absurd ended
-
-found_here : (layout : Layout) (image : Image) (s : Replica) (is : IsOpened layout image s) → IsFound (shape s.file) (unit_at s.file.layout s.file.cluster image) is.view
-found_here layout image s is = subst (λ (l : Layout). IsFound (shape s.file) (unit_at l s.file.cluster image) is.view) (sym is.of) is.found
-
-pub agree_self : (layout : Layout) (shown : Shown) → AgreeShown layout shown shown
-agree_self layout shown = record { units = record { prepare = λ k. refl; reply = λ k. refl; block = λ k. refl }; classes = λ place read none. refl }
 
 module _ (seed count : ℕ) (layout : Layout) (t : Told) (old new : Outside) (status : Status) (works : WorksThrough seed count layout t old new status) (whole : IsImage t.shown) (ended : HasEnded status) where
   pub by_end : (works.worked.failed ≡ None) × (status ≡ Done) × Appends old.written new.written (workload_text (workload_of works.run works.last))

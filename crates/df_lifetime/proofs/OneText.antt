@@ -15,6 +15,7 @@ use Rattle.df_top.specs.Outside.{Outside, PrintsLine}
 use Rattle.df_top.specs.Reporting.{Recovers}
 use Rattle.df_top.specs.declared.status.Status.{Status}
 use Rattle.df_top.specs.declared.status.Status.TheVariants.{Done}
+use Rattle.df_top.proofs.Laws.{count_is}
 use Rattle.df_lifetime.specs.Printed.{Carried, HasEnded, PrintsOne, RecoverHasOneText}
 use Rattle.df_lifetime.proofs.Alike.{fields_alike, file_alike, memory_alike}
 
@@ -34,10 +35,6 @@ same_prints line text given wanted Word one other same is ended ending first sec
     record { status = here.0 ∙ is ∙ sym there.0; text = text; first = subst (λ (l : List ℕ). Appends one.old.written one.new.written l) same here.1; second = there.1 }
 
 -- ---- the summary
-
-count_is : (ss : List Session) → length (sessions_of ss) ≡ length ss
-count_is [] = refl
-count_is (s ∷ ss) = ap suc (count_is ss)
 
 module _ (layout : Layout) (a b : Image) (same : ShowSame layout a b) (s u : Replica) (one : IsOpened layout a s) (other : IsOpened layout b u) where
   fields : s.fields ≡ u.fields

@@ -21,7 +21,8 @@ use Rattle.df_script_model.specs.Texts.{scrubbed_text}
 use Rattle.df_top.specs.Outside.{PrintsLine}
 use Rattle.df_top.specs.Scrubs.{PrintsTour, ScrubsFile, failing_blocks, tour_report, tour_status}
 use Rattle.df_top.specs.declared.status.Status.{Status}
-use Rattle.df_lifetime.specs.Printed.{HasEnded, PrintsOne, ScrubHasOneText, SparedScrubHasOneText, Twice}
+use Rattle.df_top.proofs.Laws.{unit_spared}
+use Rattle.df_lifetime.specs.Printed.{HasEnded, PrintsOne, ScrubHasOneText, Twice}
 use Rattle.df_lifetime.proofs.Alike.{agree_there, file_alike, memory_alike}
 use Rattle.df_lifetime.proofs.OneText.{same_prints}
 
@@ -89,18 +90,7 @@ module _ (layout : Layout) (runs : Twice layout (ScrubsFile layout)) (agree : Ag
       (tour_ended s one.after.shown runs.one.old.written runs.one.new.written runs.one.status runs.ended.0 one.prints)
       (tour_ended u other.after.shown runs.other.old.written runs.other.new.written runs.other.status runs.ended.1 other.prints)
 
-pub scrub_has_one_text : ScrubHasOneText
-scrub_has_one_text layout runs agree = tours_print_one layout runs agree
-
 -- ---- what a mending left
-
--- it agrees with what was there, both ways
-spared_unit : (file : DataFile) (before after : Image) → SparesReads file before after → (place : Place) → IsReadPlace file.layout place → unit_at file.layout file.cluster after place ≡ unit_at file.layout file.cluster before place
-spared_unit file before after spares (CopyPlace k) read = absurd read
-spared_unit file before after spares (HeaderPlace k) read = absurd read
-spared_unit file before after spares (PreparePlace k) read = spares.units.prepare k
-spared_unit file before after spares (ReplyPlace k) read = spares.units.reply k
-spared_unit file before after spares (BlockPlace k) read = spares.units.block k
 
 -- two images that agree, each behind its mending
 spared_agree : (file : DataFile) (a b before after : Image) → SparesReads file a before → SparesReads file b after → AgreeShown file.layout (shown_of file a) (shown_of file b) → AgreeShown file.layout (shown_of file before) (shown_of file after)
@@ -110,15 +100,16 @@ spared_agree file a b before after one other agree = record {
     reply = λ k. one.units.reply k ∙ agree.units.reply k ∙ sym (other.units.reply k);
     block = λ k. one.units.block k ∙ agree.units.block k ∙ sym (other.units.block k);
   };
-  classes = λ place read none. one.classes place read ∙ agree.classes place read (sym (spared_unit file a before one place read) ∙ none) ∙ sym (other.classes place read);
+  classes = λ place read none. one.classes place read ∙ agree.classes place read (sym (unit_spared file a before one place read) ∙ none) ∙ sym (other.classes place read);
 }
 
-pub spared_scrub_has_one_text : SparedScrubHasOneText
-spared_scrub_has_one_text layout runs one other =
-    let s : Replica = runs.one.does.replica in
-    let u : Replica = runs.other.does.replica in
-    let of : s.file.layout ≡ layout = runs.one.does.is_opened.of in
-    let file : s.file ≡ u.file = file_alike layout runs.one.told.shown runs.other.told.shown runs.same s u runs.one.does.is_opened runs.other.does.is_opened in
-    let here : SparesReads s.file runs.other.told.shown runs.other.does.after.shown = subst (λ (f : DataFile). SparesReads f runs.other.told.shown runs.other.does.after.shown) (sym file) other in
-    let agree = spared_agree s.file runs.one.told.shown runs.other.told.shown runs.one.does.after.shown runs.other.does.after.shown one here (agree_there layout runs.one.told.shown runs.other.told.shown runs.same s.file of) in
-    tours_print_one layout runs (subst (λ (l : Layout). AgreeShown l (shown_of s.file runs.one.does.after.shown) (shown_of s.file runs.other.does.after.shown)) of agree)
+pub scrub_has_one_text : ScrubHasOneText
+scrub_has_one_text layout runs =
+    let one : ScrubsFile layout runs.one.told runs.one.old runs.one.new runs.one.status = runs.one.does in
+    let other : ScrubsFile layout runs.other.told runs.other.old runs.other.new runs.other.status = runs.other.does in
+    let s : Replica = one.replica in
+    let of : s.file.layout ≡ layout = one.is_opened.of in
+    let file : s.file ≡ other.replica.file = file_alike layout runs.one.told.shown runs.other.told.shown runs.same s other.replica one.is_opened other.is_opened in
+    let there : SparesReads s.file runs.other.told.shown other.after.shown = subst (λ (f : DataFile). SparesReads f runs.other.told.shown other.after.shown) (sym file) other.spares in
+    let agree = spared_agree s.file runs.one.told.shown runs.other.told.shown one.after.shown other.after.shown one.spares there (agree_there layout runs.one.told.shown runs.other.told.shown runs.same s.file of) in
+    tours_print_one layout runs (subst (λ (l : Layout). AgreeShown l (shown_of s.file one.after.shown) (shown_of s.file other.after.shown)) of agree)

@@ -20,11 +20,12 @@ use Rattle.df_replica.specs.Below.{shape, DataFile}
 use Rattle.df_replica.specs.Following.{MayOpen}
 use Rattle.df_replica.specs.Making.{MayMakeOn, file_of, making_events}
 use Rattle.df_replica.specs.Serving.{format}
+use Rattle.df_replica.proofs.Laws.{same_file}
 use Rattle.df_top.specs.Formats.{MakesOn}
 use Rattle.df_top.specs.declared.status.Status.{Status}
 use Rattle.df_top.specs.declared.status.Status.TheVariants.{Done, Memory}
 use Rattle.df_lifetime.specs.Life.{Chapter, FormatWord, IsInOrder, MayBeOpened, MayHave}
-use Rattle.df_lifetime.proofs.Files.{one_told, same_file}
+use Rattle.df_lifetime.proofs.Files.{one_told}
 
 module _ (file : DataFile) (chapters : List Chapter) where
   -- the image has a view that the file may have come to

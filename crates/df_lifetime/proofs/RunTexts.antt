@@ -36,14 +36,16 @@ use Rattle.df_workload.specs.Rounds.{after_reply, start, to_begin, to_block, to_
 use Rattle.df_workload.specs.declared.state.Point.{Point}
 use Rattle.df_workload.specs.declared.state.Point.TheVariants.{Appending, Replying, Stepping, Writing, Releasing, Beginning, Ending}
 use Rattle.df_workload.specs.declared.state.State.{State as Run}
+use Rattle.df_workload.proofs.Laws.{asks_end}
 use Rattle.df_top.specs.Lines.{command_in}
 use Rattle.df_top.specs.Outside.{Outside}
 use Rattle.df_top.specs.Working.{WorksThrough}
 use Rattle.df_top.specs.Works.{workload_of}
 use Rattle.df_top.specs.declared.status.Status.{Status}
 use Rattle.df_top.specs.declared.status.Status.TheVariants.{Done}
+use Rattle.df_top.proofs.Laws.{agree_self}
 use Rattle.df_lifetime.specs.Printed.{HasEnded, IsRun, OneRun, RunTextIsResult, run_text, workload_by}
-use Rattle.df_lifetime.proofs.OneRun.{Numbers, after_answer, after_answers, agree_self, asks_none, by_end, last_numbers, numbers_in, opened_here, same_run}
+use Rattle.df_lifetime.proofs.OneRun.{Numbers, after_answer, after_answers, asks_none, by_end, last_numbers, numbers_in, opened_here, same_run}
 
 -- ---- what is counted
 
@@ -105,10 +107,6 @@ heard_begin s (Err e) = next_counts (begun (outcome_of (ToBegin (Err e))) s)
 same_command : (a c : Command) → Some a ≡ Some c → a ≡ c
 same_command a c is = cc is
 
-is_step : (b : Bool) (c : Command) → (if b then Some Advance else None) ≡ Some c → Advance ≡ c
-is_step true c is = cc is
-is_step false c is = absurd (cc)
-
 module _ (sh : Shape) (by : Codec) (shown : Shown) (w : Work) where
   abbrev Counts : Point → Run → Command → Type 0
   Counts p s c = counted (told_at p (outcome_of (next sh by shown w c).1) s) ≡ after_answer (next sh by shown w c).1 (counted s)
@@ -125,7 +123,7 @@ module _ (sh : Shape) (by : Codec) (shown : Shown) (w : Work) where
   point_counts Writing s c is = subst (Counts Writing s) (same_command _ c is) (heard_write s (after_block sh by.spell w (sum (WriteBlock 1 (drawn_body s.number))) 1 (drawn_body s.number)).1)
   point_counts Releasing s c is = subst (Counts Releasing s) (same_command _ c is) (heard_release s (after_release sh by.spell w (slice_index s.held 0)).1)
   point_counts Beginning s c is = subst (Counts Beginning s) (same_command _ c is) (heard_begin s (after_begin sh by.spell w (number_body s.round)).1)
-  point_counts Ending s c is = subst (Counts Ending s) (is_step s.running c is) (heard_step s _)
+  point_counts Ending s c is = subst (Counts Ending s) (asks_end s.running c is) (heard_step s _)
 
 module _ (sh : Shape) (by : Codec) where
   -- so do all of them

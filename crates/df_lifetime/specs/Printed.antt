@@ -17,9 +17,7 @@ use Rattle.df_model.specs.Commands.{Command}
 use Rattle.df_model.specs.Supply.{result}
 use Rattle.df_model.specs.Work.{opened}
 use Rattle.df_replica.specs.Below.{DataFile, shape}
-use Rattle.df_replica.specs.Leaving.{SparesReads}
 use Rattle.df_replica.specs.Reading.{shown_of}
-use Rattle.df_result.specs.Agreeing.{AgreeShown}
 use Rattle.df_result.specs.Codec.{codec}
 use Rattle.df_workload.specs.Asking.{asks}
 use Rattle.df_workload.specs.Following.{Follows}
@@ -69,16 +67,9 @@ pub record PrintsOne {Word : Told → Outside → Outside → Status → Type 0}
 abbrev pub RecoverHasOneText : Type 0
 RecoverHasOneText = (layout : Layout) (runs : Twice layout (Recovers layout)) → PrintsOne runs.one runs.other
 
--- So does `scrub`, where what is shown behind the mending agrees, too, at each place that a call reads: that is what its tour is made over.
+-- so does `scrub`: its tour is made over what the mending left, which is what was shown at first wherever a call reads
 abbrev pub ScrubHasOneText : Type 0
-ScrubHasOneText =
-    (layout : Layout) (runs : Twice layout (ScrubsFile layout)) → AgreeShown layout (shown_of runs.one.does.replica.file runs.one.does.after.shown) (shown_of runs.one.does.replica.file runs.other.does.after.shown) → PrintsOne runs.one runs.other
-
--- So it is over what the disks show at first alone, where each mending left what calls read as it was: the `spares` of each open (`MendsAll`).
-abbrev pub SparedScrubHasOneText : Type 0
-SparedScrubHasOneText =
-    (layout : Layout) (runs : Twice layout (ScrubsFile layout)) → SparesReads runs.one.does.replica.file runs.one.told.shown runs.one.does.after.shown
-    → SparesReads runs.other.does.replica.file runs.other.told.shown runs.other.does.after.shown → PrintsOne runs.one runs.other
+ScrubHasOneText = (layout : Layout) (runs : Twice layout (ScrubsFile layout)) → PrintsOne runs.one runs.other
 
 -- And so does a generated run of one seed and one number of rounds, over disks that show images.
 abbrev pub WorkloadHasOneText : Type 0

@@ -1,5 +1,5 @@
 -- The first element that passes a test, in a list that is two.
-use Rattle.std.proofs.Common.{◌≡◌, ℕ, suc, ◌+◌, ◌-◌, ◌^◌, ◌<◌, ◌≤◌, Bool, true, false, not, cond, nat_lt, eqb, List, [], ◌∷◌, ◌++◌, length, get_or, take, drop, refl, sym, ap, ◌∙◌, arith, length-append, length-drop}
+use Rattle.std.proofs.Common.{◌≡◌, ℕ, suc, ◌+◌, ◌-◌, ◌^◌, ◌<◌, ◌≤◌, Bool, true, false, not, cond, nat_lt, eqb, List, [], ◌∷◌, ◌++◌, length, get_or, take, drop, refl, sym, ap, ◌∙◌, arith, length-append, length-drop, eqb-true}
 use Rattle.std.specs.Prelude.{None, Some, decimal}
 use Rattle.std.specs.List.{before_first, after_first, position_or_len, position}
 use Rattle.std.specs.Char.{digit_value}
@@ -90,15 +90,12 @@ one_cut line before after a b cuts is front =
       cuts.rest ∙ ap (after_first is_space) is ∙ ap (λ (n : ℕ). drop (n + 1) (a ++ (32 ∷ b))) at ∙ drop-append-add a (32 ∷ b) 1,
     )
 
-byte_is : (b c : ℕ) → eqb b c ≡ true → b ≡ c
-byte_is b c same = eqb-true b c same
-
 pub cut_is : (line : List ℕ) (at : ℕ) → space_in line ≡ Some at → Cuts line (take at line) (take (length line - (at + 1)) (drop (at + 1) line))
 cut_is line at some =
     let found = position_some is_space line at some in
     let within : position_or_len is_space line < length line = omega (arith, found) in
     let passes : eqb (get_or line (position_or_len is_space line) 0) 32 ≡ true = passes_at_first is_space line 0 within in
-    let space = byte_is _ _ passes in
+    let space = eqb-true _ _ passes in
     let whole : line ≡ before_first is_space line ++ (32 ∷ after_first is_space line) =
     split_at_first is_space line 0 within ∙ ap (λ (b : ℕ). before_first is_space line ++ (b ∷ after_first is_space line)) space in
     let front : take at line ≡ before_first is_space line = ap (λ (n : ℕ). take n line) (sym found.0) in

@@ -66,9 +66,6 @@ begins_high n fits = decimal_by_steps_wide BeginsHigh (λ m small some. (omega a
 pub zero_is : decimal 0 ≡ 48 ∷ []
 zero_is = decimal_digit 0 (omega arith)
 
-pub digit_is : (n : ℕ) → n < 10 → decimal n ≡ (48 + n) ∷ []
-digit_is n small = decimal_digit n small
-
 -- the first byte of a spelling is a digit, and isn't a zero unless the number is 0
 pub first_byte : (byte n : ℕ) (rest : List ℕ) → n < 2 ^ 128 → byte ∷ rest ≡ decimal n → (n ≡ 0) ⊎ ((48 < byte) × (byte ≤ 57))
 first_byte byte zero rest fits is = inl refl

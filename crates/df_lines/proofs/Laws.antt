@@ -1,4 +1,5 @@
 -- What the proofs above cite of this crate's: a line says one thing, a text has one list of lines and one script, and an empty
 -- line says nothing.
-pub use Rattle.df_lines.proofs.OneMeaning.{one_said, one_text, one_script, whole_script}
+pub use Rattle.df_lines.proofs.OneMeaning.{one_said, one_text, one_script, whole_script, no_line, begins_one}
 pub use Rattle.df_lines.proofs.Meanings.{nothing_said}
+pub use Rattle.df_lines.proofs.Decimals.{one_number}

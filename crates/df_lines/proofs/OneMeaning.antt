@@ -87,11 +87,16 @@ one_text text (a ∷ one) (b ∷ other) lines others =
     same_lists a b one other (one_said (line_of text) a b lines.1 others.1) (one_text (after_line text) one other lines.2 others.2)
 
 -- a line isn't refused, and doesn't stand in an empty text
-no_line : (bound budget left : ℕ) (text rest : List ℕ) (said : Said) → IsLine bound budget text said → left ≡ budget → rest ≡ text → (rest ≡ []) ⊎ IsRefused bound left rest → ⊥
+pub no_line : (bound budget left : ℕ) (text rest : List ℕ) (said : Said) → IsLine bound budget text said → left ≡ budget → rest ≡ text → (rest ≡ []) ⊎ IsRefused bound left rest → ⊥
 no_line bound budget left text rest said line same_left same_rest (inl none) =
     nothing_said said (subst (λ (t : List ℕ). Says (line_of t) said) (sym same_rest ∙ none) line.says)
 no_line bound budget left text rest said line same_left same_rest (inr refused) =
     refused.none said (subst (λ (n : ℕ). IsLine bound n rest said) (sym same_left) (subst (λ (t : List ℕ). IsLine bound budget t said) (sym same_rest) line))
+
+-- how much a text leaves behind its lines is one
+pub begins_one : (bound budget : ℕ) (text : List ℕ) (says : List Said) (left other : ℕ) (rest more : List ℕ) → Begins bound budget text says left rest → Begins bound budget text says other more → rest ≡ more
+begins_one bound budget text [] left other rest more one two = one.1 ∙ sym two.1
+begins_one bound budget text (said ∷ says) left other rest more one two = begins_one bound (budget - taken text) (after_line text) says left other rest more one.1 two.1
 
 same_script : (bound budget : ℕ) (text : List ℕ) (one other : List Said) (left left' : ℕ) (rest rest' : List ℕ) → Begins bound budget text one left rest → Begins bound budget text other left' rest'
     → (rest ≡ []) ⊎ IsRefused bound left rest → (rest' ≡ []) ⊎ IsRefused bound left' rest' → one ≡ other

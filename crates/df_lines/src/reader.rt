@@ -70,9 +70,7 @@ impl LineRoom {
         ensures { IfOk result (IsFresh bound) }
     {
         let window = Window::reserve(alloc, bound as usize + 1)?;
-        let Ok(body) = vec![in alloc; 0; bound as usize / 2 + 1] else {
-            return Err(OutOfMemory);
-        };
+        let body = vec![in alloc; 0; bound as usize / 2 + 1]?;
         Ok(LineRoom {
             window,
             body,

@@ -62,9 +62,7 @@ impl Window {
     pub(crate) fn reserve(alloc: Global, size: usize) -> Result<Window, OutOfMemory>
         ensures { IfOk result (λ window. window ≡ record { bytes = []; size = size; ended = false }) }
     {
-        let Ok(buffer) = vec![in alloc; 0; size] else {
-            return Err(OutOfMemory);
-        };
+        let buffer = vec![in alloc; 0; size]?;
         Ok(Window {
             buffer,
             start: 0,

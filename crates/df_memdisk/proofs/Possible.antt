@@ -1,8 +1,9 @@
 -- The log of a disk in memory is one that a disk can have.
-use Rattle.std.proofs.Common.{◌≡◌, ℕ, zero, suc, ◌+◌, ◌<◌, true, List, [], ◌∷◌, ◌++◌, length, take, get_or, replicate, refl, sym, ap, subst, ◌∙◌, arith}
+use Rattle.std.proofs.Common.{◌≡◌, ℕ, ◌+◌, ◌<◌, true, List, [], ◌∷◌, ◌++◌, length, take, get_or, replicate, refl, sym, ap, subst, ◌∙◌}
 use Rattle.std.proofs.lemmas.List.{take_more, map-append, length-replicate}
-use Rattle.df_base.specs.Image.{IsSector, IsImage, blank}
+use Rattle.df_base.specs.Image.{IsSector, blank}
 use Rattle.df_base.specs.Log.{Event, AreLoose, loose_of}
+use Rattle.df_base.proofs.Laws.{AreBytes-zeros}
 use Rattle.df_memdisk.specs.History.{changes_of}
 use Rattle.df_memdisk.specs.declared.change.Change.{Change}
 
@@ -18,17 +19,9 @@ AreLoose-take es changes k d within are here whole =
     let all : changes_of (take (k + 1) changes) ≡ changes_of (take k changes) ++ (c.sector, c.bytes) ∷ [] = ap (λ (cs : List Change). changes_of cs) (take_more changes k d within) ∙ more in
     subst (AreLoose es) (sym all) (AreLoose-push es (changes_of (take k changes)) (c.sector, c.bytes) are here whole)
 
-zeros_small : (n i : ℕ) → get_or (replicate n 0) i 0 < 256
-zeros_small zero i = omega arith
-zeros_small (suc n) zero = omega arith
-zeros_small (suc n) (suc i) = zeros_small n i
-
 zeros_are : (n : ℕ) → n ≡ 4096 → IsSector (replicate n 0)
-zeros_are n is = record { size = length-replicate n 0 ∙ is; each = λ i. zeros_small n i }
+zeros_are n is = record { size = length-replicate n 0 ∙ is; each = λ i. AreBytes-zeros n i }
 
 blank_is : (sector : ℕ) → IsSector (blank sector)
 unfolding blank
 blank_is sector = zeros_are 4096 refl
-
-pub blank_is_image : IsImage blank
-blank_is_image = record { sectors = blank_is }

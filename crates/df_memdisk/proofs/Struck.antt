@@ -6,7 +6,7 @@ use Rattle.std.proofs.Math.Path.{fun_ext}
 use Rattle.std.proofs.Math.Seq.{drop-length}
 use Rattle.df_base.specs.Image.{Image, blank, changed}
 use Rattle.df_base.specs.Log.{Event, now, now_of, after_event}
-use Rattle.df_disk.specs.Told.{Told, IsHonest, did}
+use Rattle.df_disk.specs.Told.{Told, did}
 use Rattle.df_memdisk.specs.History.{event_of, events_of}
 use Rattle.df_memdisk.specs.Newest.{given_by}
 use Rattle.df_memdisk.specs.Struck.{first_events, events_since, strike_of, left_of, shown_after, AreBehind}
@@ -123,7 +123,3 @@ shows-log (Like other) t sector shows = absurd shows
 pub hit-log : (sector : ℕ) (strike : Strike) (t : Told) → ShowsLog strike t.log.events → (hit sector strike t).shown sector ≡ now t.log sector
 hit-log sector strike t shows =
     ap (λ (b : Bool). if b then bytes_by strike sector t else t.shown sector) (eq-eqb sector sector refl) ∙ shows-log strike t sector shows
-
--- an honest disk stays honest over an event
-pub honest-did : (e : Event) (t : Told) → IsHonest t → IsHonest (did e t)
-honest-did e t honest = record { shows = λ sector. after-local e t.shown (now t.log) sector (honest.shows sector) }

@@ -124,10 +124,8 @@ impl MemoryDisk {
         ensures err { OnErr result (self.new ≡ self.old) }
         ensures honest { IsHonest (told_of self.old) → IsHonest (told_of self.new) }
     {
-        match Vec::from_slice(self.alloc, bytes) {
-            Ok(bytes) => self.keep(Happened::Wrote(Written { at, bytes })),
-            Err(_) => Err(OutOfMemory),
-        }
+        let bytes = Vec::from_slice(self.alloc, bytes)?;
+        self.keep(Happened::Wrote(Written { at, bytes }))
     }
 
     // Counts a fault for which memory was refused.

@@ -1,5 +1,5 @@
 // What a disk shows: what its log left, but for sectors that were struck.
-ghost use Rattle.std.specs.Prelude.{◌≡◌, ◌≤◌, ◌+◌, ◌*◌, ◌/◌, length, reverse, option_copied, IfSome};
+ghost use Rattle.std.specs.Prelude.{◌≡◌, ◌≤◌, ◌+◌, ◌*◌, ◌/◌, length, reverse, option_copied};
 ghost use Rattle.df_base.specs.Image.{bytes_at};
 ghost use Rattle.df_disk.specs.Told.{AreSectors};
 ghost use Rattle.df_memdisk.specs.History.{events_of};

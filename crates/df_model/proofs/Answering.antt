@@ -1,7 +1,8 @@
 -- Answers and their order.
-use Rattle.std.proofs.Common.{◌≡◌, ℕ, ◌+◌, ◌-◌, ◌^◌, ◌<◌, ◌≤◌, ◌==◌, ◌&&◌, ◌||◌, not, nat_lt, nat_le, Bool, true, false, List, [], ◌∷◌, length, Option, Some, None, Result, Ok, Err, refl, sym, ◌∙◌, ap, arith}
+use Rattle.std.proofs.Common.{◌≡◌, ℕ, ◌+◌, ◌-◌, ◌^◌, ◌<◌, ◌≤◌, ◌==◌, ◌&&◌, ◌||◌, not, nat_lt, nat_le, Bool, true, false, List, [], ◌∷◌, length, Option, Some, None, Result, Ok, Err, refl, sym, ◌∙◌, ap, arith, eq-eqb, ne_eqb, lt-ltb, le-ltb, le-leb}
 use Rattle.std.specs.List.{slice_get}
 use Rattle.std.proofs.lemmas.Bool.Decides.{nat_tests}
+use Rattle.std.proofs.lemmas.Bool.{lt-leb, and_right, and_left, and_from}
 use Rattle.df_theory.specs.Units.{Parts, Session}
 use Rattle.df_theory.specs.Shape.{Shape}
 use Rattle.df_model.specs.Work.{Running, Work}
@@ -104,36 +105,6 @@ skip : {E : Type 0} (t : Bool × E) (ts : List (Bool × E)) (o : Option E) → t
 skip (true, e) ts o is rest = absurd (cc)
 skip (false, e) ts o is rest = rest
 
-yes_eq : (a b : ℕ) → a ≡ b → (a == b) ≡ true
-yes_eq a b same = grind (arith, nat_tests)
-
-no_eq : (a b : ℕ) → (a ≡ b → ⊥) → (a == b) ≡ false
-no_eq a b apart = grind (arith, nat_tests)
-
-yes_lt : (a b : ℕ) → a < b → nat_lt a b ≡ true
-yes_lt a b less = grind (arith, nat_tests)
-
-no_lt : (a b : ℕ) → b ≤ a → nat_lt a b ≡ false
-no_lt a b le = grind (arith, nat_tests)
-
-yes_le : (a b : ℕ) → a ≤ b → nat_le a b ≡ true
-yes_le a b le = grind (arith, nat_tests)
-
-no_le : (a b : ℕ) → b < a → nat_le a b ≡ false
-no_le a b less = grind (arith, nat_tests)
-
-and_right : (a b : Bool) → b ≡ false → (a && b) ≡ false
-and_right true b is = is
-and_right false b is = refl
-
-and_left : (a b : Bool) → a ≡ false → (a && b) ≡ false
-and_left true b is = absurd (cc)
-and_left false b is = refl
-
-and_both : (a b : Bool) → a ≡ true → b ≡ true → (a && b) ≡ true
-and_both true b one two = two
-and_both false b one two = absurd (cc)
-
 module _ (m : Memory) (client request : ℕ) (body : List ℕ) where
   abbrev session : Option Session
   session = session_of_client client m.sessions
@@ -170,29 +141,29 @@ module _ (m : Memory) (client request : ℕ) (body : List ℕ) where
   after_full = repeated_test ∷ after_repeated
 
   past_two : (o : Option AppendError) → 0 < client → length body ≤ message_room m.layout → first_refusal (full_test ∷ after_full) ≡ o → first_refusal (append_refusals m client request body) ≡ o
-  past_two o named fits more = skip zero_test (long_test ∷ full_test ∷ after_full) o (no_eq client 0 (λ same. omega arith)) (skip long_test (full_test ∷ after_full) o (no_lt (message_room m.layout) (length body) fits) more)
+  past_two o named fits more = skip zero_test (long_test ∷ full_test ∷ after_full) o (ne_eqb client 0 (λ same. omega arith)) (skip long_test (full_test ∷ after_full) o (le-ltb (message_room m.layout) (length body) fits) more)
 
   module _ (s : Session) (known : session ≡ Some s) where
     not_full : full_test.0 ≡ false
     not_full = ap (λ (o : Option Session). is_new o && (length m.sessions == m.layout.clients)) known
 
     is_repeated : request ≡ s.request → s.op ≤ m.replies → repeated_test.0 ≡ true
-    is_repeated same stored = ap (λ (o : Option Session). is_last_request request o && nat_le (last_op o) m.replies) known ∙ and_both (request == s.request) (nat_le s.op m.replies) (yes_eq request s.request same) (yes_le s.op m.replies stored)
+    is_repeated same stored = ap (λ (o : Option Session). is_last_request request o && nat_le (last_op o) m.replies) known ∙ and_from (request == s.request) (nat_le s.op m.replies) (eq-eqb request s.request same) (le-leb s.op m.replies stored)
 
     not_stored : m.replies < s.op → repeated_test.0 ≡ false
-    not_stored waits = ap (λ (o : Option Session). is_last_request request o && nat_le (last_op o) m.replies) known ∙ and_right (request == s.request) (nat_le s.op m.replies) (no_le s.op m.replies waits)
+    not_stored waits = ap (λ (o : Option Session). is_last_request request o && nat_le (last_op o) m.replies) known ∙ and_right (request == s.request) (nat_le s.op m.replies) (lt-leb s.op m.replies waits)
 
     not_last : (request ≡ s.request → ⊥) → repeated_test.0 ≡ false
-    not_last apart = ap (λ (o : Option Session). is_last_request request o && nat_le (last_op o) m.replies) known ∙ and_left (request == s.request) (nat_le s.op m.replies) (no_eq request s.request apart)
+    not_last apart = ap (λ (o : Option Session). is_last_request request o && nat_le (last_op o) m.replies) known ∙ and_left (request == s.request) (nat_le s.op m.replies) (ne_eqb request s.request apart)
 
     is_pending : m.replies < s.op → pending_test.0 ≡ true
-    is_pending waits = ap (λ (o : Option Session). nat_lt m.replies (last_op o)) known ∙ yes_lt m.replies s.op waits
+    is_pending waits = ap (λ (o : Option Session). nat_lt m.replies (last_op o)) known ∙ lt-ltb m.replies s.op waits
 
     not_pending : s.op ≤ m.replies → pending_test.0 ≡ false
-    not_pending stored = ap (λ (o : Option Session). nat_lt m.replies (last_op o)) known ∙ no_lt m.replies s.op stored
+    not_pending stored = ap (λ (o : Option Session). nat_lt m.replies (last_op o)) known ∙ le-ltb m.replies s.op stored
 
     is_numbered : s.request + 1 < request → number_test.0 ≡ true
-    is_numbered above = ap (λ (o : Option Session). not (request == next_request o)) known ∙ ap not (no_eq request (s.request + 1) (λ same. omega arith))
+    is_numbered above = ap (λ (o : Option Session). not (request == next_request o)) known ∙ ap not (ne_eqb request (s.request + 1) (λ same. omega arith))
 
     repeats : request ≡ s.request → s.op ≤ m.replies → first_refusal (full_test ∷ after_full) ≡ Some (append.Repeated s.op)
     repeats same stored = skip full_test after_full _ not_full (hit repeated_test after_repeated (is_repeated same stored) ∙ ap (λ (o : Option Session). Some (append.Repeated (last_op o))) known)
@@ -206,9 +177,9 @@ module _ (m : Memory) (client request : ℕ) (body : List ℕ) where
 
   appends : AppendsInOrder m client request body
   appends = record {
-    zero = λ same. hit zero_test (long_test ∷ full_test ∷ after_full) (yes_eq client 0 same);
-    long = λ named long. skip zero_test (long_test ∷ full_test ∷ after_full) _ (no_eq client 0 (λ same. omega arith)) (hit long_test (full_test ∷ after_full) (yes_lt (message_room m.layout) (length body) long));
-    full = λ named fits new full. past_two _ named fits (hit full_test after_full (and_both (is_new session) (length m.sessions == m.layout.clients) (ap is_new new) (yes_eq (length m.sessions) m.layout.clients full)));
+    zero = λ same. hit zero_test (long_test ∷ full_test ∷ after_full) (eq-eqb client 0 same);
+    long = λ named long. skip zero_test (long_test ∷ full_test ∷ after_full) _ (ne_eqb client 0 (λ same. omega arith)) (hit long_test (full_test ∷ after_full) (lt-ltb (message_room m.layout) (length body) long));
+    full = λ named fits new full. past_two _ named fits (hit full_test after_full (and_from (is_new session) (length m.sessions == m.layout.clients) (ap is_new new) (eq-eqb (length m.sessions) m.layout.clients full)));
     repeated = λ s named fits known same stored. past_two _ named fits (repeats s known same stored);
     pending = λ s named fits known late. past_two _ named fits (waits s known late);
     number = λ s named fits known stored above. past_two _ named fits (orders s known stored above);
@@ -216,10 +187,10 @@ module _ (m : Memory) (client request : ℕ) (body : List ℕ) where
 
   others : OthersInOrder m request body
   others = record {
-    nothing = λ same. hit (m.replies == m.head, reply.NothingPending m.head) ((not (request == m.replies + 1), reply.ReplyOrder (m.replies + 1)) ∷ (long_test.0, reply.BodyTooLong (message_room m.layout)) ∷ []) (yes_eq m.replies m.head same);
-    kind = λ same. hit (request == 0, block.KindZero) ((nat_lt (block_room m.layout) (length body), block.BodyTooLong (block_room m.layout)) ∷ (length (free_of m) == 0, block.GridFull m.layout.blocks) ∷ []) (yes_eq request 0 same);
+    nothing = λ same. hit (m.replies == m.head, reply.NothingPending m.head) ((not (request == m.replies + 1), reply.ReplyOrder (m.replies + 1)) ∷ (long_test.0, reply.BodyTooLong (message_room m.layout)) ∷ []) (eq-eqb m.replies m.head same);
+    kind = λ same. hit (request == 0, block.KindZero) ((nat_lt (block_room m.layout) (length body), block.BodyTooLong (block_room m.layout)) ∷ (length (free_of m) == 0, block.GridFull m.layout.blocks) ∷ []) (eq-eqb request 0 same);
     running = λ r at. ap (λ (o : Option Course). first_refusal (begin_refusals (record m { running = o }) request body)) at;
-    long = λ at long. skip (is_running m.running, begin.Running (steps_left m.running)) (begin_long ∷ begin_last) _ (ap is_running at) (hit begin_long begin_last (yes_lt 1024 (length body) long));
+    long = λ at long. skip (is_running m.running, begin.Running (steps_left m.running)) (begin_long ∷ begin_last) _ (ap is_running at) (hit begin_long begin_last (lt-ltb 1024 (length body) long));
     unknown = λ new. hit (is_new session_there, lookup.NoClient) ((nat_lt m.replies (last_op session_there), lookup.ReplyPending (last_op session_there)) ∷ []) (ap is_new new);
   }
     where

@@ -1,7 +1,9 @@
 -- An append.
-use Rattle.std.proofs.Common.{◌≡◌, inl, inr, ℕ, ◌+◌, ◌<◌, ◌≤◌, true, List, [], ◌∷◌, ◌++◌, length, take, Option, Some, None, refl, sym, ◌∙◌, ap, subst, arith, length-append}
+use Rattle.std.proofs.Common.{◌≡◌, inl, inr, ℕ, ◌+◌, ◌<◌, ◌≤◌, true, List, [], ◌∷◌, ◌++◌, length, take, Option, Some, None, refl, sym, ◌∙◌, ap, subst, arith, length-append, ltb-false, eqb-true}
 use Rattle.std.specs.Prelude.{◌-◌, ◌^◌}
 use Rattle.std.proofs.lemmas.List.{take-append-le}
+use Rattle.std.proofs.lemmas.Bool.{or_parts, not-false, eqb-false}
+use Rattle.df_base.proofs.Laws.{and_false}
 use Rattle.df_theory.specs.Units.{Message, Session, Parts}
 use Rattle.df_theory.specs.Sessions.{MayAsk, sessions_after}
 use Rattle.df_theory.specs.Tails.{last_checksum}
@@ -15,7 +17,7 @@ use Rattle.df_model.specs.Refusals.{append_refusals, first_refusal, is_new, last
 use Rattle.df_model.specs.After.{with_prepare}
 use Rattle.df_model.specs.Sense.{AreWaiting, IsCapture, IsWork}
 use Rattle.df_model.specs.Laws.{AppendMayLaw}
-use Rattle.df_model.proofs.Tests.{and_false, eq_false, eq_true, get_front, get_last, lt_false, not_false, or_false, all_pass}
+use Rattle.df_model.proofs.Tests.{get_front, get_last, all_pass}
 use Rattle.df_model.proofs.Knows.{append_knows, one_fewer}
 use Rattle.df_model.proofs.Sessions.{known_asks, new_asks, noted_lawful}
 use Rattle.df_model.specs.Memory.{memory_of}
@@ -35,16 +37,16 @@ pub record IsAllowed (sh : Shape) (w : Work) (client request : ℕ) (session : O
 pub allowed : (sh : Shape) (spell : Parts → List ℕ) (w : Work) (client request : ℕ) (body : List ℕ) → first_refusal (append_refusals (memory_of sh spell w) client request body) ≡ None → IsAllowed sh w client request (session_of_client client (sessions w.view))
 allowed sh spell w client request body none =
     let tests = all_pass (append_refusals (memory_of sh spell w) client request body) none in
-    let last = or_false _ _ tests.1.1.1.1.1.1.1.1.0 in
+    let last = or_parts _ _ tests.1.1.1.1.1.1.1.1.0 in
     record {
-      named = eq_false _ _ tests.0;
-      places = λ new. eq_false _ _ (and_false _ _ tests.1.1.0 new);
-      answered = lt_false _ _ tests.1.1.1.1.0;
-      next = eq_true _ _ (not_false _ tests.1.1.1.1.1.0);
-      pipeline = eq_false _ _ tests.1.1.1.1.1.1.0;
-      room = lt_false _ _ tests.1.1.1.1.1.1.1.0;
-      op = eq_false _ _ last.0;
-      request_to = lt_false _ _ last.1;
+      named = eqb-false _ _ tests.0;
+      places = λ new. eqb-false _ _ (and_false _ _ tests.1.1.0 new);
+      answered = ltb-false _ _ tests.1.1.1.1.0;
+      next = eqb-true _ _ (not-false _ tests.1.1.1.1.1.0);
+      pipeline = eqb-false _ _ tests.1.1.1.1.1.1.0;
+      room = ltb-false _ _ tests.1.1.1.1.1.1.1.0;
+      op = eqb-false _ _ last.0;
+      request_to = ltb-false _ _ last.1;
     }
 
 module _ (sh : Shape) (spell : Parts → List ℕ) (w : Work) (sum client request : ℕ) (body : List ℕ) (work : IsWork sh spell w) (none : first_refusal (append_refusals (memory_of sh spell w) client request body) ≡ None) where

@@ -1,8 +1,9 @@
 -- A checkpoint that may be finished may be begun.
-use Rattle.std.proofs.Common.{◌≡◌, inl, inr, ℕ, zero, suc, ◌+◌, ◌-◌, ◌*◌, ◌^◌, ◌<◌, ◌≤◌, ◌==◌, ◌||◌, not, nat_lt, Bool, true, false, cond, if◌then◌else◌, List, [], ◌∷◌, length, refl, sym, ◌∙◌, ap, subst, arith}
+use Rattle.std.proofs.Common.{◌≡◌, inl, inr, ℕ, zero, suc, ◌+◌, ◌-◌, ◌*◌, ◌^◌, ◌<◌, ◌≤◌, ◌==◌, ◌||◌, not, nat_lt, Bool, true, false, cond, if◌then◌else◌, List, [], ◌∷◌, length, refl, sym, ◌∙◌, ap, subst, arith, ne_eqb, le-ltb, eqb-true}
 use Rattle.std.specs.List.{filter, range_with_len}
 use Rattle.std.proofs.lemmas.Bool.Decides.{nat_tests}
 use Rattle.std.proofs.Math.Nat.{mul-add}
+use Rattle.std.proofs.lemmas.Bool.{eqb-false}
 use Rattle.df_theory.specs.Units.{Block, Parts}
 use Rattle.df_theory.specs.Trailer.{InChain, IsCount, Says, text_of}
 use Rattle.df_theory.specs.Shape.{Shape}
@@ -16,8 +17,7 @@ use Rattle.df_model.specs.Blocks.{blocks_of, is_held_in}
 use Rattle.df_model.proofs.Entries.{held_is}
 use Rattle.df_model.specs.Sense.{IsWork}
 use Rattle.df_model.specs.Answering.{AreApart, BeginExactLaw}
-use Rattle.df_model.proofs.Tests.{eq_false, eq_true}
-use Rattle.df_model.proofs.Exact.{no_eq, no_lt, pass_all}
+use Rattle.df_model.proofs.Exact.{pass_all}
 use Rattle.df_model.proofs.Steps.{pieces_count}
 
 -- ---- as many addresses as there are blocks
@@ -36,7 +36,7 @@ length_without a [] there = absurd (cc)
 length_without a (y ∷ ys) there = length_case a y ys (without a ys) (a == y) there (λ more. length_without a ys more)
 
 in_case : (a b y : ℕ) (ys rest : List ℕ) (e : Bool) → (a == y) ≡ e → (b ≡ a → ⊥) → (d : Bool) → (b == y) ≡ d → (d || is_in b ys) ≡ true → (is_in b ys ≡ true → is_in b rest ≡ true) → is_in b (if e then ys else y ∷ rest) ≡ true
-in_case a b y ys rest true same apart true here there more = absurd (let one = eq_true a y same in let two = eq_true b y here in apart (two ∙ sym one))
+in_case a b y ys rest true same apart true here there more = absurd (let one = eqb-true a y same in let two = eqb-true b y here in apart (two ∙ sym one))
 in_case a b y ys rest true same apart false here there more = there
 in_case a b y ys rest false same apart true here there more = ap (λ (d : Bool). d || is_in b rest) here
 in_case a b y ys rest false same apart false here there more = ap (λ (d : Bool). d || is_in b rest) here ∙ more there
@@ -71,12 +71,12 @@ in_free held s zero a from to free = absurd (omega arith)
 in_free held s (suc n) a from to free = in_at held s a (filter (λ x. not (held x)) (range_with_len (s + 1) n)) (a == s) refl free (λ apart. in_free held (s + 1) n a (omega (arith, apart)) (omega arith) free)
   where
     in_at : (held : ℕ → Bool) (s a : ℕ) (rest : List ℕ) (b : Bool) → (a == s) ≡ b → held a ≡ false → ((a ≡ s → ⊥) → is_in a rest ≡ true) → is_in a (cond (not (held s)) (s ∷ rest) rest) ≡ true
-    in_at held s a rest true same free more = free_case s a rest (held s) same (ap held (sym (eq_true a s same)) ∙ free)
-    in_at held s a rest false same free more = free_more s a rest (held s) (more (eq_false a s same))
+    in_at held s a rest true same free more = free_case s a rest (held s) same (ap held (sym (eqb-true a s same)) ∙ free)
+    in_at held s a rest false same free more = free_more s a rest (held s) (more (eqb-false a s same))
 
 -- ---- one count of pieces
 
-count_le : (room size n k : ℕ) → IsCount room size n → IsCount room size k → n ≤ k
+pub count_le : (room size n k : ℕ) → IsCount room size n → IsCount room size k → n ≤ k
 count_le room size n k one two = go (nat_lt k n) refl
   where
     go : (b : Bool) → nat_lt k n ≡ b → n ≤ k
@@ -97,7 +97,7 @@ pub begin_exact_law : BeginExactLaw
 begin_exact_law sh spell w root c work idle of =
     pass_all (begin_refusals (memory_of sh spell w) (needed_of spell (memory_of sh spell w) root) root) (
       ap (λ o. is_running (course_of spell o)) idle,
-      (no_lt 1024 (length root) (omega (arith, lawful.root.0, ap length of.rooted)), (no_lt (length (free_of (memory_of sh spell w))) (needed_of spell (memory_of sh spell w) root) (omega (arith, needed, enough)), (no_eq (sequence w.view) (2 ^ 62) (λ same. omega (arith, of.may.unspent)), tt))),
+      (le-ltb 1024 (length root) (omega (arith, lawful.root.0, ap length of.rooted)), (le-ltb (length (free_of (memory_of sh spell w))) (needed_of spell (memory_of sh spell w) root) (omega (arith, needed, enough)), (ne_eqb (sequence w.view) (2 ^ 62) (λ same. omega (arith, of.may.unspent)), tt))),
     )
   where
     text : List ℕ

@@ -1,12 +1,12 @@
 -- Blocks that are written and released.
-use Rattle.std.proofs.Common.{◌≡◌, inl, inr, ℕ, zero, suc, ◌+◌, ◌<◌, ◌≤◌, not, cond, ◌∷◌, ◌==◌, ◌||◌, Bool, true, false, if◌then◌else◌, List, length, Option, Some, None, refl, sym, ◌∙◌, ap, subst, arith}
+use Rattle.std.proofs.Common.{◌≡◌, inl, inr, ℕ, zero, suc, ◌+◌, ◌<◌, ◌≤◌, not, cond, ◌∷◌, ◌==◌, ◌||◌, Bool, true, false, if◌then◌else◌, List, length, Option, Some, None, refl, sym, ◌∙◌, ap, subst, arith, eqb-true}
 use Rattle.df_theory.specs.Units.{AnyUnit, BlockPlace, BlockUnit, Content, CopyPlace, Parts, Place, PreparePlace, Units, or_else, overlay}
 use Rattle.df_theory.specs.Copies.{Agree, IsChosen}
 use Rattle.df_theory.specs.Shows.{Agrees, Needs}
 use Rattle.df_theory.specs.Holds.{Holds}
-use Rattle.df_theory.proofs.Laws.{put_else, short_same}
+use Rattle.df_theory.proofs.Laws.{put_else, short_same, chosen_same}
 use Rattle.std.specs.List.{filter, range_with_len}
-use Rattle.std.proofs.lemmas.Bool.{cases_eq}
+use Rattle.std.proofs.lemmas.Bool.{cases_eq, or_right, eqb-false}
 use Rattle.df_model.specs.Laws.{BlockAsideLaw, BlockMayLaw}
 use Rattle.df_theory.specs.Shape.{Shape}
 use Rattle.df_model.specs.Work.{Work, is_captured, is_held, is_known, is_of}
@@ -17,8 +17,8 @@ use Rattle.df_model.specs.After.{with_live}
 use Rattle.df_model.specs.Blocks.{blocks_of, is_held_in}
 use Rattle.df_model.proofs.Entries.{held_is}
 use Rattle.df_model.specs.Sense.{IsClear, IsWork}
-use Rattle.df_model.proofs.Tests.{all_pass, eq_false, eq_true}
-use Rattle.df_model.proofs.Grid.{IsFree, IsNowhere, are_free, each_weaker, each_with, first_each, left_held, nowhere, or_right}
+use Rattle.df_model.proofs.Tests.{all_pass}
+use Rattle.df_model.proofs.Grid.{IsFree, IsNowhere, are_free, each_weaker, each_with, first_each, left_held, nowhere}
 use Rattle.df_model.proofs.Knows.{live_knows, nowhere_new, one_fewer, one_more, release_knows}
 use Rattle.df_model.specs.Memory.{free_of, memory_of}
 use Rattle.df_model.specs.Making.{first_of, next_address}
@@ -27,11 +27,11 @@ use Rattle.df_model.specs.Making.{first_of, next_address}
 pub next_free : (sh : Shape) (spell : Parts → List ℕ) (w : Work) (kind : ℕ) (body : List ℕ) → first_refusal (block_refusals (memory_of sh spell w) kind body) ≡ None → IsFree sh w (next_address (memory_of sh spell w))
 next_free sh spell w kind body none =
     let tests = all_pass (block_refusals (memory_of sh spell w) kind body) none in
-    first_each (IsFree sh w) (free_of (memory_of sh spell w)) (are_free sh spell w) (eq_false (length (free_of (memory_of sh spell w))) 0 tests.1.1.0)
+    first_each (IsFree sh w) (free_of (memory_of sh spell w)) (are_free sh spell w) (eqb-false (length (free_of (memory_of sh spell w))) 0 tests.1.1.0)
 
 -- and the block isn't a trailer's
 pub kind_some : (sh : Shape) (spell : Parts → List ℕ) (w : Work) (kind : ℕ) (body : List ℕ) → first_refusal (block_refusals (memory_of sh spell w) kind body) ≡ None → 0 < kind
-kind_some sh spell w kind body none = let named = eq_false kind 0 (all_pass (block_refusals (memory_of sh spell w) kind body) none).0 in omega arith
+kind_some sh spell w kind body none = let named = eqb-false kind 0 (all_pass (block_refusals (memory_of sh spell w) kind body) none).0 in omega arith
 
 -- the first address that passes: those below it don't
 below_case : (held : ℕ → Bool) (a : ℕ) (rest : List ℕ) (h : Bool) → held a ≡ h → (x : ℕ) → a ≤ x → x < first_of (cond (not h) (a ∷ rest) rest) → ((x : ℕ) → a + 1 ≤ x → x < first_of rest → held x ≡ true) → held x ≡ true
@@ -70,11 +70,11 @@ live_keeps sh spell w a c fits work free = record {
     sums k d false is = work.sums k d is
 
     dead : (x : ℕ) → (x ≡ a → ⊥) → w.live x ≡ None → (b : Bool) → (x == a) ≡ b → (if b then Some c else w.live x) ≡ None
-    dead x apart none true same = absurd (apart (eq_true x a same))
+    dead x apart none true same = absurd (apart (eqb-true x a same))
     dead x apart none false same = none
 
     go : (k : ℕ) (b : Bool) → (k == a) ≡ b → (is_known (if b then Some c else w.live k) || (is_captured k w.running || (is_known (w.view.checkpoint.parts.references k) || is_of k w.view.checkpoint.chain))) ≡ true → InGrid sh.layout k
-    go k true same held = subst (InGrid sh.layout) (sym (eq_true k a same)) free.inside
+    go k true same held = subst (InGrid sh.layout) (sym (eqb-true k a same)) free.inside
     go k false same held = work.grid k held
 
 pub release_keeps : (sh : Shape) (spell : Parts → List ℕ) (w : Work) (a : ℕ) → IsWork sh spell w → IsWork sh spell (with_live w a None)
@@ -109,14 +109,6 @@ release_keeps sh spell w a work = record {
 same_agree : (image later : Units) (c : Content) → ((n : ℕ) → later (CopyPlace n) ≡ image (CopyPlace n)) → Agree later c → Agree image c
 same_agree image later c same is = record { first = is.first; second = is.second; apart = is.apart; inside = is.inside; at_first = sym (same is.first) ∙ is.at_first; at_second = sym (same is.second) ∙ is.at_second }
 
--- the copies alone decide on the choice
-same_choice : (image later : Units) (c : Content) → ((n : ℕ) → later (CopyPlace n) ≡ image (CopyPlace n)) → IsChosen image c → IsChosen later c
-same_choice image later c same is = record {
-  agreed = same_agree later image c (λ n. sym (same n)) is.agreed;
-  greatest = λ d agreed. is.greatest d (same_agree image later d same agreed);
-  lowest = λ d agreed rank n inside at. let low = is.lowest d (same_agree image later d same agreed) rank n inside (sym (same n) ∙ at) in (low.0, low.1, same low.0 ∙ low.2);
-}
-
 pub block_aside_law : BlockAsideLaw
 block_aside_law sh w image put a b free one = (
   λ holds. record {
@@ -148,4 +140,4 @@ block_aside_law sh w image put a b free one = (
     agrees holds place x (Some y) is there = subst (λ (p : Place). Agrees sh w.view p x) (sym (one.only place y is).0) tt
 
     chosen : Holds sh image w.view → IsChosen (overlay put image) w.view.checkpoint.content
-    chosen holds = same_choice image (overlay put image) w.view.checkpoint.content (λ n. put_else put image (BlockPlace a) (CopyPlace n) (BlockUnit b) one (λ same. cc (same))) holds.chosen
+    chosen holds = chosen_same image (overlay put image) w.view.checkpoint.content (λ n. put_else put image (BlockPlace a) (CopyPlace n) (BlockUnit b) one (λ same. cc (same))) holds.chosen

@@ -1,5 +1,5 @@
 -- How commands change what is kept of the grid.
-use Rattle.std.proofs.Common.{◌≡◌, ℕ, zero, suc, ◌+◌, ◌<◌, ◌≤◌, ◌==◌, nat_lt, Bool, true, false, if◌then◌else◌, List, [], ◌∷◌, Option, Some, None, refl, sym, ◌∙◌, ap, arith}
+use Rattle.std.proofs.Common.{◌≡◌, ℕ, zero, suc, ◌+◌, ◌<◌, ◌≤◌, ◌==◌, nat_lt, Bool, true, false, if◌then◌else◌, List, [], ◌∷◌, Option, Some, None, refl, sym, ◌∙◌, ap, arith, lt-ltb, le-ltb, eq-eqb, ne_eqb}
 use Rattle.std.specs.List.{range_with_len}
 use Rattle.std.proofs.lemmas.Bool.Decides.{nat_tests}
 use Rattle.df_theory.specs.Units.{Parts}
@@ -55,29 +55,17 @@ if_no : {X : Type 0} (b : Bool) (x y : X) → b ≡ false → (if b then x else 
 if_no true x y is = absurd (cc)
 if_no false x y is = refl
 
-yes_lt : (a b : ℕ) → a < b → nat_lt a b ≡ true
-yes_lt a b less = grind (arith, nat_tests)
-
-no_lt : (a b : ℕ) → b ≤ a → nat_lt a b ≡ false
-no_lt a b le = grind (arith, nat_tests)
-
-yes_eq : (a b : ℕ) → a ≡ b → (a == b) ≡ true
-yes_eq a b same = grind (arith, nat_tests)
-
-no_eq : (a b : ℕ) → (a ≡ b → ⊥) → (a == b) ≡ false
-no_eq a b apart = grind (arith, nat_tests)
-
 -- ---- a new entry
 
 in_front : (a c : ℕ) (rest : List (ℕ × ℕ)) → RisePairs (a + 1) rest → with_entry a c rest ≡ (a, c) ∷ rest
 in_front a c [] rise = refl
-in_front a c (x ∷ xs) rise = if_yes (nat_lt a x.0) ((a, c) ∷ x ∷ xs) (if x.0 == a then (a, c) ∷ xs else x ∷ with_entry a c xs) (yes_lt a x.0 (omega (arith, rise.0)))
+in_front a c (x ∷ xs) rise = if_yes (nat_lt a x.0) ((a, c) ∷ x ∷ xs) (if x.0 == a then (a, c) ∷ xs else x ∷ with_entry a c xs) (lt-ltb a x.0 (omega (arith, rise.0)))
 
 behind : (a c : ℕ) (x : ℕ × ℕ) (xs : List (ℕ × ℕ)) → x.0 < a → with_entry a c (x ∷ xs) ≡ x ∷ with_entry a c xs
-behind a c x xs less = if_no (nat_lt a x.0) ((a, c) ∷ x ∷ xs) (if x.0 == a then (a, c) ∷ xs else x ∷ with_entry a c xs) (no_lt a x.0 (omega arith)) ∙ if_no (x.0 == a) ((a, c) ∷ xs) (x ∷ with_entry a c xs) (no_eq x.0 a (λ same. omega arith))
+behind a c x xs less = if_no (nat_lt a x.0) ((a, c) ∷ x ∷ xs) (if x.0 == a then (a, c) ∷ xs else x ∷ with_entry a c xs) (le-ltb a x.0 (omega arith)) ∙ if_no (x.0 == a) ((a, c) ∷ xs) (x ∷ with_entry a c xs) (ne_eqb x.0 a (λ same. omega arith))
 
 over : (a c : ℕ) (x : ℕ × ℕ) (xs : List (ℕ × ℕ)) → x.0 ≡ a → with_entry a c (x ∷ xs) ≡ (a, c) ∷ xs
-over a c x xs same = if_no (nat_lt a x.0) ((a, c) ∷ x ∷ xs) (if x.0 == a then (a, c) ∷ xs else x ∷ with_entry a c xs) (no_lt a x.0 (omega arith)) ∙ if_yes (x.0 == a) ((a, c) ∷ xs) (x ∷ with_entry a c xs) (yes_eq x.0 a same)
+over a c x xs same = if_no (nat_lt a x.0) ((a, c) ∷ x ∷ xs) (if x.0 == a then (a, c) ∷ xs else x ∷ with_entry a c xs) (le-ltb a x.0 (omega arith)) ∙ if_yes (x.0 == a) ((a, c) ∷ xs) (x ∷ with_entry a c xs) (eq-eqb x.0 a same)
 
 here_case : (s a c : ℕ) (o : Option ℕ) (rest : List (ℕ × ℕ)) → s ≡ a → RisePairs (a + 1) rest → (a, c) ∷ rest ≡ with_entry a c (entry s o rest)
 here_case s a c None rest same rise = sym (in_front a c rest rise)
@@ -113,7 +101,7 @@ entered f a c s (suc n) from to = entered_case f a c s n (s == a) refl from (λ 
 
 not_among : (a : ℕ) (rest : List (ℕ × ℕ)) → RisePairs (a + 1) rest → without_entry a rest ≡ rest
 not_among a [] rise = refl
-not_among a (x ∷ xs) rise = if_no (x.0 == a) xs (x ∷ without_entry a xs) (no_eq x.0 a (λ same. omega (arith, rise.0))) ∙ ap (λ (l : List (ℕ × ℕ)). x ∷ l) (not_among a xs (lift a x.0 xs (omega (arith, rise.0)) rise.1))
+not_among a (x ∷ xs) rise = if_no (x.0 == a) xs (x ∷ without_entry a xs) (ne_eqb x.0 a (λ same. omega (arith, rise.0))) ∙ ap (λ (l : List (ℕ × ℕ)). x ∷ l) (not_among a xs (lift a x.0 xs (omega (arith, rise.0)) rise.1))
   where
     lift : (a b : ℕ) (rest : List (ℕ × ℕ)) → a ≤ b → RisePairs (b + 1) rest → RisePairs (a + 1) rest
     lift a b [] le rise = tt
@@ -121,11 +109,11 @@ not_among a (x ∷ xs) rise = if_no (x.0 == a) xs (x ∷ without_entry a xs) (no
 
 gone_case : (s a : ℕ) (o : Option ℕ) (rest : List (ℕ × ℕ)) → s ≡ a → RisePairs (a + 1) rest → rest ≡ without_entry a (entry s o rest)
 gone_case s a None rest same rise = sym (not_among a rest rise)
-gone_case s a (Some d) rest same rise = sym (if_yes (s == a) rest ((s, d) ∷ without_entry a rest) (yes_eq s a same))
+gone_case s a (Some d) rest same rise = sym (if_yes (s == a) rest ((s, d) ∷ without_entry a rest) (eq-eqb s a same))
 
 stays_case : (s a : ℕ) (o : Option ℕ) (rest : List (ℕ × ℕ)) → (s ≡ a → ⊥) → entry s o (without_entry a rest) ≡ without_entry a (entry s o rest)
 stays_case s a None rest apart = refl
-stays_case s a (Some d) rest apart = sym (if_no (s == a) rest ((s, d) ∷ without_entry a rest) (no_eq s a apart))
+stays_case s a (Some d) rest apart = sym (if_no (s == a) rest ((s, d) ∷ without_entry a rest) (ne_eqb s a apart))
 
 removed_case : (f : ℕ → Option ℕ) (a s n : ℕ) (b : Bool) → (s == a) ≡ b → entries (λ k. if k == a then None else f k) (range_with_len (s + 1) n) ≡ without_entry a (entries f (range_with_len (s + 1) n))
     → entry s (if s == a then None else f s) (entries (λ k. if k == a then None else f k) (range_with_len (s + 1) n)) ≡ without_entry a (entry s (f s) (entries f (range_with_len (s + 1) n)))

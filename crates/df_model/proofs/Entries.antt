@@ -1,12 +1,13 @@
 -- Maps as lists of their entries.
-use Rattle.std.proofs.Common.{◌≡◌, ℕ, zero, suc, map, ◌||◌, ◌+◌, ◌<◌, ◌≤◌, ◌==◌, Bool, true, false, cond, if◌then◌else◌, List, [], ◌∷◌, Option, Some, None, refl, sym, ◌∙◌, ap, subst, arith}
+use Rattle.std.proofs.Common.{◌≡◌, ℕ, zero, suc, map, ◌||◌, ◌+◌, ◌<◌, ◌≤◌, ◌==◌, Bool, true, false, cond, if◌then◌else◌, List, [], ◌∷◌, Option, Some, None, refl, sym, ◌∙◌, ap, subst, arith, eqb-true}
 use Rattle.std.proofs.lemmas.Bool.Decides.{nat_tests}
 use Rattle.std.specs.List.{filter, range_with_len}
+use Rattle.std.proofs.lemmas.Bool.{eqb-false}
+use Rattle.df_base.proofs.Laws.{same_test}
 use Rattle.df_theory.specs.Units.{Block, Layout}
 use Rattle.df_theory.specs.Shape.{Shape}
 use Rattle.df_model.specs.Work.{Running, Work, captured_sum, is_captured, is_held, is_in, is_known, is_of, or_known, reference_of, sum_in}
-use Rattle.df_model.specs.Blocks.{Blocks, blocks_of, captured_of, entries, entry, is_held_in, left_of, pair_of, reference_in, sum_at, written_of}
-use Rattle.df_model.proofs.Tests.{eq_false, eq_true}
+use Rattle.df_model.specs.Blocks.{Blocks, blocks_of, captured_of, entries, entry, is_held_in, left_of, pair_of, reference_in, sum_at, without_entry, written_of}
 
 -- what is looked up is what the map says there
 in_case : (f : ℕ → Option ℕ) (a x : ℕ) (o : Option ℕ) (rest : List (ℕ × ℕ)) (c : ℕ) → f x ≡ o → sum_at a (entry x o rest) ≡ Some c → (sum_at a rest ≡ Some c → f a ≡ Some c) → f a ≡ Some c
@@ -14,7 +15,7 @@ in_case f a x None rest c known is more = more is
 in_case f a x (Some d) rest c known is more = go (x == a) refl is
   where
     go : (b : Bool) → (x == a) ≡ b → (if b then Some d else sum_at a rest) ≡ Some c → f a ≡ Some c
-    go true same found = ap f (sym (eq_true x a same)) ∙ known ∙ found
+    go true same found = ap f (sym (eqb-true x a same)) ∙ known ∙ found
     go false same found = more found
 
 pub entry_in : (f : ℕ → Option ℕ) (xs : List ℕ) (a c : ℕ) → sum_at a (entries f xs) ≡ Some c → f a ≡ Some c
@@ -41,8 +42,8 @@ there_case f a x c None rest known is more = more (λ same. let here = ap f same
 there_case f a x c (Some d) rest known is more = go (x == a) refl
   where
     go : (b : Bool) → (x == a) ≡ b → (if b then Some d else sum_at a rest) ≡ Some c
-    go true same = sym known ∙ ap f (eq_true x a same) ∙ is
-    go false same = more (eq_false x a same)
+    go true same = sym known ∙ ap f (eqb-true x a same) ∙ is
+    go false same = more (eqb-false x a same)
 
 pub entry_there : (f : ℕ → Option ℕ) (s n a c : ℕ) → s ≤ a → a < s + n → f a ≡ Some c → sum_at a (entries f (range_with_len s n)) ≡ Some c
 entry_there f s zero a c from to is = absurd (omega arith)
@@ -88,9 +89,6 @@ at_case f s n a (Some c) is from to = entry_there f s n a c from to is
 pub entry_at : (f : ℕ → Option ℕ) (s n a : ℕ) → s ≤ a → a < s + n → sum_at a (entries f (range_with_len s n)) ≡ f a
 entry_at f s n a from to = at_case f s n a (f a) refl from to
 
-same_test : (a b : ℕ) → (a == b) ≡ (b == a)
-same_test a b = grind (arith, nat_tests)
-
 pub pairs_sum : (a : ℕ) (xs : List (ℕ × Block)) → sum_at a (map pair_of xs) ≡ sum_in a xs
 pairs_sum a [] = refl
 pairs_sum a (x ∷ xs) = ap (λ (e : Bool). if e then Some x.1.checksum else sum_at a (map pair_of xs)) (same_test x.0 a) ∙ ap (λ (o : Option ℕ). if a == x.0 then Some x.1.checksum else o) (pairs_sum a xs)
@@ -131,3 +129,12 @@ module _ (sh : Shape) (w : Work) (a : ℕ) (from : 1 ≤ a) (to : a < 1 + sh.lay
       ∙ ap (λ (o : Option ℕ). or_known (w.live a) (or_known o (or_known (sum_at a b.durable) (sum_at a b.chain)))) (captured_sum_is sh.layout a from to w.running)
       ∙ ap (λ (o : Option ℕ). or_known (w.live a) (or_known (captured_sum a w.running) (or_known o (sum_at a b.chain)))) (entry_at w.view.checkpoint.parts.references 1 sh.layout.blocks a from to)
       ∙ ap (λ (o : Option ℕ). or_known (w.live a) (or_known (captured_sum a w.running) (or_known (w.view.checkpoint.parts.references a) o))) (pairs_sum a w.view.checkpoint.chain)
+
+-- what isn't there can't be taken away
+pub without_none : (a : ℕ) (xs : List (ℕ × ℕ)) → sum_at a xs ≡ None → without_entry a xs ≡ xs
+without_none a [] none = refl
+without_none a (x ∷ xs) none = by (without_none a xs) (x.0 == a) refl none
+  where
+    by : (sum_at a xs ≡ None → without_entry a xs ≡ xs) → (b : Bool) → (x.0 == a) ≡ b → cond b (Some x.1) (sum_at a xs) ≡ None → cond b xs (x ∷ without_entry a xs) ≡ x ∷ xs
+    by rest true same is = absurd (cc)
+    by rest false other is = ap (λ (l : List (ℕ × ℕ)). x ∷ l) (rest is)

@@ -1,6 +1,7 @@
 -- What a tour lists: exactly what is referenced and not shown.
-use Rattle.std.proofs.Common.{◌≡◌, ◌⊎◌, inl, inr, ℕ, zero, suc, ◌+◌, ◌<◌, ◌≤◌, ◌==◌, Bool, true, false, List, [], ◌∷◌, map, Option, Some, None, refl, sym, ◌∙◌, ap, subst, arith}
+use Rattle.std.proofs.Common.{◌≡◌, ◌⊎◌, inl, inr, ℕ, zero, suc, ◌+◌, ◌<◌, ◌≤◌, ◌==◌, Bool, true, false, List, [], ◌∷◌, map, Option, Some, None, refl, sym, ◌∙◌, ap, subst, arith, eqb-true}
 use Rattle.std.specs.List.{range_with_len}
+use Rattle.std.proofs.lemmas.Bool.{eqb-false}
 use Rattle.df_layout.specs.declared.damage.Class.{Class}
 use Rattle.df_layout.specs.declared.damage.Finding.{Finding}
 use Rattle.df_theory.specs.Units.{AnyUnit, Block, BlockPlace, BlockUnit, CopyUnit, HeaderUnit, PrepareUnit, ReplyUnit}
@@ -10,7 +11,6 @@ use Rattle.df_model.specs.Blocks.{blocks_of, reference_in, addresses, entries, e
 use Rattle.df_model.specs.Supply.{Shown, block_given, check_of, class_at, given_if, verdict_of}
 use Rattle.df_model.specs.Reading.{FailingLaw, InFindings, address_of, failing, with_finding}
 use Rattle.df_model.specs.Sense.{RiseFrom, ShowsBlock}
-use Rattle.df_model.proofs.Tests.{eq_false, eq_true}
 use Rattle.df_model.proofs.Entries.{EachPair, reference_is, within}
 use Rattle.df_model.proofs.Grid.{rise_lower}
 use Rattle.df_model.proofs.Kept.{block_shown}
@@ -26,7 +26,7 @@ Says c unit class Sound = (b : Block) × (unit ≡ Some (BlockUnit b)) × (b.che
 Says c unit class (Failing k) = k ≡ class
 
 sum_says : (c : ℕ) (b : Block) (class : Class) (e : Bool) → (b.checksum == c) ≡ e → Says c (Some (BlockUnit b)) class (verdict_of (given_if e b class))
-sum_says c b class true is = (b, refl, eq_true b.checksum c is)
+sum_says c b class true is = (b, refl, eqb-true b.checksum c is)
 sum_says c b class false is = refl
 
 check_says : (c : ℕ) (unit : Option AnyUnit) (class : Class) → Says c unit class (verdict_of (block_given (Some c) unit class))
@@ -98,8 +98,8 @@ entry_more x a None rest at = at
 entry_more x a (Some d) rest at = inr at
 
 member_case : (f : ℕ → Option ℕ) (s a c : ℕ) (rest : List (ℕ × ℕ)) (b : Bool) → (s == a) ≡ b → f a ≡ Some c → ((s ≡ a → ⊥) → InPairs (a, c) rest) → InPairs (a, c) (entry s (f s) rest)
-member_case f s a c rest true same is more = subst (λ (k : ℕ). InPairs (k, c) (entry s (f s) rest)) (eq_true s a same) (entry_member s (f s) rest c (ap f (eq_true s a same) ∙ is))
-member_case f s a c rest false same is more = entry_more (a, c) s (f s) rest (more (eq_false s a same))
+member_case f s a c rest true same is more = subst (λ (k : ℕ). InPairs (k, c) (entry s (f s) rest)) (eqb-true s a same) (entry_member s (f s) rest c (ap f (eqb-true s a same) ∙ is))
+member_case f s a c rest false same is more = entry_more (a, c) s (f s) rest (more (eqb-false s a same))
 
 member : (f : ℕ → Option ℕ) (s n a c : ℕ) → s ≤ a → a < s + n → f a ≡ Some c → InPairs (a, c) (entries f (range_with_len s n))
 member f s zero a c from to is = absurd (omega arith)

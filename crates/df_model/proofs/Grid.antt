@@ -1,6 +1,7 @@
 -- Addresses that are held, and those that are free.
-use Rattle.std.proofs.Common.{◌≡◌, inl, inr, ℕ, ◌+◌, ◌<◌, ◌≤◌, ◌==◌, ◌||◌, not, Bool, true, false, cond, List, [], ◌∷◌, length, take, Option, Some, None, refl, sym, ◌∙◌, ap, subst, zero, suc, arith}
+use Rattle.std.proofs.Common.{◌≡◌, inl, inr, ℕ, ◌+◌, ◌<◌, ◌≤◌, ◌==◌, ◌||◌, not, Bool, true, false, cond, List, [], ◌∷◌, length, take, Option, Some, None, refl, sym, ◌∙◌, ap, subst, zero, suc, arith, eqb-true, eq-eqb}
 use Rattle.std.specs.List.{filter, range_with_len}
+use Rattle.std.proofs.lemmas.Bool.{or_left, or_right, or_parts, eqb-false}
 use Rattle.df_theory.specs.Units.{Block, Parts}
 use Rattle.df_theory.specs.Trailer.{InChain}
 use Rattle.df_theory.specs.Shape.{Shape}
@@ -10,7 +11,6 @@ use Rattle.df_model.specs.Blocks.{blocks_of, is_held_in}
 use Rattle.df_model.proofs.Entries.{held_is}
 use Rattle.df_model.specs.Codec.{InGrid}
 use Rattle.df_model.specs.Sense.{AtEachOf, RiseFrom}
-use Rattle.df_model.proofs.Tests.{eq_false, eq_true, or_false, true_eq}
 use Rattle.df_model.specs.Making.{first_of}
 
 -- ---- lists of addresses
@@ -74,8 +74,8 @@ known_some o c is = ap is_known is
 
 pub of_none : (a : ℕ) (b : Block) (xs : List (ℕ × Block)) → is_of a xs ≡ false → InChain a b xs → ⊥
 of_none a b [] is at = at
-of_none a b (x ∷ xs) is (inl here) = eq_false a x.0 (or_false (a == x.0) (is_of a xs) is).0 here.0
-of_none a b (x ∷ xs) is (inr there) = of_none a b xs (or_false (a == x.0) (is_of a xs) is).1 there
+of_none a b (x ∷ xs) is (inl here) = eqb-false a x.0 (or_parts (a == x.0) (is_of a xs) is).0 here.0
+of_none a b (x ∷ xs) is (inr there) = of_none a b xs (or_parts (a == x.0) (is_of a xs) is).1 there
 
 -- nothing references the address, and no trailer has it
 pub record IsNowhere (w : Work) (a : ℕ) : Type 0 where
@@ -87,26 +87,18 @@ pub record IsNowhere (w : Work) (a : ℕ) : Type 0 where
 
 pub nowhere : (w : Work) (a : ℕ) → is_held w a ≡ false → IsNowhere w a
 nowhere w a unheld =
-    let one = or_false (is_known (w.live a)) (is_captured a w.running || (is_known (w.view.checkpoint.parts.references a) || is_of a w.view.checkpoint.chain)) unheld in
-    let two = or_false (is_captured a w.running) (is_known (w.view.checkpoint.parts.references a) || is_of a w.view.checkpoint.chain) one.1 in
-    let three = or_false (is_known (w.view.checkpoint.parts.references a)) (is_of a w.view.checkpoint.chain) two.1 in
+    let one = or_parts (is_known (w.live a)) (is_captured a w.running || (is_known (w.view.checkpoint.parts.references a) || is_of a w.view.checkpoint.chain)) unheld in
+    let two = or_parts (is_captured a w.running) (is_known (w.view.checkpoint.parts.references a) || is_of a w.view.checkpoint.chain) one.1 in
+    let three = or_parts (is_known (w.view.checkpoint.parts.references a)) (is_of a w.view.checkpoint.chain) two.1 in
     record {
       live = known_none (w.live a) one.0;
       durable = known_none (w.view.checkpoint.parts.references a) three.0;
       chain = λ b at. of_none a b w.view.checkpoint.chain three.1 at;
-      captured = λ r at. known_none (r.parts.references a) (or_false (is_known (r.parts.references a)) (is_of a r.written || is_in a r.left) (sym (ap (is_captured a) at) ∙ two.0)).0;
-      written = λ r b at. of_none a b r.written (or_false (is_of a r.written) (is_in a r.left) (or_false (is_known (r.parts.references a)) (is_of a r.written || is_in a r.left) (sym (ap (is_captured a) at) ∙ two.0)).1).0;
+      captured = λ r at. known_none (r.parts.references a) (or_parts (is_known (r.parts.references a)) (is_of a r.written || is_in a r.left) (sym (ap (is_captured a) at) ∙ two.0)).0;
+      written = λ r b at. of_none a b r.written (or_parts (is_of a r.written) (is_in a r.left) (or_parts (is_known (r.parts.references a)) (is_of a r.written || is_in a r.left) (sym (ap (is_captured a) at) ∙ two.0)).1).0;
     }
 
 -- ---- what is held
-
-pub or_left : (a b : Bool) → a ≡ true → (a || b) ≡ true
-or_left true b is = refl
-or_left false b is = absurd (cc)
-
-pub or_right : (a b : Bool) → b ≡ true → (a || b) ≡ true
-or_right true b is = refl
-or_right false b is = is
 
 pub live_held : (w : Work) (a c : ℕ) → w.live a ≡ Some c → is_held w a ≡ true
 live_held w a c is = or_left (is_known (w.live a)) (is_captured a w.running || (is_known (w.view.checkpoint.parts.references a) || is_of a w.view.checkpoint.chain)) (known_some (w.live a) c is)
@@ -114,7 +106,7 @@ live_held w a c is = or_left (is_known (w.live a)) (is_captured a w.running || (
 -- ---- what holds of each of a list
 
 in_case : (P : ℕ → Type 0) (x : ℕ) (xs : List ℕ) (a : ℕ) (b : Bool) → (a == x) ≡ b → P x → (is_in a xs ≡ true → P a) → (b || is_in a xs) ≡ true → P a
-in_case P x xs a true same here more is = subst P (sym (eq_true a x same)) here
+in_case P x xs a true same here more is = subst P (sym (eqb-true a x same)) here
 in_case P x xs a false same here more is = more is
 
 pub in_each : (P : ℕ → Type 0) (xs : List ℕ) (a : ℕ) → AtEachOf P xs → is_in a xs ≡ true → P a
@@ -124,7 +116,7 @@ in_each P (x ∷ xs) a each is = in_case P x xs a (a == x) refl each.0 (λ there
 -- a fact that may use that the address is one of the list
 pub each_with : (P Q : ℕ → Type 0) (xs : List ℕ) → ((x : ℕ) → is_in x xs ≡ true → P x → Q x) → AtEachOf P xs → AtEachOf Q xs
 each_with P Q [] weaker each = tt
-each_with P Q (x ∷ xs) weaker each = (weaker x (or_left (x == x) (is_in x xs) (true_eq x x refl)) each.0, each_with P Q xs (λ y at. weaker y (or_right (y == x) (is_in y xs) at)) each.1)
+each_with P Q (x ∷ xs) weaker each = (weaker x (or_left (x == x) (is_in x xs) (eq-eqb x x refl)) each.0, each_with P Q xs (λ y at. weaker y (or_right (y == x) (is_in y xs) at)) each.1)
 
 -- the trailer's addresses are held
 pub left_held : (w : Work) (r : Running) (a : ℕ) → w.running ≡ Some r → is_in a r.left ≡ true → is_held w a ≡ true

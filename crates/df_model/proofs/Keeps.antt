@@ -1,14 +1,14 @@
 -- Each command keeps the state's sense.
-use Rattle.std.proofs.Common.{◌≡◌, ◌⊎◌, inl, inr, ℕ, ◌+◌, ◌-◌, ◌<◌, ◌≤◌, ◌==◌, ◌||◌, Bool, true, false, if◌then◌else◌, List, [], ◌∷◌, map, ◌++◌, length, Option, Some, None, refl, sym, ◌∙◌, ap, subst, zero, suc, nat_lt, arith, length-drop}
+use Rattle.std.proofs.Common.{◌≡◌, ◌⊎◌, inl, inr, ℕ, ◌+◌, ◌-◌, ◌<◌, ◌≤◌, ◌==◌, ◌||◌, Bool, true, false, if◌then◌else◌, List, [], ◌∷◌, map, ◌++◌, length, Option, Some, None, refl, sym, ◌∙◌, ap, subst, zero, suc, nat_lt, arith, length-drop, eqb-true}
 use Rattle.std.specs.List.{range_with_len, slice_get}
 use Rattle.std.proofs.lemmas.Bool.Decides.{nat_tests}
 use Rattle.std.proofs.lemmas.List.FromFn.{length-map-range_with_len}
+use Rattle.std.proofs.lemmas.Bool.{or_right, or_cases}
 use Rattle.df_layout.specs.declared.damage.Finding.{Finding}
 use Rattle.df_theory.specs.Units.{Block, BlockUnit, Content, Message, Session, Parts}
 use Rattle.df_theory.specs.Sessions.{noted}
 use Rattle.df_theory.specs.Tails.{Chain, In}
 use Rattle.df_theory.specs.Trailer.{InChain, Links, Says, text_of}
-use Rattle.df_model.proofs.Tests.{eq_true}
 use Rattle.df_model.specs.Blocks.{addresses, entries, sum_at}
 use Rattle.df_model.proofs.Entries.{entry_known}
 use Rattle.df_model.proofs.Sessions.{chain_lawful}
@@ -24,7 +24,7 @@ use Rattle.df_model.specs.Sense.{AtEachOf, IsCapture, IsClear, IsWork}
 use Rattle.df_model.specs.declared.answers.Verdict.{Verdict}
 use Rattle.df_model.specs.declared.answers.Verdict.TheVariants.{Sound as IsFine, Failing}
 use Rattle.df_model.specs.Laws.{NextLaw, OpenedLaw, SenseLaw}
-use Rattle.df_model.proofs.Grid.{IsFree, are_free, each_take, each_weaker, in_each, nowhere, or_right}
+use Rattle.df_model.proofs.Grid.{IsFree, are_free, each_take, each_weaker, in_each, nowhere}
 use Rattle.df_model.proofs.Knows.{begin_knows, one_fewer, one_more, opened_one, scrub_one, trailer_knows, trailer_new}
 use Rattle.df_model.proofs.Appends.{append_keeps, may_append}
 use Rattle.df_model.proofs.Replies.{may_reply, reply_keeps}
@@ -205,10 +205,6 @@ chain_get clients op parent mark ss (x ∷ ps) p (suc i) chain (inr there) is = 
 if_below : (a b : ℕ) (x y : ℕ) → a < b → (if nat_lt a b then x else y) ≡ x
 if_below a b x y less = grind (arith, nat_tests)
 
-or_either : (a b : Bool) → (a || b) ≡ true → (a ≡ true) ⊎ (b ≡ true)
-or_either true b is = inl refl
-or_either false b is = inr is
-
 either_three : (a b : Bool) → (a || (false || (a || b))) ≡ true → (a || b) ≡ true
 either_three true b is = refl
 either_three false b is = is
@@ -218,10 +214,10 @@ some_known None is = absurd (cc)
 some_known (Some c) is = (c, refl)
 
 of_case : (a : ℕ) (x : ℕ × Block) (xs : List (ℕ × Block)) (b : Bool) → (a == x.0) ≡ b → (b || is_of a xs) ≡ true → (is_of a xs ≡ true → (y : Block) × InChain a y xs) → (y : Block) × InChain a y (x ∷ xs)
-of_case a x xs true same is more = (x.1, inl (eq_true a x.0 same, refl))
+of_case a x xs true same is more = (x.1, inl (eqb-true a x.0 same, refl))
 of_case a x xs false same is more = let rest = more is in (rest.0, inr rest.1)
 
-some_of : (a : ℕ) (xs : List (ℕ × Block)) → is_of a xs ≡ true → (y : Block) × InChain a y xs
+pub some_of : (a : ℕ) (xs : List (ℕ × Block)) → is_of a xs ≡ true → (y : Block) × InChain a y xs
 some_of a [] is = absurd (cc)
 some_of a (x ∷ xs) is = of_case a x xs (a == x.0) refl is (λ more. some_of a xs more)
 
@@ -247,7 +243,7 @@ opened_law sh spell image v codec version sound fields shows = record {
   version = version;
   view = sound;
   sessions = chain_lawful sh.layout.clients (v.checkpoint.content.op + 1) v.checkpoint.content.op_checksum 0 v.checkpoint.parts.sessions v.tail parts.sessions sound.chain fields.prepares;
-  grid = λ a held. elim (or_either (is_known (v.checkpoint.parts.references a)) (is_of a v.checkpoint.chain) (either_three (is_known (v.checkpoint.parts.references a)) (is_of a v.checkpoint.chain) held)) [
+  grid = λ a held. elim (or_cases (is_known (v.checkpoint.parts.references a)) (is_of a v.checkpoint.chain) (either_three (is_known (v.checkpoint.parts.references a)) (is_of a v.checkpoint.chain) held)) [
     | inl known ↦ let c = some_known (v.checkpoint.parts.references a) known in (parts.references a c.0 c.1).0
     | inr chained ↦
         let b = some_of a v.checkpoint.chain chained in

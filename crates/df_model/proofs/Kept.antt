@@ -1,9 +1,11 @@
 -- What is kept is read.
-use Rattle.std.proofs.Common.{◌≡◌, inl, inr, ℕ, zero, suc, ◌+◌, ◌-◌, ◌%◌, ◌<◌, ◌≤◌, ◌==◌, ◌&&◌, nat_lt, nat_le, not, Bool, true, false, if◌then◌else◌, List, [], ◌∷◌, length, map, Option, Some, None, Result, Ok, refl, sym, ◌∙◌, ap, subst, arith}
+use Rattle.std.proofs.Common.{◌≡◌, inl, inr, ℕ, zero, suc, ◌+◌, ◌-◌, ◌%◌, ◌<◌, ◌≤◌, ◌==◌, ◌&&◌, nat_lt, nat_le, not, Bool, true, false, if◌then◌else◌, List, [], ◌∷◌, length, map, Option, Some, None, Result, Ok, refl, sym, ◌∙◌, ap, subst, arith, ltb-true, leb-true, ltb-false, eqb-true, eq-eqb}
 use Rattle.std.specs.List.{range_with_len, slice_get}
 use Rattle.std.proofs.lemmas.Bool.Decides.{nat_tests}
 use Rattle.std.proofs.lemmas.Option.{slice_get-map, slice_get_within}
 use Rattle.std.specs.Option.{option_map}
+use Rattle.std.proofs.lemmas.Bool.{and_parts, not-false}
+use Rattle.df_base.proofs.Laws.{not_zero}
 use Rattle.df_layout.specs.declared.damage.Class.{Class}
 use Rattle.df_layout.specs.declared.damage.Class.TheVariants.{Stale}
 use Rattle.df_theory.specs.Units.{AnyUnit, Block, BlockPlace, BlockUnit, Message, Parts, PreparePlace, PrepareUnit, ReplyPlace, ReplyUnit, Session, Units}
@@ -23,7 +25,7 @@ use Rattle.df_model.specs.Supply.{block_given, first_check, given_if, is_sum, no
 use Rattle.df_model.specs.Sense.{IsBacked, ShowsBlock, ShowsOwnBlock}
 use Rattle.df_model.specs.Laws.{IsKeptBy}
 use Rattle.df_model.specs.Reading.{BlockReadLaw, PrepareReadLaw, ReplyReadLaw, ScrubLaw, shown_by}
-use Rattle.df_model.proofs.Tests.{all_pass, eq_true, lt_false, not_false, true_eq}
+use Rattle.df_model.proofs.Tests.{all_pass}
 use Rattle.df_model.proofs.Entries.{entry_there, filtered_each, reference_is, within}
 use Rattle.df_model.proofs.Keeps.{chain_get, get_range}
 use Rattle.df_model.proofs.Grid.{live_held}
@@ -39,20 +41,10 @@ chain_at clients op parent mark ss (x ∷ ps) (suc i) chain less =
     let rest = chain_at clients (op + 1) x.header.checksum x.header.mark (noted x.header ss) ps i chain.1 (omega arith) in
     (rest.0, inr rest.1, omega (arith, rest.2))
 
-both_true : (a b : Bool) → (a && b) ≡ true → (a ≡ true) × (b ≡ true)
-both_true true b is = (refl, is)
-both_true false b is = absurd (cc)
-
-lt_true : (a b : ℕ) → nat_lt a b ≡ true → a < b
-lt_true a b is = grind (arith, nat_tests)
-
-le_true : (a b : ℕ) → nat_le a b ≡ true → a ≤ b
-le_true a b is = grind (arith, nat_tests)
-
 -- ---- what is given, where the unit is shown
 
 same_sum : (known : Option ℕ) (sum : ℕ) → known ≡ Some sum → is_sum known sum ≡ true
-same_sum known sum knows = ap (λ (k : Option ℕ). is_sum k sum) knows ∙ true_eq sum sum refl
+same_sum known sum knows = ap (λ (k : Option ℕ). is_sum k sum) knows ∙ eq-eqb sum sum refl
 
 pub prepare_shown : (known : Option ℕ) (unit : Option AnyUnit) (class : Class) (p : Message) → unit ≡ Some (PrepareUnit p) → known ≡ Some p.header.checksum → prepare_given known unit class ≡ Ok p
 prepare_shown known unit class p shows knows = ap (λ (u : Option AnyUnit). prepare_given known u class) shows ∙ ap (λ (b : Bool). given_if b p class) (same_sum known p.header.checksum knows)
@@ -75,8 +67,8 @@ prepare_read_law sh codec log damage w op keeps none = (p, found.1, op_is, ap To
     bounds : (w.view.checkpoint.content.op < op) × (op ≤ head w.view)
     bounds =
         let tests = all_pass (prepare_refusals (memory_of sh codec.spell w) op) none in
-        let two = both_true (nat_lt w.view.checkpoint.content.op op) (nat_le op (head w.view)) (not_false _ tests.0) in
-        (lt_true w.view.checkpoint.content.op op two.0, le_true op (head w.view) two.1)
+        let two = and_parts (nat_lt w.view.checkpoint.content.op op) (nat_le op (head w.view)) (not-false _ tests.0) in
+        (ltb-true w.view.checkpoint.content.op op two.0, leb-true op (head w.view) two.1)
 
     found : (p : Message) × In p w.view.tail × (p.header.op ≡ w.view.checkpoint.content.op + 1 + (op - w.view.checkpoint.content.op - 1))
     found = chain_at sh.layout.clients (w.view.checkpoint.content.op + 1) w.view.checkpoint.content.op_checksum 0 w.view.checkpoint.parts.sessions w.view.tail (op - w.view.checkpoint.content.op - 1) keeps.sense.view.chain (omega (arith, bounds.0, bounds.1))
@@ -101,7 +93,7 @@ IsAtClient client ss = (s : Session) × (slice_get ss (place_of_client client ss
 
 client_case : (client : ℕ) (x : Session) (ss : List Session) (b : Bool) → (x.client == client) ≡ b → is_new (if b then Some x else session_of_client client ss) ≡ false → (is_new (session_of_client client ss) ≡ false → IsAtClient client ss)
     → (s : Session) × (slice_get (x ∷ ss) (if b then 0 else suc (place_of_client client ss)) ≡ Some s) × (s.client ≡ client) × ((if b then Some x else session_of_client client ss) ≡ Some s)
-client_case client x ss true same known more = (x, refl, eq_true x.client client same, refl)
+client_case client x ss true same known more = (x, refl, eqb-true x.client client same, refl)
 client_case client x ss false same known more = more known
 
 client_found : (client : ℕ) (ss : List Session) → is_new (session_of_client client ss) ≡ false → IsAtClient client ss
@@ -116,7 +108,7 @@ reply_read_law sh codec log damage w client keeps none =
     found = client_found client (sessions w.view) (all_pass (lookup_refusals (memory_of sh codec.spell w) client) none).0
 
     low : found.0.op ≤ w.view.replies
-    low = subst (λ (n : ℕ). n ≤ w.view.replies) (ap last_op found.3) (lt_false w.view.replies (last_op (session_of_client client (sessions w.view))) (all_pass (lookup_refusals (memory_of sh codec.spell w) client) none).1.0)
+    low = subst (λ (n : ℕ). n ≤ w.view.replies) (ap last_op found.3) (ltb-false w.view.replies (last_op (session_of_client client (sessions w.view))) (all_pass (lookup_refusals (memory_of sh codec.spell w) client) none).1.0)
 
     stored : (r : Message) × (w.view.stored (place_of_client client (sessions w.view)) ≡ Some r)
     stored = keeps.sense.view.stores (place_of_client client (sessions w.view)) found.0 found.1 low
@@ -135,11 +127,8 @@ reply_read_law sh codec log damage w client keeps none =
 
 -- ---- blocks
 
-no_zero : (n : ℕ) → 0 < n → not (n == 0) ≡ true
-no_zero n some = grind (arith, nat_tests)
-
 own_shown : (given : Result Block Class) (b : Block) → given ≡ Ok b → 0 < b.kind → no_trailer given ≡ Ok b
-own_shown given b is some = ap no_trailer is ∙ ap (λ (e : Bool). given_if e b Stale) (no_zero b.kind some)
+own_shown given b is some = ap no_trailer is ∙ ap (λ (e : Bool). given_if e b Stale) (not_zero b.kind some)
 
 pub block_read_law : BlockReadLaw
 block_read_law sh codec log damage w a c keeps backed live =
@@ -158,7 +147,7 @@ block_read_law sh codec log damage w a c keeps backed live =
 -- ---- the scrubber
 
 sum_case : (image : Units) (a : ℕ) (x : ℕ × Block) (xs : List (ℕ × Block)) (c : ℕ) (b : Bool) → (a == x.0) ≡ b → (if b then Some x.1.checksum else sum_in a xs) ≡ Some c → ((y : Block) → InChain a y (x ∷ xs) → image (BlockPlace a) ≡ Some (BlockUnit y)) → (sum_in a xs ≡ Some c → ShowsBlock image a c) → ShowsBlock image a c
-sum_case image a x xs c true same is shows more = (x.1, shows x.1 (inl (eq_true a x.0 same, refl)), (let both : Some x.1.checksum ≡ Some c = is in cc))
+sum_case image a x xs c true same is shows more = (x.1, shows x.1 (inl (eqb-true a x.0 same, refl)), (let both : Some x.1.checksum ≡ Some c = is in cc))
 sum_case image a x xs c false same is shows more = more is
 
 sum_shown : (image : Units) (a : ℕ) (xs : List (ℕ × Block)) (c : ℕ) → sum_in a xs ≡ Some c → ((y : Block) → InChain a y xs → image (BlockPlace a) ≡ Some (BlockUnit y)) → ShowsBlock image a c

@@ -1,5 +1,5 @@
 -- One block an address.
-use Rattle.std.proofs.Common.{◌≡◌, ◌⊎◌, inl, inr, ℕ, ◌+◌, ◌==◌, Bool, true, false, if◌then◌else◌, List, ◌∷◌, Option, Some, None, refl, sym, ◌∙◌, ap, subst, arith}
+use Rattle.std.proofs.Common.{◌≡◌, ◌⊎◌, inl, inr, ℕ, ◌+◌, ◌==◌, Bool, true, false, if◌then◌else◌, List, ◌∷◌, Option, Some, None, refl, sym, ◌∙◌, ap, subst, arith, eqb-true}
 use Rattle.df_theory.specs.Units.{Block, Message, Parts}
 use Rattle.df_theory.specs.Trailer.{InChain}
 use Rattle.df_theory.specs.Shape.{Shape}
@@ -8,7 +8,6 @@ use Rattle.df_theory.specs.Holds.{Sound}
 use Rattle.df_model.specs.Work.{Running, Work}
 use Rattle.df_model.specs.After.{with_running, begun, finished, with_live, with_prepare, with_reply, with_trailer_block}
 use Rattle.df_model.specs.Sense.{AreOne, AtEachOf, Captured, Chained, Durable, IsCapture, IsClear, IsKnown, IsSpare, Live, RiseFrom, Written}
-use Rattle.df_model.proofs.Tests.{eq_true}
 use Rattle.df_model.proofs.Grid.{IsNowhere}
 use Rattle.df_model.specs.Blocks.{addresses, entries, sum_at}
 use Rattle.df_model.proofs.Entries.{entry_in}
@@ -58,7 +57,7 @@ reply_knows w place m a c (Durable is) = Durable is
 reply_knows w place m a c (Chained b is sum) = Chained b is sum
 
 live_case : (w : Work) (at sum a c : ℕ) (b : Bool) → (a == at) ≡ b → (if b then Some sum else w.live a) ≡ Some c → IsKnown w a c ⊎ ((a ≡ at) × (c ≡ sum))
-live_case w at sum a c true same is = inr (eq_true a at same, (let both : Some sum ≡ Some c = is in cc))
+live_case w at sum a c true same is = inr (eqb-true a at same, (let both : Some sum ≡ Some c = is in cc))
 live_case w at sum a c false same is = inl (Live is)
 
 pub live_knows : (w : Work) (at sum : ℕ) → KnowsOneMore w (with_live w at (Some sum)) at sum

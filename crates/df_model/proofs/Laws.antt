@@ -1,25 +1,26 @@
 -- What the crates above cite of these proofs: the laws, as lemmas, and a few facts.
 -- ---- the state, and what may be done
-pub use Rattle.df_model.proofs.Keeps.{next_law, opened_law, sense_law}
+pub use Rattle.df_model.proofs.Keeps.{next_law, opened_law, sense_law, newest_few, some_of}
 pub use Rattle.df_model.proofs.Appends.{append_may_law}
 pub use Rattle.df_model.proofs.Replies.{reply_may_law}
 pub use Rattle.df_model.proofs.Exact.{append_exact_law, pass_all, reply_exact_law}
 pub use Rattle.df_model.proofs.Blocks.{block_aside_law, block_may_law}
 pub use Rattle.df_model.proofs.Finishes.{finish_exact_law, finish_may_law}
-pub use Rattle.df_model.proofs.Begins.{begin_exact_law}
+pub use Rattle.df_model.proofs.Begins.{begin_exact_law, count_le}
 -- ---- the device
 pub use Rattle.df_model.proofs.Does.{command_law}
 pub use Rattle.df_model.proofs.Runs.{first_kept_law, found_law, opened_kept_law, run_law}
 pub use Rattle.df_model.proofs.Disks.{disk_command_law}
 -- ---- what is in memory, and answers
 pub use Rattle.df_model.proofs.Answering.{answer_from, answer_is, memory_law, order_law, reply_parent_law}
-pub use Rattle.df_model.proofs.Changing.{blocks_law}
+pub use Rattle.df_model.proofs.Changing.{blocks_law, entries_same}
 pub use Rattle.df_model.proofs.Recalls.{change_law, lists_law}
-pub use Rattle.df_model.proofs.Entries.{entry_at}
+pub use Rattle.df_model.proofs.Entries.{entry_at, entry_in, without_none}
 pub use Rattle.df_model.proofs.Sessions.{known_asks, new_asks, op_found}
 -- ---- reads, tours, sessions
 pub use Rattle.df_model.proofs.Kept.{block_read_law, prepare_read_law, reply_read_law, scrub_law}
-pub use Rattle.df_model.proofs.Tours.{tour_law}
+pub use Rattle.df_model.proofs.Tours.{tour_law, newest_keeps, newest_short}
 pub use Rattle.df_model.proofs.Fails.{failing_law}
 pub use Rattle.df_model.proofs.Results.{result_law, writes_law}
 pub use Rattle.df_model.proofs.Tests.{all_pass}
+pub use Rattle.df_model.proofs.Grid.{known_none, rise_take}

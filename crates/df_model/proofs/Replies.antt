@@ -1,5 +1,6 @@
 -- A reply.
 use Rattle.std.proofs.Common.{◌≡◌, ℕ, suc, ◌+◌, ◌<◌, List, [], ◌∷◌, drop, None, refl, sym, ap, arith}
+use Rattle.std.proofs.lemmas.Bool.{eqb-false}
 use Rattle.df_theory.specs.Units.{Message, Parts}
 use Rattle.df_theory.specs.Shape.{Shape}
 use Rattle.df_theory.specs.View.{View, head, sessions}
@@ -10,7 +11,7 @@ use Rattle.df_model.specs.Refusals.{first_refusal, reply_refusals}
 use Rattle.df_model.specs.After.{with_reply}
 use Rattle.df_model.specs.Sense.{AreWaiting, IsWork}
 use Rattle.df_model.specs.Laws.{ReplyMayLaw}
-use Rattle.df_model.proofs.Tests.{eq_false, all_pass}
+use Rattle.df_model.proofs.Tests.{all_pass}
 use Rattle.df_model.proofs.Knows.{one_fewer, reply_knows}
 use Rattle.df_model.proofs.Sessions.{IsAtOp, op_found}
 use Rattle.df_model.specs.Memory.{memory_of}
@@ -26,7 +27,7 @@ module _ (sh : Shape) (spell : Parts → List ℕ) (w : Work) (sum op : ℕ) (bo
   waits : v.replies < head v
   waits =
       let tests = all_pass (reply_refusals (memory_of sh spell w) op body) none in
-      let differs : v.replies ≡ head v → ⊥ = eq_false v.replies (head v) tests.0 in
+      let differs : v.replies ≡ head v → ⊥ = eqb-false v.replies (head v) tests.0 in
       omega (arith, work.view.pipeline)
 
   found : IsAtOp (v.replies + 1) (sessions v)

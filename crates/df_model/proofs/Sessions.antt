@@ -1,14 +1,14 @@
 -- Who may ask, and what a request makes of lawful sessions.
-use Rattle.std.proofs.Common.{◌≡◌, inl, inr, ℕ, ◌+◌, ◌<◌, ◌≤◌, ◌==◌, Bool, true, false, if◌then◌else◌, List, [], ◌∷◌, length, Some, None, refl, sym, ◌∙◌, ap, subst, zero, suc, arith}
+use Rattle.std.proofs.Common.{◌≡◌, inl, inr, ℕ, ◌+◌, ◌<◌, ◌≤◌, ◌==◌, Bool, true, false, if◌then◌else◌, List, [], ◌∷◌, length, Some, None, refl, sym, ◌∙◌, ap, subst, zero, suc, arith, eqb-true}
 use Rattle.std.specs.Prelude.{◌-◌}
 use Rattle.std.specs.List.{slice_get}
+use Rattle.std.proofs.lemmas.Bool.{eqb-false}
 use Rattle.df_theory.specs.Units.{Header, Message, Session}
 use Rattle.df_theory.specs.Sessions.{Has, MayAsk, noted, session_of, sessions_after}
 use Rattle.df_theory.specs.Tails.{Chain, In}
 use Rattle.df_theory.proofs.Laws.{noted_get}
 use Rattle.df_model.specs.Codec.{AreLawful, IsLawfulSession}
 use Rattle.df_model.specs.Refusals.{session_of_client}
-use Rattle.df_model.proofs.Tests.{eq_false, eq_true}
 use Rattle.df_model.specs.Making.{place_of_op}
 
 -- ---- a client's session
@@ -17,8 +17,8 @@ known_case : (h : Header) (x s : Session) (ss : List Session) (room : ℕ) (b : 
     → ((k : ℕ) → length ss ≤ k → session_of_client h.client ss ≡ Some s → MayAsk k h ss) → MayAsk room h (x ∷ ss)
 known_case h x s ss room true is there few next answered more =
     let one : x ≡ s = (let both : Some x ≡ Some s = there in cc) in
-    inl (eq_true x.client h.client is, next ∙ ap (λ (t : Session). t.request + 1) (sym one), subst (λ (t : Session). t.op ≤ h.mark) (sym one) answered)
-known_case h x s ss room false is there few next answered more = inr (eq_false x.client h.client is, room - 1, omega arith, more (room - 1) (omega arith) there)
+    inl (eqb-true x.client h.client is, next ∙ ap (λ (t : Session). t.request + 1) (sym one), subst (λ (t : Session). t.op ≤ h.mark) (sym one) answered)
+known_case h x s ss room false is there few next answered more = inr (eqb-false x.client h.client is, room - 1, omega arith, more (room - 1) (omega arith) there)
 
 pub known_asks : (room : ℕ) (h : Header) (ss : List Session) (s : Session) → session_of_client h.client ss ≡ Some s → length ss ≤ room → h.request ≡ s.request + 1 → s.op ≤ h.mark → MayAsk room h ss
 known_asks room h [] s there few next answered = absurd (cc)
@@ -27,7 +27,7 @@ known_asks room h (x ∷ ss) s there few next answered = known_case h x s ss roo
 new_case : (h : Header) (x : Session) (ss : List Session) (room : ℕ) (b : Bool) → (x.client == h.client) ≡ b → (if b then Some x else session_of_client h.client ss) ≡ None → length ss + 1 < room
     → ((k : ℕ) → length ss < k → session_of_client h.client ss ≡ None → MayAsk k h ss) → MayAsk room h (x ∷ ss)
 new_case h x ss room true is there few more = absurd (cc)
-new_case h x ss room false is there few more = inr (eq_false x.client h.client is, room - 1, omega arith, more (room - 1) (omega arith) there)
+new_case h x ss room false is there few more = inr (eqb-false x.client h.client is, room - 1, omega arith, more (room - 1) (omega arith) there)
 
 pub new_asks : (room : ℕ) (h : Header) (ss : List Session) → session_of_client h.client ss ≡ None → length ss < room → h.request ≡ 1 → MayAsk room h ss
 new_asks room h [] there few first = (first, omega arith)
@@ -38,7 +38,7 @@ new_asks room h (x ∷ ss) there few first = new_case h x ss room (x.client == h
 few_case : (h : Header) (x : Session) (ss rest : List Session) (room : ℕ) (b : Bool) → (x.client == h.client) ≡ b → MayAsk room h (x ∷ ss) → length ss + 1 ≤ room → ((k : ℕ) → MayAsk k h ss → length ss ≤ k → length rest ≤ k)
     → length (if b then session_of h ∷ ss else x ∷ rest) ≤ room
 few_case h x ss rest room true is may few more = omega arith
-few_case h x ss rest room false is (inl here) few more = absurd (eq_false x.client h.client is here.0)
+few_case h x ss rest room false is (inl here) few more = absurd (eqb-false x.client h.client is here.0)
 few_case h x ss rest room false is (inr there) few more = omega (arith, more there.1 there.3 (omega (arith, there.2)), there.2)
 
 pub noted_few : (room : ℕ) (h : Header) (ss : List Session) → MayAsk room h ss → length ss ≤ room → length (noted h ss) ≤ room
@@ -55,24 +55,24 @@ apart_case : (h : Header) (x : Session) (ss : List Session) (b : Bool) → (x.cl
 apart_case h x ss true is old rest zero zero s t one two same = refl
 apart_case h x ss true is old rest zero (suc k) s t one two same =
     let new : session_of h ≡ s = (let both : Some (session_of h) ≡ Some s = one in cc) in
-    let none : 0 ≡ suc k = old 0 (suc k) x t refl two (eq_true x.client h.client is ∙ ap client new ∙ same) in
+    let none : 0 ≡ suc k = old 0 (suc k) x t refl two (eqb-true x.client h.client is ∙ ap client new ∙ same) in
     absurd (omega arith)
 apart_case h x ss true is old rest (suc j) zero s t one two same =
     let new : session_of h ≡ t = (let both : Some (session_of h) ≡ Some t = two in cc) in
-    let none : suc j ≡ 0 = old (suc j) 0 s x one refl (same ∙ sym (ap client new) ∙ sym (eq_true x.client h.client is)) in
+    let none : suc j ≡ 0 = old (suc j) 0 s x one refl (same ∙ sym (ap client new) ∙ sym (eqb-true x.client h.client is)) in
     absurd (omega arith)
 apart_case h x ss true is old rest (suc j) (suc k) s t one two same = old (suc j) (suc k) s t one two same
 apart_case h x ss false is old rest zero zero s t one two same = refl
 apart_case h x ss false is old rest zero (suc k) s t one two same = elim (noted_get h ss k t two) [
   | inl new ↦
       let here : x ≡ s = (let both : Some x ≡ Some s = one in cc) in
-      absurd (eq_false x.client h.client is (ap client here ∙ same ∙ ap client new))
+      absurd (eqb-false x.client h.client is (ap client here ∙ same ∙ ap client new))
   | inr there ↦ absurd (let none : 0 ≡ suc k = old 0 (suc k) s t one there same in omega arith)
 ]
 apart_case h x ss false is old rest (suc j) zero s t one two same = elim (noted_get h ss j s one) [
   | inl new ↦
       let here : x ≡ t = (let both : Some x ≡ Some t = two in cc) in
-      absurd (eq_false x.client h.client is (ap client here ∙ sym same ∙ ap client new))
+      absurd (eqb-false x.client h.client is (ap client here ∙ sym same ∙ ap client new))
   | inr there ↦ absurd (let none : suc j ≡ 0 = old (suc j) 0 s t there two same in omega arith)
 ]
 apart_case h x ss false is old rest (suc j) (suc k) s t one two same = ap suc (rest j k s t one two same)
@@ -103,10 +103,10 @@ abbrev pub IsAtOp : ℕ → List Session → Type 0
 IsAtOp op ss = (s : Session) × (slice_get ss (place_of_op op ss) ≡ Some s) × (s.op ≡ op)
 
 found_case : (op : ℕ) (x : Session) (ss : List Session) (b : Bool) → (x.op == op) ≡ b → Has (x ∷ ss) op → (Has ss op → IsAtOp op ss) → (s : Session) × (slice_get (x ∷ ss) (if b then 0 else suc (place_of_op op ss)) ≡ Some s) × (s.op ≡ op)
-found_case op x ss true is has more = (x, refl, eq_true x.op op is)
+found_case op x ss true is has more = (x, refl, eqb-true x.op op is)
 found_case op x ss false is (zero, s, at, op_is) more =
     let one : x ≡ s = (let both : Some x ≡ Some s = at in cc) in
-    absurd (eq_false x.op op is (ap (λ (t : Session). t.op) one ∙ op_is))
+    absurd (eqb-false x.op op is (ap (λ (t : Session). t.op) one ∙ op_is))
 found_case op x ss false is (suc k, s, at, op_is) more = more (k, s, at, op_is)
 
 pub op_found : (op : ℕ) (ss : List Session) → Has ss op → IsAtOp op ss

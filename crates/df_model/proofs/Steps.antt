@@ -1,8 +1,10 @@
 -- A checkpoint that is begun, and the steps of its trailer.
-use Rattle.std.proofs.Common.{◌≡◌, inl, inr, ℕ, zero, suc, ◌+◌, ◌-◌, ◌*◌, ◌/◌, ◌%◌, ◌^◌, ◌<◌, ◌≤◌, min, List, ◌∷◌, ◌++◌, length, take, drop, None, refl, sym, ◌∙◌, ap, subst, arith, length-drop}
+use Rattle.std.proofs.Common.{◌≡◌, inl, inr, ℕ, zero, suc, ◌+◌, ◌-◌, ◌*◌, ◌/◌, ◌%◌, ◌^◌, ◌<◌, ◌≤◌, min, List, ◌∷◌, ◌++◌, length, take, drop, None, refl, sym, ◌∙◌, ap, subst, arith, length-drop, ltb-false}
 use Rattle.std.proofs.lemmas.List.{length-take, length-take-le, take_all}
 use Rattle.std.proofs.Math.Seq.{take-add}
 use Rattle.std.proofs.Math.Nat.{mul-suc}
+use Rattle.std.proofs.lemmas.Bool.{eqb-false}
+use Rattle.df_base.proofs.Laws.{split_n}
 use Rattle.df_theory.specs.Units.{Block, Parts}
 use Rattle.df_theory.specs.Sessions.{sessions_after}
 use Rattle.df_theory.specs.Tails.{last_checksum}
@@ -17,15 +19,12 @@ use Rattle.df_model.specs.After.{next_trailer, begun}
 use Rattle.df_model.specs.Sense.{AtEachOf, IsCapture, IsSpare, IsWork, RiseFrom}
 use Rattle.df_model.specs.Blocks.{addresses}
 use Rattle.df_model.proofs.Entries.{entry_in, entry_none}
-use Rattle.df_model.proofs.Tests.{all_pass, eq_false, lt_false}
+use Rattle.df_model.proofs.Tests.{all_pass}
 use Rattle.df_model.proofs.Grid.{IsFree, are_free, each_take, each_weaker, free_rise, live_held, nowhere, rise_lower, rise_take}
 use Rattle.df_model.specs.Memory.{free_of, block_room, memory_of}
 use Rattle.df_model.specs.Making.{needed_of, parts_of, pieces_of}
 
 -- ---- pieces
-
-split_n : (n x : ℕ) → 0 < n → n * (x / n) + x % n ≡ x
-split_n n x some = omega arith
 
 count_of : (room size n : ℕ) → 0 < size → n ≡ (size + room - 1) / room → size + room - 1 < room * n + room → room * n ≤ size + room - 1 → IsCount room size n
 count_of room size zero some is low high = record { holds = omega (arith, mul-suc room 0); needed = λ none. absurd (omega arith) }
@@ -56,7 +55,7 @@ module _ (sh : Shape) (spell : Parts → List ℕ) (w : Work) (root : List ℕ) 
 
   lawful : IsLawful sh.layout (head v) (parts_of (memory_of sh spell w) root)
   lawful = record {
-    root = (lt_false 1024 (length root) (all_pass (begin_refusals (memory_of sh spell w) (needed_of spell (memory_of sh spell w) root) root) none).1.0, bytes);
+    root = (ltb-false 1024 (length root) (all_pass (begin_refusals (memory_of sh spell w) (needed_of spell (memory_of sh spell w) root) root) none).1.0, bytes);
     sessions = work.sessions;
     reached = (tracks sh v work.view).below;
     ops = (tracks sh v work.view).apart;
@@ -72,8 +71,8 @@ module _ (sh : Shape) (spell : Parts → List ℕ) (w : Work) (root : List ℕ) 
   pub begin_capture : IsCapture sh spell v r
   begin_capture =
       let tests = all_pass (begin_refusals (memory_of sh spell w) (needed_of spell (memory_of sh spell w) root) root) none in
-      let enough : needed_of spell (memory_of sh spell w) root ≤ length (free_of (memory_of sh spell w)) = lt_false (length (free_of (memory_of sh spell w))) (needed_of spell (memory_of sh spell w) root) tests.1.1.0 in
-      let spent : sequence v ≡ 2 ^ 62 → ⊥ = eq_false (sequence v) (2 ^ 62) tests.1.1.1.0 in
+      let enough : needed_of spell (memory_of sh spell w) root ≤ length (free_of (memory_of sh spell w)) = ltb-false (length (free_of (memory_of sh spell w))) (needed_of spell (memory_of sh spell w) root) tests.1.1.0 in
+      let spent : sequence v ≡ 2 ^ 62 → ⊥ = eqb-false (sequence v) (2 ^ 62) tests.1.1.1.0 in
       let long : length r.left ≡ needed_of spell (memory_of sh spell w) root = length-take-le (needed_of spell (memory_of sh spell w) root) (free_of (memory_of sh spell w)) enough in
       let none_yet : block_room sh.layout * 0 ≡ 0 = omega arith in
       record {

@@ -18,33 +18,6 @@ pub all_pass : {E : Type 0} (ts : List (Bool × E)) → first_refusal ts ≡ Non
 all_pass [] none = tt
 all_pass (t ∷ ts) none = pass_case t.0 t.1 ts none (λ more. all_pass ts more)
 
-pub and_false : (a b : Bool) → (a && b) ≡ false → a ≡ true → b ≡ false
-and_false true b is one = is
-and_false false b is one = absurd (cc)
-
-pub or_false : (a b : Bool) → (a || b) ≡ false → (a ≡ false) × (b ≡ false)
-or_false true b is = absurd (cc)
-or_false false b is = (refl, is)
-
-pub not_false : (a : Bool) → not a ≡ false → a ≡ true
-not_false true is = refl
-not_false false is = absurd (cc)
-
-pub lt_false : (a b : ℕ) → nat_lt a b ≡ false → b ≤ a
-lt_false a b is = grind (arith, nat_tests)
-
-pub le_false : (a b : ℕ) → nat_le a b ≡ false → b < a
-le_false a b is = grind (arith, nat_tests)
-
-pub eq_false : (a b : ℕ) → (a == b) ≡ false → a ≡ b → ⊥
-eq_false a b is same = grind (arith, nat_tests)
-
-pub eq_true : (a b : ℕ) → (a == b) ≡ true → a ≡ b
-eq_true a b is = grind (arith, nat_tests)
-
-pub true_eq : (a b : ℕ) → a ≡ b → (a == b) ≡ true
-true_eq a b is = grind (arith, nat_tests)
-
 -- ---- a list that is longer by one
 
 pub get_front : {X : Type 0} (xs : List X) (y : X) (i : ℕ) (x : X) → slice_get xs i ≡ Some x → slice_get (xs ++ y ∷ []) i ≡ Some x

@@ -21,7 +21,7 @@ use Rattle.df_model.specs.declared.answers.Scrubbed.TheVariants.{Checked, TourEn
 
 -- ---- the newest 64
 
-newest_keeps : (fs gs : List Finding) → newest (newest fs ++ gs) ≡ newest (fs ++ gs)
+pub newest_keeps : (fs gs : List Finding) → newest (newest fs ++ gs) ≡ newest (fs ++ gs)
 newest_keeps fs gs =
     let k = length fs - 64 in
     let one : newest fs ++ gs ≡ drop (length fs - 64) (fs ++ gs) = sym (drop-append-le (length fs - 64) fs gs (omega arith)) in
@@ -31,7 +31,7 @@ newest_keeps fs gs =
     ∙ drop-drop (length fs + length gs - (length fs - 64) - 64) (length fs - 64) (fs ++ gs)
     ∙ ap (λ (n : ℕ). drop n (fs ++ gs)) (let e : (length fs - 64) + (length fs + length gs - (length fs - 64) - 64) ≡ length (fs ++ gs) - 64 = omega (arith, length-append fs gs) in e)
 
-newest_short : (fs : List Finding) → length fs ≤ 64 → newest fs ≡ fs
+pub newest_short : (fs : List Finding) → length fs ≤ 64 → newest fs ≡ fs
 newest_short fs short = ap (λ (n : ℕ). drop n fs) (let e : length fs - 64 ≡ 0 = omega arith in e)
 
 -- one finding after the other goes into the ring

@@ -1,5 +1,6 @@
 -- Writes that lead on, whatever stands at the referenced blocks; and where they are shown, they stay so.
-use Rattle.std.proofs.Common.{◌≡◌, ℕ, ◌^◌, ◌<◌, ◌==◌, ◌%◌, Bool, true, false, if◌then◌else◌, List, [], Option, Some, None, refl, sym, ◌∙◌, ap, subst}
+use Rattle.std.proofs.Common.{◌≡◌, ℕ, ◌^◌, ◌<◌, ◌==◌, ◌%◌, Bool, true, false, if◌then◌else◌, List, [], Option, Some, None, refl, sym, ◌∙◌, ap, subst, eqb-true}
+use Rattle.std.proofs.lemmas.Bool.{eqb-false}
 use Rattle.df_theory.specs.Units.{AnyUnit, Block, BlockPlace, BlockUnit, Message, Parts, Place, PreparePlace, PrepareUnit, ReplyPlace, ReplyUnit, Units, or_else, overlay}
 use Rattle.df_theory.specs.Trailer.{InChain}
 use Rattle.df_theory.specs.Shape.{Shape}
@@ -17,7 +18,6 @@ use Rattle.df_model.specs.Refusals.{append_refusals, first_refusal, reply_refusa
 use Rattle.df_model.specs.After.{with_live, with_prepare, with_reply}
 use Rattle.df_model.specs.Sense.{IsBacked, IsWork, ShowsOwnBlock, ShowsWritten}
 use Rattle.df_model.specs.Laws.{BacksOn, DoesAppend, DoesBlock, DoesReply, IsKeptBy, LeadsOn}
-use Rattle.df_model.proofs.Tests.{eq_false, eq_true}
 use Rattle.df_model.proofs.Grid.{IsFree, nowhere}
 use Rattle.df_model.proofs.Appends.{append_keeps, may_append}
 use Rattle.df_model.proofs.Replies.{may_reply, reply_keeps}
@@ -145,5 +145,5 @@ block_on sh spell log w a b steps fits own keeps free does =
     )
   where
     live : IsBacked log w → (k c : ℕ) (e : Bool) → (k == a) ≡ e → (if e then Some b.checksum else w.live k) ≡ Some c → ShowsOwnBlock (overlay does.put (now log)) k c
-    live backed k c true same is = (b, ap (λ (i : ℕ). overlay does.put (now log) (BlockPlace i)) (eq_true k a same) ∙ put_at (now log) does.put (BlockPlace a) (BlockUnit b) does.one, (let both : Some b.checksum ≡ Some c = is in cc), own)
-    live backed k c false same is = own_same (now log) (overlay does.put (now log)) k c (block_else (now log) does.put a b does.one k (eq_false k a same)) (backed.live k c is)
+    live backed k c true same is = (b, ap (λ (i : ℕ). overlay does.put (now log) (BlockPlace i)) (eqb-true k a same) ∙ put_at (now log) does.put (BlockPlace a) (BlockUnit b) does.one, (let both : Some b.checksum ≡ Some c = is in cc), own)
+    live backed k c false same is = own_same (now log) (overlay does.put (now log)) k c (block_else (now log) does.put a b does.one k (eqb-false k a same)) (backed.live k c is)

@@ -2,6 +2,7 @@ pub mod Work
 pub mod Blocks
 pub mod Memory
 pub mod Refusals
+pub mod Faults
 pub mod Making
 pub mod After
 pub mod Codec

@@ -4,6 +4,7 @@
 mod answers;
 mod commands;
 mod errors;
+mod faults;
 mod machine;
 mod reading;
 

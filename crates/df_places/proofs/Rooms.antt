@@ -22,18 +22,6 @@ use Rattle.df_buffers.specs.Found.{FindsKind}
 use Rattle.df_buffers.specs.Rooms.{StandsIn, room_size}
 use Rattle.df_places.specs.Units.{IsSeen, header_at}
 
--- no kind of unit has a whole slot of the header ring
-pub no_ring : (kind : Kind) (zone : Zone) → StandsIn kind zone → zone ≢ WalHeaders
-no_ring kind Superblock stands same = cc
-no_ring Reserved WalHeaders stands same = stands
-no_ring Prepare WalHeaders stands same = stands
-no_ring Reply WalHeaders stands same = stands
-no_ring Block WalHeaders stands same = stands
-no_ring Trailer WalHeaders stands same = stands
-no_ring kind WalPrepares stands same = cc
-no_ring kind ClientReplies stands same = cc
-no_ring kind Grid stands same = cc
-
 -- a front of a place's sectors, one at least, is one of the disk's
 pub are_sectors : (layout : Layout) (place : Place) (zone : Zone) (first n : ℕ) → HasPlace layout place → place.zone ≡ zone → first ≡ (span_of layout place).first → 0 < n → n % 4096 ≡ 0 → n ≤ room_size layout zone → AreSectors first n
 unfolding span_of

@@ -19,8 +19,9 @@ use Rattle.df_buffers.specs.declared.identity.Identity.{Identity}
 use Rattle.df_buffers.specs.Found.{FindsKind, IsThere, class_for}
 use Rattle.df_buffers.specs.Rooms.{FillsRoom, StandsIn, room_size}
 use Rattle.df_buffers.specs.Sounds.{Holding}
+use Rattle.df_buffers.proofs.Laws.{is_no_ring}
 use Rattle.df_places.specs.Shelves.{IsRead, shown_at}
-use Rattle.df_places.proofs.Rooms.{no_ring, place_part, read_part}
+use Rattle.df_places.proofs.Rooms.{place_part, read_part}
 
 -- bytes that were lent and not written are as they were
 pub unwritten : (w bytes : List ℕ) → w ≡ bytes → take (length bytes) (w ++ drop (length w) bytes) ≡ bytes
@@ -50,14 +51,14 @@ sizes layout Grid alone = refl
 
 -- a room has the bytes of a place of its zone
 pub fills_place : (kind : Kind) (zone : Zone) (layout : Layout) (place : Place) (bytes : List ℕ) → StandsIn kind zone → place.zone ≡ zone → FillsRoom layout zone bytes → length bytes ≡ place_size layout place.zone
-fills_place kind zone layout place bytes stands in_zone fills = fills ∙ sizes layout zone (no_ring kind zone stands) ∙ ap (λ (z : Zone). place_size layout z) (sym in_zone)
+fills_place kind zone layout place bytes stands in_zone fills = fills ∙ sizes layout zone (is_no_ring kind zone stands) ∙ ap (λ (z : Zone). place_size layout z) (sym in_zone)
 
 module _ (kind : Kind) (zone : Zone) (identity : Identity) (bytes : List ℕ) (stands : StandsIn kind zone) (in_zone : identity.place.zone ≡ zone) (fills : FillsRoom identity.layout zone bytes) where
   -- the bytes that were read are those of the place
   of_place : (t : Told) → Shows (Some t) (span_of identity.layout identity.place).first bytes → bytes ≡ bytes_of identity.layout t.shown identity.place
   of_place t shows =
-      read_part identity.layout t.shown identity.place zone bytes (no_ring kind zone stands) in_zone fills shows
-      ∙ place_part identity.layout t.shown identity.place (subst (λ (z : Zone). z ≢ WalHeaders) (sym in_zone) (no_ring kind zone stands))
+      read_part identity.layout t.shown identity.place zone bytes (is_no_ring kind zone stands) in_zone fills shows
+      ∙ place_part identity.layout t.shown identity.place (subst (λ (z : Zone). z ≢ WalHeaders) (sym in_zone) (is_no_ring kind zone stands))
 
   unit_shown : (t : Told) → Shows (Some t) (span_of identity.layout identity.place).first bytes → unit_in identity.layout identity.cluster identity.place bytes ≡ shown_at identity t.shown
   unfolding unit_at

@@ -1,5 +1,6 @@
 -- The events of the write of a sound room's unit are steps of the model: the unit is put into its place, and synced.
 use Rattle.std.proofs.Common.{◌≡◌, ℕ, List, Some, refl, sym, ◌∙◌, ap, subst, take}
+use Rattle.std.proofs.lemmas.Option.{same_Some}
 use Rattle.df_layout.specs.declared.layout.Layout.{Layout}
 use Rattle.df_layout.specs.declared.places.Place.{Place}
 use Rattle.df_layout.specs.declared.places.Zone.{Zone}
@@ -10,9 +11,9 @@ use Rattle.df_format.specs.Message.{Message, sectors_end}
 use Rattle.df_format.specs.Own.{own_place}
 use Rattle.df_format.specs.Valid.{IsUnit}
 use Rattle.df_format.specs.Brings.{Brings}
-use Rattle.df_format.proofs.Laws.{some-eq}
 use Rattle.df_buffers.specs.Rooms.{StandsIn}
 use Rattle.df_buffers.specs.Sounds.{BringsOwn, Holding}
+use Rattle.df_buffers.proofs.Laws.{is_no_ring}
 use Rattle.df_theory.specs.Device.{AreSteps, IsPut}
 use Rattle.df_theory.specs.Units
 use Rattle.df_theory.specs.Units.{AnyUnit, BlockPlace, CopyPlace, HeaderPlace, PreparePlace, ReplyPlace}
@@ -21,20 +22,19 @@ use Rattle.df_units.specs.Format.{format_of}
 use Rattle.df_units.specs.Meaning.{place_of, unit_of}
 use Rattle.df_units.proofs.Laws.{block_put, prepare_put, reply_put}
 use Rattle.df_places.specs.Units.{put_events, put_steps, unit_events, unit_steps}
-use Rattle.df_places.proofs.Rooms.{no_ring}
 
 -- a unit has one own place in a zone
 one_place : (layout : Layout) (cluster : ℕ) (a b : Place) (u : Message) → a.zone ≡ b.zone → IsUnit layout cluster a u → IsUnit layout cluster b u → a ≡ b
-one_place layout cluster a b u zones at_a at_b = some-eq (sym at_a.own ∙ ap (λ (z : Zone). own_place layout z u.header) zones ∙ at_b.own)
+one_place layout cluster a b u zones at_a at_b = same_Some _ _ (sym at_a.own ∙ ap (λ (z : Zone). own_place layout z u.header) zones ∙ at_b.own)
 
 -- bytes that bring a unit to a place of the model put it there
 puts_at : (layout : Layout) (cluster : ℕ) (at : Units.Place) (u : Message) (x : AnyUnit) (bytes : List ℕ) → ((place_of at).zone ≡ WalHeaders → ⊥) → unit_of at u ≡ Some x → Brings layout cluster (place_of at) u bytes
     → IsPut (format_of layout cluster) (span_of layout (place_of at)).first bytes (put_one at x)
 puts_at layout cluster (CopyPlace n) u x bytes alone is brings = absurd (cc)
 puts_at layout cluster (HeaderPlace s) u x bytes alone is brings = absurd (alone refl)
-puts_at layout cluster (PreparePlace s) u x bytes alone is brings = subst (λ (y : AnyUnit). IsPut (format_of layout cluster) (span_of layout (place_of (PreparePlace s))).first bytes (put_one (PreparePlace s) y)) (some-eq is) (prepare_put layout cluster s u bytes brings)
-puts_at layout cluster (ReplyPlace k) u x bytes alone is brings = subst (λ (y : AnyUnit). IsPut (format_of layout cluster) (span_of layout (place_of (ReplyPlace k))).first bytes (put_one (ReplyPlace k) y)) (some-eq is) (reply_put layout cluster k u bytes brings)
-puts_at layout cluster (BlockPlace a) u x bytes alone is brings = subst (λ (y : AnyUnit). IsPut (format_of layout cluster) (span_of layout (place_of (BlockPlace a))).first bytes (put_one (BlockPlace a) y)) (some-eq is) (block_put layout cluster a u bytes brings)
+puts_at layout cluster (PreparePlace s) u x bytes alone is brings = subst (λ (y : AnyUnit). IsPut (format_of layout cluster) (span_of layout (place_of (PreparePlace s))).first bytes (put_one (PreparePlace s) y)) (same_Some _ _ is) (prepare_put layout cluster s u bytes brings)
+puts_at layout cluster (ReplyPlace k) u x bytes alone is brings = subst (λ (y : AnyUnit). IsPut (format_of layout cluster) (span_of layout (place_of (ReplyPlace k))).first bytes (put_one (ReplyPlace k) y)) (same_Some _ _ is) (reply_put layout cluster k u bytes brings)
+puts_at layout cluster (BlockPlace a) u x bytes alone is brings = subst (λ (y : AnyUnit). IsPut (format_of layout cluster) (span_of layout (place_of (BlockPlace a))).first bytes (put_one (BlockPlace a) y)) (same_Some _ _ is) (block_put layout cluster a u bytes brings)
 
 -- the lent sectors bring the unit to the place that is its own
 own_brings : (zone : Zone) (layout : Layout) (place : Place) (held : Holding) (lent : List ℕ) → held.layout ≡ layout → place.zone ≡ zone → IsUnit layout held.unit.header.cluster place held.unit → BringsOwn zone held lent
@@ -55,7 +55,7 @@ put_is_steps kind zone layout place held lent stands same in_zone own value brin
     let cluster = held.unit.header.cluster in
     let sectors = take (sectors_end held.unit.header.size) held.bytes in
     let to_place : Brings layout cluster place held.unit sectors = write_brings zone layout place held lent same in_zone own value brings in
-    let alone : (place_of at).zone ≡ WalHeaders → ⊥ = λ ring. no_ring kind zone stands (sym in_zone ∙ ap (λ (p : Place). p.zone) (sym here) ∙ ring) in
+    let alone : (place_of at).zone ≡ WalHeaders → ⊥ = λ ring. is_no_ring kind zone stands (sym in_zone ∙ ap (λ (p : Place). p.zone) (sym here) ∙ ring) in
     let put = puts_at layout cluster at held.unit x sectors alone is (subst (λ (p : Place). Brings layout cluster p held.unit sectors) (sym here) to_place) in (
       subst (λ (p : Place). IsPut (format_of layout cluster) (span_of layout p).first sectors (put_one at x)) here put,
       tt,

@@ -24,7 +24,7 @@ agree_at copies c a b a_in b_in apart at_a at_b =
     ]
 
 -- a content that two copies show, where whatever else two copies show ranks below it
-chosen_above : (copies : Copies) (c : Content) → Agree copies c → ((d : Content) → Agree copies d → (d ≡ c) ⊎ (rank_of d < rank_of c)) → IsChosen copies c
+pub chosen_above : (copies : Copies) (c : Content) → Agree copies c → ((d : Content) → Agree copies d → (d ≡ c) ⊎ (rank_of d < rank_of c)) → IsChosen copies c
 chosen_above copies c agreed above = record {
   agreed = agreed;
   greatest = λ d a. elim (above d a) [ inl same ↦ (let e : rank_of d ≡ rank_of c = same_rank d c same in omega arith) | inr below ↦ omega arith ];

@@ -1,5 +1,5 @@
 // The best of the copies that another one agrees with.
-ghost use Rattle.std.specs.Prelude.{◌≡◌, IsTrue, nat_lt, option_copied};
+ghost use Rattle.std.specs.Prelude.{◌≡◌, nat_lt, option_copied};
 ghost use Rattle.df_format.specs.Copies.{content_of, rank_of};
 ghost use Rattle.df_quorum.specs.Quorum.{copies_of, content_of_copy, IfChosen};
 ghost use Rattle.df_quorum.specs.Best.{better_of};

@@ -22,7 +22,7 @@ use Rattle.df_theory.specs.View.{PassesTests}
 use Rattle.df_units.specs.Bytes.{copy_unit, unit_at}
 use Rattle.df_units.specs.Meaning.{content_of, layout_of}
 use Rattle.df_units.specs.Superblocks.{AreFieldsOf, HasChecks}
-use Rattle.df_units.proofs.Laws.{choice_chosen, one_number, passing_is_usable, shown_checks, usable_passes}
+use Rattle.df_units.proofs.Laws.{choice_chosen, one_number, passing_is_usable, shown_checks, usable_passes, copy_parts}
 use Rattle.df_journal.specs.Shows.{Tells}
 use Rattle.df_journal.proofs.Laws.{scanned_shown as slots_shown}
 use Rattle.df_replies.specs.Shown.{ShowsReplies}
@@ -93,10 +93,6 @@ one_content layout cluster named c d one two of super same =
       };
     }
 
-copy_there : (o : Option Content) (d : Units.Content) → copy_unit o ≡ Some (CopyUnit d) → (c : Content) × (o ≡ Some c) × (content_of c ≡ d)
-copy_there None d at = absurd (cc)
-copy_there (Some c) d at = let one : content_of c ≡ d = cc in (c, refl, one)
-
 -- ---- the checkpoint
 
 module _ (t : Told) (file : DataFile) (read : Read) (base : Base) (is : IsOfFile t file read base) where
@@ -130,7 +126,7 @@ module _ (t : Told) (file : DataFile) (read : Read) (base : Base) (is : IsOfFile
       subst (IsLowest (unit_at file.layout file.cluster t.shown) (content_of c)) (sym number) (record {
         shows = ap copy_unit ((members low.0 (omega (arith, low.1, small))).0 tests.1);
         lowest = λ k less at.
-            let there = copy_there (content_at t.shown k) (content_of c) at in
+            let there = copy_parts (content_at t.shown k) (content_of c) at in
             let one : there.0 ≡ c = one_content file.layout file.cluster file.named there.0 c (shown_checks t.shown k there.0 is.image there.1) checks fields_are usable there.2 in
             let member : get_or read.found.chosen.members k false ≡ true = (members k (omega (arith, less, low.1, small))).1 (there.1 ∙ ap Some one) in
             let not : get_or read.found.chosen.members k false ≡ false = tests.2 k less in

@@ -27,6 +27,7 @@ use Rattle.df_journal.specs.Shows.{ShowsHeader, ShowsPrepare, ShowsTable}
 use Rattle.df_journal.specs.Tail.{FindsTail, StartsAt}
 use Rattle.df_journal.specs.declared.tail.Tail.{Tail}
 use Rattle.df_replies.specs.Shown.{ShowsReplies, ShowsReply}
+use Rattle.df_state.proofs.Laws.{asked_noted}
 
 -- ---- an image that shows what the tables say
 
@@ -128,12 +129,6 @@ may_ask_some : (room : ℕ) (h : Units.Header) (ss : List Units.Session) → May
 may_ask_some room h [] may = omega (arith, may.0)
 may_ask_some room h (s ∷ ss) (inl same) = omega (arith, same.1)
 may_ask_some room h (s ∷ ss) (inr other) = may_ask_some other.1 h ss other.3
-
-pub asked_noted : (h : Units.Header) (ss : List Units.Session) → AreAsked ss → 0 < h.request → AreAsked (noted h ss)
-asked_noted h ss asked some k t at = elim (noted_get h ss k t at) [
-  | inl new ↦ omega (arith, some, ap (λ (s : Units.Session). s.request) new)
-  | inr old ↦ asked k t old
-]
 
 asked_chain : (clients op parent mark : ℕ) (ss : List Units.Session) (ps : List Message) → Chain clients op parent mark ss ps → AreAsked ss → AreAsked (sessions_after ss ps)
 asked_chain clients op parent mark ss [] chain asked = asked

@@ -3,8 +3,8 @@ pub use Rattle.df_recovery.proofs.OneAnswer.{one_refusal, one_super, super_or_re
 pub use Rattle.df_recovery.proofs.Written.{super_is_written, written_is}
 pub use Rattle.df_recovery.proofs.FilesRead.{file_is_read}
 pub use Rattle.df_recovery.proofs.OpenAnswers.{kept_is_answer, refused_is_answer}
--- ---- the sessions after a prepare
-pub use Rattle.df_recovery.proofs.FindingBounds.{asked_noted}
+-- ---- a file is its layout and its cluster
+pub use Rattle.df_state.proofs.Laws.{same_file}
 -- ---- the mends of the slots, one slot more
 pub use Rattle.df_recovery.proofs.Plans.{filter_more, slot_mends_more}
 -- ---- the checksums that wait

@@ -6,6 +6,7 @@ use Rattle.std.specs.Prelude.{nat_lt, if◌then◌else◌}
 use Rattle.std.proofs.lemmas.Bool.{cases_lt, le-ltb}
 use Rattle.std.proofs.lemmas.List.{length-map}
 use Rattle.std.proofs.lemmas.Option.{slice_get_cases}
+use Rattle.std.proofs.lemmas.Nat.{mod_below}
 use Rattle.df_format.specs.declared.header.Header.{Header}
 use Rattle.df_sessions.specs.declared.session.Session.{Session}
 use Rattle.df_sessions.specs.Requests.{session_of}
@@ -73,9 +74,6 @@ sum_here headers slot c within same = elim (slice_get_cases headers slot).1 [
   | inr past ↦ absurd (omega (arith, past.0, within))
 ]
 
-below : (n m : ℕ) → 0 < m → n % m < m
-below n m some = mod-lt n some
-
 module _ (image : Units.Units) (v : View) (s : State) (found : IsFound (shape s.file) image v) (keeps : Keeps (shape s.file) image v s) where
   op_is : s.fields.op ≡ v.checkpoint.content.op
   op_is = ap (λ (c : Content). c.op) (sym keeps.content)
@@ -87,7 +85,7 @@ module _ (image : Units.Units) (v : View) (s : State) (found : IsFound (shape s.
         let p = there.0 in
         let op : p.header.op ≡ v.checkpoint.content.op + 1 + (o - (v.checkpoint.content.op + 1)) = op_at s.file.layout.clients (v.checkpoint.content.op + 1) v.checkpoint.content.op_checksum 0 v.checkpoint.parts.sessions v.tail (o - (v.checkpoint.content.op + 1)) p found.tail.chain there.2 in
         let same : o ≡ p.header.op = omega (arith, op, from) in
-        let here : o % s.file.layout.slots < length s.headers = omega (arith, keeps.count, below o s.file.layout.slots (shape s.file).some) in
+        let here : o % s.file.layout.slots < length s.headers = omega (arith, keeps.count, mod_below o s.file.layout.slots (shape s.file).some) in
         sum_here s.headers (o % s.file.layout.slots) p.header.checksum here (λ h at. sym (ap (λ (x : Units.Header). x.checksum) ((keeps.headers (o % s.file.layout.slots) h at).tail p (in_at v.tail (o - (v.checkpoint.content.op + 1)) p there.2) (ap (λ (n : ℕ). n % s.file.layout.slots) same))))
         ∙ sym (ap checksum_of there.2)
     | inr past ↦ absurd (omega (arith, past.0, from, to))

@@ -5,7 +5,8 @@ use Rattle.std.specs.List.{filter, range_with_len, slice_get}
 use Rattle.std.proofs.lemmas.Bool.{cases_eq}
 use Rattle.std.proofs.lemmas.List.{length-set, map-append, map-id}
 use Rattle.std.proofs.lemmas.List.FromFn.{filter_of_map_range_with_len_more}
-use Rattle.std.proofs.lemmas.Option.{slice_get-get_or, slice_get_within}
+use Rattle.std.proofs.lemmas.Option.{slice_get-get_or, slice_get_within, same_Some}
+use Rattle.df_base.proofs.Laws.{get_set, get_set_other}
 use Rattle.df_layout.specs.declared.damage.Class.{Class}
 use Rattle.df_layout.specs.declared.damage.Class.TheVariants.{Blank}
 use Rattle.df_layout.specs.declared.layout.Layout.{Layout}
@@ -15,7 +16,7 @@ use Rattle.df_format.specs.declared.header.Header.{Header}
 use Rattle.df_format.specs.Message.{Message}
 use Rattle.df_format.specs.Own.{place_in}
 use Rattle.df_format.specs.Valid.{IsInSlot, IsUnit}
-use Rattle.df_format.proofs.Laws.{some-eq, valid_belongs}
+use Rattle.df_format.proofs.Laws.{valid_belongs}
 use Rattle.df_cases.specs.declared.cases.Decision.{Decision}
 use Rattle.df_cases.specs.declared.cases.Decision.TheVariants.{Behind, Empty, Lost, Take}
 use Rattle.df_units.specs.Sample.{reserved_header}
@@ -23,7 +24,6 @@ use Rattle.df_units.proofs.Laws.{reserved_unit}
 use Rattle.df_places.specs.Units.{IsThere}
 use Rattle.df_buffers.specs.declared.slots.SlotSeen.{SlotSeen}
 use Rattle.df_headers.specs.Ring.{IsHeader, IsTable}
-use Rattle.df_headers.proofs.Laws.{get_other, get_set}
 use Rattle.df_journal.specs.Scan.{Scan, entry, or_blank}
 use Rattle.df_journal.specs.Seen.{IsOpOf, header_of_seen}
 use Rattle.df_journal.specs.Shows.{IsHeaderThere, IsSlot, IsTable as AreSlots}
@@ -69,7 +69,7 @@ planned_more cluster scan k old new inside before put slot less = elim (cases_eq
       (put.0, put.1, ap (λ (xs : List Header). slice_get xs k) put.2 ∙ get_set old k (header_by cluster k (entry scan k) put.0) inside)
   | inr away ↦
       let was = before slot (omega (arith, less, away)) in
-      (was.0, was.1, ap (λ (xs : List Header). slice_get xs slot) put.2 ∙ get_other old k slot (header_by cluster k (entry scan k) put.0) away ∙ was.2)
+      (was.0, was.1, ap (λ (xs : List Header). slice_get xs slot) put.2 ∙ get_set_other old k slot (header_by cluster k (entry scan k) put.0) away ∙ was.2)
 ]
 
 pub size_kept : (cluster : ℕ) (scan : Scan) (k : ℕ) (old new : List Header) → PutsHeader cluster scan k old new → length new ≡ length old
@@ -101,7 +101,7 @@ planned_table layout cluster scan table named small slots count planned = record
   each = λ slot h at.
       let below : slot < layout.slots = omega (arith, slice_get_within table slot h at, count) in
       let plan = planned slot below in
-      let same : header_by cluster slot (entry scan slot) plan.0 ≡ h = some-eq (sym plan.2 ∙ at) in
+      let same : header_by cluster slot (entry scan slot) plan.0 ≡ h = same_Some _ _ (sym plan.2 ∙ at) in
       subst (λ (x : Header). IsHeader layout cluster slot x) same
       (by_valid layout cluster slot (entry scan slot) plan.0 (reserved_unit layout cluster slot named small below) (slots.each slot (entry scan slot) (entry_there scan slot (omega (arith, below, slots.size)))));
 }

@@ -17,7 +17,7 @@ use Rattle.df_recovery.specs.Checkpoints.{Base, TellsCheckpoint}
 use Rattle.df_recovery.specs.Finding.{IsOfFile, read_of}
 use Rattle.df_recovery.specs.Found.{IsFound}
 use Rattle.df_recovery.specs.Opening.{IsLayoutOf}
-use Rattle.df_recovery.specs.Scanning.{AreCopies, IsFileOf, IsReadBehind, IsScan, IsServed, RefusesBase, TellsRead, answer_of, base_scanned}
+use Rattle.df_recovery.specs.Scanning.{AreCopies, IsFileOf, IsReadBehind, IsScan, IsServed, RefusesBase, TellsRead, base_scanned, without_rooms}
 use Rattle.df_recovery.specs.Surveys.{Surveys}
 use Rattle.df_recovery.specs.declared.scanned.Scanned.{Scanned}
 use Rattle.df_recovery.specs.declared.scanning.Copies.{Copies}
@@ -61,7 +61,7 @@ scan_read layout copies old new (Ok s) barrier found served same read = record {
 }
 
 pub scan_answers : (layout : Layout) (copies : Copies) (old new : Option Told) (result : Result Scanned (Rooms × OpenError)) → new ≡ after Sync old → IsServed layout copies.found.content → TellsRead (λ (c : Copies). c.found) layout old (Ok copies)
-    → IfOk result (λ s. s.copies ≡ copies) → IfErr result (λ refused. RefusesBase layout copies.found.content new refused.1) → TellsRead (λ (s : Scanned). s.copies.found) layout old (answer_of result)
+    → IfOk result (λ s. s.copies ≡ copies) → IfErr result (λ refused. RefusesBase layout copies.found.content new refused.1) → TellsRead (λ (s : Scanned). s.copies.found) layout old (without_rooms result)
 scan_answers layout copies None new result barrier served answer same refuses = tt
 scan_answers layout copies (Some t) new (Ok s) barrier served answer same refuses = subst (λ (c : Copies). IsFound t.shown c.found) (sym same) answer
 scan_answers layout copies (Some t) new (Err refused) barrier served answer same refuses = λ whole.

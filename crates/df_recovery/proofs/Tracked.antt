@@ -2,7 +2,7 @@
 use Rattle.std.proofs.Common.{◌≡◌, ℕ, zero, suc, ◌<◌, ◌≤◌, ◌==◌, ◌||◌, Bool, true, false, inl, inr, Option, Some, None, List, [], ◌∷◌, map, refl, sym, ap, ◌∙◌, subst, arith}
 use Rattle.std.specs.List.{slice_get}
 use Rattle.std.specs.Option.{option_map}
-use Rattle.std.proofs.lemmas.Bool.{cases_eq, eq-eqb, ne_eqb}
+use Rattle.std.proofs.lemmas.Bool.{cases_eq, eq-eqb, ne_eqb, or_parts}
 use Rattle.std.proofs.lemmas.Option.{slice_get-map}
 use Rattle.df_format.specs.declared.superblock.SuperFields.{SuperFields}
 use Rattle.df_sessions.specs.declared.session.Session.{Session}
@@ -28,19 +28,15 @@ has_is op (s ∷ ss) is = elim (cases_eq s.op op) [
       (suc rest.0, rest.1, rest.2, rest.3)
 ]
 
-both_false : (a b : Bool) → (a || b) ≡ false → (a ≡ false) × (b ≡ false)
-both_false true b is = absurd (cc)
-both_false false b is = (refl, is)
-
 pub has_not : (op : ℕ) (ss : List Session) → has_op op ss ≡ false → Has (sessions_of ss) op → ⊥
 has_not op [] is (k, s, at, same) = let no : None ≡ Some s = at in cc
 has_not op (t ∷ ss) is (zero, s, at, same) =
-    let here : (t.op == op) ≡ false = (both_false (t.op == op) (has_op op ss) is).0 in
+    let here : (t.op == op) ≡ false = (or_parts (t.op == op) (has_op op ss) is).0 in
     let one : session_of t ≡ s = (let both : Some (session_of t) ≡ Some s = at in cc) in
     let there : (t.op == op) ≡ true = eq-eqb t.op op (ap (λ (x : Units.Session). x.op) one ∙ same) in
     let both : true ≡ false = sym there ∙ here in
     cc
-has_not op (t ∷ ss) is (suc k, s, at, same) = has_not op ss (both_false (t.op == op) (has_op op ss) is).1 (k, s, at, same)
+has_not op (t ∷ ss) is (suc k, s, at, same) = has_not op ss (or_parts (t.op == op) (has_op op ss) is).1 (k, s, at, same)
 
 -- a session of the model's list is one of the table
 record IsOf (ss : List Session) (k : ℕ) (s : Units.Session) : Type 0 where

@@ -1,6 +1,5 @@
 -- What the calls that look for a superblock answer.
-use Rattle.std.specs.Prelude.{◌≡◌, ◌≤◌, ℕ, [], ◌∷◌, Option, Some, None, Result, Ok, Err}
-use Rattle.df_base.specs.Causes.{Rose}
+use Rattle.std.specs.Prelude.{◌≡◌, [], ◌∷◌, Option, Some, None, Result, Ok, Err}
 use Rattle.df_base.specs.Image.{Image}
 use Rattle.df_base.specs.Log.{Sync}
 use Rattle.df_disk.specs.Told.{Told, after}
@@ -84,16 +83,11 @@ IsRefusal (LayoutDiffers reserved there) = ⊥
 IsRefusal (Damaged place class) = ⊥
 IsRefusal DiskFault = ⊥
 
--- the disk failed, and its count of faults rose; or it stayed, and any refusal is by what the copies say
-abbrev pub OpensBy : {T : Type 0} → ℕ → ℕ → Result T OpenError → Type 0
-OpensBy before now (Ok x) = now ≡ before
-OpensBy before now (Err DiskFault) = (before ≤ now) × Rose before now
-OpensBy before now (Err NotFormatted) = now ≡ before
-OpensBy before now (Err (NoQuorum classes)) = now ≡ before
-OpensBy before now (Err (Version found)) = now ≡ before
-OpensBy before now (Err (BadField field value)) = now ≡ before
-OpensBy before now (Err (LayoutDiffers reserved there)) = ⊥
-OpensBy before now (Err (Damaged place class)) = ⊥
+-- the fault of the disk, or a refusal by what the copies say
+abbrev pub IsOfCopies : OpenError → Type 0
+IsOfCopies (LayoutDiffers reserved there) = ⊥
+IsOfCopies (Damaged place class) = ⊥
+IsOfCopies e = Unit {0}
 
 -- one sync was added; where the disk failed, it or nothing
 abbrev pub Syncs : {T : Type 0} → Option Told → Option Told → Result T OpenError → Type 0

@@ -1,6 +1,5 @@
 -- What an open reads of a file before it finds the state: the superblock, whether the rooms serve its file, the trailer, and what the rings and the reply slots show.
-use Rattle.std.specs.Prelude.{◌≡◌, ◌≢◌, ◌≤◌, ℕ, List, [], Option, Some, None, Result, Ok, Err}
-use Rattle.df_base.specs.Causes.{Rose}
+use Rattle.std.specs.Prelude.{◌≡◌, ◌≢◌, ℕ, List, [], Option, Some, None, Result, Ok, Err}
 use Rattle.df_base.specs.Image.{Image, IsImage}
 use Rattle.df_disk.specs.Told.{Told}
 use Rattle.df_layout.specs.declared.damage.Class.{Class}
@@ -10,7 +9,7 @@ use Rattle.df_format.specs.declared.superblock.SuperFields.{SuperFields}
 use Rattle.df_journal.specs.Scan.{Scan}
 use Rattle.df_journal.specs.Scanned
 use Rattle.df_model.specs.declared.errors.OpenError.{OpenError}
-use Rattle.df_model.specs.declared.errors.OpenError.TheVariants.{LayoutDiffers, DiskFault}
+use Rattle.df_model.specs.declared.errors.OpenError.TheVariants.{LayoutDiffers}
 use Rattle.df_replies.specs.Shown
 use Rattle.df_recovery.specs.Found.{IsFound}
 use Rattle.df_recovery.specs.Opening.{IsLayoutOf}
@@ -58,15 +57,10 @@ pub record AreScanned (layout : Layout) (cluster : ℕ) (told : Option Told) (sl
   pub rings : Scanned.IsScanned layout told slots
   pub replies_are : Shown.IsScanned layout cluster told replies
 
--- the disk failed, and its count of faults rose; or it stayed, and any refusal is by what the file says
-abbrev pub SurveysBy : {T : Type 0} → ℕ → ℕ → Result T OpenError → Type 0
-SurveysBy before now (Err DiskFault) = (before ≤ now) × Rose before now
-SurveysBy before now result = now ≡ before
-
 -- the answer without the rooms that come back with a refusal
-abbrev pub answer_of : {T R : Type 0} → Result T (R × OpenError) → Result T OpenError
-answer_of (Ok x) = Ok x
-answer_of (Err refused) = Err refused.1
+abbrev pub without_rooms : {T R : Type 0} → Result T (R × OpenError) → Result T OpenError
+without_rooms (Ok x) = Ok x
+without_rooms (Err refused) = Err refused.1
 
 -- ---- the superblock
 

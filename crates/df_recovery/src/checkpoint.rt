@@ -1,8 +1,10 @@
 // The checkpoint that a superblock names is read: its trailer's chain and text into the grid and the table of sessions.
-ghost use Rattle.std.specs.Prelude.{◌≡◌, ◌≢◌, ◌+◌, ◌/◌, IfErr, IfOk, vec_len};
+ghost use Rattle.std.specs.Prelude.{◌≡◌, ◌≢◌, ◌/◌, IfErr, IfOk, vec_len};
+ghost use Rattle.df_base.specs.Causes.{IsBlamed};
 ghost use Rattle.df_units.specs.Superblocks.{AreFieldsOf};
+ghost use Rattle.df_model.specs.Faults.{is_open_fault};
 ghost use Rattle.df_recovery.specs.Checkpoints.{error_of};
-ghost use Rattle.df_recovery.specs.Scanning.{AreRoomsOf, FitsFile, IsCheckpoint, IsEmpty, IsText, IsUnread, SurveysBy, error_in};
+ghost use Rattle.df_recovery.specs.Scanning.{AreRoomsOf, FitsFile, IsCheckpoint, IsEmpty, IsText, IsUnread, error_in};
 
 use crate::OpenError;
 use arrayvec::ArrayVec;
@@ -11,7 +13,7 @@ use df_checkpoint::{TrailerFault, pending, read_chain};
 use df_disk::Disk;
 use df_format::Super;
 use df_grid::Grid;
-use df_layout::{Field, Place, Zone};
+use df_layout::{Field, Place, ROOT, Zone};
 use df_sessions::{Session, SessionTable};
 use df_state::{DataFile, GridRooms, TrailerRooms};
 use df_trailer::{Parts, Reader};
@@ -21,7 +23,7 @@ use df_trailer::{Parts, Reader};
 pub struct Checkpoint {
     pub grid: Grid,
     pub trailer: TrailerRooms,
-    pub root: ArrayVec<u8, 1024>,
+    pub root: ArrayVec<u8, ROOT>,
     pub sessions: SessionTable,
 }
 
@@ -30,7 +32,7 @@ pub struct Checkpoint {
 pub struct Text {
     pub grid: Grid,
     pub trailer: TrailerRooms,
-    pub root: ArrayVec<u8, 1024>,
+    pub root: ArrayVec<u8, ROOT>,
     pub sessions: ArrayVec<Session, 64>,
 }
 
@@ -124,7 +126,7 @@ fn read_text<D: Disk>(
     ensures text { IfOk result (IsText file.now (D.told disk.old) content.now) }
     ensures unread { IfErr result (IsUnread file.now (D.told disk.old) content.now) }
     ensures same { D.told disk.new ≡ D.told disk.old }
-    ensures cause { SurveysBy (D.faults disk.old) (D.faults disk.new) (error_in result) }
+    ensures cause { IsBlamed is_open_fault (D.faults disk.old) (D.faults disk.new) (error_in result) }
 {
     let mut grid = grid.into_grid(file.cluster);
     let TrailerRooms {
@@ -185,7 +187,7 @@ fn read_trailer<D: Disk>(
     ensures read { IfOk result (IsCheckpoint file.now (D.told disk.old) content.now) }
     ensures unread { IfErr result (IsUnread file.now (D.told disk.old) content.now) }
     ensures same { D.told disk.new ≡ D.told disk.old }
-    ensures cause { SurveysBy (D.faults disk.old) (D.faults disk.new) (error_in result) }
+    ensures cause { IsBlamed is_open_fault (D.faults disk.old) (D.faults disk.new) (error_in result) }
 {
     let Text {
         grid,
@@ -224,7 +226,7 @@ pub(crate) fn read_checkpoint<D: Disk>(
     ensures read { IfOk result (IsCheckpoint file.now (D.told disk.old) content.now) }
     ensures unread { IfErr result (IsUnread file.now (D.told disk.old) content.now) }
     ensures same { D.told disk.new ≡ D.told disk.old }
-    ensures cause { SurveysBy (D.faults disk.old) (D.faults disk.new) (error_in result) }
+    ensures cause { IsBlamed is_open_fault (D.faults disk.old) (D.faults disk.new) (error_in result) }
 {
     if content.fields().trailer_address == 0 {
         return Ok(no_trailer(file, grid, trailer));

@@ -1,6 +1,8 @@
 // How the superblock of a file is found: with the barrier that an open begins with, and without.
-ghost use Rattle.std.specs.Prelude.{◌≡◌, IfOk};
-ghost use Rattle.df_recovery.specs.Found.{OpensBy, Syncs, TellsFound, TellsLayout};
+ghost use Rattle.std.specs.Prelude.{◌≡◌, IfErr, IfOk};
+ghost use Rattle.df_base.specs.Causes.{IsBlamed};
+ghost use Rattle.df_model.specs.Faults.{is_open_fault};
+ghost use Rattle.df_recovery.specs.Found.{IsOfCopies, Syncs, TellsFound, TellsLayout};
 
 use crate::superblock::superblock_of;
 use crate::{Found, OpenError};
@@ -15,7 +17,8 @@ pub fn read_superblock<D: Disk>(disk: &mut D, room: &mut ProbeRoom) -> Result<Fo
     ensures same_fields { IfOk result (λ found. found.content ≡ found.chosen.content) }
     ensures answer { TellsFound (D.told disk.old) result }
     ensures same { D.told disk.new ≡ D.told disk.old }
-    ensures cause { OpensBy (D.faults disk.old) (D.faults disk.new) result }
+    ensures of_copies { IfErr result IsOfCopies }
+    ensures cause { IsBlamed is_open_fault (D.faults disk.old) (D.faults disk.new) result }
 {
     match read_all(disk, room) {
         Ok(copies) => superblock_of(&copies),
@@ -27,7 +30,8 @@ pub fn read_superblock<D: Disk>(disk: &mut D, room: &mut ProbeRoom) -> Result<Fo
 pub fn probe<D: Disk>(disk: &mut D, room: &mut ProbeRoom) -> Result<Layout, OpenError>
     ensures answer { TellsLayout (D.told disk.old) result }
     ensures same { D.told disk.new ≡ D.told disk.old }
-    ensures cause { OpensBy (D.faults disk.old) (D.faults disk.new) result }
+    ensures of_copies { IfErr result IsOfCopies }
+    ensures cause { IsBlamed is_open_fault (D.faults disk.old) (D.faults disk.new) result }
 {
     match read_superblock(disk, room) {
         Ok(found) => Ok(found.content.layout()),
@@ -40,7 +44,8 @@ pub fn survey_superblock<D: Disk>(disk: &mut D, room: &mut ProbeRoom) -> Result<
     ensures same_fields { IfOk result (λ found. found.content ≡ found.chosen.content) }
     ensures answer { TellsFound (D.told disk.old) result }
     ensures barrier { Syncs (D.told disk.old) (D.told disk.new) result }
-    ensures cause { OpensBy (D.faults disk.old) (D.faults disk.new) result }
+    ensures of_copies { IfErr result IsOfCopies }
+    ensures cause { IsBlamed is_open_fault (D.faults disk.old) (D.faults disk.new) result }
 {
     match disk.sync() {
         Ok(()) => read_superblock(disk, room),

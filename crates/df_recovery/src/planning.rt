@@ -1,6 +1,6 @@
 // What an open plans of a file that it finds: which header each slot of the header ring is to have, and what is to be
 // written again. Nothing is written here.
-ghost use Rattle.std.specs.Prelude.{◌≡◌, ◌<◌, ◌≤◌, ◌+◌, ◌++◌, ℕ, false, not, get_or, length, vec_len, vec_capacity};
+ghost use Rattle.std.specs.Prelude.{◌≡◌, ◌<◌, ◌≤◌, ◌+◌, ◌++◌, false, not, get_or, length, vec_len, vec_capacity};
 ghost use Rattle.df_theory.specs.MendLaws.{IsTable as IsSlotTable};
 ghost use Rattle.df_theory.specs.Shape.{Shape};
 ghost use Rattle.df_theory.specs.Units.{Units};

@@ -4,6 +4,7 @@ ghost use Rattle.std.specs.Prelude.{◌≡◌};
 use crate::Copies;
 use arrayvec::ArrayVec;
 use df_grid::Grid;
+use df_layout::ROOT;
 use df_sessions::SessionTable;
 use df_state::{DataFile, LogRooms, ScrubRooms, TrailerRooms};
 
@@ -17,7 +18,7 @@ pub struct Scanned {
     pub grid: Grid,
     pub trailer: TrailerRooms,
     pub scrub: ScrubRooms,
-    pub root: ArrayVec<u8, 1024>,
+    pub root: ArrayVec<u8, ROOT>,
     pub sessions: SessionTable,
     pub ghost log_fits: { log.layout ≡ file.layout },
     pub ghost grid_fits: { grid.layout ≡ file.layout },

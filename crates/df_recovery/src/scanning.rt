@@ -1,7 +1,9 @@
 // What an open reads of a file: after the barrier the four copies of the superblock, the trailer, both rings and the reply slots.
 ghost use Rattle.std.specs.Prelude.{◌≡◌, IfOk, IfErr, Ok, OnOk};
-ghost use Rattle.df_recovery.specs.Found.{OpensBy, Syncs, TellsFound};
-ghost use Rattle.df_recovery.specs.Scanning.{AreCopies, IsCheckpoint, IsFileOf, IsReadBehind, IsScan, IsServed, IsUnserved, RefusesBase, SurveysBy, TellsRead, answer_of, found_in};
+ghost use Rattle.df_base.specs.Causes.{IsBlamed};
+ghost use Rattle.df_model.specs.Faults.{is_open_fault};
+ghost use Rattle.df_recovery.specs.Found.{Syncs, TellsFound};
+ghost use Rattle.df_recovery.specs.Scanning.{AreCopies, IsCheckpoint, IsFileOf, IsReadBehind, IsScan, IsServed, IsUnserved, RefusesBase, TellsRead, found_in, without_rooms};
 
 use crate::checkpoint::{Checkpoint, Unread, read_checkpoint};
 use crate::superblock::superblock_of;
@@ -28,7 +30,7 @@ fn read_copies<D: Disk>(disk: &mut D, room: &mut ProbeRoom) -> Result<Copies, Op
     ensures copies { IfOk result (AreCopies (D.told disk.old)) }
     ensures answer { TellsFound (D.told disk.old) (found_in result) }
     ensures same { D.told disk.new ≡ D.told disk.old }
-    ensures cause { OpensBy (D.faults disk.old) (D.faults disk.new) result }
+    ensures cause { IsBlamed is_open_fault (D.faults disk.old) (D.faults disk.new) result }
 {
     match read_all(disk, room) {
         Ok(slots) => match superblock_of(&slots) {
@@ -59,7 +61,7 @@ fn find_copies<D: Disk>(disk: &mut D, room: &mut ProbeRoom) -> Result<Copies, Op
     ensures copies { IfOk result (AreCopies (D.told disk.old)) }
     ensures answer { TellsFound (D.told disk.old) (found_in result) }
     ensures barrier { Syncs (D.told disk.old) (D.told disk.new) result }
-    ensures cause { OpensBy (D.faults disk.old) (D.faults disk.new) result }
+    ensures cause { IsBlamed is_open_fault (D.faults disk.old) (D.faults disk.new) result }
 {
     match disk.sync() {
         Ok(()) => read_copies(disk, room),
@@ -77,7 +79,7 @@ fn find_served<D: Disk>(
     ensures served { IfOk result (λ copies. IsServed layout.now copies.found.content) }
     ensures answer { TellsRead (λ copies. copies.found) layout.now (D.told disk.old) result }
     ensures barrier { Syncs (D.told disk.old) (D.told disk.new) result }
-    ensures cause { SurveysBy (D.faults disk.old) (D.faults disk.new) result }
+    ensures cause { IsBlamed is_open_fault (D.faults disk.old) (D.faults disk.new) result }
 {
     match find_copies(disk, room) {
         Ok(copies) => match test_served(layout, &copies.found.content) {
@@ -105,7 +107,7 @@ fn scan_log<D: Disk>(
     ensures given_back { IfErr result (λ refused. refused.0.layout ≡ log.layout) }
     ensures fault { IfErr result (λ refused. refused.1 ≡ OpenError.DiskFault) }
     ensures same { D.told disk.new ≡ D.told disk.old }
-    ensures cause { SurveysBy (D.faults disk.old) (D.faults disk.new) (answer_of result) }
+    ensures cause { IsBlamed is_open_fault (D.faults disk.old) (D.faults disk.new) (without_rooms result) }
 {
     let fields = copies.found.content.fields();
     let start = Start {
@@ -155,7 +157,7 @@ fn scan_served<D: Disk>(
     ensures given_back { IfErr result (λ refused. refused.0.layout ≡ rooms.layout) }
     ensures refused { IfErr result (λ refused. RefusesBase rooms.layout copies.now.found.content (D.told disk.old) refused.1) }
     ensures same { D.told disk.new ≡ D.told disk.old }
-    ensures cause { SurveysBy (D.faults disk.old) (D.faults disk.new) (answer_of result) }
+    ensures cause { IsBlamed is_open_fault (D.faults disk.old) (D.faults disk.new) (without_rooms result) }
 {
     let content = copies.found.content;
     let file = DataFile {
@@ -190,9 +192,9 @@ fn scan_served<D: Disk>(
 pub fn scan_file<D: Disk>(disk: &mut D, rooms: Rooms) -> Result<Scanned, (Rooms, OpenError)>
     ensures scanned { IfOk result (IsScan rooms.layout (D.told disk.old)) }
     ensures given_back { IfErr result (λ refused. refused.0.layout ≡ rooms.layout) }
-    ensures answer { TellsRead (λ s. s.copies.found) rooms.layout (D.told disk.old) (answer_of result) }
-    ensures barrier { Syncs (D.told disk.old) (D.told disk.new) (answer_of result) }
-    ensures cause { SurveysBy (D.faults disk.old) (D.faults disk.new) (answer_of result) }
+    ensures answer { TellsRead (λ s. s.copies.found) rooms.layout (D.told disk.old) (without_rooms result) }
+    ensures barrier { Syncs (D.told disk.old) (D.told disk.new) (without_rooms result) }
+    ensures cause { IsBlamed is_open_fault (D.faults disk.old) (D.faults disk.new) (without_rooms result) }
 {
     let layout = rooms.layout;
     let (mut log, grid, trailer, scrub) = rooms.into_parts();

@@ -1,12 +1,12 @@
 -- Each append is the machine's: its answer, the state behind it, and what it does to the disk.
-use Rattle.std.proofs.Common.{◌≡◌, ℕ, ◌+◌, ◌%◌, ◌^◌, ◌<◌, ◌≤◌, true, false, Bool, List, [], ◌∷◌, length, Option, Some, None, refl, sym, ◌∙◌, ap, subst, arith}
-use Rattle.std.specs.Prelude.{if◌then◌else◌, Ok, Err}
+use Rattle.std.proofs.Common.{◌≡◌, ℕ, ◌+◌, ◌%◌, ◌^◌, ◌<◌, ◌≤◌, true, false, List, [], length, Option, Some, None, refl, sym, ◌∙◌, ap, subst, arith}
+use Rattle.std.specs.Prelude.{Ok, Err}
 use Rattle.std.proofs.Math.Nat.{mod-lt}
+use Rattle.std.proofs.lemmas.Option.{same_Some}
 use Rattle.df_base.proofs.Laws.{AreBytes-check_of, field_at-lt}
 use Rattle.df_base.specs.Log.{now}
 use Rattle.df_disk.specs.Told.{Told}
 use Rattle.df_disk.specs.Adds.{AddsPart, after_all}
-use Rattle.df_format.proofs.Laws.{some-eq}
 use Rattle.df_format.specs.Making.{for_body}
 use Rattle.df_format.specs.Message.{Message}
 use Rattle.df_format.specs.Spelling.{spelling_rest}
@@ -19,6 +19,7 @@ use Rattle.df_model.specs.After.{outcome, with_prepare}
 use Rattle.df_model.specs.Changing.{appended_in, blocks_after, unless_refused}
 use Rattle.df_model.specs.Codec.{IsChecksum}
 use Rattle.df_model.specs.Commands.{Answer, Append, Command, Given, IsInput, ToAppend, as_answer}
+use Rattle.df_model.specs.Faults.{is_append_fault}
 use Rattle.df_model.specs.Making.{prepare_of}
 use Rattle.df_model.specs.Memory.{Memory, memory_of}
 use Rattle.df_model.specs.Refusals.{append_refusals, first_refusal}
@@ -28,8 +29,7 @@ use Rattle.df_theory.specs.Units as theory
 use Rattle.df_model.proofs.Laws.{change_law}
 use Rattle.df_model.specs.declared.answers.Receipt.{Receipt}
 use Rattle.df_model.specs.declared.errors.AppendError.{AppendError}
-use Rattle.df_model.specs.declared.errors.AppendError.TheVariants as append
-use Rattle.df_replica.specs.Answering.{Serves, append_answer}
+use Rattle.df_replica.specs.Answering.{Serves, answer_of, as_append}
 use Rattle.df_replica.specs.Appending.{append_events, appended, header_given, next_unit, receipt_of}
 use Rattle.df_replica.specs.Serving.{IsCall, format, next}
 use Rattle.df_replica.specs.Supply.{IsSupplied}
@@ -39,6 +39,7 @@ use Rattle.df_replica.proofs.AppendMemory.{appended_memory}
 use Rattle.df_replica.proofs.AppendTests.{may_next}
 use Rattle.df_replica.proofs.Calls.{AreCalls, Answered, answered_call, stopped_call}
 use Rattle.df_replica.proofs.WritesOn.{StandsIn}
+use Rattle.df_replica.proofs.Unblamed.{append_unblamed, refused_answer}
 
 module _ (s : State) (client request : ℕ) (body : List ℕ) (given : Given) (is : IsState s) (live : s.live ≡ true) (fits : client < 2 ^ 128) (sum : given.checksum ≡ number_of (next_unit s client request body).header.checksum) where
   abbrev u : Message
@@ -64,7 +65,7 @@ module _ (s : State) (client request : ℕ) (body : List ℕ) (given : Given) (i
       live = live;
       stands = λ w work rep. (ap (λ (x : Work × Answer). x.1) (sym (refused_next w rep)), subst (λ (x : Work × Answer). Represents s x.0) (sym (refused_next w rep)) rep);
       made = λ w work rep. refused_makes s client request body given is sum e some (StandsIn (format s.file) []) w rep;
-      ring = λ g w a b k all. subst (λ (x : Told). ShowsRing s.file.layout s.file.cluster (now x.log) s.headers) (sym (some-eq all)) k.ring;
+      ring = λ g w a b k all. subst (λ (x : Told). ShowsRing s.file.layout s.file.cluster (now x.log) s.headers) (sym (same_Some _ _ all)) k.ring;
     }
 
     refused_call : (old : Option Told) → IsSupplied s old command given → IsCall given command s s old old (Some (ToAppend (Err e)))
@@ -135,45 +136,18 @@ module _ (s : State) (client request : ℕ) (body : List ℕ) (given : Given) (i
     fault_call : (old new : Option Told) (t : State) → IsSupplied s old command given → t.live ≡ false → AddsPart (append_events s u) old new → IsCall given command s t old new None
     fault_call old new t supplied dead part = stopped_call given command s (append_events s u) input allowed_calls (allowed_puts s client request body given is sum none own) t old new supplied dead part
 
--- no refusal is a fault
-abbrev IsRefusal : AppendError → Type 0
-IsRefusal append.DiskFault = ⊥
-IsRefusal e = Unit {0}
-
-abbrev AreRefusals : List (Bool × AppendError) → Type 0
-AreRefusals [] = Unit {0}
-AreRefusals (t ∷ ts) = IsRefusal t.1 × AreRefusals ts
-
-refusal_is : (b : Bool) (e : AppendError) (o : Option AppendError) → IsRefusal e → (if b then Some e else o) ≡ Some append.DiskFault → (o ≡ Some append.DiskFault → ⊥) → ⊥
-refusal_is true e o safe is there = let same : e ≡ append.DiskFault = cc in subst IsRefusal same safe
-refusal_is false e o safe is there = there is
-
-none_faults : (ts : List (Bool × AppendError)) → AreRefusals ts → first_refusal ts ≡ Some append.DiskFault → ⊥
-none_faults [] safe is = let same : None ≡ Some append.DiskFault = is in absurd (cc)
-none_faults (t ∷ ts) safe is = refusal_is t.0 t.1 (first_refusal ts) safe.0 is (λ more. none_faults ts safe.1 more)
-
-no_fault : (m : Memory) (client request : ℕ) (body : List ℕ) → first_refusal (append_refusals m client request body) ≡ Some append.DiskFault → ⊥
-no_fault m client request body is = none_faults (append_refusals m client request body) (tt, (tt, (tt, (tt, (tt, (tt, (tt, (tt, (tt, tt))))))))) is
-
 module _ (s : State) (client request : ℕ) (body : List ℕ) (is : IsState s) (live : s.live ≡ true) (fits : client < 2 ^ 128) where
-  pub refusal_serves : (e : AppendError) → first_refusal (append_refusals (memory s) client request body) ≡ Some e → (old : Option Told) → Serves (Append client request body) s s old old (append_answer (Err e))
-  refusal_serves append.ClientZero some old = λ given supplied. refused_call s client request body given is live fits supplied append.ClientZero some old supplied
-  refusal_serves (append.BodyTooLong a) some old = λ given supplied. refused_call s client request body given is live fits supplied (append.BodyTooLong a) some old supplied
-  refusal_serves (append.ClientsFull a) some old = λ given supplied. refused_call s client request body given is live fits supplied (append.ClientsFull a) some old supplied
-  refusal_serves (append.Repeated a) some old = λ given supplied. refused_call s client request body given is live fits supplied (append.Repeated a) some old supplied
-  refusal_serves (append.ReplyPending a) some old = λ given supplied. refused_call s client request body given is live fits supplied (append.ReplyPending a) some old supplied
-  refusal_serves (append.RequestOrder a) some old = λ given supplied. refused_call s client request body given is live fits supplied (append.RequestOrder a) some old supplied
-  refusal_serves (append.PipelineFull a) some old = λ given supplied. refused_call s client request body given is live fits supplied (append.PipelineFull a) some old supplied
-  refusal_serves (append.WalFull a b) some old = λ given supplied. refused_call s client request body given is live fits supplied (append.WalFull a b) some old supplied
-  refusal_serves append.OpsSpent some old = λ given supplied. refused_call s client request body given is live fits supplied append.OpsSpent some old supplied
-  refusal_serves append.DiskFault some old = absurd (no_fault (memory s) client request body some)
+  pub refusal_serves : (e : AppendError) → first_refusal (append_refusals (memory s) client request body) ≡ Some e → (old : Option Told) → Serves (Append client request body) s s old old (answer_of is_append_fault as_append (Err e))
+  refusal_serves e some old =
+      subst (λ (o : Option Answer). Serves (Append client request body) s s old old o) (sym (refused_answer is_append_fault e (append_unblamed (memory s) client request body e some) as_append))
+      (λ given supplied. refused_call s client request body given is live fits supplied e some old supplied)
 
   pub receipt_serves : IsTable s.table → first_refusal (append_refusals (memory s) client request body) ≡ None → IsInOwnSlot s.file.layout (next_unit s client request body)
       → (t : State) (receipt : Receipt) (old new : Option Told) → receipt ≡ receipt_of (next_unit s client request body).header → t ≡ appended s (next_unit s client request body)
-      → new ≡ after_all (append_events s (next_unit s client request body)) old → Serves (Append client request body) s t old new (append_answer (Ok receipt))
+      → new ≡ after_all (append_events s (next_unit s client request body)) old → Serves (Append client request body) s t old new (answer_of is_append_fault as_append (Ok receipt))
   receipt_serves table none own t receipt old new same next_is all =
-      subst (λ (x : State). Serves (Append client request body) s x old new (append_answer (Ok receipt))) (sym next_is)
-      (subst (λ (r : Receipt). Serves (Append client request body) s (appended s (next_unit s client request body)) old new (append_answer (Ok r))) (sym same)
+      subst (λ (x : State). Serves (Append client request body) s x old new (answer_of is_append_fault as_append (Ok receipt))) (sym next_is)
+      (subst (λ (r : Receipt). Serves (Append client request body) s (appended s (next_unit s client request body)) old new (answer_of is_append_fault as_append (Ok r))) (sym same)
       (λ given supplied. receipt_call s client request body given is live fits supplied table none own old new supplied all))
 
   pub fault_serves : IsTable s.table → first_refusal (append_refusals (memory s) client request body) ≡ None → IsInOwnSlot s.file.layout (next_unit s client request body)

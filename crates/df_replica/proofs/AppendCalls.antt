@@ -2,6 +2,7 @@
 use Rattle.std.specs.Prelude.{Ok, slice_get}
 use Rattle.std.proofs.Common.{◌≡◌, inl, inr, ℕ, ◌+◌, ◌/◌, ◌%◌, ◌==◌, List, [], ◌∷◌, Option, Some, None, refl, sym, ◌∙◌, ap, subst}
 use Rattle.std.proofs.lemmas.Bool.{cond-true, eq-eqb}
+use Rattle.std.proofs.lemmas.Option.{same_Some}
 use Rattle.df_base.specs.Image.{Image}
 use Rattle.df_base.specs.Log.{now}
 use Rattle.df_disk.specs.Told.{Told}
@@ -12,7 +13,7 @@ use Rattle.df_format.specs.Brings.{Brings}
 use Rattle.df_format.specs.declared.header.Header.{Header}
 use Rattle.df_format.specs.Message.{Message, sectors_of}
 use Rattle.df_format.specs.Own.{place_in}
-use Rattle.df_format.proofs.Laws.{made_brings, some-eq}
+use Rattle.df_format.proofs.Laws.{made_brings}
 use Rattle.df_journal.specs.Below.{IsInOwnSlot}
 use Rattle.df_journal.specs.Append.{EndsAppended, MayAppendOn, ShowsRing, journal_steps, new_sector, with_header}
 use Rattle.df_journal.proofs.Laws.{append_steps, ends_appended, next_sector}
@@ -60,7 +61,7 @@ module _ (layout : Layout) (cluster : ℕ) (sh : Shape) (u : Message) (sector : 
           elim (is.others one.0 one.1 one.4 one.5) [
             | inr shown ↦ inl shown
             | inl own ↦
-                let same : one.1 ≡ u.header = some-eq (sym one.5 ∙ ap (λ (s : ℕ). slice_get headers (s % 16)) own ∙ is.has) in
+                let same : one.1 ≡ u.header = same_Some _ _ (sym one.5 ∙ ap (λ (s : ℕ). slice_get headers (s % 16)) own ∙ is.has) in
                 inr (own ∙ slot, ap header_of same)
           ],
         );

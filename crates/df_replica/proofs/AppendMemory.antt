@@ -4,9 +4,9 @@ use Rattle.std.specs.Prelude.{slice_set}
 use Rattle.std.specs.List.{range_with_len, slice_get}
 use Rattle.std.proofs.lemmas.Bool.{cases_Bool}
 use Rattle.std.proofs.lemmas.List.{map-append}
+use Rattle.df_base.proofs.Laws.{get_set, get_set_other}
 use Rattle.df_format.specs.declared.header.Header.{Header}
 use Rattle.df_format.specs.Message.{Message}
-use Rattle.df_headers.proofs.Laws.{get_other, get_set}
 use Rattle.df_journal.proofs.Laws.{one_op}
 use Rattle.df_sessions.specs.declared.session.Session as told
 use Rattle.df_sessions.specs.Requests.{session_of, sessions_of}
@@ -49,7 +49,7 @@ sums_on slots base hs h a zero e at above room inside =
 sums_on slots base hs h a (suc n) e at above room inside =
     let apart : (a % slots) ≢ (e % slots) = λ same. (
     let one : a ≡ e = one_op slots base (e % slots) a e (record { above = above; within = omega arith; slot_is = same }) (record { above = omega arith; within = room; slot_is = refl }) in omega arith) in
-    ap (λ (o : Option Header). sum_of o ∷ map (sum_at slots (slice_set hs (e % slots) h)) (range_with_len (a + 1) (suc n))) (get_other hs (e % slots) (a % slots) h apart)
+    ap (λ (o : Option Header). sum_of o ∷ map (sum_at slots (slice_set hs (e % slots) h)) (range_with_len (a + 1) (suc n))) (get_set_other hs (e % slots) (a % slots) h apart)
     ∙ ap (λ (l : List ℕ). sum_at slots hs a ∷ l) (sums_on slots base hs h (a + 1) n e (omega arith) (omega arith) room inside)
 
 -- ---- the whole

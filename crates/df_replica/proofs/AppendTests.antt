@@ -1,14 +1,15 @@
 -- What an append that isn't refused may rely on, and where a client's session is found.
-use Rattle.std.proofs.Common.{◌≡◌, inl, inr, ℕ, zero, suc, ◌^◌, ◌<◌, ◌≤◌, ◌==◌, Bool, true, false, ◌&&◌, ◌||◌, not, nat_lt, List, [], ◌∷◌, length, get_or, map, Option, Some, None, IsSome, refl, sym, ◌∙◌, ap, subst, arith, rules}
+use Rattle.std.proofs.Common.{◌≡◌, inl, inr, ℕ, zero, suc, ◌^◌, ◌<◌, ◌≤◌, ◌==◌, Bool, true, false, ◌&&◌, ◌||◌, not, nat_lt, List, [], ◌∷◌, length, get_or, map, Option, Some, None, IsSome, refl, sym, ◌∙◌, ap, subst, arith, rules, ltb-false, eqb-true}
 use Rattle.std.specs.Prelude.{option_map, if◌then◌else◌}
 use Rattle.std.specs.List.{position, position_or_len}
-use Rattle.std.proofs.lemmas.Bool.{cases_Bool}
+use Rattle.std.proofs.lemmas.Bool.{cases_Bool, or_parts, not-false, eqb-false}
 use Rattle.std.proofs.lemmas.Bool.Decides.{nat_tests}
 use Rattle.std.proofs.lemmas.List.{length-map}
 use borrow.Author.Tests.{ltb-false}
 use Rattle.std.proofs.lemmas.List.Quantifiers.{position-Some}
 use Rattle.std.proofs.lemmas.List.Sums.{fails_before_first}
 use Rattle.std.proofs.lemmas.Option.{slice_get-get_or}
+use Rattle.df_base.proofs.Laws.{and_false, none_passes}
 use Rattle.df_sessions.specs.declared.session.Session as told
 use Rattle.df_sessions.specs.Requests.{session_of, sessions_of}
 use Rattle.df_sessions.specs.Table.{IsKnown, IsTable, has_client, requested, with_request}
@@ -22,12 +23,6 @@ use Rattle.df_replica.specs.Refusing.{session_at}
 use Rattle.df_replica.specs.Appending.{MayNext}
 
 -- ---- a client's session
-
-none_passes : {X : Type 0} (p : X → Bool) (xs : List X) (d : X) → position p xs ≡ None → (k : ℕ) → k < length xs → p (get_or xs k d) ≡ false
-none_passes p xs d none k within = elim (cases_Bool (nat_lt (position_or_len p xs) (length xs))) [
-  | inl inside ↦ let some : position p xs ≡ Some (position_or_len p xs) = (rw inside refl) in cc
-  | inr outside ↦ fails_before_first p xs k d (omega (arith, ltb-false (position_or_len p xs) (length xs) outside))
-]
 
 at_first : (client : ℕ) (ss : List told.Session) (i : ℕ) (d : told.Session) → i < length ss → has_client client (get_or ss i d) ≡ true → ((k : ℕ) → k < i → has_client client (get_or ss k d) ≡ false)
     → session_of_client client (map session_of ss) ≡ Some (session_of (get_or ss i d))
@@ -43,7 +38,7 @@ at_none client (s ∷ ss) d none =
     let other : has_client client s ≡ false = none 0 (omega arith) in
     rw other (at_none client ss d (λ k h. none (suc k) (omega arith)))
 
-no_session : told.Session
+pub no_session : told.Session
 no_session = record { client = 0; request = 0; op = 0; reply = None }
 
 found_by : (client : ℕ) (ss : List told.Session) (o : Option ℕ) → position (has_client client) ss ≡ o → session_of_client client (map session_of ss) ≡ option_map session_of (session_at ss o)
@@ -70,27 +65,6 @@ small_session ss (Some i) s all at = all i s at
 
 -- ---- what isn't refused
 
-and_false : (a b : Bool) → (a && b) ≡ false → a ≡ true → b ≡ false
-and_false true b is one = is
-and_false false b is one = absurd (cc)
-
-or_false : (a b : Bool) → (a || b) ≡ false → (a ≡ false) × (b ≡ false)
-or_false true b is = absurd (cc)
-or_false false b is = (refl, is)
-
-pub not_false : (a : Bool) → not a ≡ false → a ≡ true
-not_false true is = refl
-not_false false is = absurd (cc)
-
-pub lt_false : (a b : ℕ) → nat_lt a b ≡ false → b ≤ a
-lt_false a b is = grind (arith, nat_tests)
-
-pub eq_false : (a b : ℕ) → (a == b) ≡ false → a ≡ b → ⊥
-eq_false a b is same = grind (arith, nat_tests)
-
-pub eq_true : (a b : ℕ) → (a == b) ≡ true → a ≡ b
-eq_true a b is = grind (arith, nat_tests)
-
 some_request : (o : Option Session) → 0 < next_request o
 some_request None = omega arith
 some_request (Some s) = omega arith
@@ -106,23 +80,23 @@ may_ask room client request replies h ss (Some s) at few places answered next na
 pub may_next : (s : State) (client request : ℕ) (body : List ℕ) → IsState s → IsTable s.table → first_refusal (append_refusals (memory s) client request body) ≡ None → MayNext s client request (length body)
 may_next s client request body is table none =
     let tests = all_pass (append_refusals (memory s) client request body) none in
-    let last = or_false _ _ tests.1.1.1.1.1.1.1.1.0 in
-    let asked = eq_true _ _ (not_false _ tests.1.1.1.1.1.0) in
+    let last = or_parts _ _ tests.1.1.1.1.1.1.1.1.0 in
+    let asked = eqb-true _ _ (not-false _ tests.1.1.1.1.1.0) in
     record {
       note = record {
-        named = (let named = eq_false _ _ tests.0 in omega arith);
-        request = (omega (arith, asked, some_request (session_of_client client (map session_of s.table.sessions))), lt_false _ _ last.1);
-        few = (let pipeline = eq_false _ _ tests.1.1.1.1.1.1.0 in omega (arith, is.waiting, is.few));
-        op = (let op = eq_false _ _ last.0 in omega (arith, is.head_to));
-        room = lt_false _ _ tests.1.1.1.1.1.1.1.0;
+        named = (let named = eqb-false _ _ tests.0 in omega arith);
+        request = (omega (arith, asked, some_request (session_of_client client (map session_of s.table.sessions))), ltb-false _ _ last.1);
+        few = (let pipeline = eqb-false _ _ tests.1.1.1.1.1.1.0 in omega (arith, is.waiting, is.few));
+        op = (let op = eqb-false _ _ last.0 in omega (arith, is.head_to));
+        room = ltb-false _ _ tests.1.1.1.1.1.1.1.0;
         asks = λ h named same mark. may_ask s.file.layout.clients client request s.replies h (sessions_of s.table.sessions) (session_of_client client (sessions_of s.table.sessions)) refl
-            (omega (arith, length-map s.table.sessions session_of, table.within, is.places)) (λ new. eq_false _ _ (and_false _ _ tests.1.1.0 new)) (lt_false _ _ tests.1.1.1.1.0) asked named same mark;
+            (omega (arith, length-map s.table.sessions session_of, table.within, is.places)) (λ new. eqb-false _ _ (and_false _ _ tests.1.1.0 new)) (ltb-false _ _ tests.1.1.1.1.0) asked named same mark;
         place = elim (cases_Bool (is_new (session_of_client client (map session_of s.table.sessions)))) [
-          | inl new ↦ inr (let full = eq_false _ _ (and_false _ _ tests.1.1.0 new) in omega (arith, length-map s.table.sessions session_of, table.within, is.places))
+          | inl new ↦ inr (let full = eqb-false _ _ (and_false _ _ tests.1.1.0 new) in omega (arith, length-map s.table.sessions session_of, table.within, is.places))
           | inr old ↦ inl (known_client client s.table.sessions old)
         ];
       };
-      fits = (let fits = lt_false _ _ tests.1.0 in omega (arith, s.file.layout.message_size_within.0));
+      fits = (let fits = ltb-false _ _ tests.1.0 in omega (arith, s.file.layout.message_size_within.0));
       first = is.first;
     }
 

@@ -1,10 +1,10 @@
 -- Each begin is the machine's: its answer, and the state behind it. It does nothing to the disk.
 use Rattle.std.proofs.Common.{◌≡◌, ◌∙◌, ℕ, ◌<◌, ◌^◌, true, List, [], take, Option, Some, None, refl, sym, ap, subst, arith}
 use Rattle.std.specs.Prelude.{Ok, Err}
+use Rattle.std.proofs.lemmas.Option.{same_Some}
 use Rattle.df_base.specs.Fields.{AreBytes}
 use Rattle.df_base.specs.Log.{now}
 use Rattle.df_disk.specs.Told.{Told}
-use Rattle.df_format.proofs.Laws.{some-eq}
 use Rattle.df_journal.specs.Append.{ShowsRing}
 use Rattle.df_theory.specs.Units.{Parts}
 use Rattle.df_model.specs.After.{begun as begun_by, outcome, with_running}
@@ -62,7 +62,7 @@ module _ (s : State) (root : List ℕ) (given : Given) (bytes : AreBytes root) (
       live = live;
       stands = λ w work rep. (ap (λ (x : Work × Answer). x.1) (sym (refused_next w rep)), subst (λ (x : Work × Answer). Represents s x.0) (sym (refused_next w rep)) rep);
       made = λ w work rep. tt;
-      ring = λ g w a b k all. subst (λ (x : Told). ShowsRing s.file.layout s.file.cluster (now x.log) s.headers) (sym (some-eq all)) k.ring;
+      ring = λ g w a b k all. subst (λ (x : Told). ShowsRing s.file.layout s.file.cluster (now x.log) s.headers) (sym (same_Some _ _ all)) k.ring;
     }
 
     pub refused_call : (told : Option Told) → IsSupplied s told command given → IsCall given command s s told told (Some (ToBegin (Err e)))
@@ -104,7 +104,7 @@ module _ (s : State) (root : List ℕ) (given : Given) (bytes : AreBytes root) (
       live = live;
       stands = λ w work rep. allowed_at w work rep;
       made = λ w work rep. tt;
-      ring = λ g w a b k all. subst (λ (x : Told). ShowsRing s.file.layout s.file.cluster (now x.log) s.headers) (sym (some-eq all)) k.ring;
+      ring = λ g w a b k all. subst (λ (x : Told). ShowsRing s.file.layout s.file.cluster (now x.log) s.headers) (sym (same_Some _ _ all)) k.ring;
     }
 
     pub begun_call : (told : Option Told) → IsSupplied s told command given → IsCall given command s (begun s root) told told (Some (ToBegin (Ok (needed s root))))

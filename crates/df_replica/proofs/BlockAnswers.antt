@@ -1,13 +1,14 @@
 -- Each write of a block is the machine's: its answer, the state behind it, and what it does to the disk.
-use Rattle.std.proofs.Common.{◌≡◌, ◌∙◌, ℕ, true, false, Bool, List, [], ◌∷◌, Option, Some, None, refl, sym, ap, subst}
-use Rattle.std.specs.Prelude.{if◌then◌else◌, Ok, Err}
+use Rattle.std.proofs.Common.{◌≡◌, ◌∙◌, ℕ, true, false, List, [], Option, Some, None, refl, sym, ap, subst}
+use Rattle.std.specs.Prelude.{Ok, Err}
+use Rattle.std.proofs.lemmas.Option.{same_Some}
 use Rattle.df_base.proofs.Laws.{AreBytes-check_of, field_at-lt, now_is_image}
 use Rattle.df_base.specs.Image.{IsImage}
 use Rattle.df_base.specs.Log.{now}
 use Rattle.df_disk.specs.Told.{Told}
 use Rattle.df_disk.specs.Adds.{AddsPart, after_all}
 use Rattle.df_layout.specs.declared.places.Zone.TheVariants.{Grid}
-use Rattle.df_format.proofs.Laws.{made_brings, some-eq}
+use Rattle.df_format.proofs.Laws.{made_brings}
 use Rattle.df_format.specs.Making.{for_body}
 use Rattle.df_format.specs.Message.{Message, sectors_of}
 use Rattle.df_format.specs.Own.{place_in}
@@ -30,6 +31,7 @@ use Rattle.df_model.specs.Blocks.{block_written, with_entry}
 use Rattle.df_model.specs.Changing.{unless_refused}
 use Rattle.df_model.specs.Codec.{IsChecksum}
 use Rattle.df_model.specs.Commands.{Answer, Command, Given, IsInput, ToWriteBlock, WriteBlock, as_answer}
+use Rattle.df_model.specs.Faults.{is_block_fault}
 use Rattle.df_model.specs.Laws.{DoesBlock, UnlessRefused}
 use Rattle.df_model.specs.Making.{block_of, next_address}
 use Rattle.df_model.specs.Memory.{Memory, memory_of}
@@ -40,15 +42,15 @@ use Rattle.df_model.specs.Supply.{puts_of, unless}
 use Rattle.df_model.specs.Work.{Work}
 use Rattle.df_model.proofs.Laws.{change_law}
 use Rattle.df_model.specs.declared.errors.BlockError.{BlockError}
-use Rattle.df_model.specs.declared.errors.BlockError.TheVariants as block
 use Rattle.df_state.specs.State.{Represents, State, memory, shape, spelling}
-use Rattle.df_replica.specs.Answering.{Serves, write_block_answer}
+use Rattle.df_replica.specs.Answering.{Serves, answer_of, as_write_block}
 use Rattle.df_replica.specs.Blocks.{block_events, block_given, next_block, reference_of, written}
 use Rattle.df_replica.specs.Serving.{Grade, IsCall, IsKept, format, next}
 use Rattle.df_replica.specs.Supply.{IsSupplied}
 use Rattle.df_replica.proofs.Calls.{AreCalls, Answered, answered_call, stopped_call}
 use Rattle.df_replica.proofs.Leaves.{Makes, makes_nothing}
 use Rattle.df_replica.proofs.BlockStates.{blocks_memory}
+use Rattle.df_replica.proofs.Unblamed.{block_unblamed, refused_answer}
 
 module _ (s : State) (kind : ℕ) (body : List ℕ) (given : Given) (live : s.live ≡ true) (sum : given.checksum ≡ number_of (next_block s kind body).header.checksum) where
   abbrev u : Message
@@ -93,7 +95,7 @@ module _ (s : State) (kind : ℕ) (body : List ℕ) (given : Given) (live : s.li
       live = live;
       stands = λ w work rep. (ap (λ (x : Work × Answer). x.1) (sym (refused_next w rep)), subst (λ (x : Work × Answer). Represents s x.0) (sym (refused_next w rep)) rep);
       made = λ w work rep. tt;
-      ring = λ g w a b k all. subst (λ (x : Told). ShowsRing s.file.layout s.file.cluster (now x.log) s.headers) (sym (some-eq all)) k.ring;
+      ring = λ g w a b k all. subst (λ (x : Told). ShowsRing s.file.layout s.file.cluster (now x.log) s.headers) (sym (same_Some _ _ all)) k.ring;
     }
 
     refused_call : (old : Option Told) → IsSupplied s old command given → IsCall given command s s old old (Some (ToWriteBlock (Err e)))
@@ -186,7 +188,7 @@ module _ (s : State) (kind : ℕ) (body : List ℕ) (given : Given) (live : s.li
     ring_kept : (g : Grade) (w : Work) (a b : Told) → IsKept g s w a.log → Some b ≡ after_all (block_events s u) (Some a) → ShowsRing s.file.layout s.file.cluster (now b.log) s.headers
     ring_kept g w a b k all =
         let whole : IsImage (now a.log) = now_is_image a.log.start a.log.events k.log_is.start k.log_is.events in
-        subst (λ (x : Told). ShowsRing s.file.layout s.file.cluster (now x.log) s.headers) (sym (some-eq all)) (λ slot h at. wrote.0.shows (now a.log) (HeaderPlace slot) whole ∙ k.ring slot h at)
+        subst (λ (x : Told). ShowsRing s.file.layout s.file.cluster (now x.log) s.headers) (sym (same_Some _ _ all)) (λ slot h at. wrote.0.shows (now a.log) (HeaderPlace slot) whole ∙ k.ring slot h at)
 
     allowed_as : Answered given command s (written s u.header) (block_events s u) answer
     allowed_as = record { file = refl; live = live; stands = λ w work rep. allowed_at w work rep; made = λ w work rep. tt; ring = λ g w a b k all. ring_kept g w a b k all }
@@ -197,39 +199,18 @@ module _ (s : State) (kind : ℕ) (body : List ℕ) (given : Given) (live : s.li
     fault_call : (old new : Option Told) (t : State) → IsSupplied s old command given → t.live ≡ false → AddsPart (block_events s u) old new → IsCall given command s t old new None
     fault_call old new t supplied dead part = stopped_call given command s (block_events s u) input does_block block_puts t old new supplied dead part
 
--- no refusal is a fault
-abbrev IsRefusal : BlockError → Type 0
-IsRefusal block.DiskFault = ⊥
-IsRefusal e = Unit {0}
-
-abbrev AreRefusals : List (Bool × BlockError) → Type 0
-AreRefusals [] = Unit {0}
-AreRefusals (t ∷ ts) = IsRefusal t.1 × AreRefusals ts
-
-refusal_is : (b : Bool) (e : BlockError) (o : Option BlockError) → IsRefusal e → (if b then Some e else o) ≡ Some block.DiskFault → (o ≡ Some block.DiskFault → ⊥) → ⊥
-refusal_is true e o safe is there = let same : e ≡ block.DiskFault = cc in subst IsRefusal same safe
-refusal_is false e o safe is there = there is
-
-none_faults : (ts : List (Bool × BlockError)) → AreRefusals ts → first_refusal ts ≡ Some block.DiskFault → ⊥
-none_faults [] safe is = let same : None ≡ Some block.DiskFault = is in absurd (cc)
-none_faults (t ∷ ts) safe is = refusal_is t.0 t.1 (first_refusal ts) safe.0 is (λ more. none_faults ts safe.1 more)
-
-pub no_fault : (seen : Memory) (kind : ℕ) (body : List ℕ) → first_refusal (block_refusals seen kind body) ≡ Some block.DiskFault → ⊥
-no_fault seen kind body is = none_faults (block_refusals seen kind body) (tt, (tt, (tt, tt))) is
-
 module _ (s : State) (kind : ℕ) (body : List ℕ) (live : s.live ≡ true) where
-  pub refusal_serves : (e : BlockError) → first_refusal (block_refusals (memory s) kind body) ≡ Some e → (old : Option Told) → Serves (WriteBlock kind body) s s old old (write_block_answer (Err e))
-  refusal_serves block.KindZero some old = λ given supplied. refused_call s kind body given live supplied block.KindZero some old supplied
-  refusal_serves (block.BodyTooLong a) some old = λ given supplied. refused_call s kind body given live supplied (block.BodyTooLong a) some old supplied
-  refusal_serves (block.GridFull a) some old = λ given supplied. refused_call s kind body given live supplied (block.GridFull a) some old supplied
-  refusal_serves block.DiskFault some old = absurd (no_fault (memory s) kind body some)
+  pub refusal_serves : (e : BlockError) → first_refusal (block_refusals (memory s) kind body) ≡ Some e → (old : Option Told) → Serves (WriteBlock kind body) s s old old (answer_of is_block_fault as_write_block (Err e))
+  refusal_serves e some old =
+      subst (λ (o : Option Answer). Serves (WriteBlock kind body) s s old old o) (sym (refused_answer is_block_fault e (block_unblamed (memory s) kind body e some) as_write_block))
+      (λ given supplied. refused_call s kind body given live supplied e some old supplied)
 
   module _ (none : first_refusal (block_refusals (memory s) kind body) ≡ None) (own : IsUnit s.file.layout s.file.cluster (place_in Grid (next_block s kind body).header.op) (next_block s kind body)) where
     pub written_serves : (t : State) (r : Reference) (old new : Option Told) → r ≡ reference_of (next_block s kind body).header → t ≡ written s (next_block s kind body).header
-        → new ≡ after_all (block_events s (next_block s kind body)) old → Serves (WriteBlock kind body) s t old new (write_block_answer (Ok r))
+        → new ≡ after_all (block_events s (next_block s kind body)) old → Serves (WriteBlock kind body) s t old new (answer_of is_block_fault as_write_block (Ok r))
     written_serves t r old new same next_is all =
-        subst (λ (x : State). Serves (WriteBlock kind body) s x old new (write_block_answer (Ok r))) (sym next_is)
-        (subst (λ (x : Reference). Serves (WriteBlock kind body) s (written s (next_block s kind body).header) old new (write_block_answer (Ok x))) (sym same)
+        subst (λ (x : State). Serves (WriteBlock kind body) s x old new (answer_of is_block_fault as_write_block (Ok r))) (sym next_is)
+        (subst (λ (x : Reference). Serves (WriteBlock kind body) s (written s (next_block s kind body).header) old new (answer_of is_block_fault as_write_block (Ok x))) (sym same)
         (λ given supplied. written_call s kind body given live supplied none own old new supplied all))
 
     pub fault_serves : (t : State) (old new : Option Told) → t.live ≡ false → AddsPart (block_events s (next_block s kind body)) old new → Serves (WriteBlock kind body) s t old new None

@@ -1,12 +1,12 @@
 -- Each read of a block is the machine's: it does nothing to the disk, and what it found is what it was supplied with.
 use Rattle.std.proofs.Common.{◌≡◌, ℕ, Bool, true, false, cond, not, List, [], Option, Some, None, refl, sym, ◌∙◌, ap, subst}
 use Rattle.std.specs.Prelude.{Result, Ok, Err, is_some}
+use Rattle.std.proofs.lemmas.Option.{same_Some}
 use Rattle.df_base.specs.Log.{now}
 use Rattle.df_disk.specs.Told.{Told}
 use Rattle.df_layout.specs.declared.damage.Class.{Class}
 use Rattle.df_layout.specs.declared.places.Place.{Place}
 use Rattle.df_layout.specs.declared.places.Zone.TheVariants.{Grid}
-use Rattle.df_format.proofs.Laws.{some-eq}
 use Rattle.df_format.specs.declared.kind.Kind.TheVariants.{Block}
 use Rattle.df_format.specs.Message.{Message}
 use Rattle.df_format.specs.Own.{place_in}
@@ -50,7 +50,7 @@ module _ (s : State) (address : ℕ) (live : s.live ≡ true) where
     live = live;
     stands = λ w work rep. (ap ToReadBlock (sym same) ∙ ap (λ (m : Memory). ToReadBlock (after.read_answer m given.block address)) rep, rep);
     made = λ w work rep. tt;
-    ring = λ g w a b k all. subst (λ (x : Told). ShowsRing s.file.layout s.file.cluster (now x.log) s.headers) (sym (some-eq all)) k.ring;
+    ring = λ g w a b k all. subst (λ (x : Told). ShowsRing s.file.layout s.file.cluster (now x.log) s.headers) (sym (same_Some _ _ all)) k.ring;
   }
 
   answers : (told : Option Told) (found : Option (Result Units.Block Class)) (answer : Result Units.Block ReadError)

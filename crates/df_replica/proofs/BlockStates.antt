@@ -1,6 +1,7 @@
 -- The state whose live blocks changed: it makes sense, and what it is in the words of the machine.
-use Rattle.std.proofs.Common.{◌≡◌, ℕ, ◌==◌, true, false, Bool, cond, List, [], ◌∷◌, length, Option, Some, None, refl, sym, ap, subst, arith}
+use Rattle.std.proofs.Common.{◌≡◌, ℕ, ◌==◌, true, false, Bool, cond, List, [], ◌∷◌, length, Option, Some, None, refl, sym, ap, subst, arith, ltb-false}
 use Rattle.std.specs.Prelude.{Result, Ok, Err, OnErr, OnOk}
+use Rattle.std.proofs.lemmas.Bool.{eqb-false}
 use Rattle.df_format.specs.declared.superblock.SuperFields.{SuperFields}
 use Rattle.df_grid.specs.Grid.{GridState, IsUnheld, with_blocks as grid_of}
 use Rattle.df_model.specs.Blocks.{Blocks, block_released, sum_at, without_entry}
@@ -8,12 +9,11 @@ use Rattle.df_model.specs.Making.{next_address}
 use Rattle.df_model.specs.Memory.{Course}
 use Rattle.df_model.specs.Refusals.{block_refusals, first_refusal}
 use Rattle.df_model.specs.Work.{is_known}
-use Rattle.df_model.proofs.Laws.{all_pass}
+use Rattle.df_model.proofs.Laws.{all_pass, known_none, without_none}
 use Rattle.df_model.specs.declared.errors.BlockError.{BlockError}
 use Rattle.df_state.specs.declared.file.DataFile.{DataFile}
 use Rattle.df_state.specs.State.{Capture, IsCourse, IsState, State, course_in, grid_with, memory}
 use Rattle.df_replica.specs.Blocks.{MayWriteNext, address_or, with_blocks}
-use Rattle.df_replica.proofs.AppendTests.{eq_false, lt_false}
 
 -- ---- other live blocks
 
@@ -68,20 +68,8 @@ live_state s live is = record {
 
 -- ---- an address that isn't live
 
-known_none : (o : Option ℕ) → is_known o ≡ false → o ≡ None
-known_none None is = refl
-known_none (Some c) is = absurd (cc)
-
-nothing_goes : (a : ℕ) (xs : List (ℕ × ℕ)) → sum_at a xs ≡ None → without_entry a xs ≡ xs
-nothing_goes a [] none = refl
-nothing_goes a (x ∷ xs) none = by (nothing_goes a xs) (x.0 == a) refl none
-  where
-    by : (sum_at a xs ≡ None → without_entry a xs ≡ xs) → (b : Bool) → (x.0 == a) ≡ b → cond b (Some x.1) (sum_at a xs) ≡ None → cond b xs (x ∷ without_entry a xs) ≡ x ∷ xs
-    by rest true same is = absurd (cc)
-    by rest false other is = ap (λ (l : List (ℕ × ℕ)). x ∷ l) (rest is)
-
 pub not_live_stays : (b : Blocks) (a : ℕ) → is_known (sum_at a b.live) ≡ false → block_released b a ≡ b
-not_live_stays b a not_live = ap (lives b) (nothing_goes a b.live (known_none (sum_at a b.live) not_live))
+not_live_stays b a not_live = ap (lives b) (without_none a b.live (known_none (sum_at a b.live) not_live))
 
 -- ---- the address of the next block
 
@@ -99,8 +87,8 @@ pub may_write : (s : State) (kind : ℕ) (body : List ℕ) (address : ℕ) → f
 may_write s kind body address none here free =
     let tests = all_pass (block_refusals (memory s) kind body) none in
     record {
-      named = (let some = eq_false _ _ tests.0 in omega (arith, some));
-      fits = (let fits = lt_false _ _ tests.1.0 in omega (arith, fits, s.file.layout.block_size_within.0));
+      named = (let some = eqb-false _ _ tests.0 in omega (arith, some));
+      fits = (let fits = ltb-false _ _ tests.1.0 in omega (arith, fits, s.file.layout.block_size_within.0));
       free = subst (IsUnheld (grid_with s.file s.blocks)) here free;
     }
 

@@ -1,14 +1,15 @@
 -- Every call: whose device calls are the machine's has good moments, and where it answered what is kept goes on.
 use Rattle.std.proofs.Common.{◌≡◌, ℕ, Bool, ◌||◌, inl, inr, true, false, List, [], ◌∷◌, ◌++◌, append_assoc, Option, Some, None, refl, sym, ◌∙◌, ap, subst}
+use Rattle.std.proofs.lemmas.Option.{same_Some}
 use Rattle.df_base.specs.Image.{covers}
 use Rattle.df_base.specs.Log.{Event, IsLog, Log, Stop, Sync, Write, now}
 use Rattle.df_base.specs.Moments.{EachMoment, Extends, adds}
-use Rattle.df_base.proofs.Laws.{extends_self}
+use Rattle.df_base.proofs.Laws.{extends_self, extends_on}
 use Rattle.df_disk.specs.Told as told
 use Rattle.df_disk.specs.Told.{Told, did}
 use Rattle.df_disk.specs.Adds.{AddsPart, after_all}
+use Rattle.df_disk.proofs.Laws.{all_is_part, tells_on}
 use Rattle.df_damage.specs.Written.{IsWritten}
-use Rattle.df_format.proofs.Laws.{some-eq}
 use Rattle.df_journal.specs.Append.{ShowsRing}
 use Rattle.df_theory.specs.Device.{Format, IsSafeDisk, units_log}
 use Rattle.df_theory.specs.Shape.{Shape}
@@ -33,11 +34,6 @@ use Rattle.df_replica.proofs.Makes.{HasEach, OfMade, after_has, made_weaker}
 use Rattle.df_replica.proofs.WritesOn.{StandsIn, brought_is_written, stays_written}
 
 -- ---- logs that go on
-
--- all of the events are a part of them
-pub all_are_part : (events : List Event) (old new : Option Told) → new ≡ after_all events old → AddsPart events old new
-all_are_part [] old new is = is
-all_are_part (e ∷ es) old new is = inr (all_are_part es (told.after e old) new is)
 
 -- a front of the events, told of any log
 pub record Front (events : List Event) (old new : Option Told) : Type 0 where
@@ -66,25 +62,15 @@ front_of (e ∷ es) old new (inr more) =
     let rest = front_of es (told.after e old) new more in
     record { part = e ∷ rest.part; is = rest.is; again = λ base. inr (rest.again (told.after e base)); dry = λ sector dry. dry_on e es rest.part sector (rest.dry sector) dry }
 
--- a disk that tells goes on telling
-tells_on : (events : List Event) (t : Told) → AddsPart events (Some t) None → ⊥
-tells_on [] t part = cc
-tells_on (e ∷ es) t (inl same) = cc
-tells_on (e ∷ es) t (inr more) = tells_on es (did e t) more
-
 tells_none : (events : List Event) (n : Told) → AddsPart events None (Some n) → ⊥
 tells_none [] n part = cc
 tells_none (e ∷ es) n (inl same) = cc
 tells_none (e ∷ es) n (inr more) = tells_none es n more
 
-pub extends_on : (last later earlier : Log) → Extends last later → Extends later earlier → Extends last earlier
-extends_on last later earlier one two =
-    (one.0 ++ two.0, one.1 ∙ ap (λ (l : List Event). one.0 ++ l) two.1 ∙ sym (append_assoc one.0 two.0 earlier.events), one.2 ∙ two.2)
-
 -- the log that a call leaves goes on from the one before it
 grows : (events : List Event) (t n : Told) → AddsPart events (Some t) (Some n) → Extends n.log t.log
-grows [] t n is = subst (λ (x : Told). Extends x.log t.log) (sym (some-eq is)) (extends_self t.log)
-grows (e ∷ es) t n (inl is) = subst (λ (x : Told). Extends x.log t.log) (sym (some-eq is)) (extends_self t.log)
+grows [] t n is = subst (λ (x : Told). Extends x.log t.log) (sym (same_Some _ _ is)) (extends_self t.log)
+grows (e ∷ es) t n (inl is) = subst (λ (x : Told). Extends x.log t.log) (sym (same_Some _ _ is)) (extends_self t.log)
 grows (e ∷ es) t n (inr more) = extends_on n.log (did e t).log t.log (grows es (did e t) n more) (e ∷ [], refl, refl)
 
 -- a good log is safe
@@ -93,7 +79,7 @@ good_safe file Firm v u log good = good.safe
 good_safe file Whole v u log good = good.safe
 
 -- what is kept, whether the referenced blocks are shown or not
-firm_of : (g : Grade) (sh : Shape) (spell : Parts → List ℕ) (log : UnitLog) (w : Work) → KeptFor g sh spell log w → IsKeptBy sh spell log w
+pub firm_of : (g : Grade) (sh : Shape) (spell : Parts → List ℕ) (log : UnitLog) (w : Work) → KeptFor g sh spell log w → IsKeptBy sh spell log w
 firm_of Firm sh spell log w by = by
 firm_of Whole sh spell log w by = by.0
 
@@ -185,13 +171,13 @@ module _ (given : Given) (command : Command) (s : State) (events : List Event) (
 
     goes_on : (old new : Option Told) → new ≡ after_all events old → (g : Grade) (w : Work) → Keeps g s w old → GoesOnTo g t new (next s.file w given command) (Some answer)
     goes_on None None all g w k = alone g w k
-    goes_on None (Some n) all g w k = absurd (tells_none events n (all_are_part events None (Some n) all))
-    goes_on (Some a) None all g w k = absurd (tells_on events a (all_are_part events (Some a) None all))
+    goes_on None (Some n) all g w k = absurd (tells_none events n (all_is_part events None (Some n) all))
+    goes_on (Some a) None all g w k = absurd (tells_on events a (all_is_part events (Some a) None all))
     goes_on (Some a) (Some n) all g w k =
         let k_is : IsKept g s w a.log = k in
         let work = (firmly g s w a.log k_is).sense in
         let kept_on : IsKept g t (next s.file w given command).0 n.log = record {
-          log_is = log_then g w a k_is n (all_are_part events (Some a) (Some n) all);
+          log_is = log_then g w a k_is n (all_is_part events (Some a) (Some n) all);
           stands = (call.stands w work k_is.stands).1;
           kept_by =
               subst (λ (file : DataFile). KeptFor g (shape file) (spelling file) (units_log (format file) n.log) (next s.file w given command).0) (sym call.file) (kept_then g w a k_is n all);
@@ -219,7 +205,7 @@ module _ (given : Given) (command : Command) (s : State) (events : List Event) (
 
     writes_on : (old new : Option Told) → new ≡ after_all events old → (w : Work) → Keeps Firm s w None → WritesOn s.file old new w (next s.file w given command).0
     writes_on None None all w k = λ was. tt
-    writes_on None (Some b) all w k = absurd (tells_none events b (all_are_part events None (Some b) all))
+    writes_on None (Some b) all w k = absurd (tells_none events b (all_is_part events None (Some b) all))
     writes_on (Some a) None all w k = λ was. tt
     writes_on (Some a) (Some b) all w k = λ was. leads_on w k a b all was
 
@@ -233,7 +219,7 @@ module _ (given : Given) (command : Command) (s : State) (events : List Event) (
       events = events;
       told = all;
       answers = λ g w k. alone g w k;
-      keeps = λ g w base k. (good_part base (after_all events base) (all_are_part events base (after_all events base) refl) g w k, goes_on base (after_all events base) refl g w k);
+      keeps = λ g w base k. (good_part base (after_all events base) (all_is_part events base (after_all events base) refl) g w k, goes_on base (after_all events base) refl g w k);
       leaves = λ image whole. leaves_shown given command s events makes image whole;
       copies = λ w k image whole. leaves_copies given command s events makes w k image whole;
       spares = λ w k. spares_held given command s events makes w k;

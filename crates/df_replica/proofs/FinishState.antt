@@ -1,9 +1,10 @@
 -- What the superblock says that ends a checkpoint obeys the rules.
 use Rattle.std.proofs.Common.{◌≡◌, ◌∙◌, ℕ, ◌≤◌, List, [], ◌∷◌, Some, None, refl, sym, ap, arith}
 use Rattle.std.proofs.lemmas.List.{take_all}
+use Rattle.std.proofs.lemmas.Option.{same_Some}
 use Rattle.df_base.specs.Fields.{spelled}
 use Rattle.df_base.proofs.Laws.{spelled-field_at}
-use Rattle.df_format.proofs.Laws.{some-eq, faults}
+use Rattle.df_format.proofs.Laws.{faults}
 use Rattle.df_format.specs.Spelling.{IsCheck}
 use Rattle.df_format.specs.SuperRules.{IsSuper, fault_of}
 use Rattle.df_grid.specs.Table.{last_of}
@@ -12,16 +13,12 @@ use Rattle.df_units.specs.Meaning.{number_of}
 use Rattle.df_state.specs.State.{Capture, IsRunning, IsState, State}
 use Rattle.df_replica.specs.Stepping.{next_fields}
 
--- a checksum is spelled as it was read
-pub spelled_check : (check : List ℕ) → IsCheck check → spelled 16 (number_of check) ≡ check
-spelled_check check is = spelled-field_at 16 0 check is.each (omega (arith, is.size)) ∙ take_all 16 check (omega (arith, is.size))
-
 -- the last trailer block is the first of those that are listed
 pub first_pair : (written : List (ℕ × ℕ)) (left : List ℕ) (address sum : ℕ) → left ≡ [] → Some (address, sum) ≡ last_of left written → (first_address written ≡ address) × (first_sum written ≡ sum)
 first_pair written (a ∷ more) address sum done is = absurd (cc)
 first_pair [] [] address sum done is = absurd (cc)
 first_pair (x ∷ xs) [] address sum done is =
-    let same : (address, sum) ≡ x = some-eq is in
+    let same : (address, sum) ≡ x = same_Some _ _ is in
     (ap (λ (y : ℕ × ℕ). y.0) (sym same), ap (λ (y : ℕ × ℕ). y.1) (sym same))
 
 module _ (s : State) (r : Capture) (is : IsState s) (runs : IsRunning s.file s.fields s.head s.blocks r) (some : 1 ≤ first_address s.blocks.written) (inside : first_address s.blocks.written ≤ s.file.layout.blocks) where

@@ -5,7 +5,7 @@ use Rattle.df_format.specs.SuperRules.{IsSuper, fault_of}
 use Rattle.df_format.proofs.Laws.{faults}
 use Rattle.df_format.specs.First.{first_super}
 
-first_is_super : (layout : Layout) (cluster : ℕ) → 0 < cluster → IsSuper (first_super layout cluster)
+pub first_is_super : (layout : Layout) (cluster : ℕ) → 0 < cluster → IsSuper (first_super layout cluster)
 unfolding first_super
 first_is_super layout cluster some = record {
   version = refl;

@@ -1,12 +1,14 @@
 -- A block stays where it is as long as its address is held: no command puts another one there.
-use Rattle.std.proofs.Common.{◌≡◌, ◌⊎◌, inl, inr, ℕ, ◌<◌, ◌==◌, Bool, true, false, not, ◌||◌, if◌then◌else◌, List, [], ◌∷◌, Option, Some, None, refl, sym, ap, subst, ◌∙◌, arith}
+use Rattle.std.proofs.Common.{◌≡◌, ◌⊎◌, inl, inr, ℕ, ◌<◌, ◌==◌, Bool, true, false, not, ◌||◌, if◌then◌else◌, List, [], ◌∷◌, Option, Some, None, refl, sym, ap, subst, ◌∙◌, arith, eqb-true, eq-eqb}
 use Rattle.std.specs.Prelude.{Ok}
 use Rattle.std.proofs.lemmas.Bool.Decides.{nat_tests}
+use Rattle.std.proofs.lemmas.Bool.{or_left, or_right}
+use Rattle.std.proofs.lemmas.Option.{same_Some}
+use Rattle.df_base.proofs.Laws.{not_zero}
 use Rattle.df_disk.specs.Told.{Told}
 use Rattle.df_disk.specs.Adds.{after_all}
 use Rattle.df_layout.specs.declared.damage.Class.{Class}
 use Rattle.df_layout.specs.declared.damage.Class.TheVariants.{Stale}
-use Rattle.df_format.proofs.Laws.{some-eq}
 use Rattle.df_theory.specs.Units.{Block, BlockPlace, BlockUnit, Message}
 use Rattle.df_theory.specs.Device.{units_log}
 use Rattle.df_theory.specs.UnitLog.{now}
@@ -32,9 +34,6 @@ use Rattle.df_replica.specs.Reading.{shown_of}
 use Rattle.df_replica.specs.Serving.{IsKept, Keeps, Whole, format, next}
 use Rattle.df_replica.specs.Session.{Act, work_after}
 use Rattle.df_replica.proofs.Sessions.{keeps_alone}
-
-same_number : (a b : ℕ) → (a == b) ≡ true → a ≡ b
-same_number a b is = grind (arith, nat_tests)
 
 -- ---- no command puts another block at a held address
 
@@ -65,7 +64,7 @@ module _ (file : DataFile) (w : Work) (a : ℕ) where
       → HoldsBlock (with_live w (next_address (memory_of (shape file) (spelling file) w)) (Some sum)) a d → Before d
   after_write kind body sum d none (IsLive is) =
       let at = next_address (memory_of (shape file) (spelling file) w) in
-      live_case (Some sum) d (a == at) is (λ same new. inr (subst (λ (k : ℕ). is_held w k ≡ false) (sym (same_number a at same)) (block_may_law (shape file) (spelling file) w kind body none).free))
+      live_case (Some sum) d (a == at) is (λ same new. inr (subst (λ (k : ℕ). is_held w k ≡ false) (sym (eqb-true a at same)) (block_may_law (shape file) (spelling file) w kind body none).free))
   after_write kind body sum d none (IsCaptured r runs is) = inl (IsCaptured r runs is)
   after_write kind body sum d none (IsDurable is) = inl (IsDurable is)
 
@@ -77,7 +76,7 @@ module _ (file : DataFile) (w : Work) (a : ℕ) where
   after_begun : (root : List ℕ) (d : ℕ) → InGrid (shape file).layout a → HoldsBlock (with_running w (Some (begun (shape file) (spelling file) w root))) a d → Before d
   after_begun root d inside (IsLive is) = inl (IsLive is)
   after_begun root d inside (IsCaptured r runs is) =
-      let captured = ap (λ (x : Running). x.parts.references a) (some-eq runs) ∙ is in
+      let captured = ap (λ (x : Running). x.parts.references a) (same_Some _ _ runs) ∙ is in
       inl (IsLive (sym (entry_at w.live 1 (shape file).layout.blocks a (omega (arith, inside.0)) (omega (arith, inside.1))) ∙ captured))
   after_begun root d inside (IsDurable is) = inl (IsDurable is)
 
@@ -88,7 +87,7 @@ module _ (file : DataFile) (w : Work) (a : ℕ) where
 
   after_trailer : (r : Running) (at d : ℕ) (b : Block) (more : List ℕ) → w.running ≡ Some r → HoldsBlock (with_trailer_block w r at b more) a d → Before d
   after_trailer r at d b more runs (IsLive is) = inl (IsLive is)
-  after_trailer r at d b more runs (IsCaptured other on is) = inl (IsCaptured r runs (ap (λ (x : Running). x.parts.references a) (some-eq on) ∙ is))
+  after_trailer r at d b more runs (IsCaptured other on is) = inl (IsCaptured r runs (ap (λ (x : Running). x.parts.references a) (same_Some _ _ on) ∙ is))
   after_trailer r at d b more runs (IsDurable is) = inl (IsDurable is)
 
   after_left : (r : Running) (sum d : ℕ) (left : List ℕ) → w.running ≡ Some r → HoldsBlock (after_running (shape file) (spelling file) w sum r left).0 a d → Before d
@@ -140,19 +139,11 @@ module _ (file : DataFile) (w : Work) (a : ℕ) where
 
 -- ---- one checksum an address
 
-or_first : (x y : Bool) → x ≡ true → (x || y) ≡ true
-or_first true y is = refl
-or_first false y is = absurd (cc)
-
-or_second : (x y : Bool) → y ≡ true → (x || y) ≡ true
-or_second true y is = refl
-or_second false y is = is
-
 is_there : (w : Work) (a c : ℕ) → HoldsBlock w a c → is_held w a ≡ true
-is_there w a c (IsLive is) = or_first (is_known (w.live a)) _ (ap is_known is)
+is_there w a c (IsLive is) = or_left (is_known (w.live a)) _ (ap is_known is)
 is_there w a c (IsCaptured r runs is) =
-    or_second (is_known (w.live a)) _ (or_first (is_captured a w.running) _ (ap (is_captured a) runs ∙ or_first (is_known (r.parts.references a)) _ (ap is_known is)))
-is_there w a c (IsDurable is) = or_second (is_known (w.live a)) _ (or_second (is_captured a w.running) _ (or_first (is_known (w.view.checkpoint.parts.references a)) _ (ap is_known is)))
+    or_right (is_known (w.live a)) _ (or_left (is_captured a w.running) _ (ap (is_captured a) runs ∙ or_left (is_known (r.parts.references a)) _ (ap is_known is)))
+is_there w a c (IsDurable is) = or_right (is_known (w.live a)) _ (or_right (is_captured a w.running) _ (or_left (is_known (w.view.checkpoint.parts.references a)) _ (ap is_known is)))
 
 is_one : (w : Work) (a c : ℕ) → HoldsBlock w a c → IsKnown w a c
 is_one w a c (IsLive is) = Live is
@@ -182,15 +173,9 @@ backed_shows file t w a c backed (IsLive is) = backed.live a c is
 backed_shows file t w a c backed (IsCaptured r runs is) = backed.captured r runs a c is
 backed_shows file t w a c backed (IsDurable is) = backed.standing.shown a c is
 
-equal_number : (n : ℕ) → (n == n) ≡ true
-equal_number n = grind (arith, nat_tests)
-
-not_zero : (n : ℕ) → 0 < n → not (n == 0) ≡ true
-not_zero n some = grind (arith, nat_tests)
-
 read_gives : (class : Class) (b : Block) → 0 < b.kind → no_trailer (block_given (Some b.checksum) (Some (BlockUnit b)) class) ≡ Ok b
 read_gives class b some =
-    ap (λ (e : Bool). no_trailer (given_if e b class)) (equal_number b.checksum) ∙ ap (λ (e : Bool). given_if e b Stale) (not_zero b.kind some)
+    ap (λ (e : Bool). no_trailer (given_if e b class)) (eq-eqb b.checksum b.checksum refl) ∙ ap (λ (e : Bool). given_if e b Stale) (not_zero b.kind some)
 
 shows_held : (file : DataFile) (t : Told) (a c : ℕ) → ShowsOwnBlock (now (units_log (format file) t.log)) a c → ShowsHeld file a c (Some t)
 shows_held file t a c own honest =

@@ -5,6 +5,7 @@ use Rattle.df_base.specs.Fields.{spelled}
 use Rattle.df_base.specs.Log.{Event, Sync, now}
 use Rattle.df_disk.specs.Told.{Told}
 use Rattle.df_disk.specs.Adds.{AddsPart, after_all}
+use Rattle.df_disk.proofs.Laws.{all_is_part}
 use Rattle.df_format.specs.Copies.{content_with}
 use Rattle.df_format.specs.declared.superblock.SuperFields.{SuperFields}
 use Rattle.df_journal.specs.Append.{ShowsRing}
@@ -30,10 +31,10 @@ use Rattle.df_model.specs.declared.answers.Progress.TheVariants.{Done}
 use Rattle.df_model.specs.declared.errors.StepError.{StepError}
 use Rattle.df_model.specs.declared.errors.StepError.TheVariants as step
 use Rattle.df_state.specs.State.{Capture, IsCourse, IsRunning, IsState, Represents, State, course_of, memory, shape, spelling}
-use Rattle.df_replica.specs.Answering.{Serves, step_answer}
+use Rattle.df_replica.specs.Answering.{Serves, answer_of, is_step_unanswered}
 use Rattle.df_replica.specs.Serving.{Grade, IsCall, IsKept, format, next}
 use Rattle.df_replica.specs.Stepping.{IsMade, OfRunning, finished, last_events, made_by, made_for, next_fields}
-use Rattle.df_replica.proofs.Calls.{AreCalls, all_are_part, firmly}
+use Rattle.df_replica.proofs.Calls.{AreCalls, firmly}
 use Rattle.df_replica.proofs.Leaves.{Makes, copies_made, copies_over}
 use Rattle.df_replica.proofs.RingSpared.{ring_spared}
 use Rattle.df_replica.proofs.Makes.{OfStep}
@@ -177,7 +178,7 @@ module _ (s : State) (is : IsState s) (live : s.live ≡ true) (left : s.blocks.
       go (Some r) running course fields_are = λ given supplied.
           last_fault s r given is course running left number (subst StepsOf fields_are steps) supplied old new t dead (subst (λ (g : SuperFields). AddsPart (last_of g) old new) fields_are part)
 
-  pub error_serves : (t : State) (e : StepError) → t.live ≡ false → IsMade {T = Unit {0}} f old new (Err e) → Serves Advance s t old new (step_answer (Err e))
+  pub error_serves : (t : State) (e : StepError) → t.live ≡ false → IsMade {T = Unit {0}} f old new (Err e) → Serves Advance s t old new (answer_of is_step_unanswered ToAdvance (Err e))
   error_serves t step.NotRunning dead made = absurd made
-  error_serves t (step.Damaged place kind) dead made = stopped t dead (all_are_part (last_of f) old new made.0)
+  error_serves t (step.Damaged place kind) dead made = stopped t dead (all_is_part (last_of f) old new made.0)
   error_serves t step.DiskFault dead made = stopped t dead made

@@ -1,16 +1,17 @@
 -- What the steps of a call leave shown, which blocks they spare, and which blocks are durable behind them.
 use Rattle.std.proofs.Common.{◌≡◌, ◌⊎◌, inl, inr, ℕ, zero, suc, ◌+◌, ◌<◌, ◌%◌, ◌==◌, ◌||◌, if◌then◌else◌, Bool, true, false, List, [], ◌∷◌, Option, Some, None, refl, sym, ◌∙◌, ap, subst, arith}
 use Rattle.std.specs.Prelude.{nat_lt}
-use Rattle.std.proofs.lemmas.Bool.{and_from, cond-false, eqb-true, le-leb, lt-ltb}
+use Rattle.std.proofs.lemmas.Bool.{and_from, cond-false, eqb-true, le-leb, lt-ltb, or_parts, or_cases, or_left, or_right}
 use Rattle.std.proofs.lemmas.Bool.Decides.{nat_tests}
+use Rattle.std.proofs.lemmas.Option.{same_Some}
 use Rattle.df_base.specs.Image.{Image, IsImage, covers, written}
 use Rattle.df_base.specs.Log.{Event, Log, Stop, Sync, Write, add, loose}
 use Rattle.df_base.specs.Moments.{adds}
-use Rattle.df_base.proofs.Laws.{written_is_image}
+use Rattle.df_base.proofs.Laws.{written_is_image, written_else}
 use Rattle.df_disk.specs.Told.{Told, did}
 use Rattle.df_damage.specs.Anew.{told_after}
 use Rattle.df_layout.specs.declared.layout.Layout.{Layout}
-use Rattle.df_format.proofs.Laws.{same_shown, some-eq}
+use Rattle.df_format.proofs.Laws.{same_shown}
 use Rattle.df_theory.specs.Units.{AnyUnit, Block, BlockPlace, BlockUnit, Content, CopyPlace, CopyUnit, HeaderPlace, Place, PreparePlace, PrepareUnit, ReplyPlace, ReplyUnit, Units, is_some, or_else}
 use Rattle.df_theory.specs.Device.{AreSteps}
 use Rattle.df_theory.specs.Runs.{Puts, Step, Syncs}
@@ -31,29 +32,13 @@ use Rattle.df_model.specs.Supply.{copies_of, puts_of, step_puts, trailer_puts, u
 use Rattle.df_model.specs.Work.{Running, Work, is_captured, is_held, is_known, is_of}
 use Rattle.df_model.specs.declared.answers.Verdict.{Verdict}
 use Rattle.df_model.specs.declared.answers.Verdict.TheVariants.{Sound, Failing}
-use Rattle.df_model.proofs.Laws.{block_may_law}
+use Rattle.df_model.proofs.Laws.{block_may_law, some_of}
 use Rattle.df_state.specs.declared.file.DataFile.{DataFile}
 use Rattle.df_state.specs.State.{Represents, State, memory, shape, spelling}
 use Rattle.df_replica.specs.Leaving.{AreSettled, IsReadPlace, LeavesCopies, LeavesShown, SparesHeld, SparesReads, WritesNext, image_after, is_durable, writes_to}
 use Rattle.df_replica.specs.Serving.{Firm, Keeps, format, next}
 
 -- ---- tests
-
-neither : (x y : Bool) → (x || y) ≡ false → (x ≡ false) × (y ≡ false)
-neither true y is = absurd (cc)
-neither false y is = (refl, is)
-
-either : (x y : Bool) → (x || y) ≡ true → (x ≡ true) ⊎ (y ≡ true)
-either true y is = inl refl
-either false y is = inr is
-
-or_first : (x y : Bool) → x ≡ true → (x || y) ≡ true
-or_first true y is = refl
-or_first false y is = absurd (cc)
-
-or_second : (x y : Bool) → y ≡ true → (x || y) ≡ true
-or_second true y is = refl
-or_second false y is = is
 
 -- ---- what steps put
 
@@ -79,10 +64,6 @@ StartSynced [] = ⊥
 StartSynced ((Puts put) ∷ ss) = ⊥
 StartSynced (Syncs ∷ ss) = Unit {0}
 
-outside : (at : ℕ) (bytes : List ℕ) (image : Image) (sector : ℕ) → covers at bytes sector ≡ false → written at bytes image sector ≡ image sector
-unfolding written
-outside at bytes image sector dry = cond-false (covers at bytes sector) _ _ dry
-
 -- the sectors of a place of the layout
 has_inside : (layout : Layout) (place : Place) (k : ℕ) → has_place layout place ≡ true → k < (span_at layout place).count → has layout place ((span_at layout place).first + k) ≡ true
 has_inside layout place k there inside =
@@ -102,7 +83,7 @@ logged_after (e ∷ es) t = logged_after es (did e t)
 pub stays_firm : (events : List Event) (log : Log) (sector : ℕ) → loose log sector ≡ false → writes_to events sector ≡ false → loose (adds events log) sector ≡ false
 stays_firm [] log sector firm dry = firm
 stays_firm ((Write at bytes) ∷ es) log sector firm dry =
-    let parts = neither (covers at bytes sector) (writes_to es sector) dry in
+    let parts = or_parts (covers at bytes sector) (writes_to es sector) dry in
     stays_firm es (add (Write at bytes) log) sector (ap (λ (b : Bool). b || loose log sector) parts.0 ∙ firm) parts.1
 stays_firm (Sync ∷ es) log sector firm dry = stays_firm es (add Sync log) sector refl dry
 stays_firm ((Stop cs) ∷ es) log sector firm dry = stays_firm es (add (Stop cs) log) sector refl dry
@@ -158,8 +139,8 @@ module _ (layout : Layout) (cluster : ℕ) where
   same_sector [] [] are image sector dry = refl
   same_sector [] (p ∷ ss) are image sector dry = absurd are
   same_sector ((Write at bytes) ∷ es) ((Puts put) ∷ ss) are image sector dry =
-      let parts = neither (covers at bytes sector) (writes_to es sector) dry in
-      same_sector es ss are.1 (written at bytes image) sector parts.1 ∙ outside at bytes image sector parts.0
+      let parts = or_parts (covers at bytes sector) (writes_to es sector) dry in
+      same_sector es ss are.1 (written at bytes image) sector parts.1 ∙ written_else at bytes image sector parts.0
   same_sector ((Write at bytes) ∷ es) [] are image sector dry = absurd are
   same_sector ((Write at bytes) ∷ es) (Syncs ∷ ss) are image sector dry = absurd are
   same_sector (Sync ∷ es) (Syncs ∷ ss) are image sector dry = same_sector es ss are image sector dry
@@ -323,32 +304,25 @@ module _ (file : DataFile) (w : Work) (a : ℕ) where
 
 -- what is durable is held
 pub durable_held : (w : Work) (a : ℕ) → is_durable w a ≡ true → is_held w a ≡ true
-durable_held w a is = or_second (is_known (w.live a)) _ (or_second (is_captured a w.running) _ is)
+durable_held w a is = or_right (is_known (w.live a)) _ (or_right (is_captured a w.running) _ is)
 
 -- so is what the running checkpoint holds
 taken_captured : (r : Running) (a : ℕ) → is_taken r a ≡ true → is_captured a (Some r) ≡ true
-taken_captured r a is = elim (either (is_known (r.parts.references a)) (is_of a r.written) is) [
-  | inl known ↦ or_first (is_known (r.parts.references a)) _ known
-  | inr there ↦ or_second (is_known (r.parts.references a)) _ (or_first (is_of a r.written) _ there)
+taken_captured r a is = elim (or_cases (is_known (r.parts.references a)) (is_of a r.written) is) [
+  | inl known ↦ or_left (is_known (r.parts.references a)) _ known
+  | inr there ↦ or_right (is_known (r.parts.references a)) _ (or_left (is_of a r.written) _ there)
 ]
 
 taken_held : (w : Work) (r : Running) (a : ℕ) → w.running ≡ Some r → is_taken r a ≡ true → is_held w a ≡ true
-taken_held w r a running is = or_second (is_known (w.live a)) _ (or_first (is_captured a w.running) _ (ap (is_captured a) running ∙ taken_captured r a is))
-
-in_chain : (a : ℕ) (chain : List (ℕ × Block)) → is_of a chain ≡ true → (b : Block) × InChain a b chain
-in_chain a [] is = absurd (cc)
-in_chain a (x ∷ xs) is = elim (either (a == x.0) (is_of a xs) is) [
-  | inl here ↦ (x.1, inl (eqb-true a x.0 here, refl))
-  | inr there ↦ let more = in_chain a xs there in (more.0, inr more.1)
-]
+taken_held w r a running is = or_right (is_known (w.live a)) _ (or_left (is_captured a w.running) _ (ap (is_captured a) running ∙ taken_captured r a is))
 
 -- the running trailer's next block is not a durable one
 next_aside : (w : Work) (a : ℕ) → ((r : Running) → w.running ≡ Some r → AtEachOf (IsClear w.live w.view.checkpoint) r.left) → is_durable w a ≡ true → (command : Command) → WritesNext command w a → ⊥
 next_aside w a clear is Advance (r, more, running, left) =
     let free : IsClear w.live w.view.checkpoint a = (subst (AtEachOf (IsClear w.live w.view.checkpoint)) left (clear r running)).0 in
-    elim (either (is_known (w.view.checkpoint.parts.references a)) (is_of a w.view.checkpoint.chain) is) [
+    elim (or_cases (is_known (w.view.checkpoint.parts.references a)) (is_of a w.view.checkpoint.chain) is) [
       | inl known ↦ let no : true ≡ false = sym known ∙ ap is_known free.unreferenced in cc
-      | inr there ↦ let at = in_chain a w.view.checkpoint.chain there in free.no_trailer at.0 at.1
+      | inr there ↦ let at = some_of a w.view.checkpoint.chain there in free.no_trailer at.0 at.1
     ]
 next_aside w a clear is (Append client request body) never = never
 next_aside w a clear is (Reply op body) never = never
@@ -364,7 +338,7 @@ next_aside w a clear is (Recent place) never = never
 -- nor does the last step write one
 last_aside : (w : Work) (a : ℕ) (r : Running) → w.running ≡ Some r → r.left ≡ [] → (command : Command) → WritesNext command w a → ⊥
 last_aside w a r running left Advance (q, more, on, to_come) =
-    let same : r ≡ q = some-eq (sym running ∙ on) in
+    let same : r ≡ q = same_Some _ _ (sym running ∙ on) in
     let no : [] ≡ a ∷ more = sym left ∙ ap (λ (x : Running). x.left) same ∙ to_come in
     cc
 last_aside w a r running left (Append client request body) never = never

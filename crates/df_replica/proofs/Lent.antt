@@ -3,6 +3,7 @@ use Rattle.std.proofs.Common.{◌≡◌, ℕ, ◌+◌, ◌-◌, ◌%◌, ◌<◌
 use Rattle.std.specs.Prelude.{nat_le}
 use Rattle.std.specs.List.{slice_get}
 use Rattle.std.proofs.lemmas.Bool.Decides.{nat_tests}
+use Rattle.std.proofs.lemmas.Bool.{not-false}
 use Rattle.df_disk.specs.Told.{Told}
 use Rattle.df_damage.specs.Written.{IsTheOne, WasWritten}
 use Rattle.df_model.specs.After.{place_of_client}
@@ -13,7 +14,7 @@ use Rattle.df_model.specs.Work.{Work, kept}
 use Rattle.df_model.specs.declared.reading.LookupError.{LookupError}
 use Rattle.df_model.specs.declared.reading.PrepareError.{PrepareError}
 use Rattle.df_model.specs.declared.reading.ReadError.{ReadError}
-use Rattle.df_model.proofs.Laws.{all_pass}
+use Rattle.df_model.proofs.Laws.{all_pass, entry_in}
 use Rattle.df_theory.specs.Device.{NoChanceOf, units_log}
 use Rattle.df_theory.specs.Sessions.{Answers}
 use Rattle.df_theory.specs.Tails.{In}
@@ -27,7 +28,7 @@ use Rattle.df_replica.specs.Reading.{IsReadPrepare}
 use Rattle.df_replica.specs.Serving.{format}
 use Rattle.df_state.specs.State.{Represents, State, memory, shape, spelling}
 use Rattle.df_replica.specs.Lending.{BlockIsLent, BlockIsTheOne, IsReplyTo, LendsWrittenBlock, LendsWrittenPrepare, LendsWrittenReply, PrepareIsLent, PrepareIsTheOne, ReplyIsLent, ReplyIsTheOne}
-use Rattle.df_replica.proofs.LentFinds.{block_in, chain_get, client_at, entry_in, joined_at, mapped, prepare_in, reply_in, stored_in}
+use Rattle.df_replica.proofs.LentFinds.{block_in, chain_get, client_at, joined_at, mapped, prepare_in, reply_in, stored_in}
 
 -- ---- the one unit with the checksum that is known
 
@@ -59,16 +60,12 @@ block_is_the_one s t address b chance read = let found = block_found s t address
 
 -- ---- a prepare of the view
 
-not_false : (a : Bool) → not a ≡ false → a ≡ true
-not_false true is = refl
-not_false false is = absurd (cc)
-
 above_in : (low op top : ℕ) → (nat_lt low op && nat_le op top) ≡ true → low < op
 above_in low op top is = grind (arith, nat_tests, is)
 
 -- what isn't refused is above the checkpoint
 above_of : (m : Memory) (op : ℕ) → first_refusal (prepare_refusals m op) ≡ None → m.content.op < op
-above_of m op none = above_in m.content.op op m.head (not_false (nat_lt m.content.op op && nat_le op m.head) (all_pass (prepare_refusals m op) none).0)
+above_of m op none = above_in m.content.op op m.head (not-false (nat_lt m.content.op op && nat_le op m.head) (all_pass (prepare_refusals m op) none).0)
 
 module _ (s : State) (w : Work) (t : Told) (stands : Represents s w) where
   -- memory is the machine's

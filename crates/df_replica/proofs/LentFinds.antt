@@ -1,5 +1,5 @@
 -- What is found where the checksum is known: the unit that is shown, with that checksum; and what memory knows is what the view has.
-use Rattle.std.proofs.Common.{◌≡◌, inl, inr, ℕ, zero, suc, ◌+◌, ◌==◌, Bool, true, false, not, if◌then◌else◌, List, [], ◌∷◌, map, Option, Some, None, Result, Ok, Err, refl, sym, ◌∙◌, ap, arith}
+use Rattle.std.proofs.Common.{◌≡◌, inl, inr, ℕ, zero, suc, ◌+◌, ◌==◌, Bool, true, false, not, if◌then◌else◌, List, [], ◌∷◌, map, Option, Some, None, Result, Ok, Err, refl, sym, ◌∙◌, ap, arith, eqb-true}
 use Rattle.std.specs.List.{range_with_len, slice_get}
 use Rattle.std.proofs.lemmas.Bool.Decides.{nat_tests}
 use Rattle.df_layout.specs.declared.damage.Class.{Class}
@@ -12,9 +12,6 @@ use Rattle.df_model.specs.Blocks.{entries, entry, sum_at}
 use Rattle.df_model.specs.Memory.{joined, stored_sum}
 use Rattle.df_model.specs.Supply.{block_given, given_if, is_sum, no_trailer, prepare_given, reply_given}
 
-eq_true : (a b : ℕ) → (a == b) ≡ true → a ≡ b
-eq_true a b is = grind (arith, nat_tests)
-
 -- ---- what is given
 
 given_in : {X : Type 0} (b : Bool) (x y : X) (class : Class) → Ok y ≡ given_if b x class → (b ≡ true) × (x ≡ y)
@@ -23,7 +20,7 @@ given_in false x y class is = absurd (cc)
 
 sum_in : (known : Option ℕ) (sum : ℕ) → is_sum known sum ≡ true → known ≡ Some sum
 sum_in None sum is = absurd (cc)
-sum_in (Some k) sum is = ap Some (sym (eq_true sum k is))
+sum_in (Some k) sum is = ap Some (sym (eqb-true sum k is))
 
 pub prepare_in : (known : Option ℕ) (o : Option AnyUnit) (class : Class) (p : Message) → Ok p ≡ prepare_given known o class → (o ≡ Some (PrepareUnit p)) × (known ≡ Some p.header.checksum)
 prepare_in known None class p is = absurd (cc)
@@ -102,7 +99,7 @@ client_at client [] s at = absurd (cc)
 client_at client (x ∷ ss) s at = go (x.client == client) refl at (λ there. client_at client ss s there)
   where
     go : (b : Bool) → (x.client == client) ≡ b → slice_get (x ∷ ss) (if b then 0 else suc (place_of_client client ss)) ≡ Some s → (slice_get ss (place_of_client client ss) ≡ Some s → s.client ≡ client) → s.client ≡ client
-    go true same there more = let one : s ≡ x = cc in ap (λ (y : Session). y.client) one ∙ eq_true x.client client same
+    go true same there more = let one : s ≡ x = cc in ap (λ (y : Session). y.client) one ∙ eqb-true x.client client same
     go false same there more = more there
 
 -- ---- blocks
@@ -112,10 +109,5 @@ entry_case f a x None rest c known is more = more is
 entry_case f a x (Some d) rest c known is more = go (x == a) refl is
   where
     go : (b : Bool) → (x == a) ≡ b → (if b then Some d else sum_at a rest) ≡ Some c → f a ≡ Some c
-    go true same found = ap f (sym (eq_true x a same)) ∙ known ∙ found
+    go true same found = ap f (sym (eqb-true x a same)) ∙ known ∙ found
     go false same found = more found
-
--- what is looked up among the entries of a map is what the map says
-pub entry_in : (f : ℕ → Option ℕ) (xs : List ℕ) (a c : ℕ) → sum_at a (entries f xs) ≡ Some c → f a ≡ Some c
-entry_in f [] a c is = absurd (cc)
-entry_in f (x ∷ xs) a c is = entry_case f a x (f x) (entries f xs) c refl is (λ rest. entry_in f xs a c rest)

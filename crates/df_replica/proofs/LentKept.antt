@@ -2,29 +2,27 @@
 use Rattle.std.proofs.Common.{◌≡◌, ℕ, List, Some, None, sym, subst}
 use Rattle.df_base.specs.Log.{Sync, add}
 use Rattle.df_damage.specs.Written.{IsWritten}
-use Rattle.df_damage.proofs.Laws.{had_is_written, in_pools}
+use Rattle.df_damage.proofs.Laws.{had_is_written}
 use Rattle.df_model.specs.Laws.{IsKeptBy}
 use Rattle.df_model.specs.Work.{Work, opened}
 use Rattle.df_theory.specs.Device.{units_log}
 use Rattle.df_theory.specs.Shape.{Shape}
 use Rattle.df_theory.specs.UnitLog.{UnitLog, now}
 use Rattle.df_theory.specs.Units.{AnyUnit, BlockPlace, BlockUnit, Parts, Place}
+use Rattle.df_theory.proofs.Laws.{pool_pools}
 use Rattle.df_units.specs.Bytes.{unit_at}
 use Rattle.df_state.specs.declared.file.DataFile.{DataFile}
 use Rattle.df_state.specs.State.{shape, spelling}
 use Rattle.df_replica.specs.Lending.{KeptIsWritten, OpenedIsWrittenFor}
 use Rattle.df_replica.specs.Serving.{Firm, Grade, KeptFor, Whole, format}
 use Rattle.df_replica.specs.WrittenFor.{IsWrittenFor}
-
-kept_by : (g : Grade) (sh : Shape) (spell : Parts → List ℕ) (log : UnitLog) (w : Work) → KeptFor g sh spell log w → IsKeptBy sh spell log w
-kept_by Firm sh spell log w is = is
-kept_by Whole sh spell log w is = is.0
+use Rattle.df_replica.proofs.Calls.{firm_of}
 
 pub kept_is_written : KeptIsWritten
 kept_is_written g s w log is =
     let units = units_log (format s.file) log in
-    let by = kept_by g (shape s.file) (spelling s.file) units w is.kept_by in
-    let shown : (place : Place) (x : AnyUnit) → now units place ≡ Some x → IsWritten units place x = λ place x at. in_pools units.start units.events place x (by.tidy.rests.pooled place x at) in
+    let by = firm_of g (shape s.file) (spelling s.file) units w is.kept_by in
+    let shown : (place : Place) (x : AnyUnit) → now units place ≡ Some x → IsWritten units place x = λ place x at. pool_pools units.start units.events place x (by.tidy.rests.pooled place x at) in
     record {
       view = record { sound = by.tidy.rests.holds.bears.sound; needs = λ place x need. shown place x (by.tidy.rests.holds.bears.needs place x need) };
       trailer = λ r running a b at. shown (BlockPlace a) (BlockUnit b) (by.written r running a b at);

@@ -1,3 +1,4 @@
+pub mod Unblamed
 pub mod ReadCalls
 pub mod ReadFinds
 pub mod LookupSessions

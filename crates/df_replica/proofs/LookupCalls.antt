@@ -1,10 +1,10 @@
 -- Each read of a reply is the machine's: it does nothing to the disk, and what it found is what it was supplied with.
 use Rattle.std.proofs.Common.{◌≡◌, ℕ, ◌^◌, ◌<◌, Bool, true, false, cond, nat_lt, [], Option, Some, None, refl, sym, ◌∙◌, ap, subst, arith}
 use Rattle.std.specs.Prelude.{Result, Ok, Err}
+use Rattle.std.proofs.lemmas.Option.{same_Some}
 use Rattle.df_base.specs.Log.{now}
 use Rattle.df_disk.specs.Told.{Told}
 use Rattle.df_layout.specs.declared.damage.Class.{Class}
-use Rattle.df_format.proofs.Laws.{some-eq}
 use Rattle.df_format.specs.declared.kind.Kind.TheVariants.{Reply}
 use Rattle.df_format.specs.Message.{Message}
 use Rattle.df_format.specs.Own.{place_in}
@@ -18,23 +18,23 @@ use Rattle.df_model.specs.After as after
 use Rattle.df_model.specs.After.{shown_or}
 use Rattle.df_model.specs.Codec.{IsChecksum}
 use Rattle.df_model.specs.Commands.{Given, IsInput, ReadReply, ToReadReply}
+use Rattle.df_model.specs.Faults.{is_lookup_fault}
 use Rattle.df_model.specs.Memory.{Memory}
 use Rattle.df_model.specs.Memory as memory
 use Rattle.df_model.specs.Refusals.{first_refusal, is_new, last_op, lookup_refusals, session_of_client}
 use Rattle.df_model.specs.declared.reading.LookupError.{LookupError}
 use Rattle.df_model.specs.declared.reading.LookupError.TheVariants as lookup
 use Rattle.df_state.specs.State.{State, memory, reply_sum as known_sum}
-use Rattle.df_replica.specs.Answering.{Gives, ServesRead, read_reply_answer}
+use Rattle.df_replica.specs.Answering.{Gives, ServesRead, answer_of}
 use Rattle.df_replica.specs.declared.lookup.Stored.{Stored}
-use Rattle.df_replica.specs.Lookups.{HoldsKnown, IsReadReply, IsStoredFor, ReplyBlames, Tells, place_for, reply_found, reply_leaves, reply_shown}
+use Rattle.df_replica.specs.Lookups.{HoldsKnown, IsReadReply, IsStoredFor, Tells, place_for, reply_found, reply_shown}
 use Rattle.df_replica.specs.Reading.{IsFoundBy, IsKnownUnit}
 use Rattle.df_replica.specs.Supply.{IsSupplied}
+use Rattle.df_replica.specs.Stopping.{left_by}
 use Rattle.df_replica.proofs.LookupFinds.{reply_found_by, reply_known, reply_lacks_by}
 use Rattle.df_replica.proofs.Calls.{AreCalls, Answered, answered_call, stopped_call}
 use Rattle.df_replica.proofs.Leaves.{makes_nothing}
-
-zero_sum : (given : Given) → given.checksum ≡ 0 → IsChecksum given.checksum
-zero_sum given zero = subst IsChecksum (sym zero) (let small : 0 < 2 ^ 128 = omega arith in small)
+use Rattle.df_replica.proofs.ReadCalls.{zero_sum}
 
 module _ (s : State) (client : ℕ) (live : s.live ≡ true) where
   calls : (given : Given) → AreCalls given (ReadReply client) s []
@@ -49,7 +49,7 @@ module _ (s : State) (client : ℕ) (live : s.live ≡ true) where
     live = live;
     stands = λ w work rep. (ap ToReadReply (sym same) ∙ ap (λ (m : Memory). ToReadReply (after.lookup_answer m given.message client)) rep, rep);
     made = λ w work rep. tt;
-    ring = λ g w a b k all. subst (λ (x : Told). ShowsRing s.file.layout s.file.cluster (now x.log) s.headers) (sym (some-eq all)) k.ring;
+    ring = λ g w a b k all. subst (λ (x : Told). ShowsRing s.file.layout s.file.cluster (now x.log) s.headers) (sym (same_Some _ _ all)) k.ring;
   }
 
   answers : (told : Option Told) (found : Option (Result Units.Message Class)) (answer : Result Units.Message LookupError)
@@ -91,34 +91,22 @@ is_refusal s client e some =
     by (is_new session) (nat_lt s.replies (last_op session)) (last_op session) some
   where
     by : (new waits : Bool) (op : ℕ) → cond new (Some lookup.NoClient) (cond waits (Some (lookup.ReplyPending op)) None) ≡ Some e → IsRefusal e
-    by true waits op is = subst IsRefusal (some-eq is) tt
-    by false true op is = subst IsRefusal (some-eq is) tt
+    by true waits op is = subst IsRefusal (same_Some _ _ is) tt
+    by false true op is = subst IsRefusal (same_Some _ _ is) tt
     by false false op is = absurd (cc)
 
 -- what a read answers where it is refused
-pub refused_leaves : (A : Type 0) (s : State) (client : ℕ) (live : s.live ≡ true) (told : Option Told) (e : LookupError) → first_refusal (lookup_refusals (memory s) client) ≡ Some e → s ≡ reply_leaves {A = A} s (Err e)
-refused_leaves A s client live told lookup.NoClient some = refl
-refused_leaves A s client live told (lookup.ReplyPending op) some = refl
-refused_leaves A s client live told (lookup.Damaged place class) some = absurd (is_refusal s client (lookup.Damaged place class) some)
-refused_leaves A s client live told lookup.DiskFault some = absurd (is_refusal s client lookup.DiskFault some)
-
 pub refused_reads : (s : State) (client : ℕ) (live : s.live ≡ true) (told : Option Told) (e : LookupError) → first_refusal (lookup_refusals (memory s) client) ≡ Some e → IsReadReply client s told (Err e)
 refused_reads s client live told lookup.NoClient some = some
 refused_reads s client live told (lookup.ReplyPending op) some = some
 refused_reads s client live told (lookup.Damaged place class) some = absurd (is_refusal s client (lookup.Damaged place class) some)
 refused_reads s client live told lookup.DiskFault some = absurd (is_refusal s client lookup.DiskFault some)
 
-pub refused_serves : (A : Type 0) (s : State) (client : ℕ) (live : s.live ≡ true) (told : Option Told) (e : LookupError) → first_refusal (lookup_refusals (memory s) client) ≡ Some e → ServesRead (ReadReply client) s (reply_leaves {A = A} s (Err e)) told (reply_found (Err e)) (read_reply_answer (Err e))
+pub refused_serves : (A : Type 0) (s : State) (client : ℕ) (live : s.live ≡ true) (told : Option Told) (e : LookupError) → first_refusal (lookup_refusals (memory s) client) ≡ Some e → ServesRead (ReadReply client) s (left_by {T = A} is_lookup_fault s (Err e)) told (reply_found (Err e)) (answer_of is_lookup_fault ToReadReply (Err e))
 refused_serves A s client live told lookup.NoClient some = lookup_refused s client live told lookup.NoClient some
 refused_serves A s client live told (lookup.ReplyPending op) some = lookup_refused s client live told (lookup.ReplyPending op) some
 refused_serves A s client live told (lookup.Damaged place class) some = absurd (is_refusal s client (lookup.Damaged place class) some)
 refused_serves A s client live told lookup.DiskFault some = absurd (is_refusal s client lookup.DiskFault some)
-
-pub refused_blames : (A : Type 0) (s : State) (client : ℕ) (live : s.live ≡ true) (told : Option Told) (e : LookupError) → first_refusal (lookup_refusals (memory s) client) ≡ Some e → (count : ℕ) → ReplyBlames {A = A} count count (Err e)
-refused_blames A s client live told lookup.NoClient some = λ count. refl
-refused_blames A s client live told (lookup.ReplyPending op) some = λ count. refl
-refused_blames A s client live told (lookup.Damaged place class) some = absurd (is_refusal s client (lookup.Damaged place class) some)
-refused_blames A s client live told lookup.DiskFault some = absurd (is_refusal s client lookup.DiskFault some)
 
 -- ---- what was read
 

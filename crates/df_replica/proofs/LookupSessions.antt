@@ -17,7 +17,7 @@ use Rattle.df_model.specs.declared.reading.LookupError.TheVariants.{NoClient, Re
 use Rattle.df_state.specs.State.{IsState, State, memory, reply_sum, stored_sum}
 use Rattle.df_replica.specs.Lookups.{IsStoredFor}
 use Rattle.df_replica.specs.Refusing.{session_at}
-use Rattle.df_replica.proofs.AppendTests.{session_found}
+use Rattle.df_replica.proofs.AppendTests.{session_found, no_session}
 
 -- why a reply isn't read, by the client's session
 abbrev by_session : ℕ → Option Session → Option LookupError
@@ -29,9 +29,6 @@ place_first client (s ∷ ss) zero d within passes before = let same : has_clien
 place_first client (s ∷ ss) (suc i) d within passes before =
     let other : has_client client s ≡ false = before 0 (omega arith) in
     rw other (ap suc (place_first client ss i d (omega arith) passes (λ k h. before (suc k) (omega arith))))
-
-no_session : told.Session
-no_session = record { client = 0; request = 0; op = 0; reply = None }
 
 -- the place of a client's session
 pub place_found : (client : ℕ) (ss : List told.Session) (i : ℕ) → position (has_client client) ss ≡ Some i → place_of_client client (map session_of ss) ≡ i

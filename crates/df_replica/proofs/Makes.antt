@@ -1,7 +1,7 @@
 -- The one unit that a command makes, and that whatever the state behind it needs was needed before it or is that unit.
 use Rattle.std.proofs.Common.{◌≡◌, ℕ, ◌==◌, ◌%◌, nat_lt, inl, inr, Bool, true, false, if◌then◌else◌, List, [], ◌∷◌, Option, Some, None, refl, sym, ◌∙◌, ap, subst}
 use Rattle.std.proofs.lemmas.Bool.{eqb-true}
-use Rattle.df_format.proofs.Laws.{some-eq}
+use Rattle.std.proofs.lemmas.Option.{same_Some}
 use Rattle.df_theory.specs.Next as next
 use Rattle.df_theory.specs.Next.{appended, replied}
 use Rattle.df_theory.specs.Shape.{Shape, slots}
@@ -119,7 +119,7 @@ module _ (sh : Shape) (spell : Parts → List ℕ) (P : Place → AnyUnit → Ty
     where
       stored : (j : ℕ) (x : AnyUnit) (q : Message) → x ≡ ReplyUnit q → (b : Bool) → (j == k) ≡ b → (if b then Some r else w.view.stored j) ≡ Some q → P (ReplyPlace j) x
       stored j x q is true same at =
-          subst (λ (n : ℕ). P (ReplyPlace n) x) (sym (eqb-true j k same)) (subst (λ (y : AnyUnit). P (ReplyPlace k) y) (ap ReplyUnit (some-eq at) ∙ sym is) made)
+          subst (λ (n : ℕ). P (ReplyPlace n) x) (sym (eqb-true j k same)) (subst (λ (y : AnyUnit). P (ReplyPlace k) y) (ap ReplyUnit (same_Some _ _ at) ∙ sym is) made)
       stored j x q is false same at = has.needs (ReplyPlace j) x (q, at, is)
 
       needs : (place : Place) (x : AnyUnit) → Needs sh (replied w.view k r) place x → P place x
@@ -134,13 +134,13 @@ module _ (sh : Shape) (spell : Parts → List ℕ) (P : Place → AnyUnit → Ty
   begun_has : (root : List ℕ) → HasEach sh P (with_running w (Some (begun sh spell w root)))
   begun_has root = record {
     needs = has.needs;
-    trailer = λ r is a b at. absurd (let none : InChain a b [] = subst (λ (q : Running). InChain a b q.written) (sym (some-eq is)) at in none);
+    trailer = λ r is a b at. absurd (let none : InChain a b [] = subst (λ (q : Running). InChain a b q.written) (sym (same_Some _ _ is)) at in none);
   }
 
   wrote_has : (r : Running) → w.running ≡ Some r → (a : ℕ) (b : Block) (more : List ℕ) → P (BlockPlace a) (BlockUnit b) → HasEach sh P (with_trailer_block w r a b more)
   wrote_has r running a b more made = record {
     needs = has.needs;
-    trailer = λ q is c d at. chain c d (subst (λ (k : Running). InChain c d k.written) (sym (some-eq is)) at);
+    trailer = λ q is c d at. chain c d (subst (λ (k : Running). InChain c d k.written) (sym (same_Some _ _ is)) at);
   }
     where
       chain : (c : ℕ) (d : Block) → InChain c d ((a, b) ∷ r.written) → P (BlockPlace c) (BlockUnit d)

@@ -5,7 +5,7 @@ use Rattle.std.specs.List.{filter, range_with_len}
 use Rattle.df_base.specs.Log.{Event, Sync}
 use Rattle.df_disk.specs.Told.{Told, after}
 use Rattle.df_disk.specs.Adds.{Adds, AddsPart, after_all}
-use Rattle.df_disk.proofs.Laws.{all_then, part_then}
+use Rattle.df_disk.proofs.Laws.{all_then, part_then, after_append}
 use Rattle.df_layout.specs.declared.damage.Mend.{Mend}
 use Rattle.df_layout.specs.declared.layout.Layout.{Layout}
 use Rattle.df_format.specs.declared.header.Header.{Header}
@@ -15,14 +15,6 @@ use Rattle.df_recovery.specs.Plan.{if_wanted}
 use Rattle.df_recovery.proofs.Laws.{filter_more}
 
 -- ---- calls one after the other
-
-after_append : (es fs : List Event) (old : Option Told) → after_all (es ++ fs) old ≡ after_all fs (after_all es old)
-after_append [] fs old = refl
-after_append (e ∷ es) fs old = after_append es fs (after e old)
-
-pub adds_then : {T E : Type 0} → (es fs : List Event) (old mid new : Option Told) (result : Result T E) → mid ≡ after_all es old → Adds fs mid new result → Adds (es ++ fs) old new result
-adds_then es fs old mid new (Ok x) is adds = adds ∙ ap (after_all fs) is ∙ sym (after_append es fs old)
-adds_then es fs old mid new (Err e) is adds = all_then es fs old mid new is adds
 
 pub sync_adds : {T E : Type 0} → (old new : Option Told) (result : Result T E) → OnOk result (new ≡ after Sync old) → OnErr result (new ≡ old) → Adds (Sync ∷ []) old new result
 sync_adds old new (Ok x) ok err = ok

@@ -7,6 +7,7 @@ use Rattle.df_base.specs.Log.{Sync}
 use Rattle.df_base.specs.Moments.{EachMoment}
 use Rattle.df_disk.specs.Told.{Told}
 use Rattle.df_disk.specs.Adds.{Adds, AddsPart, after_all}
+use Rattle.df_disk.proofs.Laws.{all_is_part}
 use Rattle.df_damage.specs.Anew.{told_after}
 use Rattle.df_damage.proofs.Laws.{added_is_told}
 use Rattle.df_layout.specs.declared.damage.Mend.{Mend}
@@ -40,7 +41,7 @@ use Rattle.df_recovery.specs.Plan.{header_or_none, headers_in, if_wanted}
 use Rattle.df_replica.specs.Mending.{IsMended, MayMendOn, header_events, mending_events, mending_steps, needs_sector, sector_puts, sector_writes, sectors_of, sectors_to}
 use Rattle.df_replica.specs.Serving.{Firm, Grade, IsGoodFor, StandingFor, Whole, format}
 use Rattle.df_state.specs.State.{shape}
-use Rattle.df_replica.proofs.Calls.{all_are_part}
+use Rattle.df_superblock.proofs.Laws.{repair_from}
 use Rattle.df_replica.proofs.MendEvents.{sectors_more}
 
 -- ---- the calls are steps
@@ -68,17 +69,12 @@ headers_steps layout cluster table [] is below = tt
 headers_steps layout cluster table (k ∷ ks) is below =
     steps_join_law (format_of layout cluster) (sector_writes layout table (k ∷ ks)) (Sync ∷ []) (all_puts (sector_puts table (k ∷ ks))) (Syncs ∷ []) (writes_steps layout cluster table (k ∷ ks) is below) tt
 
-copies_steps : (layout : Layout) (cluster number : ℕ) (f : SuperFields) (members : List Bool) → number + length members ≤ 4 → IsUsable f → AreSteps (format_of layout cluster) (repair_events f number members) (copy_steps (repaired f number members))
-copies_steps layout cluster number f [] fits is = tt
-copies_steps layout cluster number f (true ∷ members) fits is = copies_steps layout cluster (number + 1) f members (omega (arith, fits)) is
-copies_steps layout cluster number f (false ∷ members) fits is = (copy_put layout cluster number f (omega (arith, fits)) is, copies_steps layout cluster (number + 1) f members (omega (arith, fits)) is)
-
 pub mending_is_steps : (file : DataFile) (table : List Header) (mends : List Mend) (f : SuperFields) (members : List Bool) → IsTable file.layout file.cluster table → IsUsable f → length members ≡ 4
     → AreSteps (format file) (mending_events file.layout table mends f members) (mending_steps file.layout table mends f members)
 mending_is_steps file table mends f members is usable four =
     let ks = sectors_of file.layout mends in
     steps_join_law (format file) (header_events file.layout table ks) (repair_events f 0 members) (header_steps (sector_puts table ks)) (copy_steps (repaired f 0 members))
-    (headers_steps file.layout file.cluster table ks is (sectors_below (file.layout.slots / 16) (file.layout.slots / 16) mends (omega arith))) (copies_steps file.layout file.cluster 0 f members (omega (arith, four)) usable)
+    (headers_steps file.layout file.cluster table ks is (sectors_below (file.layout.slots / 16) (file.layout.slots / 16) mends (omega arith))) (repair_from file.layout file.cluster 0 f members (omega (arith, four)) usable)
 
 -- ---- the header ring at their end
 
@@ -212,7 +208,7 @@ module _ (file : DataFile) (table : List Header) (mends : List Mend) (f : SuperF
   pub all_moments : EachMoment base.log (told_after (mending_events file.layout table mends f members) base).log (IsGoodFor may.grade (format file) (shape file) may.view may.view)
   all_moments =
       let events = mending_events file.layout table mends f members in
-      mending_moments file table mends f members base (told_after events base) may steps (all_are_part events (Some base) (Some (told_after events base)) all_told)
+      mending_moments file table mends f members base (told_after events base) may steps (all_is_part events (Some base) (Some (told_after events base)) all_told)
 
   pub all_mended : IsTable file.layout file.cluster table → IsMended may.grade file may.view table (told_after (mending_events file.layout table mends f members) base)
   all_mended is = mending_ends file table mends f members base (told_after (mending_events file.layout table mends f members) base) (Ok tt) may is steps all_told

@@ -1,7 +1,7 @@
 -- What is planned of a file that is found may be mended: each slot and each copy that isn't as it should be is written, and no member.
 use Rattle.std.proofs.Common.{◌≡◌, ◌⊎◌, inl, inr, ℕ, zero, suc, ◌+◌, ◌*◌, ◌/◌, ◌%◌, ◌<◌, ◌==◌, ◌||◌, List, [], ◌∷◌, ◌++◌, length, Bool, true, false, IsTrue, get_or, Some, None, refl, sym, ◌∙◌, ap, subst, arith}
 use Rattle.std.specs.List.{list_any, slice_get}
-use Rattle.std.proofs.lemmas.Bool.{cases_eq, cond-true, eq-eqb}
+use Rattle.std.proofs.lemmas.Bool.{cases_eq, cond-true, eq-eqb, cases_Bool, or_right, or_left}
 use Rattle.std.proofs.lemmas.List.{map-append}
 use Rattle.std.proofs.lemmas.List.Folds.{list_any-append}
 use Rattle.std.proofs.lemmas.Option.{slice_get-get_or}
@@ -41,17 +41,6 @@ use Rattle.df_replica.proofs.Followed.{in_pools}
 use Rattle.df_state.specs.State.{shape}
 use Rattle.df_replica.proofs.MendEvents.{sectors_more}
 use Rattle.df_recovery.proofs.Laws.{slot_mends_more, super_is_written, written_is}
-
-cases_bool : (b : Bool) → (b ≡ true) ⊎ (b ≡ false)
-cases_bool true = inl refl
-cases_bool false = inr refl
-
-either_right : (a b : Bool) → b ≡ true → (a || b) ≡ true
-either_right true b is = refl
-either_right false b is = is
-
-either_left : (a b : Bool) → a ≡ true → (a || b) ≡ true
-either_left a b is = ap (λ (x : Bool). x || b) is
 
 -- ---- copies
 
@@ -127,9 +116,9 @@ listed p needs classes s (suc n) inside is own =
     ∙ elim (cases_eq s n) [
       | inl here ↦
           let there : needs n ≡ true = subst (λ (m : ℕ). needs m ≡ true) here is in
-          let wanted : list_any p (if_wanted (needs n) (slot_mend classes n)) ≡ true = ap (λ (b : Bool). list_any p (if_wanted b (slot_mend classes n))) there ∙ either_left (p (slot_mend classes n)) false (subst (λ (m : ℕ). p (slot_mend classes m) ≡ true) here own) in
-          either_right (list_any p (slot_mends needs classes n)) (list_any p (if_wanted (needs n) (slot_mend classes n))) wanted
-      | inr away ↦ either_left (list_any p (slot_mends needs classes n)) (list_any p (if_wanted (needs n) (slot_mend classes n))) (listed p needs classes s n (omega (arith, inside, away)) is own)
+          let wanted : list_any p (if_wanted (needs n) (slot_mend classes n)) ≡ true = ap (λ (b : Bool). list_any p (if_wanted b (slot_mend classes n))) there ∙ or_left (p (slot_mend classes n)) false (subst (λ (m : ℕ). p (slot_mend classes m) ≡ true) here own) in
+          or_right (list_any p (slot_mends needs classes n)) (list_any p (if_wanted (needs n) (slot_mend classes n))) wanted
+      | inr away ↦ or_left (list_any p (slot_mends needs classes n)) (list_any p (if_wanted (needs n) (slot_mend classes n))) (listed p needs classes s n (omega (arith, inside, away)) is own)
     ]
 
 lies : (classes : ℕ → Class) (s : ℕ) → lies_in (s / 16) (slot_mend classes s) ≡ true
@@ -204,7 +193,7 @@ module _ (g : Grade) (file : DataFile) (v : View) (table : List Header) (mends :
       let slots_list = slot_mends (needs_header file.layout op image) classes file.layout.slots in
       let inside : list_any (lies_in (s / 16)) slots_list ≡ true = listed (lies_in (s / 16)) (needs_header file.layout op image) classes s file.layout.slots below needs (lies classes s) in
       let all : needs_sector mends (s / 16) ≡ true =
-      ap (list_any (lies_in (s / 16))) (plan.planned.list image tells) ∙ list_any-append (lies_in (s / 16)) (copy_mends plan.copies members) slots_list ∙ either_right (list_any (lies_in (s / 16)) (copy_mends plan.copies members)) (list_any (lies_in (s / 16)) slots_list) inside in
+      ap (list_any (lies_in (s / 16))) (plan.planned.list image tells) ∙ list_any-append (lies_in (s / 16)) (copy_mends plan.copies members) slots_list ∙ or_right (list_any (lies_in (s / 16)) (copy_mends plan.copies members)) (list_any (lies_in (s / 16)) slots_list) inside in
       let at = slice_get-get_or table s (reserved_header file.cluster 0) (omega (arith, below, plan.planned.is_table.count)) in
       reaches_at table mends (HeaderPlace s) (s / 16) (file.layout.slots / 16) (HeaderUnit (header_of (get_or table s (reserved_header file.cluster 0)))) (omega (arith, below, file.layout.slots_within.2)) all (put_there table s (get_or table s (reserved_header file.cluster 0)) at)
 
@@ -226,11 +215,11 @@ planned_may_mend g file v table mends f members t four plan on =
       };
       puts_copies = subst (λ (c : Units.Content). AllPutCopy c agreed.first agreed.second (repaired f 0 members)) (sym (content_is g file v table mends f members t four plan on))
           (all_put f agreed.first agreed.second 0 members (member_of g file v table mends f members t four plan on agreed.first (omega (arith, agreed.apart, agreed.inside)) agreed.at_first) (member_of g file v table mends f members t four plan on agreed.second agreed.inside agreed.at_second));
-      each_slot = λ s below. elim (cases_bool (needs_header file.layout plan.scan.start.op (now (units_log (format file) t.log)) s)) [
+      each_slot = λ s below. elim (cases_Bool (needs_header file.layout plan.scan.start.op (now (units_log (format file) t.log)) s)) [
         | inl needs ↦ inr (needed g file v table mends f members t four plan on s below needs)
         | inr unlisted ↦ inl (plan.planned.others (shape file) (now (units_log (format file) t.log)) v (is_scan g file v table mends f members t four plan on) (distinct g file v table mends f members t four plan on) s below unlisted)
       ];
-      each_copy = λ k below. elim (cases_bool (get_or members k false)) [
+      each_copy = λ k below. elim (cases_Bool (get_or members k false)) [
         | inl member ↦ inl (copy_shown g file v table mends f members t four plan on k ((members_are g file v table mends f members t four plan on k below).0 member))
         | inr isnt ↦ inr (subst (λ (n : ℕ). IsNumber n (repaired f 0 members)) (let same : 0 + k ≡ k = omega arith in same) (not_member f 0 k members (omega (arith, below, four)) isnt))
       ];

@@ -3,7 +3,7 @@ use Rattle.std.proofs.Common.{◌≡◌, inl, ℕ, zero, suc, ◌+◌, ◌*◌, 
 use Rattle.std.specs.Prelude.{slice_get}
 use Rattle.std.proofs.lemmas.List.{ext_get_or}
 use Rattle.std.proofs.lemmas.List.FromFn.{get_or-map-range_with_len, length-map-range_with_len}
-use Rattle.std.proofs.lemmas.Option.{get_or_from_slice_get, slice_get-get_or, slice_get_within}
+use Rattle.std.proofs.lemmas.Option.{get_or_from_slice_get, slice_get-get_or, slice_get_within, same_Some}
 use Rattle.df_base.specs.Log.{Event, Log}
 use Rattle.df_base.specs.Moments.{adds}
 use Rattle.df_disk.specs.Told.{Told, after}
@@ -14,7 +14,6 @@ use Rattle.df_format.specs.declared.header.Header.{Header}
 use Rattle.df_format.specs.declared.kind.Kind.TheVariants.{Reserved}
 use Rattle.df_format.specs.First.{first_super}
 use Rattle.df_format.specs.SuperRules.{IsUsable}
-use Rattle.df_format.proofs.Laws.{some-eq}
 use Rattle.df_theory.specs.MakingLaws.{all_puts}
 use Rattle.df_theory.specs.Device.{AreSteps, IsSafeDisk}
 use Rattle.df_theory.proofs.Laws.{steps_join_law}
@@ -24,7 +23,7 @@ use Rattle.df_trailer.specs.Text.{parse_of}
 use Rattle.df_state.specs.State.{shape}
 use Rattle.df_units.specs.Making.{AreReserved, IsMadeOnDisk, first_view, header_puts, header_writes}
 use Rattle.df_units.specs.Sample.{reserved_header}
-use Rattle.df_units.proofs.Laws.{all_added, copy_put, format_on_disk, headers_put, part_moments}
+use Rattle.df_units.proofs.Laws.{all_added, copy_put, format_on_disk, headers_put, part_moments, headers_are_steps}
 use Rattle.df_headers.specs.Ring
 use Rattle.df_headers.specs.Ring.{IsTable, in_sector}
 use Rattle.df_headers.proofs.Laws.{reserved_table as reserved_is_table, sector_at, table_written}
@@ -56,7 +55,7 @@ module _ (layout : Layout) (cluster : ℕ) (named : 0 < cluster) (small : cluste
   kinds sector i h at =
       let there : slice_get table (16 * sector + i) ≡ Some h = (sector_at sector i table h at).1 in
       let own = are (16 * sector + i) (slice_get_within table (16 * sector + i) h there) in
-      ap (λ (k : Header). k.kind) (some-eq (sym there ∙ own))
+      ap (λ (k : Header). k.kind) (same_Some _ _ (sym there ∙ own))
 
   from_sector : (s n : ℕ) → s + n ≤ layout.slots / 16 → AreReserved layout cluster s (sectors_of s n table)
   from_sector s zero inside = tt
@@ -70,10 +69,6 @@ how_many s zero table = refl
 how_many s (suc n) table = ap suc (how_many (s + 1) n table)
 
 -- ---- the making
-
-headers_are_steps : (layout : Layout) (cluster sector : ℕ) (sectors : List (List Header)) → AreReserved layout cluster sector sectors → AreSteps (format_of layout cluster) (header_writes layout sector sectors) (all_puts (header_puts sector sectors))
-headers_are_steps layout cluster sector [] are = tt
-headers_are_steps layout cluster sector (headers ∷ rest) are = (headers_put layout cluster sector headers are.0, headers_are_steps layout cluster (sector + 1) rest are.2)
 
 abbrev All : Layout → ℕ → Type 0
 All layout cluster = AreReserved layout cluster 0 (sectors_in layout (reserved_table layout cluster))

@@ -3,7 +3,7 @@ use Rattle.std.proofs.Common.{◌≡◌, ℕ, zero, suc, ◌+◌, ◌-◌, ◌*�
 use Rattle.df_base.specs.Log.{Event, Write}
 use Rattle.df_disk.specs.Told.{Told, after}
 use Rattle.df_disk.specs.Adds.{Adds, AddsPart, after_all}
-use Rattle.df_disk.proofs.Laws.{all_then, part_then}
+use Rattle.df_disk.proofs.Laws.{all_then, part_then, after_append}
 use Rattle.df_layout.specs.declared.layout.Layout.{Layout}
 use Rattle.df_format.specs.declared.header.Header.{Header}
 use Rattle.df_format.specs.UnitLaws.{headers_bytes}
@@ -32,10 +32,6 @@ split layout t s (suc k) m e is =
     next : (s k e : ℕ) → s + suc k ≡ e → (s + 1) + k ≡ e
     next s k e is = omega (arith, is)
 
-after_then : (es fs : List Event) (old : Option Told) → after_all (es ++ fs) old ≡ after_all fs (after_all es old)
-after_then [] fs old = refl
-after_then (e ∷ es) fs old = after_then es fs (after e old)
-
 -- one more sector is written
 pub one_more : (layout : Layout) (t : List Header) (k : ℕ) (old mid new : Option Told) → mid ≡ after_all (header_writes layout 0 (sectors_of 0 k t)) old → new ≡ after_all (sector_events layout k t) mid
     → new ≡ after_all (header_writes layout 0 (sectors_of 0 (k + 1) t)) old
@@ -43,7 +39,7 @@ one_more layout t k old mid new before now =
     let first : List Event = header_writes layout 0 (sectors_of 0 k t) in
     let more : header_writes layout 0 (sectors_of 0 (k + 1) t) ≡ first ++ sector_events layout k t = split layout t 0 k 1 k (plain k) in
     let all : after_all (header_writes layout 0 (sectors_of 0 (k + 1) t)) old ≡ after_all (sector_events layout k t) (after_all first old) =
-    ap (λ (es : List Event). after_all es old) more ∙ after_then first (sector_events layout k t) old in
+    ap (λ (es : List Event). after_all es old) more ∙ after_append first (sector_events layout k t) old in
     now ∙ ap (λ (o : Option Told). after_all (sector_events layout k t) o) before ∙ sym all
   where
     plain : (k : ℕ) → 0 + k ≡ k
@@ -62,8 +58,3 @@ one_fails layout t k n old mid new inside before part =
   where
     plain : (k : ℕ) → 0 + k ≡ k
     plain k = omega arith
-
--- some events, and a call that adds others behind them
-pub all_after : {T E : Type 0} → (es fs : List Event) (old mid new : Option Told) (result : Result T E) → mid ≡ after_all es old → Adds fs mid new result → Adds (es ++ fs) old new result
-all_after es fs old mid new (Ok x) before now = now ∙ ap (after_all fs) before ∙ sym (after_then es fs old)
-all_after es fs old mid new (Err e) before now = all_then es fs old mid new before now

@@ -96,7 +96,7 @@ opened_same sh image other v same =
 -- ---- what an open leaves
 
 -- how its trailer is spelled is a codec of the file
-codec_of : (file : DataFile) → IsCodec (shape file) (spelling file)
+pub codec_of : (file : DataFile) → IsCodec (shape file) (spelling file)
 codec_of file = codec (shape file) (omega (arith, file.layout.clients_within.1)) (omega (arith, file.layout.block_size_within)) refl
 
 -- the end of the mending is kept by what the machine begins with, by the grade

@@ -1,10 +1,10 @@
 -- Each read is the machine's: it does nothing to the disk, and what it found is what it was supplied with.
 use Rattle.std.proofs.Common.{◌≡◌, ℕ, ◌+◌, ◌%◌, ◌^◌, ◌<◌, Bool, true, false, cond, not, ◌&&◌, nat_lt, [], Option, Some, None, refl, sym, ◌∙◌, ap, subst, arith}
 use Rattle.std.specs.Prelude.{Result, Ok, Err, nat_le, slice_get}
+use Rattle.std.proofs.lemmas.Option.{same_Some}
 use Rattle.df_base.specs.Log.{now}
 use Rattle.df_disk.specs.Told.{Told}
 use Rattle.df_layout.specs.declared.damage.Class.{Class}
-use Rattle.df_format.proofs.Laws.{some-eq}
 use Rattle.df_format.specs.declared.kind.Kind.TheVariants.{Prepare}
 use Rattle.df_format.specs.Message.{Message}
 use Rattle.df_format.specs.Own.{place_in}
@@ -20,14 +20,16 @@ use Rattle.df_model.specs.After as after
 use Rattle.df_model.specs.After.{shown_or}
 use Rattle.df_model.specs.Codec.{IsChecksum}
 use Rattle.df_model.specs.Commands.{Given, IsInput, ReadPrepare, ToReadPrepare}
+use Rattle.df_model.specs.Faults.{is_prepare_fault}
 use Rattle.df_model.specs.Memory.{Memory, prepare_sum}
 use Rattle.df_model.specs.Refusals.{first_refusal, prepare_refusals}
 use Rattle.df_model.specs.declared.reading.PrepareError.{PrepareError}
 use Rattle.df_model.specs.declared.reading.PrepareError.TheVariants as prepare
 use Rattle.df_state.specs.State.{State, memory}
-use Rattle.df_replica.specs.Answering.{Gives, ServesRead, read_prepare_answer}
-use Rattle.df_replica.specs.Reading.{IsFoundBy, IsKnownUnit, IsReadPrepare, PrepareBlames, check_in, prepare_found, prepare_leaves, prepare_wanted}
+use Rattle.df_replica.specs.Answering.{Gives, ServesRead, answer_of}
+use Rattle.df_replica.specs.Reading.{IsFoundBy, IsKnownUnit, IsReadPrepare, check_in, prepare_found, prepare_wanted}
 use Rattle.df_replica.specs.Supply.{IsSupplied}
+use Rattle.df_replica.specs.Stopping.{left_by}
 use Rattle.df_replica.proofs.ReadFinds.{prepare_found_by, prepare_known, prepare_lacks_by}
 use Rattle.df_replica.proofs.Calls.{AreCalls, Answered, answered_call, stopped_call}
 use Rattle.df_replica.proofs.Leaves.{makes_nothing}
@@ -48,7 +50,7 @@ module _ (s : State) (op : ℕ) (live : s.live ≡ true) where
     live = live;
     stands = λ w work rep. (ap ToReadPrepare (sym same) ∙ ap (λ (m : Memory). ToReadPrepare (after.prepare_answer m given.message op)) rep, rep);
     made = λ w work rep. tt;
-    ring = λ g w a b k all. subst (λ (x : Told). ShowsRing s.file.layout s.file.cluster (now x.log) s.headers) (sym (some-eq all)) k.ring;
+    ring = λ g w a b k all. subst (λ (x : Told). ShowsRing s.file.layout s.file.cluster (now x.log) s.headers) (sym (same_Some _ _ all)) k.ring;
   }
 
   answers : (told : Option Told) (found : Option (Result Units.Message Class)) (answer : Result Units.Message PrepareError)
@@ -87,29 +89,19 @@ not_kept : (s : State) (op : ℕ) (e : PrepareError) → first_refusal (prepare_
 not_kept s op e some = by (not (nat_lt s.fields.op op && nat_le op s.head)) some
   where
     by : (b : Bool) → cond b (Some (prepare.NotKept (s.fields.op + 1) s.head)) None ≡ Some e → IsNotKept e
-    by true is = subst IsNotKept (some-eq is) tt
+    by true is = subst IsNotKept (same_Some _ _ is) tt
     by false is = absurd (cc)
 
 -- what a read answers where it is refused
-pub refused_leaves : (A : Type 0) (s : State) (op : ℕ) (live : s.live ≡ true) (told : Option Told) (e : PrepareError) → first_refusal (prepare_refusals (memory s) op) ≡ Some e → s ≡ prepare_leaves {A = A} s (Err e)
-refused_leaves A s op live told (prepare.NotKept first last) some = refl
-refused_leaves A s op live told (prepare.Damaged place class) some = absurd (not_kept s op (prepare.Damaged place class) some)
-refused_leaves A s op live told prepare.DiskFault some = absurd (not_kept s op prepare.DiskFault some)
-
 pub refused_reads : (s : State) (op : ℕ) (live : s.live ≡ true) (told : Option Told) (e : PrepareError) → first_refusal (prepare_refusals (memory s) op) ≡ Some e → IsReadPrepare op s told (Err e)
 refused_reads s op live told (prepare.NotKept first last) some = some
 refused_reads s op live told (prepare.Damaged place class) some = absurd (not_kept s op (prepare.Damaged place class) some)
 refused_reads s op live told prepare.DiskFault some = absurd (not_kept s op prepare.DiskFault some)
 
-pub refused_serves : (A : Type 0) (s : State) (op : ℕ) (live : s.live ≡ true) (told : Option Told) (e : PrepareError) → first_refusal (prepare_refusals (memory s) op) ≡ Some e → ServesRead (ReadPrepare op) s (prepare_leaves {A = A} s (Err e)) told (prepare_found (Err e)) (read_prepare_answer (Err e))
+pub refused_serves : (A : Type 0) (s : State) (op : ℕ) (live : s.live ≡ true) (told : Option Told) (e : PrepareError) → first_refusal (prepare_refusals (memory s) op) ≡ Some e → ServesRead (ReadPrepare op) s (left_by {T = A} is_prepare_fault s (Err e)) told (prepare_found (Err e)) (answer_of is_prepare_fault ToReadPrepare (Err e))
 refused_serves A s op live told (prepare.NotKept first last) some = prepare_refused s op live told (prepare.NotKept first last) some
 refused_serves A s op live told (prepare.Damaged place class) some = absurd (not_kept s op (prepare.Damaged place class) some)
 refused_serves A s op live told prepare.DiskFault some = absurd (not_kept s op prepare.DiskFault some)
-
-pub refused_blames : (A : Type 0) (s : State) (op : ℕ) (live : s.live ≡ true) (told : Option Told) (e : PrepareError) → first_refusal (prepare_refusals (memory s) op) ≡ Some e → (count : ℕ) → PrepareBlames {A = A} count count (Err e)
-refused_blames A s op live told (prepare.NotKept first last) some = λ count. refl
-refused_blames A s op live told (prepare.Damaged place class) some = absurd (not_kept s op (prepare.Damaged place class) some)
-refused_blames A s op live told prepare.DiskFault some = absurd (not_kept s op prepare.DiskFault some)
 
 -- ---- what was read
 

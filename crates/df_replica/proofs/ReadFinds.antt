@@ -1,5 +1,5 @@
 -- What a read finds in a room is what the machine finds at the place.
-use Rattle.std.proofs.Common.{◌≡◌, ◌==◌, ℕ, zero, suc, ◌+◌, ◌-◌, ◌%◌, ◌<◌, ◌≤◌, Bool, true, false, ◌&&◌, nat_lt, not, Option, Some, None, List, map, refl, sym, ap, subst, ◌∙◌, arith}
+use Rattle.std.proofs.Common.{◌≡◌, ◌==◌, ℕ, zero, suc, ◌+◌, ◌-◌, ◌%◌, ◌<◌, ◌≤◌, Bool, true, false, ◌&&◌, nat_lt, not, Option, Some, None, List, map, refl, sym, ap, subst, ◌∙◌, arith, eq-eqb, eqb-true}
 use Rattle.std.specs.Prelude.{Result, Ok, Err, nat_le}
 use Rattle.std.specs.List.{range_with_len, slice_get}
 use Rattle.std.proofs.lemmas.Bool.Decides.{nat_tests}
@@ -21,7 +21,7 @@ use Rattle.df_format.specs.Shown
 use Rattle.df_format.specs.Shown.{bytes_of}
 use Rattle.df_format.specs.Spelling.{IsCheck, spelling_rest}
 use Rattle.df_format.specs.Valid.{IsInSlot, IsUnit}
-use Rattle.df_format.proofs.Laws.{valid_belongs, valid_stale}
+use Rattle.df_format.proofs.Laws.{valid_belongs, valid_stale, shown_stale}
 use Rattle.df_buffers.specs.declared.identity.Identity.{Identity}
 use Rattle.df_buffers.specs.declared.identity.Wanted.TheVariants.{Checksum}
 use Rattle.df_buffers.specs.Sounds.{Holding}
@@ -29,7 +29,7 @@ use Rattle.df_theory.specs.Units
 use Rattle.df_theory.specs.Units.{PreparePlace}
 use Rattle.df_units.specs.Bytes.{message_unit}
 use Rattle.df_units.specs.Meaning.{message_of, number_of}
-use Rattle.df_units.proofs.Laws.{one_number}
+use Rattle.df_units.proofs.Laws.{one_number, sealed_check}
 use Rattle.df_model.specs.Commands.{ReadPrepare}
 use Rattle.df_model.specs.Memory as memory
 use Rattle.df_model.specs.Refusals.{first_refusal, prepare_refusals}
@@ -39,21 +39,6 @@ use Rattle.df_places.specs.Shelves.{IsFound, IsOf, IsRead}
 use Rattle.df_state.specs.declared.file.DataFile.{DataFile}
 use Rattle.df_state.specs.State.{State, memory, prepare_sum, sum_of}
 use Rattle.df_replica.specs.Reading.{IsFoundBy, IsKnownUnit, check_in, prepare_wanted, shown_of}
-
-yes_eq : (a b : ℕ) → a ≡ b → (a == b) ≡ true
-yes_eq a b same = grind (arith, nat_tests)
-
-eq_true : (a b : ℕ) → (a == b) ≡ true → a ≡ b
-eq_true a b is = grind (arith, nat_tests)
-
--- a sealed header's checksum has sixteen bytes
-sealed_check : (h : Header) → IsSealed h → IsCheck h.checksum
-sealed_check h is = subst IsCheck (sym is.checksum) (record { size = length-check_of (spelling_rest h); each = AreBytes-check_of (spelling_rest h) })
-
--- a place that shows a unit, where another one is wanted, is stale
-shown_stale : (layout : Layout) (cluster : ℕ) (image : Image) (place : Place) (u : Message) → Shown.unit_at layout cluster image place ≡ Some u → Shown.class_at layout cluster image place ≡ Stale
-unfolding Shown.unit_at Shown.class_at
-shown_stale layout cluster image place u shown = valid_stale layout cluster place (bytes_of layout image place) u shown
 
 -- ---- the message that an image shows
 
@@ -80,7 +65,7 @@ module _ (layout : Layout) (cluster : ℕ) (place : Place) (check : List ℕ) (k
   -- the unit that is held is found
   pub held_given : (h : Holding) → IsFound kind (wanted_at layout cluster place check) h.unit → IsOf kind (wanted_at layout cluster place check) image None (Some h) → Ok (message_of h.unit) ≡ there (Shown.unit_at layout cluster image place)
   held_given h found read =
-      let same : (number_of h.unit.header.checksum == number_of check) ≡ true = yes_eq (number_of h.unit.header.checksum) (number_of check) (ap number_of found.wanted) in
+      let same : (number_of h.unit.header.checksum == number_of check) ≡ true = eq-eqb (number_of h.unit.header.checksum) (number_of check) (ap number_of found.wanted) in
       sym (ap there read.judges ∙ ap (λ (b : Bool). given_if b (message_of h.unit) Stale) same)
 
   -- where none is held, the class is
@@ -92,7 +77,7 @@ module _ (layout : Layout) (cluster : ℕ) (place : Place) (check : List ℕ) (k
       go false differs = refl
       go true same =
           let is = read.valid u shown in
-          let wanted : u.header.checksum ≡ check = one_number u.header.checksum check (sealed_check u.header is.sealed) fits (eq_true (number_of u.header.checksum) (number_of check) same) in
+          let wanted : u.header.checksum ≡ check = one_number u.header.checksum check (sealed_check u.header is.sealed) fits (eqb-true (number_of u.header.checksum) (number_of check) same) in
           absurd (read.judges.0 u shown (record { is = is; of_kind = only u is; wanted = wanted }))
 
   pub lacks_given : (class : Class) (held : Option Holding) → IsOf kind (wanted_at layout cluster place check) image (Some class) held → Err class ≡ there (Shown.unit_at layout cluster image place)

@@ -1,9 +1,9 @@
 -- Each release is the machine's: its answer, and the state behind it. It does nothing to the disk.
 use Rattle.std.proofs.Common.{◌≡◌, ◌∙◌, ℕ, true, false, Bool, not, cond, [], Option, Some, None, refl, sym, ap, subst}
 use Rattle.std.specs.Prelude.{Ok, Err}
+use Rattle.std.proofs.lemmas.Option.{same_Some}
 use Rattle.df_base.specs.Log.{now}
 use Rattle.df_disk.specs.Told.{Told}
-use Rattle.df_format.proofs.Laws.{some-eq}
 use Rattle.df_journal.specs.Append.{ShowsRing}
 use Rattle.df_model.specs.After.{outcome, with_live}
 use Rattle.df_model.specs.Blocks.{block_released, sum_at, without_entry}
@@ -47,7 +47,7 @@ module _ (s : State) (address : ℕ) (live : s.live ≡ true) where
     live = live;
     stands = λ w work rep. (ap (λ (x : Work × Answer). x.1) (sym (next_is w rep given (Some e) some)), subst (λ (x : Work × Answer). Represents s x.0) (sym (next_is w rep given (Some e) some)) rep);
     made = λ w work rep. tt;
-    ring = λ g w a b k all. subst (λ (x : Told). ShowsRing s.file.layout s.file.cluster (now x.log) s.headers) (sym (some-eq all)) k.ring;
+    ring = λ g w a b k all. subst (λ (x : Told). ShowsRing s.file.layout s.file.cluster (now x.log) s.headers) (sym (same_Some _ _ all)) k.ring;
   }) told supplied
 
   -- a block that is let go
@@ -73,7 +73,7 @@ module _ (s : State) (address : ℕ) (live : s.live ≡ true) where
       live = live;
       stands = λ w work rep. subst (λ (x : Work × Answer). (ToRelease (Ok tt) ≡ x.1) × Represents (released s address) x.0) (sym (next_is w rep given None none)) (refl, stands given w work rep);
       made = λ w work rep. tt;
-      ring = λ g w a b k all. subst (λ (x : Told). ShowsRing s.file.layout s.file.cluster (now x.log) s.headers) (sym (some-eq all)) k.ring;
+      ring = λ g w a b k all. subst (λ (x : Told). ShowsRing s.file.layout s.file.cluster (now x.log) s.headers) (sym (same_Some _ _ all)) k.ring;
     }
 
     pub released_serves : (t : State) → t ≡ released s address → (told : Option Told) → Serves (Release address) s t told told (Some (ToRelease (Ok tt)))

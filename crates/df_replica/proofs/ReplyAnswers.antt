@@ -1,13 +1,14 @@
 -- Each reply is the machine's: its answer, the state behind it, and what it does to the disk.
-use Rattle.std.proofs.Common.{◌≡◌, ◌∙◌, inl, ℕ, ◌<◌, true, false, Bool, List, [], ◌∷◌, length, map, Option, Some, None, refl, sym, ap, subst, arith}
-use Rattle.std.specs.Prelude.{if◌then◌else◌, Ok, Err}
+use Rattle.std.proofs.Common.{◌≡◌, ◌∙◌, inl, ℕ, ◌<◌, true, false, List, [], ◌∷◌, length, map, Option, Some, None, refl, sym, ap, subst, arith}
+use Rattle.std.specs.Prelude.{Ok, Err}
+use Rattle.std.proofs.lemmas.Option.{same_Some}
 use Rattle.df_base.proofs.Laws.{AreBytes-check_of, field_at-lt, now_is_image}
 use Rattle.df_base.specs.Image.{IsImage}
 use Rattle.df_base.specs.Log.{now}
 use Rattle.df_disk.specs.Told.{Told}
 use Rattle.df_disk.specs.Adds.{AddsPart, after_all}
 use Rattle.df_layout.specs.declared.places.Zone.TheVariants.{ClientReplies}
-use Rattle.df_format.proofs.Laws.{made_brings, some-eq}
+use Rattle.df_format.proofs.Laws.{made_brings}
 use Rattle.df_format.specs.Making.{for_body}
 use Rattle.df_format.specs.Message.{Message, sectors_of}
 use Rattle.df_format.specs.Own.{place_in}
@@ -27,6 +28,7 @@ use Rattle.df_model.specs.After.{outcome, with_reply}
 use Rattle.df_model.specs.Changing.{blocks_after, replied_in, unless_refused}
 use Rattle.df_model.specs.Codec.{IsChecksum}
 use Rattle.df_model.specs.Commands.{Answer, Command, Given, IsInput, Reply, ToReply, as_answer}
+use Rattle.df_model.specs.Faults.{is_reply_fault}
 use Rattle.df_model.specs.Laws.{DoesReply, UnlessRefused}
 use Rattle.df_model.specs.Making.{first_of, place_of_reply, reply_of}
 use Rattle.df_model.specs.Memory.{Memory, memory_of}
@@ -37,9 +39,8 @@ use Rattle.df_model.specs.Supply.{puts_of, unless}
 use Rattle.df_model.specs.Work.{Work}
 use Rattle.df_model.proofs.Laws.{change_law}
 use Rattle.df_model.specs.declared.errors.ReplyError.{ReplyError}
-use Rattle.df_model.specs.declared.errors.ReplyError.TheVariants as reply
 use Rattle.df_state.specs.State.{IsState, Represents, State, memory, shape, spelling}
-use Rattle.df_replica.specs.Answering.{Serves, reply_answer}
+use Rattle.df_replica.specs.Answering.{Serves, answer_of, as_reply}
 use Rattle.df_replica.specs.Replying.{first_check, next_reply, replied, reply_events, reply_given}
 use Rattle.df_replica.specs.Serving.{Grade, IsCall, IsKept, format, next}
 use Rattle.df_replica.specs.Supply.{IsSupplied}
@@ -49,6 +50,7 @@ use Rattle.df_replica.proofs.Makes.{OfMade, Unless}
 use Rattle.df_replica.proofs.WritesOn.{StandsIn, steps_stand}
 use Rattle.df_replica.proofs.ReplyMemory.{replied_memory}
 use Rattle.df_replica.proofs.ReplyTests.{may_reply}
+use Rattle.df_replica.proofs.Unblamed.{refused_answer, reply_unblamed}
 
 -- the checksum that waits the longest, as a number
 first_number : (ws : List (List ℕ)) → 0 < length ws → first_of (map number_of ws) ≡ number_of (first_check ws)
@@ -102,7 +104,7 @@ module _ (s : State) (op : ℕ) (body : List ℕ) (given : Given) (is : IsState 
       live = live;
       stands = λ w work rep. (ap (λ (x : Work × Answer). x.1) (sym (refused_next w rep)), subst (λ (x : Work × Answer). Represents s x.0) (sym (refused_next w rep)) rep);
       made = λ w work rep. refused_makes w rep;
-      ring = λ g w a b k all. subst (λ (x : Told). ShowsRing s.file.layout s.file.cluster (now x.log) s.headers) (sym (some-eq all)) k.ring;
+      ring = λ g w a b k all. subst (λ (x : Told). ShowsRing s.file.layout s.file.cluster (now x.log) s.headers) (sym (same_Some _ _ all)) k.ring;
     }
 
     refused_call : (old : Option Told) → IsSupplied s old command given → IsCall given command s s old old (Some (ToReply (Err e)))
@@ -203,7 +205,7 @@ module _ (s : State) (op : ℕ) (body : List ℕ) (given : Given) (is : IsState 
     ring_kept : (g : Grade) (w : Work) (a b : Told) → IsKept g s w a.log → Some b ≡ after_all (reply_events s u) (Some a) → ShowsRing s.file.layout s.file.cluster (now b.log) s.headers
     ring_kept g w a b k all =
         let whole : IsImage (now a.log) = now_is_image a.log.start a.log.events k.log_is.start k.log_is.events in
-        subst (λ (x : Told). ShowsRing s.file.layout s.file.cluster (now x.log) s.headers) (sym (some-eq all)) (λ slot h at. put.shows (now a.log) (HeaderPlace slot) whole ∙ k.ring slot h at)
+        subst (λ (x : Told). ShowsRing s.file.layout s.file.cluster (now x.log) s.headers) (sym (same_Some _ _ all)) (λ slot h at. put.shows (now a.log) (HeaderPlace slot) whole ∙ k.ring slot h at)
 
     allowed_as : Answered given command s (replied s u.header) (reply_events s u) answer
     allowed_as = record { file = refl; live = live; stands = λ w work rep. allowed_at w work rep; made = λ w work rep. makes w rep; ring = λ g w a b k all. ring_kept g w a b k all }
@@ -214,38 +216,17 @@ module _ (s : State) (op : ℕ) (body : List ℕ) (given : Given) (is : IsState 
     fault_call : (old new : Option Told) (t : State) → IsSupplied s old command given → t.live ≡ false → AddsPart (reply_events s u) old new → IsCall given command s t old new None
     fault_call old new t supplied dead part = stopped_call given command s (reply_events s u) input does_reply reply_puts t old new supplied dead part
 
--- no refusal is a fault
-abbrev IsRefusal : ReplyError → Type 0
-IsRefusal reply.DiskFault = ⊥
-IsRefusal e = Unit {0}
-
-abbrev AreRefusals : List (Bool × ReplyError) → Type 0
-AreRefusals [] = Unit {0}
-AreRefusals (t ∷ ts) = IsRefusal t.1 × AreRefusals ts
-
-refusal_is : (b : Bool) (e : ReplyError) (o : Option ReplyError) → IsRefusal e → (if b then Some e else o) ≡ Some reply.DiskFault → (o ≡ Some reply.DiskFault → ⊥) → ⊥
-refusal_is true e o safe is there = let same : e ≡ reply.DiskFault = cc in subst IsRefusal same safe
-refusal_is false e o safe is there = there is
-
-none_faults : (ts : List (Bool × ReplyError)) → AreRefusals ts → first_refusal ts ≡ Some reply.DiskFault → ⊥
-none_faults [] safe is = let same : None ≡ Some reply.DiskFault = is in absurd (cc)
-none_faults (t ∷ ts) safe is = refusal_is t.0 t.1 (first_refusal ts) safe.0 is (λ more. none_faults ts safe.1 more)
-
-no_fault : (seen : Memory) (op : ℕ) (body : List ℕ) → first_refusal (reply_refusals seen op body) ≡ Some reply.DiskFault → ⊥
-no_fault seen op body is = none_faults (reply_refusals seen op body) (tt, (tt, (tt, tt))) is
-
 module _ (s : State) (op : ℕ) (body : List ℕ) (is : IsState s) (live : s.live ≡ true) where
-  pub refusal_serves : (e : ReplyError) → first_refusal (reply_refusals (memory s) op body) ≡ Some e → (old : Option Told) → Serves (Reply op body) s s old old (reply_answer (Err e))
-  refusal_serves (reply.NothingPending a) some old = λ given supplied. refused_call s op body given is live supplied (reply.NothingPending a) some old supplied
-  refusal_serves (reply.ReplyOrder a) some old = λ given supplied. refused_call s op body given is live supplied (reply.ReplyOrder a) some old supplied
-  refusal_serves (reply.BodyTooLong a) some old = λ given supplied. refused_call s op body given is live supplied (reply.BodyTooLong a) some old supplied
-  refusal_serves reply.DiskFault some old = absurd (no_fault (memory s) op body some)
+  pub refusal_serves : (e : ReplyError) → first_refusal (reply_refusals (memory s) op body) ≡ Some e → (old : Option Told) → Serves (Reply op body) s s old old (answer_of is_reply_fault as_reply (Err e))
+  refusal_serves e some old =
+      subst (λ (o : Option Answer). Serves (Reply op body) s s old old o) (sym (refused_answer is_reply_fault e (reply_unblamed (memory s) op body e some) as_reply))
+      (λ given supplied. refused_call s op body given is live supplied e some old supplied)
 
   pub stored_serves : first_refusal (reply_refusals (memory s) op body) ≡ None → IsInOwnSlot s.file.layout (next_reply s body) → (t : State) (check : List ℕ) (old new : Option Told) → check ≡ (next_reply s body).header.checksum
-      → t ≡ replied s (next_reply s body).header → new ≡ after_all (reply_events s (next_reply s body)) old → Serves (Reply op body) s t old new (reply_answer (Ok check))
+      → t ≡ replied s (next_reply s body).header → new ≡ after_all (reply_events s (next_reply s body)) old → Serves (Reply op body) s t old new (answer_of is_reply_fault as_reply (Ok check))
   stored_serves none own t check old new same next_is all =
-      subst (λ (x : State). Serves (Reply op body) s x old new (reply_answer (Ok check))) (sym next_is)
-      (subst (λ (r : List ℕ). Serves (Reply op body) s (replied s (next_reply s body).header) old new (reply_answer (Ok r))) (sym same)
+      subst (λ (x : State). Serves (Reply op body) s x old new (answer_of is_reply_fault as_reply (Ok check))) (sym next_is)
+      (subst (λ (r : List ℕ). Serves (Reply op body) s (replied s (next_reply s body).header) old new (answer_of is_reply_fault as_reply (Ok r))) (sym same)
       (λ given supplied. stored_call s op body given is live supplied none own old new supplied all))
 
   pub fault_serves : first_refusal (reply_refusals (memory s) op body) ≡ None → IsInOwnSlot s.file.layout (next_reply s body) → (t : State) (old new : Option Told) → t.live ≡ false

@@ -3,13 +3,14 @@ use Rattle.std.proofs.Common.{◌≡◌, ◌∙◌, ℕ, ◌+◌, ◌^◌, ◌<�
 use Rattle.std.specs.Prelude.{nat_lt}
 use Rattle.std.specs.List.{slice_get}
 use Rattle.std.proofs.lemmas.Bool.Decides.{nat_tests}
-use Rattle.df_base.proofs.Laws.{length-check_of, AreBytes-check_of}
 use Rattle.df_layout.specs.declared.places.Zone.TheVariants.{ClientReplies}
+use Rattle.df_format.specs.declared.header.Header.{Header}
 use Rattle.df_format.specs.declared.kind.Kind.TheVariants.{Reply as AsReply}
-use Rattle.df_format.specs.Making.{for_body}
+use Rattle.df_format.specs.Making.{blank_header, for_body}
 use Rattle.df_format.specs.Own.{own_place}
 use Rattle.df_format.specs.Rules.{ObeysRules}
-use Rattle.df_format.specs.Spelling.{IsCheck, no_checksum}
+use Rattle.df_format.specs.Spelling.{IsCheck}
+use Rattle.df_format.proofs.Laws.{given_obeys}
 use Rattle.df_sessions.specs.declared.session.Session as told
 use Rattle.df_sessions.specs.Requests.{session_of}
 use Rattle.df_sessions.specs.Table.{IsTable}
@@ -18,28 +19,22 @@ use Rattle.df_state.specs.State.{IsState, State}
 use Rattle.df_replica.specs.Replying.{MayReplyNext, first_check, place_waiting, reply_given, session_waiting}
 use Rattle.df_replica.proofs.ReplyTests.{client_named, place_inside, session_told, waiting_told}
 
--- the header of these parts
-pub header_is : (s : State) (parent : List ℕ) (client place sequence : ℕ) (r : told.Session) → client ≡ r.client → parent ≡ first_check s.waiting → place ≡ place_waiting s → slice_get s.table.sessions place ≡ Some r → sequence ≡ s.fields.sequence
-    → record { checksum = no_checksum; checksum_body = no_checksum; cluster = s.file.cluster; parent = parent; client = client; op = s.replies + 1; request = r.request; mark = s.head; checkpoint = sequence; size = 0; slot = place; kind = AsReply; block_kind = 0 }
+-- the header of these parts, over a blank one
+pub header_is : (s : State) (blank : Header) (parent : List ℕ) (client place sequence : ℕ) (r : told.Session) → blank ≡ blank_header AsReply s.file.cluster → client ≡ r.client → parent ≡ first_check s.waiting → place ≡ place_waiting s → slice_get s.table.sessions place ≡ Some r → sequence ≡ s.fields.sequence
+    → record blank { parent = parent; client = client; op = s.replies + 1; request = r.request; mark = s.head; checkpoint = sequence; slot = place }
     ≡ reply_given s
-header_is s parent client place sequence r client_here parent_is place_is at sequence_is =
+header_is s blank parent client place sequence r blank_is client_here parent_is place_is at sequence_is =
     let there : session_waiting s ≡ Some (session_of r) = session_told s.table.sessions (place_waiting s) r (subst (λ (k : ℕ). slice_get s.table.sessions k ≡ Some r) place_is at) in
     let client_is : client ≡ client_of (session_waiting s) = client_here ∙ ap client_of (sym there) in
     let request_is : r.request ≡ request_of (session_waiting s) = ap request_of (sym there) in
-    λ i. record {
-      checksum = no_checksum;
-      checksum_body = no_checksum;
-      cluster = s.file.cluster;
+    λ i. record (blank_is i) {
       parent = parent_is i;
       client = client_is i;
       op = s.replies + 1;
       request = request_is i;
       mark = s.head;
       checkpoint = sequence_is i;
-      size = 0;
       slot = place_is i;
-      kind = AsReply;
-      block_kind = 0;
     }
 
 module _ (s : State) (is : IsState s) (table : IsTable s.table) (waits : s.replies < s.head) where
@@ -61,28 +56,15 @@ module _ (s : State) (is : IsState s) (table : IsTable s.table) (waits : s.repli
       let named = client_named s.table.sessions (place_waiting s) there.0 table.named there.1 in
       let most = is.requests (place_waiting s) there.0 there.1 in
       let asked = is.asked (place_waiting s) (session_of there.0) there.2 in
-      record {
-        fits = record {
-          body = record { size = length-check_of body; each = AreBytes-check_of body };
-          cluster = is.cluster;
+      given_obeys s.file.cluster (s.file.named, is.cluster) (reply_given s) body AsReply (
+        record {
           parent = parent;
-          client = small;
-          op = omega (arith, is.head_to, waits);
-          request = omega (arith, request, most);
-          mark = omega (arith, is.head_to);
-          checkpoint = omega (arith, is.sequence.1);
-          size = omega (arith, may.fits, s.file.layout.message_size_within.1);
-          slot = omega (arith, place_small);
-          block_kind = omega arith;
-        };
-        cluster = s.file.named;
-        size = omega arith;
-        kind = record {
-          client = omega (arith, client, named);
+          client = (omega (arith, client, named), small);
           op = (omega arith, omega (arith, is.head_to, waits));
           request = (omega (arith, request, asked), omega (arith, request, most));
           mark = (omega (arith, waits), is.head_to);
           checkpoint = is.sequence;
-          block_kind = refl;
-        };
-      }
+          slot = omega (arith, place_small);
+        },
+        omega (arith, may.fits, s.file.layout.message_size_within.1),
+      )

@@ -1,10 +1,9 @@
 -- What a reply that isn't refused may rely on: the session of the prepare that waits the longest, and its place.
-use Rattle.std.proofs.Common.{◌≡◌, ◌≢◌, ◌∙◌, ℕ, zero, suc, ◌+◌, ◌^◌, ◌<◌, ◌≤◌, ◌==◌, true, false, List, [], ◌∷◌, length, map, Option, Some, None, refl, sym, ap, subst, arith}
+use Rattle.std.proofs.Common.{◌≡◌, ◌≢◌, ◌∙◌, ℕ, zero, suc, ◌+◌, ◌^◌, ◌<◌, ◌≤◌, ◌==◌, true, false, List, [], ◌∷◌, length, map, Option, Some, None, refl, sym, ap, subst, arith, ltb-false}
 use Rattle.std.specs.Prelude.{option_map}
 use Rattle.std.specs.List.{AllByRecursion, slice_get}
-use Rattle.std.proofs.lemmas.Bool.{eq-eqb, ne_eqb}
-use Rattle.std.proofs.lemmas.Option.{slice_get-map, slice_get_within}
-use Rattle.df_format.proofs.Laws.{some-eq}
+use Rattle.std.proofs.lemmas.Bool.{eq-eqb, ne_eqb, eqb-false}
+use Rattle.std.proofs.lemmas.Option.{slice_get-map, slice_get_within, same_Some}
 use Rattle.df_journal.specs.Tail.{AreNumbered}
 use Rattle.df_sessions.specs.declared.session.Session as told
 use Rattle.df_sessions.specs.Requests.{session_of, sessions_of}
@@ -15,7 +14,6 @@ use Rattle.df_model.specs.Refusals.{first_refusal, reply_refusals}
 use Rattle.df_model.proofs.Laws.{all_pass, op_found}
 use Rattle.df_state.specs.State.{IsState, State, memory}
 use Rattle.df_replica.specs.Replying.{MayReplyNext, place_waiting, session_waiting}
-use Rattle.df_replica.proofs.AppendTests.{eq_false, lt_false}
 
 -- ---- where an op's session is found
 
@@ -27,7 +25,7 @@ LackBefore op ss k = (i : ℕ) (t : told.Session) → i < k → slice_get ss i �
 pub first_place : (op : ℕ) (ss : List told.Session) (k : ℕ) (s : told.Session) → slice_get ss k ≡ Some s → s.op ≡ op → LackBefore op ss k → k ≡ place_of_op op (map session_of ss)
 first_place op [] k s at is before = absurd (let none : None ≡ Some s = at in cc)
 first_place op (x ∷ ss) zero s at is before =
-    let same : (x.op == op) ≡ true = eq-eqb x.op op (ap (λ (t : told.Session). t.op) (let one : x ≡ s = some-eq at in one) ∙ is) in
+    let same : (x.op == op) ≡ true = eq-eqb x.op op (ap (λ (t : told.Session). t.op) (let one : x ≡ s = same_Some _ _ at in one) ∙ is) in
     rw same refl
 first_place op (x ∷ ss) (suc k) s at is before =
     let other : (x.op == op) ≡ false = ne_eqb x.op op (before 0 x (omega arith) refl) in
@@ -72,8 +70,8 @@ pub may_reply : (s : State) (op : ℕ) (body : List ℕ) → IsState s → first
 may_reply s op body is none =
     let tests = all_pass (reply_refusals (memory s) op body) none in
     record {
-      waits = (let some = eq_false _ _ tests.0 in omega (arith, is.waiting));
-      fits = (let fits = lt_false _ _ tests.1.1.0 in omega (arith, s.file.layout.message_size_within.0));
+      waits = (let some = eqb-false _ _ tests.0 in omega (arith, is.waiting));
+      fits = (let fits = ltb-false _ _ tests.1.1.0 in omega (arith, s.file.layout.message_size_within.0));
     }
 
 -- sessions with the same requests are within the same limit
@@ -84,4 +82,4 @@ numbered_by before after same within k s at = from (slice_get before k) refl (sy
     from None there is = absurd (let no : option_map session_of None ≡ Some (session_of s) = subst (λ (x : Option told.Session). option_map session_of x ≡ Some (session_of s)) there is in cc)
     from (Some t) there is =
         let both : Some (session_of t) ≡ Some (session_of s) = subst (λ (x : Option told.Session). option_map session_of x ≡ Some (session_of s)) there is in
-        subst (λ (n : ℕ). n ≤ 2 ^ 62) (ap (λ (x : Session). x.request) (some-eq both)) (within k t there)
+        subst (λ (n : ℕ). n ≤ 2 ^ 62) (ap (λ (x : Session). x.request) (same_Some _ _ both)) (within k t there)

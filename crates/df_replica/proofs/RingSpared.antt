@@ -1,11 +1,11 @@
 -- Device calls that put no header leave the header ring as it was shown.
 use Rattle.std.proofs.Common.{◌≡◌, ◌∙◌, ℕ, List, [], ◌∷◌, Some, None, sym, ap, subst}
+use Rattle.std.proofs.lemmas.Option.{same_Some}
 use Rattle.df_base.proofs.Laws.{now_is_image, written_is_image}
 use Rattle.df_base.specs.Image.{IsImage}
 use Rattle.df_base.specs.Log.{Event, IsLog, Stop, Sync, Write, now}
 use Rattle.df_disk.specs.Told.{Told, did}
 use Rattle.df_disk.specs.Adds.{after_all}
-use Rattle.df_format.proofs.Laws.{some-eq}
 use Rattle.df_format.specs.declared.header.Header.{Header}
 use Rattle.df_journal.specs.Append.{ShowsRing}
 use Rattle.df_layout.specs.declared.layout.Layout.{Layout}
@@ -24,7 +24,7 @@ SpareRing (Syncs ∷ steps) = SpareRing steps
 module _ (layout : Layout) (cluster : ℕ) (hs : List Header) where
   spared : (events : List Event) (steps : List Step) (t n : Told) → AreSteps (format_of layout cluster) events steps → SpareRing steps → IsImage (now t.log) → ShowsRing layout cluster (now t.log) hs → Some n ≡ after_all events (Some t)
       → ShowsRing layout cluster (now n.log) hs
-  spared [] [] t n are spare image ring all = subst (λ (x : Told). ShowsRing layout cluster (now x.log) hs) (sym (some-eq all)) ring
+  spared [] [] t n are spare image ring all = subst (λ (x : Told). ShowsRing layout cluster (now x.log) hs) (sym (same_Some _ _ all)) ring
   spared [] (p ∷ ss) t n are spare image ring all = absurd are
   spared ((Write at bytes) ∷ es) ((Puts put) ∷ ss) t n are spare image ring all =
       spared es ss (did (Write at bytes) t) n are.1 spare.1 (written_is_image at bytes (now t.log) are.0.piece image)

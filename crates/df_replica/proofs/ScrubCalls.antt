@@ -1,10 +1,10 @@
 -- Each step of the scrubber is the machine's: it does nothing to the disk, and what it found is what it was supplied with.
 use Rattle.std.proofs.Common.{◌≡◌, ◌∙◌, ℕ, true, false, List, [], ◌∷◌, Option, Some, None, refl, sym, ap, subst}
 use Rattle.std.specs.Prelude.{Ok, Err, slice_get}
+use Rattle.std.proofs.lemmas.Option.{same_Some}
 use Rattle.df_base.specs.Log.{now}
 use Rattle.df_base.specs.declared.Failed.{Failed}
 use Rattle.df_disk.specs.Told.{Told}
-use Rattle.df_format.proofs.Laws.{some-eq}
 use Rattle.df_journal.specs.Append.{ShowsRing}
 use Rattle.df_model.specs.After.{after_check, to_check}
 use Rattle.df_model.specs.Changing.{checked_in}
@@ -68,7 +68,7 @@ module _ (s : State) (live : s.live ≡ true) where
       live = live;
       stands = λ w work rep. (answers w work rep, stands w work rep);
       made = λ w work rep. tt;
-      ring = λ g w a b k all. subst (λ (x : Told). ShowsRing s.file.layout s.file.cluster (now x.log) s.headers) (sym (some-eq all)) k.ring;
+      ring = λ g w a b k all. subst (λ (x : Told). ShowsRing s.file.layout s.file.cluster (now x.log) s.headers) (sym (same_Some _ _ all)) k.ring;
     }
 
   -- a step
@@ -93,7 +93,7 @@ module _ (s : State) (place : ℕ) (live : s.live ≡ true) where
     live = live;
     stands = λ w work rep. (ap (λ (m : Memory). ToRecent (slice_get m.findings place)) rep, rep);
     made = λ w work rep. tt;
-    ring = λ g w a b k all. subst (λ (x : Told). ShowsRing s.file.layout s.file.cluster (now x.log) s.headers) (sym (some-eq all)) k.ring;
+    ring = λ g w a b k all. subst (λ (x : Told). ShowsRing s.file.layout s.file.cluster (now x.log) s.headers) (sym (same_Some _ _ all)) k.ring;
   }
 
   pub recent_serves : (told : Option Told) → Serves (Recent place) s s told told (Some (ToRecent (slice_get s.findings place)))

@@ -13,7 +13,7 @@ use Rattle.df_model.specs.Reading.{IsTour}
 use Rattle.df_model.specs.Sense.{IsBacked, IsKnown, IsWork}
 use Rattle.df_model.specs.Sense.IsKnown.{Captured, Chained, Durable, Live, Written}
 use Rattle.df_model.specs.Work.{Work, first_tour}
-use Rattle.df_model.proofs.Laws.{tour_law}
+use Rattle.df_model.proofs.Laws.{tour_law, newest_few}
 use Rattle.df_grid.specs.Grid as grid
 use Rattle.df_grid.specs.Grid.{GridState}
 use Rattle.df_state.specs.State.{Represents, State, memory, shape, spelling}
@@ -22,9 +22,6 @@ use Rattle.df_replica.specs.Reading.{shown_of}
 use Rattle.df_replica.specs.Scrubbing.{TellsTour, at_start, toured, work_toured}
 use Rattle.df_replica.specs.Serving.{Firm, Grade, Keeps, KeptFor, Whole, format}
 use Rattle.df_replica.specs.WrittenFor.{WritesOn}
-
-newest_few : (fs : List Finding) → length (newest fs) ≤ 64
-newest_few fs = omega (arith, length-drop (length fs - 64) fs)
 
 -- ---- a tour is no matter of blocks
 

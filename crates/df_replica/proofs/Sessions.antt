@@ -3,9 +3,10 @@ use Rattle.std.proofs.Common.{◌≡◌, ◌⊎◌, inl, inr, List, [], ◌∷�
 use Rattle.df_base.specs.Image.{Image}
 use Rattle.df_base.specs.Log.{Event, IsLeft, Log, add}
 use Rattle.df_base.specs.Moments.{EachMoment, Extends, adds}
-use Rattle.df_base.proofs.Laws.{extends_add, extends_self, more, weaker}
+use Rattle.df_base.proofs.Laws.{extends_add, extends_self, more, weaker, same_log, adds_on, extends_on, either_same}
 use Rattle.df_disk.specs.Told.{Told}
 use Rattle.df_disk.specs.Adds.{after_all}
+use Rattle.df_disk.proofs.Laws.{after_append}
 use Rattle.df_layout.specs.declared.damage.Class.TheVariants.{Blank}
 use Rattle.df_theory.specs.View.{View}
 use Rattle.df_theory.specs.Device.{NoChanceOf}
@@ -18,7 +19,7 @@ use Rattle.df_replica.specs.Leaving.{AreSettled}
 use Rattle.df_replica.specs.Serving.{EachIsGood, Firm, Grade, IsGoodFor, IsKept, Keeps, Whole, format, next}
 use Rattle.df_replica.specs.Session.{Act, AnsweredIsThere, EachIsMidway, FaultStopsThem, HasView, HoldsFor, HoldsSome, IsMidway, LeavesEither, LeavesView, NothingIsServed, OneMoreIsServed, answers_of, work_after}
 use Rattle.df_replica.specs.WrittenFor.{IsWrittenIn}
-use Rattle.df_replica.proofs.Calls.{extends_on, good_safe, firmly, moments}
+use Rattle.df_replica.proofs.Calls.{good_safe, firmly, moments}
 
 -- ---- the acts with one more
 
@@ -66,9 +67,6 @@ module _ (file : DataFile) (g : Grade) where
 
 -- ---- moments that go on
 
-same_log : (a b : Log) → a.events ≡ b.events → a.start ≡ b.start → a ≡ b
-same_log a b es st i = record { start = st i; events = es i }
-
 grow : (new : List Event) (entry mid : Log) (P : Log → Type 0) → EachMoment entry mid P → EachMoment mid (record { start = mid.start; events = new ++ mid.events }) P
     → EachMoment entry (record { start = mid.start; events = new ++ mid.events }) P
 grow [] entry mid P one two = one
@@ -105,10 +103,6 @@ looks = record { checksum = 0; message = Err Blank; block = Err Blank; verdict =
 -- what is kept is good where it stands
 good_now : (g : Grade) (s : State) (w : Work) (t : Told) → IsKept g s w t.log → EachMoment t.log t.log (IsGoodFor g (format s.file) (shape s.file) (kept w) (kept w))
 good_now g s w t k = moments looks (Recent 0) s [] (record { checksum = omega arith; fields = tt }) (λ known x told there. record { steps = []; are = tt; does = refl }) g w t k t refl
-
-either_same : (A : Type 0) → A ⊎ A → A
-either_same A (inl a) = a
-either_same A (inr a) = a
 
 view_now : (g : Grade) (s : State) (w : Work) (t : Told) → IsKept g s w t.log → LeavesView s.file g w (Some t)
 view_now g s w t k image left chance =
@@ -149,22 +143,13 @@ module _ (s0 s t : State) (told0 told new : Option Told) (acts : List Act) (answ
   answer_then w answer before is =
       (λ i. before i ++ (is ∙ ap (λ (file : DataFile). (next file (work_after s0.file w acts) act.given act.command).1) same) i ∷ []) ∙ sym (answers_more s0.file w acts act)
 
--- events one after the other
-pub added_on : (es fs : List Event) (old : Option Told) → after_all (es ++ fs) old ≡ after_all fs (after_all es old)
-added_on [] fs old = refl
-added_on (e ∷ es) fs old = added_on es fs _
-
-adds_on : (es fs : List Event) (log : Log) → adds (es ++ fs) log ≡ adds fs (adds es log)
-adds_on [] fs log = refl
-adds_on (e ∷ es) fs log = adds_on es fs (add e log)
-
 pub one_more_is_served : OneMoreIsServed
 one_more_is_served s0 s t told0 told new acts answers es act answer served call =
     let fs = call.events in
     record {
       file = call.file ∙ served.file;
       live = call.live;
-      told_is = call.told ∙ ap (after_all fs) served.told_is ∙ sym (added_on es fs told0);
+      told_is = call.told ∙ ap (after_all fs) served.told_is ∙ sym (after_append es fs told0);
       answered = λ g w k.
           let before = served.answered g w k in
           let on = call.answers g (work_after s0.file w acts) before.1 in
@@ -172,7 +157,7 @@ one_more_is_served s0 s t told0 told new acts answers es act answer served call 
       kept_on = λ g w base k.
           let before = served.kept_on g w base k in
           let on = call.keeps g (work_after s0.file w acts) (after_all es base) before.1 in
-          subst (λ (o : Option Told). EachIsMidway s0.file g w (acts ++ act ∷ []) base o × Keeps g t (work_after s0.file w (acts ++ act ∷ [])) o) (sym (added_on es fs base)) (
+          subst (λ (o : Option Told). EachIsMidway s0.file g w (acts ++ act ∷ []) base o × Keeps g t (work_after s0.file w (acts ++ act ∷ [])) o) (sym (after_append es fs base)) (
             one_more_moments s0 s t base (after_all es base) (after_all fs (after_all es base)) acts answers act served.file g w before.0 on.0,
             subst (λ (x : Work). Keeps g t x (after_all fs (after_all es base))) (work_then s0 s t told0 told new acts answers act served.file w) on.1.1,
           );
@@ -207,15 +192,15 @@ pub fault_stops_them : FaultStopsThem
 fault_stops_them s0 s t told0 told new acts answers es act served call =
     let fs = call.events in
     record {
-      told_is = call.told ∙ ap (after_all fs) served.told_is ∙ sym (added_on es fs told0);
+      told_is = call.told ∙ ap (after_all fs) served.told_is ∙ sym (after_append es fs told0);
       moments = λ g w base k.
           let before = served.kept_on g w base k in
-          subst (λ (o : Option Told). EachIsMidway s0.file g w (acts ++ act ∷ []) base o) (sym (added_on es fs base))
+          subst (λ (o : Option Told). EachIsMidway s0.file g w (acts ++ act ∷ []) base o) (sym (after_append es fs base))
           (one_more_moments s0 s t base (after_all es base) (after_all fs (after_all es base)) acts answers act served.file g w before.0 (call.keeps g (work_after s0.file w acts) (after_all es base) before.1).0);
       left = λ g w base k.
           let before = served.kept_on g w base k in
           let then : Work = (next s.file (work_after s0.file w acts) act.given act.command).0 in
-          subst (λ (o : Option Told). LeavesEither s0.file g (work_after s0.file w acts) (work_after s0.file w (acts ++ act ∷ [])) o) (sym (added_on es fs base))
+          subst (λ (o : Option Told). LeavesEither s0.file g (work_after s0.file w acts) (work_after s0.file w (acts ++ act ∷ [])) o) (sym (after_append es fs base))
           (subst (λ (x : Work). LeavesEither s0.file g (work_after s0.file w acts) x (after_all fs (after_all es base))) (work_then s0 s t told0 told new acts answers act served.file w)
           (leaves_either s0.file g s (work_after s0.file w acts) then (after_all es base) (after_all fs (after_all es base)) served.file (call.keeps g (work_after s0.file w acts) (after_all es base) before.1).0));
     }

@@ -1,11 +1,11 @@
 -- Each step that writes a trailer block is the machine's: its answer, the state behind it, and what it does to the disk.
 use Rattle.std.proofs.Common.{◌≡◌, ◌∙◌, ℕ, true, false, List, [], ◌∷◌, Option, Some, None, refl, sym, ap, subst, arith}
 use Rattle.std.specs.Prelude.{Ok, Err}
+use Rattle.std.proofs.lemmas.Option.{same_Some}
 use Rattle.df_base.proofs.Laws.{AreBytes-check_of, field_at-lt}
 use Rattle.df_base.specs.Log.{Event, now}
 use Rattle.df_disk.specs.Told.{Told}
 use Rattle.df_disk.specs.Adds.{AddsPart, after_all}
-use Rattle.df_format.proofs.Laws.{some-eq}
 use Rattle.df_format.specs.declared.header.Header.{Header}
 use Rattle.df_format.specs.Copies.{content_with}
 use Rattle.df_format.specs.Super.{covered_bytes}
@@ -81,7 +81,7 @@ module _ (s : State) (given : Given) (live : s.live ≡ true) (idle : s.running 
     live = live;
     stands = λ w work rep. (ap (λ (x : Work × Answer). x.1) (sym (idle_next w rep)), subst (λ (x : Work × Answer). Represents s x.0) (sym (idle_next w rep)) rep);
     made = λ w work rep. subst (λ (o : Option Running). OfStep (shape s.file) (spelling s.file) (StandsIn (format s.file) []) w given.checksum o) (sym (idle_work w rep)) tt;
-    ring = λ g w a b k all. subst (λ (x : Told). ShowsRing s.file.layout s.file.cluster (now x.log) s.headers) (sym (some-eq all)) k.ring;
+    ring = λ g w a b k all. subst (λ (x : Told). ShowsRing s.file.layout s.file.cluster (now x.log) s.headers) (sym (same_Some _ _ all)) k.ring;
   }
 
   pub idle_call : (old : Option Told) → IsSupplied s old Advance given → IsCall given Advance s s old old (Some (ToAdvance (Err step.NotRunning)))
@@ -101,7 +101,7 @@ module _ (s : State) (r : Capture) (given : Given) (running : s.running ≡ Some
 
   runs_in : (w : Work) (o : Option Running) → w.running ≡ o → Some (course_of s.file s.blocks r) ≡ courses spell o → Runs w
   runs_in w None at same = absurd (cc)
-  runs_in w (Some on) at same = record { on = on; is = at; course = sym (some-eq same) }
+  runs_in w (Some on) at same = record { on = on; is = at; course = sym (same_Some _ _ same) }
 
   pub runs : (w : Work) → Represents s w → Runs w
   runs w rep = runs_in w w.running refl (sym (ap (course_in s.file s.blocks) running) ∙ ap (λ (m : Memory). m.running) rep)

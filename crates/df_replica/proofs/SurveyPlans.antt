@@ -1,13 +1,13 @@
 -- What a survey hands out is planned from what the disk shows behind the barrier.
 use Rattle.std.proofs.Common.{◌≡◌, ℕ, Option, Some, None, sym, ◌∙◌, ap, subst}
 use Rattle.std.specs.Prelude.{Result, Ok, Err, IfOk}
+use Rattle.std.proofs.lemmas.Option.{same_Some}
 use Rattle.df_base.specs.Log.{Sync}
 use Rattle.df_disk.specs.Told.{Told, after, did}
 use Rattle.df_layout.specs.declared.layout.Layout.{Layout}
 use Rattle.df_format.specs.declared.superblock.SuperFields.{SuperFields}
 use Rattle.df_format.specs.Copies.{content_at}
 use Rattle.df_format.specs.SuperRules.{fault_of}
-use Rattle.df_format.proofs.Laws.{some-eq}
 use Rattle.df_quorum.specs.declared.choice.Chosen.{Chosen}
 use Rattle.df_quorum.specs.Quorum.{AreMembers}
 use Rattle.df_units.specs.Bytes.{unit_at}
@@ -65,7 +65,7 @@ module _ (x : Scanned) (s : Survey) (layout : Layout) (settled : IsSettledFrom x
   pub survey_planned : (old new : Option Told) (t : Told) → new ≡ Some t → new ≡ after Sync old → TellsRead (λ (y : Scanned). y.copies.found) layout old (Ok x) → IsScan layout old x → IsPlanned s.state.file s.state.headers s.mends s.state.fields s.chosen.members t
   survey_planned None new t told barrier is scan = let no : Some t ≡ None = sym told ∙ barrier in absurd (cc)
   survey_planned (Some u) new t told barrier is scan =
-      let same : did Sync u ≡ t = some-eq (sym barrier ∙ told) in
+      let same : did Sync u ≡ t = same_Some _ _ (sym barrier ∙ told) in
       subst (λ (v : Told). IsPlanned s.state.file s.state.headers s.mends s.state.fields s.chosen.members v) same (shown_planned u is scan.behind)
 
 -- the state of the answer, live or not

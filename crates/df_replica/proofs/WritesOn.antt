@@ -4,8 +4,8 @@ use Rattle.std.proofs.lemmas.Bool.{cond-true}
 use Rattle.df_base.specs.Image.{blank}
 use Rattle.df_base.specs.Log.{Event, Log, Stop, Sync, Write, add}
 use Rattle.df_base.specs.Moments.{adds}
+use Rattle.df_base.proofs.Laws.{blank_is_image}
 use Rattle.df_damage.specs.Written.{IsWritten}
-use Rattle.df_format.proofs.Laws.{blank_image}
 use Rattle.df_theory.specs.Device.{AreSteps, Format, IsPut, stands, units_log}
 use Rattle.df_theory.specs.Runs.{Puts, Step, Syncs}
 use Rattle.df_theory.specs.Units.{AnyUnit, Place, Units, is_some, or_else}
@@ -27,7 +27,7 @@ StandsIn f ((Stop changes) ∷ events) place x = StandsIn f events place x
 
 put_stands : (f : Format) (at : ℕ) (bytes : List ℕ) (put : Units) (place : Place) (x : AnyUnit) → IsPut f at bytes put → put place ≡ Some x → stands f at bytes place ≡ Some x
 put_stands f at bytes put place x is here =
-    cond-true (f.touches at bytes place) _ _ (is.touches place ∙ ap is_some here) ∙ is.shows blank place blank_image ∙ ap (λ (o : Option AnyUnit). or_else o (f.unit_at blank place)) here
+    cond-true (f.touches at bytes place) _ _ (is.touches place ∙ ap is_some here) ∙ is.shows blank place blank_is_image ∙ ap (λ (o : Option AnyUnit). or_else o (f.unit_at blank place)) here
 
 pub steps_stand : (f : Format) (events : List Event) (steps : List Step) (place : Place) (x : AnyUnit) → AreSteps f events steps → PutsIn steps place x → StandsIn f events place x
 steps_stand f [] [] place x are puts = puts

@@ -1,5 +1,5 @@
 -- What a call of a replica answers in the words of the machine, and what it promises.
-use Rattle.std.specs.Prelude.{◌≡◌, List, ℕ, Option, Some, None, Result, Ok, Err}
+use Rattle.std.specs.Prelude.{◌≡◌, List, ℕ, Bool, true, false, if◌then◌else◌, Option, Some, None, Result, Ok, Err}
 use Rattle.df_base.specs.declared.Failed.{Failed}
 use Rattle.df_disk.specs.Told.{Told}
 use Rattle.df_layout.specs.declared.damage.Class.{Class}
@@ -7,25 +7,15 @@ use Rattle.df_layout.specs.declared.damage.Finding.{Finding}
 use Rattle.df_theory.specs.Units
 use Rattle.df_units.specs.Meaning.{number_of}
 use Rattle.df_format.specs.declared.reference.Reference.{Reference}
-use Rattle.df_model.specs.declared.answers.Progress.{Progress}
-use Rattle.df_model.specs.Commands.{Answer, Command, Given, ToAdvance, ToAppend, ToBegin, ToReadBlock, ToReadPrepare, ToReadReply, ToRelease, ToReply, ToScrub, ToWriteBlock, Scrub}
+use Rattle.df_model.specs.Commands.{Answer, Command, Given, ToAppend, ToBegin, ToRelease, ToReply, ToScrub, ToWriteBlock, Scrub}
 use Rattle.df_model.specs.declared.answers.Receipt.{Receipt}
 use Rattle.df_model.specs.declared.errors.AppendError.{AppendError}
-use Rattle.df_model.specs.declared.errors.AppendError.TheVariants as append
 use Rattle.df_model.specs.declared.errors.BeginError.{BeginError}
 use Rattle.df_model.specs.declared.errors.ReplyError.{ReplyError}
-use Rattle.df_model.specs.declared.errors.ReplyError.TheVariants as reply
 use Rattle.df_model.specs.declared.errors.BlockError.{BlockError}
-use Rattle.df_model.specs.declared.errors.BlockError.TheVariants as block
 use Rattle.df_model.specs.declared.errors.NotLive.{NotLive}
 use Rattle.df_model.specs.declared.errors.StepError.{StepError}
 use Rattle.df_model.specs.declared.errors.StepError.TheVariants as step
-use Rattle.df_model.specs.declared.reading.LookupError.{LookupError}
-use Rattle.df_model.specs.declared.reading.LookupError.TheVariants as lookup
-use Rattle.df_model.specs.declared.reading.PrepareError.{PrepareError}
-use Rattle.df_model.specs.declared.reading.PrepareError.TheVariants as prepare
-use Rattle.df_model.specs.declared.reading.ReadError.{ReadError}
-use Rattle.df_model.specs.declared.reading.ReadError.TheVariants as read
 use Rattle.df_model.specs.declared.answers.Scrubbed.{Scrubbed}
 use Rattle.df_model.specs.Work.{Work}
 use Rattle.df_state.specs.Below.{verdict_in}
@@ -35,53 +25,40 @@ use Rattle.df_replica.specs.Serving.{Grade, IsCall, Keeps}
 use Rattle.df_replica.specs.Supply.{IsSupplied}
 use Rattle.df_replica.specs.WrittenFor.{WritesOn}
 
--- the machine's answer of an append; at a fault of the disk there is none
-abbrev pub append_answer : Result Receipt AppendError → Option Answer
-append_answer (Ok receipt) = Some (ToAppend (Ok (receipt.op, number_of receipt.checksum)))
-append_answer (Err append.DiskFault) = None
-append_answer (Err e) = Some (ToAppend (Err e))
+-- the answer in the words of the machine; there is none where the call was stopped: by a fault of the disk, or, a step, by copies that were not read back
+abbrev pub answer_of : {T E : Type 0} → (unanswered : E → Bool) → (told : Result T E → Answer) → Result T E → Option Answer
+answer_of unanswered told (Ok x) = Some (told (Ok x))
+answer_of unanswered told (Err e) = if unanswered e then None else Some (told (Err e))
 
--- that of a reply
-abbrev pub reply_answer : Result (List ℕ) ReplyError → Option Answer
-reply_answer (Ok check) = Some (ToReply (Ok (number_of check)))
-reply_answer (Err reply.DiskFault) = None
-reply_answer (Err e) = Some (ToReply (Err e))
+-- how an append is told
+abbrev pub as_append : Result Receipt AppendError → Answer
+as_append (Ok receipt) = ToAppend (Ok (receipt.op, number_of receipt.checksum))
+as_append (Err e) = ToAppend (Err e)
+
+-- a reply
+abbrev pub as_reply : Result (List ℕ) ReplyError → Answer
+as_reply (Ok check) = ToReply (Ok (number_of check))
+as_reply (Err e) = ToReply (Err e)
+
+-- a write of a block
+abbrev pub as_write_block : Result Reference BlockError → Answer
+as_write_block (Ok reference) = ToWriteBlock (Ok (reference.address, number_of reference.checksum))
+as_write_block (Err e) = ToWriteBlock (Err e)
+
+-- the errors of a step that stop the replica
+abbrev pub is_step_unanswered : StepError → Bool
+is_step_unanswered step.NotRunning = false
+is_step_unanswered (step.Damaged place kind) = true
+is_step_unanswered step.DiskFault = true
 
 -- that of a begin, which asks no disk
 abbrev pub begin_answer : Result ℕ BeginError → Option Answer
 begin_answer result = Some (ToBegin result)
 
--- that of a step; at a fault of the disk there is none, nor where copies of the new superblock were not read back
-abbrev pub step_answer : Result Progress StepError → Option Answer
-step_answer (Err step.DiskFault) = None
-step_answer (Err (step.Damaged place kind)) = None
-step_answer result = Some (ToAdvance result)
-
--- that of a read of a prepare
-abbrev pub read_prepare_answer : Result Units.Message PrepareError → Option Answer
-read_prepare_answer (Err prepare.DiskFault) = None
-read_prepare_answer result = Some (ToReadPrepare result)
-
--- that of a read of a reply
-abbrev pub read_reply_answer : Result Units.Message LookupError → Option Answer
-read_reply_answer (Err lookup.DiskFault) = None
-read_reply_answer result = Some (ToReadReply result)
-
--- that of a write of a block
-abbrev pub write_block_answer : Result Reference BlockError → Option Answer
-write_block_answer (Ok reference) = Some (ToWriteBlock (Ok (reference.address, number_of reference.checksum)))
-write_block_answer (Err block.DiskFault) = None
-write_block_answer (Err e) = Some (ToWriteBlock (Err e))
-
 -- that of a release, which no fault ends
 abbrev pub release_answer : {A : Type 0} → Result A NotLive → Option Answer
 release_answer (Ok done) = Some (ToRelease (Ok tt))
 release_answer (Err e) = Some (ToRelease (Err e))
-
--- that of a read of a block
-abbrev pub read_block_answer : Result Units.Block ReadError → Option Answer
-read_block_answer (Err read.DiskFault) = None
-read_block_answer result = Some (ToReadBlock result)
 
 -- that of a step of the scrubber
 abbrev pub scrub_answer : Result Scrubbed Failed → Option Answer

@@ -1,6 +1,5 @@
 -- An append of a replica: what it makes, what it asks of the disk, and the state that it leads to. No state of the machine is in sight.
-use Rattle.std.specs.Prelude.{◌≡◌, ◌⊎◌, ◌<◌, ◌≤◌, ◌+◌, ◌/◌, ◌%◌, ◌^◌, ℕ, false, List, [], ◌∷◌, ◌++◌, length, Option, Some, None, IsSome, Result, Ok, Err, IfOk}
-use Rattle.df_base.specs.Causes.{Rose}
+use Rattle.std.specs.Prelude.{◌≡◌, ◌⊎◌, ◌<◌, ◌≤◌, ◌+◌, ◌/◌, ◌%◌, ◌^◌, ℕ, List, [], ◌∷◌, ◌++◌, length, Option, Some, None, IsSome, Result, Ok, Err, IfOk}
 use Rattle.df_base.specs.Log.{Event}
 use Rattle.df_base.specs.declared.Failed.{Failed}
 use Rattle.df_layout.specs.declared.layout.Layout.{Layout}
@@ -11,7 +10,7 @@ use Rattle.df_disk.specs.Adds.{AddsPart, after_all}
 use Rattle.df_format.specs.declared.header.Header.{Header}
 use Rattle.df_format.specs.declared.kind.Kind.{Kind}
 use Rattle.df_format.specs.declared.kind.Kind.TheVariants.{Prepare as AsPrepare}
-use Rattle.df_format.specs.Making.{for_body}
+use Rattle.df_format.specs.Making.{blank_header, for_body}
 use Rattle.df_format.specs.Message.{Message, sectors_of}
 use Rattle.df_format.specs.Own.{own_place}
 use Rattle.df_format.specs.Rules.{ObeysRules}
@@ -29,6 +28,7 @@ use Rattle.df_model.specs.declared.answers.Receipt.{Receipt}
 use Rattle.df_model.specs.declared.errors.AppendError.{AppendError}
 use Rattle.df_model.specs.declared.errors.AppendError.TheVariants as append
 use Rattle.df_state.specs.State.{State, memory}
+use Rattle.df_replica.specs.Stopping.{stopped}
 
 -- ---- a unit that a call makes and writes
 
@@ -58,20 +58,14 @@ pub record IsMadeUnit (layout : Layout) (place : Place) (u : Message) (result : 
 
 -- what the maker of the next prepare says of it
 abbrev pub header_given : State → (client request : ℕ) → Header
-header_given s client request = record {
-  checksum = no_checksum;
-  checksum_body = no_checksum;
-  cluster = s.file.cluster;
+header_given s client request = record (blank_header AsPrepare s.file.cluster) {
   parent = s.head_checksum;
   client = client;
   op = s.head + 1;
   request = request;
   mark = s.replies;
   checkpoint = s.fields.sequence;
-  size = 0;
   slot = (s.head + 1) % s.file.layout.slots;
-  kind = AsPrepare;
-  block_kind = 0;
 }
 
 -- the next prepare
@@ -127,11 +121,5 @@ IsAppend client request body s t old new (Ok receipt) =
     let u = next_unit s client request body in
     (first_refusal (append_refusals (memory s) client request body) ≡ None) × (receipt ≡ receipt_of u.header) × (t ≡ appended s u) × (new ≡ after_all (append_events s u) old)
 IsAppend client request body s t old new (Err append.DiskFault) =
-    (first_refusal (append_refusals (memory s) client request body) ≡ None) × (t ≡ record s { live = false; headers = t.headers }) × AddsPart (append_events s (next_unit s client request body)) old new
+    (first_refusal (append_refusals (memory s) client request body) ≡ None) × (t ≡ stopped (record s { headers = t.headers })) × AddsPart (append_events s (next_unit s client request body)) old new
 IsAppend client request body s t old new (Err e) = (first_refusal (append_refusals (memory s) client request body) ≡ Some e) × (t ≡ s) × (new ≡ old)
-
--- the count of faults rose where the disk is blamed, and is the same at every other answer
-abbrev pub IsBlamed : (before now : ℕ) → Result Receipt AppendError → Type 0
-IsBlamed before now (Ok receipt) = now ≡ before
-IsBlamed before now (Err append.DiskFault) = (before ≤ now) × Rose before now
-IsBlamed before now (Err e) = now ≡ before

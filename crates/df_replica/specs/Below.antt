@@ -9,7 +9,6 @@ pub use Rattle.df_damage.specs.Unrefused.{IsNotRefused}
 pub use Rattle.df_recovery.specs.Opening.{IsUnformatted, Refuses}
 pub use Rattle.df_recovery.specs.Found.{IsLayoutShown, Syncs, TellsLayout}
 pub use Rattle.df_recovery.specs.Surveys.{IsOpened, Surveys}
-pub use Rattle.df_recovery.specs.Scanning.{SurveysBy}
 pub use Rattle.df_recovery.specs.Plan.{if_wanted, needs_header, slot_mends}
 pub use Rattle.df_state.specs.Below.{IsStep, IsVerdict, ScrubState, after_step, failing_among, failing_in, left_in, verdict_in, with_check}
 pub use Rattle.df_state.specs.declared.file.DataFile.{DataFile}

@@ -1,6 +1,5 @@
 -- The read of a block: what it finds at a live address, over each image that a disk may show, and what it answers.
-use Rattle.std.specs.Prelude.{◌≡◌, ◌≤◌, ℕ, false, Option, Some, None, Result, Ok, Err}
-use Rattle.df_base.specs.Causes.{Rose}
+use Rattle.std.specs.Prelude.{◌≡◌, ℕ, Option, Some, None, Result, Ok, Err}
 use Rattle.df_base.specs.Image.{Image}
 use Rattle.df_disk.specs.Told.{Told}
 use Rattle.df_layout.specs.declared.damage.Class.{Class}
@@ -38,16 +37,6 @@ IsReadBlock address s told (Err (read.Damaged place class)) =
     (first_refusal (read_refusals (memory s) address) ≡ None) × (place ≡ place_in Grid address) × IsBlockFound s address told (Err class)
 IsReadBlock address s told (Err read.DiskFault) = first_refusal (read_refusals (memory s) address) ≡ None
 IsReadBlock address s told (Err e) = first_refusal (read_refusals (memory s) address) ≡ Some e
-
--- a read changes nothing, but that after a fault of the disk no call may follow
-abbrev pub block_leaves : {A : Type 0} → State → Result A ReadError → State
-block_leaves s (Err read.DiskFault) = record s { live = false }
-block_leaves s result = s
-
--- the count of faults rose where the disk is blamed, and is the same at every other answer
-abbrev pub BlamesRead : {A : Type 0} → (before now : ℕ) → Result A ReadError → Type 0
-BlamesRead before now (Err read.DiskFault) = (before ≤ now) × Rose before now
-BlamesRead before now result = now ≡ before
 
 -- what was found, if it came to that
 abbrev pub what_block : Result Units.Block ReadError → Option (Result Units.Block Class)

@@ -1,6 +1,5 @@
 -- The calls that write a block and let one go: what a write makes, what it asks of the disk, and the states that they lead to. No state of the machine is in sight.
 use Rattle.std.specs.Prelude.{◌≡◌, ◌<◌, ◌≤◌, ◌+◌, ℕ, false, List, Option, Some, None, Result, Ok, Err}
-use Rattle.df_base.specs.Causes.{Rose}
 use Rattle.df_base.specs.Log.{Event}
 use Rattle.df_disk.specs.Told.{Told}
 use Rattle.df_disk.specs.Adds.{AddsPart, after_all}
@@ -9,8 +8,8 @@ use Rattle.df_layout.specs.declared.places.Zone.TheVariants.{Grid}
 use Rattle.df_format.specs.declared.header.Header.{Header}
 use Rattle.df_format.specs.declared.kind.Kind.TheVariants.{Block as AsBlock}
 use Rattle.df_format.specs.declared.reference.Reference.{Reference}
+use Rattle.df_format.specs.Making.{blank_header}
 use Rattle.df_format.specs.Message.{Message}
-use Rattle.df_format.specs.Spelling.{no_checksum}
 use Rattle.df_units.specs.Meaning.{number_of}
 use Rattle.df_grid.specs.Grid.{GridState, IsUnheld}
 use Rattle.df_grid.specs.Writes.{made_events}
@@ -22,26 +21,13 @@ use Rattle.df_model.specs.declared.errors.BlockError.TheVariants as block
 use Rattle.df_model.specs.declared.errors.NotLive.{NotLive}
 use Rattle.df_state.specs.State.{State, grid_with, memory}
 use Rattle.df_replica.specs.Appending.{MayBeMade, unit_of}
+use Rattle.df_replica.specs.Stopping.{stopped}
 
 -- ---- a write
 
 -- what the maker of a block at an address says of it: its cluster, its address and its kind alone
 abbrev pub block_given : State → (address kind : ℕ) → Header
-block_given s address kind = record {
-  checksum = no_checksum;
-  checksum_body = no_checksum;
-  cluster = s.file.cluster;
-  parent = no_checksum;
-  client = 0;
-  op = address;
-  request = 0;
-  mark = 0;
-  checkpoint = 0;
-  size = 0;
-  slot = 0;
-  kind = AsBlock;
-  block_kind = kind;
-}
+block_given s address kind = record (blank_header AsBlock s.file.cluster) { op = address; block_kind = kind }
 
 -- the next block: it goes to the least address that isn't held
 abbrev pub next_block : State → (kind : ℕ) → List ℕ → Message
@@ -91,14 +77,8 @@ IsWriteBlock kind body s t old new (Ok reference) =
     let u = next_block s kind body in
     (first_refusal (block_refusals (memory s) kind body) ≡ None) × (reference ≡ reference_of u.header) × (t ≡ written s u.header) × (new ≡ after_all (block_events s u) old)
 IsWriteBlock kind body s t old new (Err block.DiskFault) =
-    (first_refusal (block_refusals (memory s) kind body) ≡ None) × (t ≡ record s { live = false }) × AddsPart (block_events s (next_block s kind body)) old new
+    (first_refusal (block_refusals (memory s) kind body) ≡ None) × (t ≡ stopped s) × AddsPart (block_events s (next_block s kind body)) old new
 IsWriteBlock kind body s t old new (Err e) = (first_refusal (block_refusals (memory s) kind body) ≡ Some e) × (t ≡ s) × (new ≡ old)
-
--- the count of faults rose where the disk is blamed, and is the same at every other answer
-abbrev pub BlamesWriteBlock : (before now : ℕ) → Result Reference BlockError → Type 0
-BlamesWriteBlock before now (Ok reference) = now ≡ before
-BlamesWriteBlock before now (Err block.DiskFault) = (before ≤ now) × Rose before now
-BlamesWriteBlock before now (Err e) = now ≡ before
 
 -- ---- a release
 

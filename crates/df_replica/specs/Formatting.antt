@@ -1,6 +1,5 @@
 -- What the making of a file answers, and what it does to the disk.
-use Rattle.std.specs.Prelude.{◌≡◌, ◌⊎◌, ◌<◌, ◌≤◌, ℕ, true, false, List, Option, Some, None, Result, Ok, Err}
-use Rattle.df_base.specs.Causes.{Rose}
+use Rattle.std.specs.Prelude.{◌≡◌, ◌⊎◌, ◌<◌, ℕ, true, false, List, Option, Some, None, Result, Ok, Err}
 use Rattle.df_base.specs.Image.{Image}
 use Rattle.df_base.specs.Log.{Event}
 use Rattle.df_disk.specs.Told.{Told}
@@ -42,10 +41,3 @@ AddsFormat events old new (Ok x) = new ≡ after_all events old
 AddsFormat events old new (Err DiskFault) = AddsPart events old new × OnlyOnBlank old new
 AddsFormat events old new (Err ClusterZero) = new ≡ old
 AddsFormat events old new (Err (NotBlank copy)) = new ≡ old
-
--- a fault is answered only where the disk's count of faults rose, and each other answer leaves the count
-abbrev pub FormatsBy : {T : Type 0} → ℕ → ℕ → Result T FormatError → Type 0
-FormatsBy before now (Ok x) = now ≡ before
-FormatsBy before now (Err DiskFault) = (before ≤ now) × Rose before now
-FormatsBy before now (Err ClusterZero) = now ≡ before
-FormatsBy before now (Err (NotBlank copy)) = now ≡ before

@@ -8,6 +8,7 @@ pub mod Mending
 pub mod Surveying
 pub mod Held
 pub mod Refusing
+pub mod Stopping
 pub mod Appending
 pub mod Answering
 pub mod Replying

@@ -1,6 +1,5 @@
 -- The read of a client's reply: what it finds at the place of the client's session, over each image that a disk may show, and what it answers.
-use Rattle.std.specs.Prelude.{◌≡◌, ◌≤◌, ◌<◌, ℕ, false, List, Option, Some, None, Result, Ok, Err}
-use Rattle.df_base.specs.Causes.{Rose}
+use Rattle.std.specs.Prelude.{◌≡◌, ◌<◌, ℕ, List, Option, Some, None, Result, Ok, Err}
 use Rattle.df_base.specs.Image.{Image}
 use Rattle.df_disk.specs.Told.{Told}
 use Rattle.df_layout.specs.declared.damage.Class.{Class}
@@ -51,14 +50,6 @@ IsReadReply client s told (Err (lookup.Damaged place class)) =
     (first_refusal (lookup_refusals (memory s) client) ≡ None) × (place ≡ place_in ClientReplies (place_for s client)) × IsFoundBy s (ReadReply client) told (Err class)
 IsReadReply client s told (Err lookup.DiskFault) = first_refusal (lookup_refusals (memory s) client) ≡ None
 IsReadReply client s told (Err e) = first_refusal (lookup_refusals (memory s) client) ≡ Some e
-
-abbrev pub reply_leaves : {A : Type 0} → State → Result A LookupError → State
-reply_leaves s (Err lookup.DiskFault) = record s { live = false }
-reply_leaves s result = s
-
-abbrev pub ReplyBlames : {A : Type 0} → (before now : ℕ) → Result A LookupError → Type 0
-ReplyBlames before now (Err lookup.DiskFault) = (before ≤ now) × Rose before now
-ReplyBlames before now result = now ≡ before
 
 abbrev pub reply_found : Result Units.Message LookupError → Option (Result Units.Message Class)
 reply_found (Ok message) = Some (Ok message)

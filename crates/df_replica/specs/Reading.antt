@@ -1,6 +1,5 @@
 -- The reads of a replica: what they find at their places, over each image that a disk may show, and what they answer.
-use Rattle.std.specs.Prelude.{◌≡◌, ◌≤◌, ◌%◌, ℕ, false, List, [], slice_get, Option, Some, None, Result, Ok, Err}
-use Rattle.df_base.specs.Causes.{Rose}
+use Rattle.std.specs.Prelude.{◌≡◌, ◌%◌, ℕ, List, [], slice_get, Option, Some, None, Result, Ok, Err}
 use Rattle.df_base.specs.Image.{Image}
 use Rattle.df_disk.specs.Told.{Told}
 use Rattle.df_layout.specs.declared.damage.Class.{Class}
@@ -84,16 +83,6 @@ IsReadPrepare op s told (Err (prepare.Damaged place class)) =
     (first_refusal (prepare_refusals (memory s) op) ≡ None) × (place ≡ place_in WalPrepares (op % s.file.layout.slots)) × IsFoundBy s (ReadPrepare op) told (Err class)
 IsReadPrepare op s told (Err prepare.DiskFault) = first_refusal (prepare_refusals (memory s) op) ≡ None
 IsReadPrepare op s told (Err e) = first_refusal (prepare_refusals (memory s) op) ≡ Some e
-
--- a read changes nothing, but that after a fault of the disk no call may follow
-abbrev pub prepare_leaves : {A : Type 0} → State → Result A PrepareError → State
-prepare_leaves s (Err prepare.DiskFault) = record s { live = false }
-prepare_leaves s result = s
-
--- the count of faults rose where the disk is blamed, and is the same at every other answer
-abbrev pub PrepareBlames : {A : Type 0} → (before now : ℕ) → Result A PrepareError → Type 0
-PrepareBlames before now (Err prepare.DiskFault) = (before ≤ now) × Rose before now
-PrepareBlames before now result = now ≡ before
 
 -- what was found, if it came to that
 abbrev pub prepare_found : Result Units.Message PrepareError → Option (Result Units.Message Class)

@@ -1,7 +1,6 @@
 -- A reply of a replica: what it makes, what it asks of the disk, and the state that it leads to. No state of the machine is in sight.
-use Rattle.std.specs.Prelude.{◌≡◌, ◌<◌, ◌≤◌, ◌+◌, ℕ, false, List, [], ◌∷◌, drop, Option, Some, None, Result, Ok, Err}
+use Rattle.std.specs.Prelude.{◌≡◌, ◌<◌, ◌≤◌, ◌+◌, ℕ, List, [], ◌∷◌, drop, Option, Some, None, Result, Ok, Err}
 use Rattle.std.specs.List.{slice_get}
-use Rattle.df_base.specs.Causes.{Rose}
 use Rattle.df_base.specs.Log.{Event, Sync, Write}
 use Rattle.df_layout.specs.Spans.{span_of}
 use Rattle.df_layout.specs.declared.layout.Layout.{Layout}
@@ -10,6 +9,7 @@ use Rattle.df_disk.specs.Told.{Told}
 use Rattle.df_disk.specs.Adds.{AddsPart, after_all}
 use Rattle.df_format.specs.declared.header.Header.{Header}
 use Rattle.df_format.specs.declared.kind.Kind.TheVariants.{Reply as AsReply}
+use Rattle.df_format.specs.Making.{blank_header}
 use Rattle.df_format.specs.Message.{Message, sectors_of}
 use Rattle.df_format.specs.Own.{place_in}
 use Rattle.df_format.specs.Spelling.{no_checksum}
@@ -22,6 +22,7 @@ use Rattle.df_model.specs.declared.errors.ReplyError.{ReplyError}
 use Rattle.df_model.specs.declared.errors.ReplyError.TheVariants as reply
 use Rattle.df_state.specs.State.{State, memory}
 use Rattle.df_replica.specs.Appending.{unit_of}
+use Rattle.df_replica.specs.Stopping.{stopped}
 
 -- the place of the session that waits for the next reply
 abbrev pub place_waiting : State → ℕ
@@ -37,20 +38,14 @@ first_check (check ∷ checks) = check
 
 -- what the maker of the next reply says of it: its parent is the prepare that waits the longest
 abbrev pub reply_given : State → Header
-reply_given s = record {
-  checksum = no_checksum;
-  checksum_body = no_checksum;
-  cluster = s.file.cluster;
+reply_given s = record (blank_header AsReply s.file.cluster) {
   parent = first_check s.waiting;
   client = client_of (session_waiting s);
   op = s.replies + 1;
   request = request_of (session_waiting s);
   mark = s.head;
   checkpoint = s.fields.sequence;
-  size = 0;
   slot = place_waiting s;
-  kind = AsReply;
-  block_kind = 0;
 }
 
 -- the next reply
@@ -83,11 +78,5 @@ IsReply op body s t old new (Ok check) =
     let u = next_reply s body in
     (first_refusal (reply_refusals (memory s) op body) ≡ None) × (check ≡ u.header.checksum) × (t ≡ replied s u.header) × (new ≡ after_all (reply_events s u) old)
 IsReply op body s t old new (Err reply.DiskFault) =
-    (first_refusal (reply_refusals (memory s) op body) ≡ None) × (t ≡ record s { live = false }) × AddsPart (reply_events s (next_reply s body)) old new
+    (first_refusal (reply_refusals (memory s) op body) ≡ None) × (t ≡ stopped s) × AddsPart (reply_events s (next_reply s body)) old new
 IsReply op body s t old new (Err e) = (first_refusal (reply_refusals (memory s) op body) ≡ Some e) × (t ≡ s) × (new ≡ old)
-
--- the count of faults rose where the disk is blamed, and is the same at every other answer
-abbrev pub BlamesReply : (before now : ℕ) → Result (List ℕ) ReplyError → Type 0
-BlamesReply before now (Ok check) = now ≡ before
-BlamesReply before now (Err reply.DiskFault) = (before ≤ now) × Rose before now
-BlamesReply before now (Err e) = now ≡ before

@@ -1,5 +1,5 @@
 -- The calls of the scrubber: a step of its tour, a whole tour, and what it found last. They leave all else as it was.
-use Rattle.std.specs.Prelude.{◌≡◌, ◌++◌, false, List, Option, Some, None, Result, Ok, Err}
+use Rattle.std.specs.Prelude.{◌≡◌, ◌++◌, List, Option, Some, None, Result, Ok, Err}
 use Rattle.df_base.specs.Image.{Image}
 use Rattle.df_base.specs.declared.Failed.{Failed}
 use Rattle.df_disk.specs.Told.{Told}
@@ -15,6 +15,7 @@ use Rattle.df_model.specs.declared.answers.Verdict.{Verdict}
 use Rattle.df_state.specs.Below.{IsStep, ScrubState}
 use Rattle.df_state.specs.State.{Represents, State, grid_with, memory, shape, spelling}
 use Rattle.df_replica.specs.Reading.{shown_of}
+use Rattle.df_replica.specs.Stopping.{stopped}
 
 -- ---- a step
 
@@ -37,7 +38,7 @@ with_scrub s scrub = record s { tour = scrub.tour; findings = scrub.findings }
 -- what a step answers, with the state after it: the scrubber's step over the grid, and nothing else moved; after a fault the replica isn't live, and that alone changed
 abbrev pub IsScrub : (s t : State) → Option Told → Result Scrubbed Failed → Type 0
 IsScrub s t told (Ok answer) = (t ≡ with_scrub s (scrub_of t)) × IsStep (grid_with s.file s.blocks) (scrub_of s) (scrub_of t) told answer
-IsScrub s t told (Err e) = t ≡ record s { live = false }
+IsScrub s t told (Err e) = t ≡ stopped s
 
 -- ---- a whole tour
 
@@ -48,7 +49,7 @@ toured s list = record s { tour = first_tour; findings = newest (s.findings ++ l
 -- what a tour leaves; after a fault the replica isn't live, and beside that the scrubber alone may have moved
 abbrev pub LeavesTour : {A : Type 0} → (A → List Finding) → (s t : State) → Result A Failed → Type 0
 LeavesTour items s t (Ok list) = t ≡ toured s (items list)
-LeavesTour items s t (Err e) = t ≡ record s { live = false; tour = t.tour; findings = t.findings }
+LeavesTour items s t (Err e) = t ≡ stopped (record s { tour = t.tour; findings = t.findings })
 
 -- a state of the machine with its tour at the start, and behind the tour
 abbrev pub at_start : Work → Work

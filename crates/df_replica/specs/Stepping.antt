@@ -1,12 +1,12 @@
 -- The steps of a running checkpoint: a trailer block each, and at last the superblock that ends it. No state of the machine is in sight.
-use Rattle.std.specs.Prelude.{◌≡◌, ◌≢◌, ◌≤◌, ◌+◌, ◌-◌, ℕ, false, List, [], ◌∷◌, length, Option, Some, None, Result, Ok, Err}
-use Rattle.df_base.specs.Causes.{Rose}
+use Rattle.std.specs.Prelude.{◌≡◌, ◌≢◌, ◌+◌, ◌-◌, ℕ, List, [], ◌∷◌, length, Option, Some, None, Result, Ok, Err}
 use Rattle.df_base.specs.Fields.{spelled}
 use Rattle.df_base.specs.Log.{Event, Sync}
 use Rattle.df_disk.specs.Told.{Told}
 use Rattle.df_disk.specs.Adds.{AddsPart, after_all}
 use Rattle.df_format.specs.declared.superblock.SuperFields.{SuperFields}
 use Rattle.df_format.specs.Copies.{content_with}
+use Rattle.df_format.specs.First.{blank_super}
 use Rattle.df_format.specs.Message.{Message}
 use Rattle.df_theory.specs.Units
 use Rattle.df_units.specs.Meaning.{number_of}
@@ -21,6 +21,7 @@ use Rattle.df_model.specs.declared.errors.StepError.{StepError}
 use Rattle.df_model.specs.declared.errors.StepError.TheVariants as step
 use Rattle.df_state.specs.declared.file.DataFile.{DataFile}
 use Rattle.df_state.specs.State.{Capture, State, captured_text, grid_with}
+use Rattle.df_replica.specs.Stopping.{stopped}
 
 -- a fact of the running checkpoint
 abbrev pub OfRunning : Option Capture → (Capture → Type 0) → Type 0
@@ -52,14 +53,7 @@ advanced s r = record s { blocks = next_written s.blocks (block_sum s r); runnin
 
 -- what a superblock says of a checkpoint, where its trailer ends with this block
 abbrev pub fields_for : DataFile → Capture → (head replies address : ℕ) → List ℕ → SuperFields
-fields_for file r head replies address checksum = record {
-  version = 1;
-  slots = file.layout.slots;
-  message_size = file.layout.message_size;
-  clients = file.layout.clients;
-  block_size = file.layout.block_size;
-  blocks = file.layout.blocks;
-  cluster = file.cluster;
+fields_for file r head replies address checksum = record (blank_super file.layout file.cluster) {
   sequence = r.sequence;
   op = r.op;
   op_checksum = r.op_checksum;
@@ -68,8 +62,6 @@ fields_for file r head replies address checksum = record {
   trailer_address = address;
   trailer_checksum = checksum;
   trailer_size = r.size;
-  boot = 0;
-  first_nonzero = None;
 }
 
 -- what the one that ends it says: the checkpoint reaches the op that was captured, and the head and the replies are those of the moment
@@ -112,14 +104,8 @@ abbrev pub IsStep : (s t : State) → (old new : Option Told) → Result Progres
 IsStep s t old new (Ok (Working left)) = OfRunning s.running (λ r. (s.blocks.left ≢ []) × (left ≡ length s.blocks.left) × (t ≡ advanced s r) × (new ≡ after_all (block_events s r) old))
 IsStep s t old new (Ok (Done sequence)) = OfRunning s.running (λ r. (s.blocks.left ≡ []) × (sequence ≡ r.sequence) × (t ≡ finished s r) × (new ≡ after_all (last_events s r) old))
 IsStep s t old new (Err step.NotRunning) = (s.running ≡ None) × (t ≡ s) × (new ≡ old)
-IsStep s t old new (Err (step.Damaged place kind)) = OfRunning s.running (λ r. (s.blocks.left ≡ []) × (t ≡ record s { live = false }) × (new ≡ after_all (last_events s r) old) × (Tells new → ⊥))
-IsStep s t old new (Err step.DiskFault) = OfRunning s.running (λ r. (t ≡ record s { live = false }) × AddsPart (step_events s r) old new)
-
--- the count of faults rose where the disk is blamed, and is the same at every other answer
-abbrev pub BlamesStep : {T : Type 0} → (before now : ℕ) → Result T StepError → Type 0
-BlamesStep before now (Ok x) = now ≡ before
-BlamesStep before now (Err step.DiskFault) = (before ≤ now) × Rose before now
-BlamesStep before now (Err e) = now ≡ before
+IsStep s t old new (Err (step.Damaged place kind)) = OfRunning s.running (λ r. (s.blocks.left ≡ []) × (t ≡ stopped s) × (new ≡ after_all (last_events s r) old) × (Tells new → ⊥))
+IsStep s t old new (Err step.DiskFault) = OfRunning s.running (λ r. (t ≡ stopped s) × AddsPart (step_events s r) old new)
 
 -- ---- its parts
 

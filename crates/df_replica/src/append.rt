@@ -1,7 +1,7 @@
 // The append of a replica: the next prepare is made in its room, and is durable, with its header, before anything in memory
 // moves on.
-ghost use Rattle.std.specs.Prelude.{◌≡◌, ◌≤◌, ◌+◌, ℕ, List, length, true, IsSome, IfOk, OnErr, OnOk};
-ghost use Rattle.df_base.specs.Causes.{HasCause};
+ghost use Rattle.std.specs.Prelude.{◌≡◌, ◌+◌, ℕ, List, length, true, IsSome, IfOk, OnErr, OnOk};
+ghost use Rattle.df_base.specs.Causes.{HasCause, IsBlamed};
 ghost use Rattle.df_disk.specs.Adds.{Adds};
 ghost use Rattle.df_layout.specs.declared.places.Zone.TheVariants.{WalPrepares};
 ghost use Rattle.df_format.specs.declared.kind.Kind.TheVariants.{Prepare as AsPrepare};
@@ -13,12 +13,13 @@ ghost use Rattle.df_journal.specs.Below.{IsInOwnSlot};
 ghost use Rattle.df_journal.specs.Append.{with_header as table_with};
 ghost use Rattle.df_sessions.specs.Table.{IsTable as IsSessions};
 ghost use Rattle.df_model.specs.Commands.{Append};
+ghost use Rattle.df_model.specs.Faults.{is_append_fault};
 ghost use Rattle.df_model.specs.Refusals.{append_refusals, first_refusal};
-ghost use Rattle.df_replica.specs.Answering.{Serves, append_answer};
+ghost use Rattle.df_replica.specs.Answering.{Serves, answer_of, as_append};
 ghost use Rattle.df_replica.specs.Held.{AreRoomsOf};
 ghost use Rattle.df_replica.specs.Refusing.{AreCounters};
 ghost use Rattle.df_state.specs.State.{IsState, memory};
-ghost use Rattle.df_replica.specs.Appending.{IsAppend, IsBlamed, IsMadeUnit, MayBeMade, MayNext, MayNote, append_events, appended, header_given, next_unit, noted, receipt_of, unit_events, unit_of, with_header};
+ghost use Rattle.df_replica.specs.Appending.{IsAppend, IsMadeUnit, MayBeMade, MayNext, MayNote, append_events, appended, header_given, next_unit, noted, receipt_of, unit_events, unit_of, with_header};
 
 use crate::refusing::{Counters, append_refusal, session_of};
 use crate::{DataFile, Replica};
@@ -29,9 +30,6 @@ use df_journal::append;
 use df_model::{AppendError, Receipt};
 use df_places::Shelf;
 use df_state::LogRooms;
-
-// What stands in place of a checksum that is set later.
-const NO_CHECKSUM: [u8; 16] = [0; 16];
 
 // Makes a prepare in its room, and makes it durable, with its header.
 fn append_in<D: Disk>(
@@ -82,7 +80,7 @@ fn append_in<D: Disk>(
 
 impl Replica {
     // What the maker of the next prepare says of it.
-    #[tactic(auto, unfolding(df_format::specs::Own::own_place, df_format::specs::Spelling::no_checksum))]
+    #[tactic(auto, unfolding(df_format::specs::Own::own_place))]
     fn header_given(&self, client: u128, request: u64, body: &[u8]) -> Header
         requires { MayNext self.now client request (length body.now) }
         ensures value { result ≡ header_given self.now client request }
@@ -91,19 +89,14 @@ impl Replica {
     {
         let parent = self.head_checksum;
         Header {
-            checksum: NO_CHECKSUM,
-            checksum_body: NO_CHECKSUM,
-            cluster: self.file.cluster,
             parent,
             client,
             op: self.head + 1,
             request,
             mark: self.replies,
             checkpoint: self.content.fields().sequence,
-            size: 0,
             slot: ((self.head + 1) % u64::from(self.file.layout.slots)) as u32,
-            kind: Kind::Prepare,
-            block_kind: 0,
+            ..Header::of(Kind::Prepare, self.file.cluster)
         }
     }
 
@@ -208,8 +201,8 @@ impl Replica {
     ) -> Result<Receipt, AppendError>
         requires live { self.old.live ≡ true }
         ensures exact { IsAppend client request body.now self.old self.new (D.told disk.old) (D.told disk.new) result }
-        ensures call { Serves (Append client request body.now) self.old self.new (D.told disk.old) (D.told disk.new) (append_answer result) }
-        ensures cause { IsBlamed (D.faults disk.old) (D.faults disk.new) result }
+        ensures call { Serves (Append client request body.now) self.old self.new (D.told disk.old) (D.told disk.new) (answer_of is_append_fault as_append result) }
+        ensures cause { IsBlamed is_append_fault (D.faults disk.old) (D.faults disk.new) result }
     {
         if let Some(error) = self.append_refusal(client, request, body.len() as u64) {
             return Err(error);
@@ -217,7 +210,7 @@ impl Replica {
         match self.append_next(disk, client, request, body) {
             Ok(receipt) => Ok(receipt),
             Err(_) => {
-                self.live = false;
+                self.stop();
                 Err(AppendError::DiskFault)
             }
         }

@@ -13,13 +13,11 @@ use crate::Replica;
 use crate::reply::session_in;
 use arrayvec::ArrayVec;
 use df_checkpoint::Capture;
+use df_layout::ROOT;
 use df_model::BeginError;
 use df_sessions::{Session, SessionTable};
 use df_state::Captured;
 use df_trailer::{blocks_needed, trailer_size};
-
-// The longest root, in bytes.
-const ROOT: usize = 1024;
 
 // The greatest sequence.
 const GREATEST: u64 = 1 << 62;
@@ -48,7 +46,7 @@ fn sessions_in(table: &SessionTable) -> ArrayVec<Session, 64>
 }
 
 // A root in a list of its own.
-fn root_of(root: &[u8]) -> ArrayVec<u8, 1024>
+fn root_of(root: &[u8]) -> ArrayVec<u8, ROOT>
     requires { length root.now ≤ 1024 }
     ensures { result.items ≡ root.now }
 {

@@ -1,7 +1,7 @@
 // The calls that write a block and let one go. A block is made in its own room and written to the least address that isn't held,
 // without a sync: the next checkpoint makes it durable.
-ghost use Rattle.std.specs.Prelude.{◌≡◌, ◌+◌, ◌<◌, ◌≤◌, ℕ, List, Option, length, slice_get, true, Some, IfOk, IsSome, OnErr, OnOk};
-ghost use Rattle.df_base.specs.Causes.{HasCause};
+ghost use Rattle.std.specs.Prelude.{◌≡◌, ◌<◌, ℕ, List, Option, length, slice_get, true, Some, IfOk, IsSome, OnErr, OnOk};
+ghost use Rattle.df_base.specs.Causes.{HasCause, IsBlamed};
 ghost use Rattle.df_disk.specs.Adds.{Adds};
 ghost use Rattle.df_disk.specs.Told.{Told};
 ghost use Rattle.df_layout.specs.declared.places.Zone.TheVariants.{Grid as InGrid};
@@ -14,13 +14,14 @@ ghost use Rattle.df_grid.specs.Grid.{IsUnheld, with_blocks as grid_of};
 ghost use Rattle.df_grid.specs.Writes.{made_events};
 ghost use Rattle.df_model.specs.Blocks.{block_written, sum_at};
 ghost use Rattle.df_model.specs.Commands.{Release, WriteBlock};
+ghost use Rattle.df_model.specs.Faults.{is_block_fault};
 ghost use Rattle.df_model.specs.Making.{next_address};
 ghost use Rattle.df_model.specs.Memory.{Memory, block_room, free_of};
 ghost use Rattle.df_model.specs.Refusals.{block_refusals, first_refusal};
 ghost use Rattle.df_state.specs.State.{IsState, grid_with, memory};
-ghost use Rattle.df_replica.specs.Answering.{Serves, release_answer, write_block_answer};
+ghost use Rattle.df_replica.specs.Answering.{Serves, answer_of, as_write_block, release_answer};
 ghost use Rattle.df_replica.specs.Appending.{IsMadeUnit, unit_of};
-ghost use Rattle.df_replica.specs.Blocks.{BlamesWriteBlock, IsRelease, IsWriteBlock, MayPut, MayWriteNext, address_or, block_events, block_given, next_block, released, written};
+ghost use Rattle.df_replica.specs.Blocks.{IsRelease, IsWriteBlock, MayPut, MayWriteNext, address_or, block_events, block_given, next_block, written};
 
 use crate::Replica;
 use df_base::{Check, Failed, HEADER};
@@ -30,9 +31,6 @@ use df_format::{Header, Kind, Reference};
 use df_grid::Grid;
 use df_model::{BlockError, NotLive};
 use df_places::Shelf;
-
-// What stands in place of a checksum that is set later, or that there is none of.
-const NO_CHECKSUM: [u8; 16] = [0; 16];
 
 // The address of the next block, or why none is written: its kind is a trailer's, it has no room, or each address is held.
 fn address_or_refusal(
@@ -104,7 +102,7 @@ impl Replica {
     }
 
     // What the maker of the next block says of it.
-    #[tactic(auto, unfolding(df_format::specs::Own::own_place, df_format::specs::Spelling::no_checksum))]
+    #[tactic(auto, unfolding(df_format::specs::Own::own_place))]
     fn block_given(&self, address: u64, kind: u8, body: &[u8]) -> Header
         requires may { MayWriteNext self.now kind (length body.now) }
         requires address { address ≡ next_address (memory self.now) }
@@ -113,19 +111,9 @@ impl Replica {
         ensures own { IsSome (own_place self.now.file.layout InGrid result) }
     {
         Header {
-            checksum: NO_CHECKSUM,
-            checksum_body: NO_CHECKSUM,
-            cluster: self.file.cluster,
-            parent: NO_CHECKSUM,
-            client: 0,
             op: address,
-            request: 0,
-            mark: 0,
-            checkpoint: 0,
-            size: 0,
-            slot: 0,
-            kind: Kind::Block,
             block_kind: kind,
+            ..Header::of(Kind::Block, self.file.cluster)
         }
     }
 
@@ -161,8 +149,8 @@ impl Replica {
     ) -> Result<Reference, BlockError>
         requires live { self.old.live ≡ true }
         ensures exact { IsWriteBlock kind body.now self.old self.new (D.told disk.old) (D.told disk.new) result }
-        ensures call { Serves (WriteBlock kind body.now) self.old self.new (D.told disk.old) (D.told disk.new) (write_block_answer result) }
-        ensures cause { BlamesWriteBlock (D.faults disk.old) (D.faults disk.new) result }
+        ensures call { Serves (WriteBlock kind body.now) self.old self.new (D.told disk.old) (D.told disk.new) (answer_of is_block_fault as_write_block result) }
+        ensures cause { IsBlamed is_block_fault (D.faults disk.old) (D.faults disk.new) result }
     {
         let address = match self.address_for(kind, body.len() as u64) {
             Ok(address) => address,
@@ -174,7 +162,7 @@ impl Replica {
                 Ok(Reference { address, checksum })
             }
             Err(_) => {
-                self.live = false;
+                self.stop();
                 Err(BlockError::DiskFault)
             }
         }

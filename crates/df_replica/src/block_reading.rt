@@ -2,16 +2,19 @@
 ghost use Rattle.std.specs.Prelude.{◌≡◌, true, IfOk};
 ghost use Rattle.std.specs.Borrow.{sem};
 ghost use Rattle.std.specs.Io.BufRead.{Rests};
+ghost use Rattle.df_base.specs.Causes.{IsBlamed};
 ghost use Rattle.df_format.specs.declared.kind.Kind.TheVariants.{Block as AsBlock};
 ghost use Rattle.df_format.specs.Own.{place_in};
 ghost use Rattle.df_layout.specs.declared.places.Zone.TheVariants.{Grid as InGrid};
 ghost use Rattle.df_grid.specs.Grid.{IsKnownUnit};
 ghost use Rattle.df_model.specs.Blocks.{sum_at};
-ghost use Rattle.df_model.specs.Commands.{ReadBlock};
-ghost use Rattle.df_replica.specs.Answering.{ServesBlockRead, read_block_answer};
-ghost use Rattle.df_replica.specs.BlockReads.{BlamesRead, IsReadBlock, block_leaves, block_words, what_block};
+ghost use Rattle.df_model.specs.Commands.{ReadBlock, ToReadBlock};
+ghost use Rattle.df_model.specs.Faults.{is_read_fault};
+ghost use Rattle.df_replica.specs.Answering.{ServesBlockRead, answer_of};
+ghost use Rattle.df_replica.specs.BlockReads.{IsReadBlock, block_words, what_block};
 ghost use Rattle.df_replica.specs.Lending.{LendsWrittenBlock};
 ghost use Rattle.df_replica.specs.contracts.replica.Replica.{the_row};
+ghost use Rattle.df_replica.specs.Stopping.{left_by};
 
 use crate::Replica;
 use df_buffers::{Block, Sound};
@@ -39,13 +42,13 @@ impl Replica {
         address: u64,
     ) -> Result<&Sound<Block>, ReadError>
         requires live { self.old.live ≡ true }
-        ensures* after { sem 𝓛 (Rests the_row self.entry (λ s. s ≡ block_leaves self.entry.now result)) }
+        ensures* after { sem 𝓛 (Rests the_row self.entry (λ s. s ≡ left_by is_read_fault self.entry.now result)) }
         ensures exact { IsReadBlock address self.old (D.told disk.old) (block_words (λ u. u.now.unit) result) }
         ensures lent { IfOk result (λ u. IsKnownUnit AsBlock self.old.file.layout self.old.file.cluster address (sum_at address self.old.blocks.live) u.now.unit) }
         ensures written { LendsWrittenBlock address self.old (block_words (λ u. u.now.unit) result) (D.told disk.old) }
-        ensures call { ServesBlockRead (ReadBlock address) self.old (block_leaves self.old result) (D.told disk.old) (what_block (block_words (λ u. u.now.unit) result)) (read_block_answer (block_words (λ u. u.now.unit) result)) }
+        ensures call { ServesBlockRead (ReadBlock address) self.old (left_by is_read_fault self.old result) (D.told disk.old) (what_block (block_words (λ u. u.now.unit) result)) (answer_of is_read_fault ToReadBlock (block_words (λ u. u.now.unit) result)) }
         ensures same { D.told disk.new ≡ D.told disk.old }
-        ensures cause { BlamesRead (D.faults disk.old) (D.faults disk.new) result }
+        ensures cause { IsBlamed is_read_fault (D.faults disk.old) (D.faults disk.new) result }
     {
         if self.grid.live(address).is_none() {
             return Err(ReadError::NotLive);
@@ -53,7 +56,7 @@ impl Replica {
         let wrong = match self.grid.load(&mut self.trailer.block, disk, address) {
             Ok(wrong) => wrong,
             Err(_) => {
-                self.live = false;
+                self.stop();
                 return Err(ReadError::DiskFault);
             }
         };

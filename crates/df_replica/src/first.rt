@@ -6,28 +6,13 @@ use df_format::{Super, SuperFields, test_fields};
 use df_layout::Layout;
 
 // Its fields: sequence 1, and no checkpoint.
-#[tactic(auto, unfolding(df_format::specs::First::first_super, df_format::specs::Spelling::no_checksum))]
+#[tactic(auto, unfolding(df_format::specs::First::first_super))]
 fn first_fields(layout: &Layout, cluster: u128) -> SuperFields
     ensures { result ≡ first_super layout.now cluster }
 {
     SuperFields {
-        version: 1,
-        slots: layout.slots,
-        message_size: layout.message_size,
-        clients: layout.clients,
-        block_size: layout.block_size,
-        blocks: layout.blocks,
-        cluster,
         sequence: 1,
-        op: 0,
-        op_checksum: [0; 16],
-        head: 0,
-        replies: 0,
-        trailer_address: 0,
-        trailer_checksum: [0; 16],
-        trailer_size: 0,
-        boot: 0,
-        first_nonzero: None,
+        ..SuperFields::of(layout, cluster)
     }
 }
 

@@ -2,23 +2,24 @@
 ghost use Rattle.std.specs.Prelude.{◌≡◌, ◌<◌, true, Option, None, Some, IfErr, IfOk};
 ghost use Rattle.std.specs.Borrow.{sem};
 ghost use Rattle.std.specs.Io.BufRead.{Rests};
-ghost use Rattle.df_base.specs.Causes.{HasCause};
+ghost use Rattle.df_base.specs.Causes.{HasCause, IsBlamed};
 ghost use Rattle.df_layout.specs.declared.places.Zone.TheVariants.{ClientReplies};
 ghost use Rattle.df_format.specs.declared.kind.Kind.TheVariants.{Reply as AsReply};
 ghost use Rattle.df_format.specs.Own.{place_in};
-ghost use Rattle.df_format.specs.Spelling.{IsCheck};
 ghost use Rattle.df_buffers.specs.Sounds.{Holding};
 ghost use Rattle.df_units.specs.Meaning.{number_of};
-ghost use Rattle.df_model.specs.Commands.{ReadReply};
+ghost use Rattle.df_model.specs.Commands.{ReadReply, ToReadReply};
+ghost use Rattle.df_model.specs.Faults.{is_lookup_fault};
 ghost use Rattle.df_model.specs.Memory.{reply_sum};
 ghost use Rattle.df_model.specs.Refusals.{first_refusal, lookup_refusals};
 ghost use Rattle.df_state.specs.State.{memory, reply_sum as known_sum};
-ghost use Rattle.df_replica.specs.Answering.{ServesRead, read_reply_answer};
+ghost use Rattle.df_replica.specs.Answering.{ServesRead, answer_of};
 ghost use Rattle.df_replica.specs.Held.{AreAsBefore, HoldsReply, LendsReply};
 ghost use Rattle.df_replica.specs.Lending.{LendsWrittenReply};
-ghost use Rattle.df_replica.specs.Lookups.{HoldsKnown, IsReadReply, IsStoredFor, ReplyBlames, Tells, place_for, reply_found, reply_leaves, reply_shown};
+ghost use Rattle.df_replica.specs.Lookups.{HoldsKnown, IsReadReply, IsStoredFor, Tells, place_for, reply_found, reply_shown};
 ghost use Rattle.df_replica.specs.Reading.{IsKnownUnit, in_words};
 ghost use Rattle.df_replica.specs.contracts.replica.Replica.{the_row};
+ghost use Rattle.df_replica.specs.Stopping.{left_by};
 
 use crate::reply::as_check;
 use crate::{DataFile, Replica};
@@ -162,13 +163,13 @@ impl Replica {
         client: u128,
     ) -> Result<&Sound<Reply>, LookupError>
         requires live { self.old.live ≡ true }
-        ensures* after { sem 𝓛 (Rests the_row self.entry (λ s. s ≡ reply_leaves self.entry.now result)) }
+        ensures* after { sem 𝓛 (Rests the_row self.entry (λ s. s ≡ left_by is_lookup_fault self.entry.now result)) }
         ensures exact { IsReadReply client self.old (D.told disk.old) (in_words (λ u. u.now.unit) result) }
         ensures lent { IfOk result (λ u. IsKnownUnit AsReply self.old.file (place_in ClientReplies (place_for self.old client)) (reply_sum (memory self.old) (place_for self.old client)) u.now.unit) }
         ensures written { LendsWrittenReply client self.old (in_words (λ u. u.now.unit) result) (D.told disk.old) }
-        ensures call { ServesRead (ReadReply client) self.old (reply_leaves self.old result) (D.told disk.old) (reply_found (in_words (λ u. u.now.unit) result)) (read_reply_answer (in_words (λ u. u.now.unit) result)) }
+        ensures call { ServesRead (ReadReply client) self.old (left_by is_lookup_fault self.old result) (D.told disk.old) (reply_found (in_words (λ u. u.now.unit) result)) (answer_of is_lookup_fault ToReadReply (in_words (λ u. u.now.unit) result)) }
         ensures same { D.told disk.new ≡ D.told disk.old }
-        ensures cause { ReplyBlames (D.faults disk.old) (D.faults disk.new) result }
+        ensures cause { IsBlamed is_lookup_fault (D.faults disk.old) (D.faults disk.new) result }
     {
         let stored = match self.stored_for(client) {
             Ok(stored) => stored,
@@ -182,7 +183,7 @@ impl Replica {
         let wrong = match loaded {
             Ok(wrong) => wrong,
             Err(_) => {
-                self.live = false;
+                self.stop();
                 return Err(LookupError::DiskFault);
             }
         };

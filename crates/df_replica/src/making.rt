@@ -1,7 +1,7 @@
 // How a file is made: reserved headers in each sector of the header ring, a sync, and the four copies of the first superblock, on
 // a disk that is blank where the copies stand. A header ring without a superblock is no file, so the copies come last.
 ghost use Rattle.std.specs.Prelude.{◌≡◌, ◌<◌, ◌∷◌, length, Some};
-ghost use Rattle.df_base.specs.Causes.{HasCause};
+ghost use Rattle.df_base.specs.Causes.{HasCause, IsBlamed};
 ghost use Rattle.df_base.specs.Log.{Sync};
 ghost use Rattle.df_disk.specs.Told.{Told};
 ghost use Rattle.df_disk.specs.Adds.{Adds};
@@ -11,7 +11,8 @@ ghost use Rattle.df_superblock.specs.Events.{update_events};
 ghost use Rattle.df_theory.specs.Device.{AreSteps};
 ghost use Rattle.df_units.specs.Format.{format_of};
 ghost use Rattle.df_units.specs.Making.{header_writes};
-ghost use Rattle.df_replica.specs.Formatting.{AddsFormat, FormatsBy, RefusesCluster, TellsBlank};
+ghost use Rattle.df_model.specs.Faults.{is_format_fault};
+ghost use Rattle.df_replica.specs.Formatting.{AddsFormat, RefusesCluster, TellsBlank};
 ghost use Rattle.df_replica.specs.Making.{AreWritable, Formats, Makes, MayMakeOn, file_events, making_events, making_steps, sectors_in};
 
 use crate::first::first_superblock;
@@ -21,19 +22,16 @@ use df_buffers::{HeaderSector, ProbeRoom, Raw};
 use df_disk::Disk;
 use df_format::Super;
 use df_headers::HeaderTable;
-use df_layout::Layout;
+use df_layout::{Layout, SECTOR_HEADERS};
 use df_state::LogRooms;
 use df_superblock::{first_written, read_all, write_copy};
-
-// How many headers a sector of the header ring has.
-const HEADERS: u32 = 16;
 
 // Whether the sectors of the copies hold zeros alone.
 fn test_blank<D: Disk>(disk: &mut D, room: &mut ProbeRoom) -> Result<(), FormatError>
     ensures blank { TellsBlank (D.told disk.old) result }
     ensures cluster { RefusesCluster 1 result }
     ensures same { D.told disk.new ≡ D.told disk.old }
-    ensures cause { FormatsBy (D.faults disk.old) (D.faults disk.new) result }
+    ensures cause { IsBlamed is_format_fault (D.faults disk.old) (D.faults disk.new) result }
 {
     match read_all(disk, room) {
         Ok(copies) => match first_written(&copies) {
@@ -70,7 +68,7 @@ fn write_headers<D: Disk>(
     ensures cause { HasCause (D.faults disk.old) (D.faults disk.new) result }
 {
     let mut sector = 0;
-    while sector < layout.slots / HEADERS {
+    while sector < layout.slots / SECTOR_HEADERS {
         match headers.write_sector(disk, room, sector) {
             Ok(()) => sector += 1,
             Err(failed) => return Err(failed),
@@ -149,7 +147,7 @@ fn make_on_blank<D: Disk>(
     requires named { 0 < cluster }
     requires content { content.now ≡ first_super rooms.old.layout cluster }
     ensures formats { Formats rooms.old.layout cluster (D.told disk.old) (D.told disk.new) result }
-    ensures cause { FormatsBy (D.faults disk.old) (D.faults disk.new) result }
+    ensures cause { IsBlamed is_format_fault (D.faults disk.old) (D.faults disk.new) result }
     ensures layout { rooms.new.layout ≡ rooms.old.layout }
 {
     // Its fields obey their rules.
@@ -173,7 +171,7 @@ pub fn format<D: Disk>(disk: &mut D, rooms: &mut Rooms, cluster: u128) -> Result
     ensures events { AddsFormat (making_events rooms.old.layout cluster) (D.told disk.old) (D.told disk.new) result }
     ensures steps { 0 < cluster → AreSteps (format_of rooms.old.layout cluster) (making_events rooms.old.layout cluster) (making_steps rooms.old.layout cluster) }
     ensures makes { (before after : Told) → D.told disk.old ≡ Some before → D.told disk.new ≡ Some after → (may : MayMakeOn rooms.old.layout cluster before) → Makes rooms.old.layout cluster before may after result }
-    ensures cause { FormatsBy (D.faults disk.old) (D.faults disk.new) result }
+    ensures cause { IsBlamed is_format_fault (D.faults disk.old) (D.faults disk.new) result }
     ensures layout { rooms.new.layout ≡ rooms.old.layout }
 {
     match first_superblock(&rooms.layout, cluster) {

@@ -1,6 +1,6 @@
 // The writes of a mending: header sectors, one sync, then the copies of the superblock that aren't members of the choice.
 // A header sector is durable before a copy is written.
-ghost use Rattle.std.specs.Prelude.{◌≡◌, ◌<◌, ◌/◌, ◌≤◌, IfOk, length};
+ghost use Rattle.std.specs.Prelude.{◌≡◌, ◌<◌, ◌/◌, IfOk, length};
 ghost use Rattle.df_base.specs.Causes.{HasCause};
 ghost use Rattle.df_disk.specs.Adds.{Adds};
 ghost use Rattle.df_theory.specs.Device.{AreSteps};
@@ -14,19 +14,16 @@ use df_buffers::{HeaderSector, ProbeRoom, Raw};
 use df_disk::Disk;
 use df_format::Super;
 use df_headers::HeaderTable;
-use df_layout::{Mend, Zone};
+use df_layout::{Mend, SECTOR_HEADERS, Zone};
 use df_quorum::Chosen;
 use df_superblock::repair;
-
-// How many headers a sector of the header ring has.
-const HEADERS: u32 = 16;
 
 // Whether the place is a slot of this sector of the header ring.
 fn lies_in(mend: &Mend, sector: u32) -> bool
     ensures { result ≡ lies_in sector mend.now }
 {
     match mend.place.zone {
-        Zone::WalHeaders => mend.place.index / u64::from(HEADERS) == u64::from(sector),
+        Zone::WalHeaders => mend.place.index / u64::from(SECTOR_HEADERS) == u64::from(sector),
         _ => false,
     }
 }
@@ -82,7 +79,7 @@ fn mend_sectors<D: Disk>(
 {
     let mut wrote = false;
     let mut sector = 0;
-    while sector < file.layout.slots / HEADERS {
+    while sector < file.layout.slots / SECTOR_HEADERS {
         match mend_sector(disk, file, headers, mends, room, sector) {
             Ok(done) => wrote = wrote || done,
             Err(failed) => return Err(failed),

@@ -1,10 +1,12 @@
 // An open: a survey, and then the mending of what it lists.
 ghost use Rattle.std.specs.Prelude.{◌≡◌, IfOk, IfErr, Some, true};
+ghost use Rattle.df_base.specs.Causes.{IsBlamed};
 ghost use Rattle.df_base.specs.Image.{IsImage};
 ghost use Rattle.df_base.specs.Log.{Sync};
 ghost use Rattle.df_disk.specs.Told.{Told, after};
+ghost use Rattle.df_model.specs.Faults.{is_open_fault};
 ghost use Rattle.df_damage.specs.Answers.{TellsHurt};
-ghost use Rattle.df_recovery.specs.Scanning.{SurveysBy, answer_of};
+ghost use Rattle.df_recovery.specs.Scanning.{without_rooms};
 ghost use Rattle.df_replica.specs.Opened.{MendsAll, StopsOpening, ToldBy};
 ghost use Rattle.df_replica.specs.Surveying.{TellsSurvey};
 
@@ -19,13 +21,13 @@ impl Replica {
         ensures kept { IfOk result (λ replica. replica.file.layout ≡ rooms.layout) }
         ensures live { IfOk result (λ replica. replica.live ≡ true) }
         ensures given_back { IfErr result (λ refused. refused.0.layout ≡ rooms.layout) }
-        ensures answer { TellsSurvey rooms.layout (D.told disk.old) (answer_of result) }
-        ensures hurt { TellsHurt rooms.layout (D.told disk.old) (answer_of result) }
+        ensures answer { TellsSurvey rooms.layout (D.told disk.old) (without_rooms result) }
+        ensures hurt { TellsHurt rooms.layout (D.told disk.old) (without_rooms result) }
         ensures opened { (t : Told) → D.told disk.old ≡ Some t → IfOk result (λ replica. MendsAll t replica (D.told disk.new)) }
         ensures told { IfOk result (λ replica. ToldBy (after Sync (D.told disk.old)) (D.told disk.new)) }
         ensures refused { IfErr result (λ refused. (refused.1 ≡ OpenError.DiskFault → ⊥) → D.told disk.new ≡ after Sync (D.told disk.old)) }
         ensures stopped { (t : Told) → D.told disk.old ≡ Some t → IfErr result (λ refused. IsImage t.shown → refused.1 ≡ OpenError.DiskFault → StopsOpening rooms.layout t (D.told disk.new)) }
-        ensures cause { SurveysBy (D.faults disk.old) (D.faults disk.new) (answer_of result) }
+        ensures cause { IsBlamed is_open_fault (D.faults disk.old) (D.faults disk.new) (without_rooms result) }
     {
         let surveyed = match survey(disk, rooms) {
             Ok(surveyed) => surveyed,

@@ -1,21 +1,23 @@
 // The reads of a replica: a unit is lent from the room that it was read into, exactly where its place shows the one that is known.
-ghost use Rattle.std.specs.Prelude.{◌≡◌, ◌<◌, ◌%◌, true, length, slice_get, IfOk};
+ghost use Rattle.std.specs.Prelude.{◌≡◌, ◌<◌, ◌%◌, true, slice_get, IfOk};
 ghost use Rattle.std.specs.Borrow.{sem};
 ghost use Rattle.std.specs.Io.BufRead.{Rests};
-ghost use Rattle.df_base.specs.Causes.{HasCause};
+ghost use Rattle.df_base.specs.Causes.{HasCause, IsBlamed};
 ghost use Rattle.df_layout.specs.declared.places.Zone.TheVariants.{WalPrepares};
 ghost use Rattle.df_format.specs.declared.kind.Kind.TheVariants.{Prepare as AsPrepare};
 ghost use Rattle.df_format.specs.Own.{place_in};
 ghost use Rattle.df_format.specs.Spelling.{IsCheck};
-ghost use Rattle.df_model.specs.Commands.{ReadPrepare};
+ghost use Rattle.df_model.specs.Commands.{ReadPrepare, ToReadPrepare};
+ghost use Rattle.df_model.specs.Faults.{is_prepare_fault};
 ghost use Rattle.df_model.specs.Memory.{prepare_sum};
 ghost use Rattle.df_model.specs.Refusals.{first_refusal, prepare_refusals};
 ghost use Rattle.df_state.specs.State.{IsState, memory};
-ghost use Rattle.df_replica.specs.Answering.{ServesRead, read_prepare_answer};
+ghost use Rattle.df_replica.specs.Answering.{ServesRead, answer_of};
 ghost use Rattle.df_replica.specs.Held.{AreAsBefore, AreRoomsOf, HoldsPrepare, LendsPrepare};
 ghost use Rattle.df_replica.specs.Lending.{LendsWrittenPrepare};
-ghost use Rattle.df_replica.specs.Reading.{IsKnownUnit, IsLoaded, IsReadPrepare, PrepareBlames, check_in, in_words, prepare_found, prepare_leaves, prepare_wanted};
+ghost use Rattle.df_replica.specs.Reading.{IsKnownUnit, IsLoaded, IsReadPrepare, check_in, in_words, prepare_found, prepare_wanted};
 ghost use Rattle.df_replica.specs.contracts.replica.Replica.{the_row};
+ghost use Rattle.df_replica.specs.Stopping.{left_by};
 
 use crate::refusing::prepare_refusal;
 use crate::{DataFile, Replica};
@@ -104,13 +106,13 @@ impl Replica {
         op: u64,
     ) -> Result<&Sound<Prepare>, PrepareError>
         requires live { self.old.live ≡ true }
-        ensures* after { sem 𝓛 (Rests the_row self.entry (λ s. s ≡ prepare_leaves self.entry.now result)) }
+        ensures* after { sem 𝓛 (Rests the_row self.entry (λ s. s ≡ left_by is_prepare_fault self.entry.now result)) }
         ensures exact { IsReadPrepare op self.old (D.told disk.old) (in_words (λ u. u.now.unit) result) }
         ensures lent { IfOk result (λ u. IsKnownUnit AsPrepare self.old.file (place_in WalPrepares (op % self.old.file.layout.slots)) (prepare_sum (memory self.old) op) u.now.unit) }
         ensures written { LendsWrittenPrepare op self.old (in_words (λ u. u.now.unit) result) (D.told disk.old) }
-        ensures call { ServesRead (ReadPrepare op) self.old (prepare_leaves self.old result) (D.told disk.old) (prepare_found (in_words (λ u. u.now.unit) result)) (read_prepare_answer (in_words (λ u. u.now.unit) result)) }
+        ensures call { ServesRead (ReadPrepare op) self.old (left_by is_prepare_fault self.old result) (D.told disk.old) (prepare_found (in_words (λ u. u.now.unit) result)) (answer_of is_prepare_fault ToReadPrepare (in_words (λ u. u.now.unit) result)) }
         ensures same { D.told disk.new ≡ D.told disk.old }
-        ensures cause { PrepareBlames (D.faults disk.old) (D.faults disk.new) result }
+        ensures cause { IsBlamed is_prepare_fault (D.faults disk.old) (D.faults disk.new) result }
     {
         if let Some(error) = self.prepare_refusal(op) {
             return Err(error);
@@ -123,7 +125,7 @@ impl Replica {
         let wrong = match loaded {
             Ok(wrong) => wrong,
             Err(_) => {
-                self.live = false;
+                self.stop();
                 return Err(PrepareError::DiskFault);
             }
         };

@@ -1,12 +1,13 @@
 // A replica: what it keeps in memory of the file that it works on, and what it tells of it.
 ghost use Rattle.std.specs.Prelude.{◌≡◌, slice_get};
 ghost use Rattle.df_replica.specs.Replica.{summary_of};
+ghost use Rattle.df_replica.specs.Stopping.{stopped};
 
 use arrayvec::ArrayVec;
 use df_base::Check;
 use df_format::Super;
 use df_grid::Grid;
-use df_layout::Layout;
+use df_layout::{Layout, ROOT};
 use df_model::Summary;
 use df_sessions::{Session, SessionTable};
 use df_state::{Captured, DataFile, GridRooms, LogRooms, Rooms, ScrubRooms, TrailerRooms};
@@ -17,7 +18,7 @@ pub struct Replica {
     pub(crate) file: DataFile,
     pub(crate) content: Super,
     // The durable checkpoint's root.
-    pub(crate) root: ArrayVec<u8, 1024>,
+    pub(crate) root: ArrayVec<u8, ROOT>,
     pub(crate) head: u64,
     pub(crate) head_checksum: Check,
     pub(crate) replies: u64,
@@ -127,6 +128,13 @@ impl Replica {
         ensures { result ≡ self.now.live }
     {
         self.live
+    }
+
+    // The disk failed, or doesn't show what was written: no call may follow.
+    pub(crate) fn stop(&mut self)
+        ensures { self.new ≡ stopped self.old }
+    {
+        self.live = false;
     }
 
     /// The numbers of the state.

@@ -1,7 +1,7 @@
 // The reply of a replica: the next reply is made in its room, and is durable in its client's slot before anything in memory
 // moves on. Replies are stored in order of op.
-ghost use Rattle.std.specs.Prelude.{◌≡◌, ◌<◌, ◌≤◌, ◌+◌, ◌^◌, ℕ, List, length, slice_get, true, Some, IsSome, IfOk, OnErr, OnOk};
-ghost use Rattle.df_base.specs.Causes.{HasCause};
+ghost use Rattle.std.specs.Prelude.{◌≡◌, ◌<◌, ◌+◌, ◌^◌, ℕ, List, length, slice_get, true, Some, IsSome, IfOk, OnErr, OnOk};
+ghost use Rattle.df_base.specs.Causes.{HasCause, IsBlamed};
 ghost use Rattle.df_disk.specs.Adds.{Adds};
 ghost use Rattle.df_layout.specs.declared.places.Zone.TheVariants.{ClientReplies};
 ghost use Rattle.df_format.specs.declared.kind.Kind.TheVariants.{Reply as AsReply};
@@ -13,12 +13,13 @@ ghost use Rattle.df_replies.specs.Slots.{IsInOwnSlot};
 ghost use Rattle.df_sessions.specs.Requests.{sessions_of};
 ghost use Rattle.df_sessions.specs.Table.{IsTable};
 ghost use Rattle.df_model.specs.Commands.{Reply as Replies};
+ghost use Rattle.df_model.specs.Faults.{is_reply_fault};
 ghost use Rattle.df_model.specs.Making.{place_of_op};
 ghost use Rattle.df_model.specs.Refusals.{first_refusal, reply_refusals};
-ghost use Rattle.df_replica.specs.Answering.{Serves, reply_answer};
+ghost use Rattle.df_replica.specs.Answering.{Serves, answer_of, as_reply};
 ghost use Rattle.df_replica.specs.Appending.{IsMadeUnit, MayBeMade, unit_of};
 ghost use Rattle.df_replica.specs.Held.{AreAsBefore};
-ghost use Rattle.df_replica.specs.Replying.{BlamesReply, IsReply, MayReplyNext, first_check, next_reply, replied, reply_calls, reply_events, reply_given};
+ghost use Rattle.df_replica.specs.Replying.{IsReply, MayReplyNext, first_check, next_reply, replied, reply_calls, reply_events, reply_given};
 ghost use Rattle.df_state.specs.State.{IsState, memory};
 
 use crate::Replica;
@@ -31,9 +32,6 @@ use df_places::Shelf;
 use df_replies::write_reply;
 use df_sessions::{Session, SessionTable};
 use df_state::LogRooms;
-
-// What stands in place of a checksum that is set later.
-const NO_CHECKSUM: [u8; 16] = [0; 16];
 
 // The session at a place.
 pub(crate) fn session_in(table: &SessionTable, place: u64) -> Session
@@ -135,7 +133,7 @@ impl Replica {
     }
 
     // What the maker of the next reply says of it.
-    #[tactic(auto, unfolding(df_format::specs::Own::own_place, df_format::specs::Spelling::no_checksum))]
+    #[tactic(auto, unfolding(df_format::specs::Own::own_place))]
     fn reply_given(&self, body: &[u8]) -> Header
         requires { MayReplyNext self.now (length body.now) }
         ensures value { result ≡ reply_given self.now }
@@ -147,19 +145,14 @@ impl Replica {
         let client = client_of(&session);
         let parent = self.first_waiting();
         Header {
-            checksum: NO_CHECKSUM,
-            checksum_body: NO_CHECKSUM,
-            cluster: self.file.cluster,
             parent,
             client,
             op: self.replies + 1,
             request: session.request,
             mark: self.head,
             checkpoint: self.content.fields().sequence,
-            size: 0,
             slot: place as u32,
-            kind: Kind::Reply,
-            block_kind: 0,
+            ..Header::of(Kind::Reply, self.file.cluster)
         }
     }
 
@@ -230,8 +223,8 @@ impl Replica {
     ) -> Result<Check, ReplyError>
         requires live { self.old.live ≡ true }
         ensures exact { IsReply op body.now self.old self.new (D.told disk.old) (D.told disk.new) result }
-        ensures call { Serves (Replies op body.now) self.old self.new (D.told disk.old) (D.told disk.new) (reply_answer result) }
-        ensures cause { BlamesReply (D.faults disk.old) (D.faults disk.new) result }
+        ensures call { Serves (Replies op body.now) self.old self.new (D.told disk.old) (D.told disk.new) (answer_of is_reply_fault as_reply result) }
+        ensures cause { IsBlamed is_reply_fault (D.faults disk.old) (D.faults disk.new) result }
     {
         if let Some(error) = self.why_no_reply(op, body.len() as u64) {
             return Err(error);
@@ -239,7 +232,7 @@ impl Replica {
         match self.reply_next(disk, body) {
             Ok(check) => Ok(check),
             Err(_) => {
-                self.live = false;
+                self.stop();
                 Err(ReplyError::DiskFault)
             }
         }

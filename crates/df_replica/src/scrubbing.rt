@@ -33,7 +33,7 @@ impl Replica {
         match self.scrub.scrubber.step(disk, &mut self.grid) {
             Ok(scrubbed) => Ok(scrubbed),
             Err(failed) => {
-                self.live = false;
+                self.stop();
                 Err(failed)
             }
         }
@@ -56,7 +56,7 @@ impl Replica {
         match done {
             Ok(()) => Ok(self.scrub.report.as_slice()),
             Err(failed) => {
-                self.live = false;
+                self.stop();
                 Err(failed)
             }
         }

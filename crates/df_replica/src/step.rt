@@ -1,7 +1,7 @@
 // The steps of a running checkpoint: each writes a block of its trailer, without a sync, and the last one syncs once and writes the
 // superblock that makes the checkpoint durable.
 ghost use Rattle.std.specs.Prelude.{◌≡◌, true, length, OnErr, OnOk};
-ghost use Rattle.df_base.specs.Causes.{HasCause};
+ghost use Rattle.df_base.specs.Causes.{HasCause, IsBlamed};
 ghost use Rattle.df_base.specs.Fields.{spelled};
 ghost use Rattle.df_disk.specs.Adds.{Adds};
 ghost use Rattle.df_format.specs.Spelling.{IsCheck};
@@ -14,11 +14,12 @@ ghost use Rattle.df_grid.specs.Writes.{block_steps, first_sum};
 ghost use Rattle.df_units.specs.Format.{format_of};
 ghost use Rattle.df_units.specs.Meaning.{block_of, number_of};
 ghost use Rattle.df_units.specs.Puts.{put_copies};
-ghost use Rattle.df_model.specs.Commands.{Advance};
+ghost use Rattle.df_model.specs.Commands.{Advance, ToAdvance};
+ghost use Rattle.df_model.specs.Faults.{is_step_fault};
 ghost use Rattle.df_state.specs.Captures.{capture_of};
 ghost use Rattle.df_state.specs.State.{IsState};
-ghost use Rattle.df_replica.specs.Answering.{Serves, step_answer};
-ghost use Rattle.df_replica.specs.Stepping.{BlamesStep, IsMade, IsStep, MayAdvance, MayFinish, OfRunning, advanced, block_events, block_sum, block_to_write, fields_for, finished, trailer_unit, next_fields, pending};
+ghost use Rattle.df_replica.specs.Answering.{Serves, answer_of, is_step_unanswered};
+ghost use Rattle.df_replica.specs.Stepping.{IsMade, IsStep, MayAdvance, MayFinish, OfRunning, advanced, block_events, block_sum, block_to_write, fields_for, finished, trailer_unit, next_fields, pending};
 
 use crate::Replica;
 use crate::reply::as_check;
@@ -42,16 +43,8 @@ fn fields_for(
     ensures fields { result ≡ fields_for file.now (capture_of running.now) head replies last.address last.checksum }
     ensures check { IsCheck last.checksum }
 {
-    let layout = &file.layout;
     let trailer_checksum = as_check(last.checksum);
     SuperFields {
-        version: 1,
-        slots: layout.slots,
-        message_size: layout.message_size,
-        clients: layout.clients,
-        block_size: layout.block_size,
-        blocks: layout.blocks,
-        cluster: file.cluster,
         sequence: running.capture.sequence,
         op: running.op,
         op_checksum: running.op_checksum,
@@ -60,8 +53,7 @@ fn fields_for(
         trailer_address: last.address,
         trailer_checksum,
         trailer_size: running.size,
-        boot: 0,
-        first_nonzero: None,
+        ..SuperFields::of(&file.layout, file.cluster)
     }
 }
 
@@ -73,7 +65,7 @@ fn make_durable<D: Disk>(
 ) -> Result<(), StepError>
     ensures made { IsMade content.now (D.told disk.old) (D.told disk.new) result }
     ensures steps { AreStepsOfCopies (update_events content.now) (update_steps (put_copies content.now)) }
-    ensures cause { BlamesStep (D.faults disk.old) (D.faults disk.new) result }
+    ensures cause { IsBlamed is_step_fault (D.faults disk.old) (D.faults disk.new) result }
 {
     // Its fields obey their rules.
     let _fields = content.fields();
@@ -140,13 +132,13 @@ impl Replica {
         requires may { MayAdvance self.old }
         requires left { left ≡ length self.old.blocks.left }
         ensures exact { IsStep self.old self.new (D.told disk.old) (D.told disk.new) result }
-        ensures call { Serves Advance self.old self.new (D.told disk.old) (D.told disk.new) (step_answer result) }
-        ensures cause { BlamesStep (D.faults disk.old) (D.faults disk.new) result }
+        ensures call { Serves Advance self.old self.new (D.told disk.old) (D.told disk.new) (answer_of is_step_unanswered ToAdvance result) }
+        ensures cause { IsBlamed is_step_fault (D.faults disk.old) (D.faults disk.new) result }
     {
         match self.write_trailer_block(disk) {
             Ok(()) => Ok(Progress::Working { left }),
             Err(_) => {
-                self.live = false;
+                self.stop();
                 Err(StepError::DiskFault)
             }
         }
@@ -185,7 +177,7 @@ impl Replica {
         ensures made { IsMade content.now (D.told disk.old) (D.told disk.new) result }
         ensures steps { AreStepsOfCopies (update_events content.now) (update_steps (put_copies content.now)) }
         ensures kept { self.new ≡ self.old }
-        ensures cause { BlamesStep (D.faults disk.old) (D.faults disk.new) result }
+        ensures cause { IsBlamed is_step_fault (D.faults disk.old) (D.faults disk.new) result }
     {
         let Some(mut rooms) = self.rooms.take() else {
             unreachable!()
@@ -217,8 +209,8 @@ impl Replica {
         requires state { IsState self.old }
         requires may { MayFinish self.old }
         ensures exact { IsStep self.old self.new (D.told disk.old) (D.told disk.new) result }
-        ensures call { Serves Advance self.old self.new (D.told disk.old) (D.told disk.new) (step_answer result) }
-        ensures cause { BlamesStep (D.faults disk.old) (D.faults disk.new) result }
+        ensures call { Serves Advance self.old self.new (D.told disk.old) (D.told disk.new) (answer_of is_step_unanswered ToAdvance result) }
+        ensures cause { IsBlamed is_step_fault (D.faults disk.old) (D.faults disk.new) result }
     {
         let content = self.next_superblock();
         match self.write_superblock(disk, &content) {
@@ -229,7 +221,7 @@ impl Replica {
                 })
             }
             Err(error) => {
-                self.live = false;
+                self.stop();
                 Err(error)
             }
         }
@@ -242,8 +234,8 @@ impl Replica {
     pub fn checkpoint_step<D: Disk>(&mut self, disk: &mut D) -> Result<Progress, StepError>
         requires live { self.old.live ≡ true }
         ensures exact { IsStep self.old self.new (D.told disk.old) (D.told disk.new) result }
-        ensures call { Serves Advance self.old self.new (D.told disk.old) (D.told disk.new) (step_answer result) }
-        ensures cause { BlamesStep (D.faults disk.old) (D.faults disk.new) result }
+        ensures call { Serves Advance self.old self.new (D.told disk.old) (D.told disk.new) (answer_of is_step_unanswered ToAdvance result) }
+        ensures cause { IsBlamed is_step_fault (D.faults disk.old) (D.faults disk.new) result }
     {
         match self.blocks_to_come() {
             None => Err(StepError::NotRunning),

@@ -20,7 +20,7 @@ use df_base::{Check, Failed};
 use df_disk::Disk;
 use df_format::Super;
 use df_grid::Grid;
-use df_layout::Mend;
+use df_layout::{Mend, ROOT};
 use df_model::Summary;
 use df_quorum::Chosen;
 use df_sessions::{Session, SessionTable};
@@ -34,7 +34,7 @@ pub struct Surveyed {
     pub(crate) content: Super,
     pub(crate) chosen: Chosen,
     // The durable checkpoint's root.
-    pub(crate) root: ArrayVec<u8, 1024>,
+    pub(crate) root: ArrayVec<u8, ROOT>,
     pub(crate) head: u64,
     pub(crate) head_checksum: Check,
     pub(crate) replies: u64,

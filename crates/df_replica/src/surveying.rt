@@ -1,12 +1,13 @@
 // The survey of a file: what it shows is read, its state is found, and what is to be mended is listed. Nothing is written.
 ghost use Rattle.std.specs.Prelude.{◌≡◌, ◌≤◌, ◌+◌, length, Some, IfOk, IfErr};
+ghost use Rattle.df_base.specs.Causes.{IsBlamed};
 ghost use Rattle.df_disk.specs.Told.{Told};
 ghost use Rattle.df_journal.specs.Shows.{IsTable as AreSlots};
+ghost use Rattle.df_model.specs.Faults.{is_open_fault};
 ghost use Rattle.df_damage.specs.Answers.{TellsHurt};
 ghost use Rattle.df_recovery.specs.Checkpoints.{AreOfCheckpoint};
 ghost use Rattle.df_recovery.specs.Finding.{IsDamage};
 ghost use Rattle.df_recovery.specs.Found.{Syncs};
-ghost use Rattle.df_recovery.specs.Scanning.{SurveysBy};
 ghost use Rattle.df_recovery.specs.Surveys.{Surveys};
 ghost use Rattle.df_recovery.specs.Waiting.{waiting_in};
 ghost use Rattle.df_replica.specs.Mending.{ArePlannedFrom, IsPlanned, IsSettledFrom};
@@ -17,6 +18,7 @@ use crate::{DataFile, OpenError, Rooms, Surveyed};
 use arrayvec::ArrayVec;
 use df_base::Check;
 use df_disk::Disk;
+use df_layout::ROOT;
 use df_recovery::{
     Copies, Scanned, Traces, find_state, plan, scan_file, store_replies, waiting_of,
 };
@@ -90,7 +92,7 @@ fn waiting_in(
 }
 
 // A root has at most 1,024 bytes.
-fn root_fits(root: &ArrayVec<u8, 1024>)
+fn root_fits(root: &ArrayVec<u8, ROOT>)
     ensures { length root.now.items ≤ 1024 }
 {
     let _bytes = root.as_slice();
@@ -197,7 +199,7 @@ pub fn survey<D: Disk>(disk: &mut D, rooms: Rooms) -> Result<Surveyed, (Rooms, O
     ensures mends { IfOk result (TellsMends rooms.layout (D.told disk.old)) }
     ensures barrier { Syncs (D.told disk.old) (D.told disk.new) (state_of result) }
     ensures planned { (t : Told) → D.told disk.new ≡ Some t → IfOk result (λ survey. IsPlanned survey.state.file survey.state.headers survey.mends survey.state.fields survey.chosen.members t) }
-    ensures cause { SurveysBy (D.faults disk.old) (D.faults disk.new) (state_of result) }
+    ensures cause { IsBlamed is_open_fault (D.faults disk.old) (D.faults disk.new) (state_of result) }
 {
     match scan_file(disk, rooms) {
         Ok(scanned) => settle(scanned),

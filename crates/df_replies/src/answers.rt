@@ -1,5 +1,5 @@
 // The number of replies, and the first session whose reply is missing.
-ghost use Rattle.std.specs.Prelude.{◌≡◌, ◌↔◌, ◌≤◌, ◌<◌, Option, Some, length, max, slice_get, IfSome, IsTrue};
+ghost use Rattle.std.specs.Prelude.{◌≡◌, ◌↔◌, ◌<◌, Option, Some, length, max, IsTrue};
 ghost use Rattle.df_replies.specs.Answers.{IsOf, LacksHere, TestsReply, TestsStored};
 ghost use Rattle.df_replies.specs.Counts.{IsGreatest};
 

@@ -46,10 +46,8 @@ impl ReplyTable {
         ensures { IfOk result (λ table. table ≡ replicate layout.now.clients (Err Blank)) }
     {
         let blank: Result<Header, Class> = Err(Class::Blank);
-        match vec![in alloc; blank; layout.clients as usize] {
-            Ok(replies) => Ok(ReplyTable { replies }),
-            Err(_) => Err(OutOfMemory),
-        }
+        let replies = vec![in alloc; blank; layout.clients as usize]?;
+        Ok(ReplyTable { replies })
     }
 
     /// What the slot of a place shows.

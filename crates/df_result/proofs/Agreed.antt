@@ -2,7 +2,7 @@
 use Rattle.std.proofs.Common.{◌≡◌, ℕ, zero, suc, ◌+◌, ◌%◌, ◌<◌, ◌≤◌, ◌==◌, Bool, true, false, not, if◌then◌else◌, cond, List, [], ◌∷◌, length, Option, Some, None, Result, refl, ◌∙◌, ap, arith, mod-lt}
 use Rattle.std.specs.Prelude.{nat_lt}
 use Rattle.std.specs.List.{filter, range_with_len}
-use Rattle.std.proofs.lemmas.Bool.{and_from, le-leb, lt-ltb}
+use Rattle.std.proofs.lemmas.Bool.{and_from, le-leb, lt-ltb, not-false}
 use Rattle.std.proofs.lemmas.Bool.Decides.{nat_tests}
 use Rattle.df_layout.specs.declared.damage.Class.{Class}
 use Rattle.df_layout.specs.declared.layout.Layout.{Layout}
@@ -82,10 +82,6 @@ shown_same : {X E : Type 0} (o : Option E) (damaged : Class → E) (a b : Result
 shown_same None damaged a b same = ap (shown_or None damaged) (same refl)
 shown_same (Some e) damaged a b same = refl
 
-not_not : (b : Bool) → not b ≡ false → b ≡ true
-not_not true is = refl
-not_not false is = absurd (cc)
-
 module _ (layout : Layout) (one other : Shown) (agree : AgreeShown layout one other) where
   class_case : (place : Place) → IsReadPlace layout place → (o : Option AnyUnit) → one.units place ≡ o → class_or o (one.damage place) ≡ class_or o (other.damage place)
   class_case place read None is = agree.classes place read is
@@ -141,7 +137,7 @@ module _ (file : DataFile) (one other : Shown) (agree : AgreeShown file.layout o
       let known = sum_at address m.blocks.live in
       let same : read_answer m (no_trailer (block_at one known address)) address ≡ read_answer m (no_trailer (block_at other known address)) address =
       shown_same (first_refusal (read_refusals m address)) _ _ _ (λ none.
-      let inside = sum_inside w.live 1 file.layout.blocks address (not_not (is_known known) (all_pass (read_refusals m address) none).0) in
+      let inside = sum_inside w.live 1 file.layout.blocks address (not-false (is_known known) (all_pass (read_refusals m address) none).0) in
       ap no_trailer (block_same file.layout one other agree known address inside.0 inside.1)) in
       ap (λ x. let y : Work × Answer = (w, ToReadBlock x) in y) same
 

@@ -1,8 +1,9 @@
 -- Each unit that an image shows has the codec's checksum: what the model says of it, and its place, are all that its header says.
-use Rattle.std.proofs.Common.{◌≡◌, inl, inr, ℕ, suc, ◌+◌, ◌<◌, ◌==◌, Bool, true, false, if◌then◌else◌, List, [], ◌∷◌, ◌++◌, length, Option, Some, None, refl, sym, ◌∙◌, ap, subst, arith}
+use Rattle.std.proofs.Common.{◌≡◌, inl, inr, ℕ, suc, ◌%◌, ◌==◌, Bool, true, false, if◌then◌else◌, List, [], ◌∷◌, ◌++◌, length, Option, Some, None, refl, sym, ◌∙◌, ap, subst, arith}
 use Rattle.std.specs.Prelude.{slice_index}
 use Rattle.std.proofs.lemmas.Bool.Decides.{nat_tests}
 use Rattle.std.proofs.lemmas.List.{take_all}
+use Rattle.std.proofs.lemmas.Option.{same_Some}
 use Rattle.df_base.specs.Fields.{check_of, spelled}
 use Rattle.df_base.specs.Image.{Image, IsImage}
 use Rattle.df_base.proofs.Laws.{spelled-field_at}
@@ -11,25 +12,25 @@ use Rattle.df_layout.specs.declared.places.Place.{Place as OfFile}
 use Rattle.df_layout.specs.declared.places.Zone.TheVariants.{WalPrepares, ClientReplies, Grid}
 use Rattle.df_format.specs.declared.header.Header.{Header}
 use Rattle.df_format.specs.declared.kind.Kind.{Kind}
-use Rattle.df_format.specs.declared.kind.Kind.TheVariants.{Block, Trailer}
+use Rattle.df_format.specs.declared.kind.Kind.TheVariants.{Prepare, Reply, Block, Trailer}
 use Rattle.df_format.specs.declared.superblock.SuperCopy.{SuperCopy}
 use Rattle.df_format.specs.declared.superblock.SuperFields.{SuperFields}
 use Rattle.df_format.specs.Copies.{Content, content_at, content_of as content_in, copy_at, copy_in, if_here}
 use Rattle.df_format.specs.CopyLaws.{IsWritten}
-use Rattle.df_format.specs.Making.{for_body}
+use Rattle.df_format.specs.Making.{blank_header, of_kind}
 use Rattle.df_format.specs.Message.{Message}
 use Rattle.df_format.specs.Own.{place_in}
-use Rattle.df_format.specs.Rules.{ObeysBlock, ObeysKind, ObeysPrepare, ObeysReply, ObeysTrailer}
+use Rattle.df_format.specs.Rules.{IsSealed, ObeysBlock, ObeysKind, ObeysTrailer}
 use Rattle.df_format.specs.Shown
-use Rattle.df_format.specs.Spelling.{IsCheck, spelling_rest, tail_bytes}
+use Rattle.df_format.specs.Spelling.{IsCheck}
 use Rattle.df_format.specs.Super.{covered_bytes}
-use Rattle.df_format.specs.Valid.{IsUnit}
-use Rattle.df_format.proofs.Laws.{is_here, shown_belongs, shown_is_unit, some-eq, was_written}
+use Rattle.df_format.specs.Valid.{IsBodyOf, IsUnit}
+use Rattle.df_format.proofs.Laws.{is_here, made_again, shown_belongs, shown_is_unit, was_written}
 use Rattle.df_theory.specs.Units.{AnyUnit, BlockPlace, CopyPlace, HeaderPlace, Place, PreparePlace, ReplyPlace}
 use Rattle.df_units.specs.Bytes.{copy_unit, message_unit, unit_at}
 use Rattle.df_units.specs.Meaning.{block_of, content_of, header_of, message_of, number_of, offset_list}
 use Rattle.df_replica.specs.Below.{DataFile}
-use Rattle.df_result.specs.Codec.{HasSum, IsOfFile, UnitsHaveSums, block_header, codec, fields_of, prepare_header, reply_header, sum_of}
+use Rattle.df_result.specs.Codec.{HasSum, IsOfFile, UnitsHaveSums, codec, fields_of, sum_of, trailer_header}
 
 -- ---- a header that has these fields
 
@@ -37,30 +38,9 @@ use Rattle.df_result.specs.Codec.{HasSum, IsOfFile, UnitsHaveSums, block_header,
 pub spelled_number : (check : List ℕ) → IsCheck check → check ≡ spelled 16 (number_of check)
 spelled_number check is = sym (spelled-field_at 16 0 check is.each (omega (arith, is.size)) ∙ take_all 16 check (omega (arith, is.size)))
 
--- one header says what the other one says, and what follows from the body
-pub record Says (h g : Header) (body : List ℕ) : Type 0 where
-  pub checksum_body : h.checksum_body ≡ check_of body
-  pub cluster : h.cluster ≡ g.cluster
-  pub parent : h.parent ≡ g.parent
-  pub client : h.client ≡ g.client
-  pub op : h.op ≡ g.op
-  pub request : h.request ≡ g.request
-  pub mark : h.mark ≡ g.mark
-  pub checkpoint : h.checkpoint ≡ g.checkpoint
-  pub size : h.size ≡ 256 + length body
-  pub slot : h.slot ≡ g.slot
-  pub kind : h.kind ≡ g.kind
-  pub block_kind : h.block_kind ≡ g.block_kind
-
-same_rest : (h g : Header) (body : List ℕ) → Says h g body → spelling_rest h ≡ spelling_rest (for_body g body)
-unfolding spelling_rest
-same_rest h g body is i =
-    is.checksum_body i ++ (spelled 16 (is.cluster i) ++ (is.parent i ++ (spelled 16 (is.client i) ++ (spelled 8 (is.op i) ++ (spelled 8 (is.request i) ++ (spelled 8 (is.mark i) ++ (spelled 8 (is.checkpoint i)
-    ++ (spelled 4 (is.size i) ++ (spelled 4 (is.slot i) ++ tail_bytes (is.kind i) (is.block_kind i))))))))))
-
--- so it has that one's checksum
-sum_is : (layout : Layout) (cluster : ℕ) (place : OfFile) (u : Message) (g : Header) → IsUnit layout cluster place u → Says u.header g u.body → number_of u.header.checksum ≡ sum_of g u.body
-sum_is layout cluster place u g is says = ap number_of (is.sealed.checksum ∙ ap check_of (same_rest u.header g u.body says))
+-- a unit has the checksum of what is made of the fields that its kind names
+sum_is : (kind : Kind) (u : Message) → u.header.kind ≡ kind → IsSealed u.header → IsBodyOf u.header u.body → number_of u.header.checksum ≡ sum_of (of_kind kind u.header.cluster u.header) u.body
+sum_is kind u same sealed has = ap (λ (h : Header). number_of h.checksum) (sym (made_again kind u.header u.body same sealed has))
 
 -- ---- units of the file
 
@@ -75,85 +55,47 @@ module _ (file : DataFile) (image : Image) (whole : IsImage image) where
   prepare_sum slot u shown =
       let is = unit_there (place_in WalPrepares slot) u shown in
       let here = (shown_belongs file.layout file.cluster image (place_in WalPrepares slot) u shown).belongs in
-      let rules : ObeysPrepare u.header = subst (λ (k : Kind). ObeysKind k u.header) here.kind is.sealed.rules.kind in
-      sum_is file.layout file.cluster (place_in WalPrepares slot) u (prepare_header file (header_of u.header)) is (record {
-        checksum_body = is.body.checksum;
-        cluster = is.owner;
-        parent = spelled_number u.header.parent is.sealed.rules.fits.parent;
-        client = refl;
-        op = refl;
-        request = refl;
-        mark = refl;
-        checkpoint = refl;
-        size = is.body.size;
-        slot = here.slot ∙ sym here.op;
-        kind = here.kind;
-        block_kind = rules.block_kind;
-      })
+      let parent = spelled_number u.header.parent is.sealed.rules.fits.parent in
+      let slot_is : u.header.slot ≡ u.header.op % file.layout.slots = here.slot ∙ sym here.op in
+      sum_is Prepare u here.kind is.sealed is.body ∙ (λ i. sum_of (record (of_kind Prepare (is.owner i) u.header) { parent = parent i; slot = slot_is i }) u.body)
 
   reply_sum : (place : ℕ) (u : Message) → IsShown (place_in ClientReplies place) u → number_of u.header.checksum ≡ (codec file).reply place (message_of u)
   reply_sum place u shown =
       let is = unit_there (place_in ClientReplies place) u shown in
       let here = (shown_belongs file.layout file.cluster image (place_in ClientReplies place) u shown).belongs in
-      let rules : ObeysReply u.header = subst (λ (k : Kind). ObeysKind k u.header) here.kind is.sealed.rules.kind in
-      sum_is file.layout file.cluster (place_in ClientReplies place) u (reply_header file place (header_of u.header)) is (record {
-        checksum_body = is.body.checksum;
-        cluster = is.owner;
-        parent = spelled_number u.header.parent is.sealed.rules.fits.parent;
-        client = refl;
-        op = refl;
-        request = refl;
-        mark = refl;
-        checkpoint = refl;
-        size = is.body.size;
-        slot = here.slot;
-        kind = here.kind;
-        block_kind = rules.block_kind;
-      })
+      let parent = spelled_number u.header.parent is.sealed.rules.fits.parent in
+      sum_is Reply u here.kind is.sealed is.body ∙ (λ i. sum_of (record (of_kind Reply (is.owner i) u.header) { parent = parent i; slot = here.slot i }) u.body)
 
-  -- the kind of a block that has one
-  some_kind : (n : ℕ) → 0 < n → Block ≡ (if n == 0 then Trailer else Block)
-  some_kind n some = let other : (n == 0) ≡ false = grind (arith, nat_tests) in sym (ap (λ (b : Bool). if b then Trailer else Block) other)
+  -- the header of a block by whether its kind is zero
+  of_zero : (address : ℕ) (u : Message) → Bool → Header
+  of_zero address u zero = if zero then trailer_header file address (block_of u) else record (blank_header Block file.cluster) { op = address; block_kind = u.header.block_kind }
 
-  no_kind : (n : ℕ) → n ≡ 0 → Trailer ≡ (if n == 0 then Trailer else Block)
-  no_kind n none = let zero : (n == 0) ≡ true = grind (arith, nat_tests) in sym (ap (λ (b : Bool). if b then Trailer else Block) zero)
-
-  block_says : (address : ℕ) (u : Message) → IsUnit file.layout file.cluster (place_in Grid address) u → u.header.op ≡ address → u.header.client ≡ 0 → u.header.slot ≡ 0 → u.header.kind ≡ (if u.header.block_kind == 0 then Trailer else Block)
-      → number_of u.header.checksum ≡ (codec file).block address (block_of u)
-  block_says address u is op client slot kind =
-      sum_is file.layout file.cluster (place_in Grid address) u (block_header file address (block_of u)) is (record {
-        checksum_body = is.body.checksum;
-        cluster = is.owner;
-        parent = spelled_number u.header.parent is.sealed.rules.fits.parent;
-        client = client;
-        op = op;
-        request = refl;
-        mark = refl;
-        checkpoint = refl;
-        size = is.body.size;
-        slot = slot;
-        kind = kind;
-        block_kind = refl;
-      })
+  zero_is : (address : ℕ) (u : Message) (b : Bool) → (u.header.block_kind == 0) ≡ b → sum_of (of_zero address u b) u.body ≡ (codec file).block address (block_of u)
+  unfolding of_zero
+  zero_is address u b is = ap (λ (x : Bool). sum_of (of_zero address u x) u.body) (sym is)
 
   block_sum : (address : ℕ) (u : Message) → IsShown (place_in Grid address) u → number_of u.header.checksum ≡ (codec file).block address (block_of u)
+  unfolding of_zero
   block_sum address u shown =
       let is = unit_there (place_in Grid address) u shown in
       let here = (shown_belongs file.layout file.cluster image (place_in Grid address) u shown).belongs in
       elim here.kind [
         | inl block ↦
             let rules : ObeysBlock u.header = subst (λ (k : Kind). ObeysKind k u.header) block is.sealed.rules.kind in
-            block_says address u is here.op rules.client rules.slot (block ∙ some_kind u.header.block_kind rules.block_kind)
+            let other : (u.header.block_kind == 0) ≡ false = grind (arith, nat_tests, rules.block_kind) in
+            sum_is Block u block is.sealed is.body ∙ (λ i. sum_of (record (of_kind Block (is.owner i) u.header) { op = here.op i }) u.body) ∙ zero_is address u false other
         | inr trailer ↦
             let rules : ObeysTrailer u.header = subst (λ (k : Kind). ObeysKind k u.header) trailer is.sealed.rules.kind in
-            block_says address u is here.op rules.client rules.slot (trailer ∙ no_kind u.header.block_kind rules.block_kind)
+            let zero : (u.header.block_kind == 0) ≡ true = grind (arith, nat_tests, rules.block_kind) in
+            let parent = spelled_number u.header.parent is.sealed.rules.fits.parent in
+            sum_is Trailer u trailer is.sealed is.body ∙ (λ i. sum_of (record (of_kind Trailer (is.owner i) u.header) { parent = parent i; op = here.op i }) u.body) ∙ zero_is address u true zero
       ]
 
   -- ---- the superblock
 
   copy_parts : (o : Option SuperCopy) (c : Content) → content_in o ≡ Some c → (copy : SuperCopy) × (o ≡ Some copy) × (record { checksum = copy.checksum; fields = copy.fields } ≡ c)
   copy_parts None c is = absurd (cc)
-  copy_parts (Some copy) c is = (copy, refl, some-eq is)
+  copy_parts (Some copy) c is = (copy, refl, same_Some _ _ is)
 
   copy_there : (n : ℕ) (c : Content) → content_at image n ≡ Some c → (copy : SuperCopy) × (copy_in (image n) ≡ Some copy) × (record { checksum = copy.checksum; fields = copy.fields } ≡ c)
   unfolding copy_at
@@ -169,7 +111,7 @@ module _ (file : DataFile) (image : Image) (whole : IsImage image) where
   fields_are : (f : SuperFields) → IsOfFile file (content_of (record { checksum = []; fields = f })) → IsCheck f.op_checksum → IsCheck f.trailer_checksum → f ≡ fields_of file (content_of (record { checksum = []; fields = f }))
   fields_are f of op trailer =
       let none = no_offset f.boot f.first_nonzero of.rest in
-      λ i. record {
+      λ i. record f {
         version = of.version i;
         slots = (of.layout i).slots;
         message_size = (of.layout i).message_size;
@@ -177,14 +119,8 @@ module _ (file : DataFile) (image : Image) (whole : IsImage image) where
         block_size = (of.layout i).block_size;
         blocks = (of.layout i).blocks;
         cluster = of.cluster i;
-        sequence = f.sequence;
-        op = f.op;
         op_checksum = spelled_number f.op_checksum op i;
-        head = f.head;
-        replies = f.replies;
-        trailer_address = f.trailer_address;
         trailer_checksum = spelled_number f.trailer_checksum trailer i;
-        trailer_size = f.trailer_size;
         boot = of.rest 0 i;
         first_nonzero = none i;
       }
@@ -206,19 +142,19 @@ module _ (file : DataFile) (image : Image) (whole : IsImage image) where
 
   of_copy : (n : ℕ) (o : Option Content) (x : AnyUnit) → content_at image n ≡ o → copy_unit o ≡ Some x → HasSum file (CopyPlace n) x
   of_copy n None x shown is = absurd (cc)
-  of_copy n (Some c) x shown is = subst (HasSum file (CopyPlace n)) (some-eq is) (λ of. content_sum n c shown of)
+  of_copy n (Some c) x shown is = subst (HasSum file (CopyPlace n)) (same_Some _ _ is) (λ of. content_sum n c shown of)
 
   of_prepare : (s : ℕ) (o : Option Message) (x : AnyUnit) → Shown.unit_at file.layout file.cluster image (place_in WalPrepares s) ≡ o → message_unit (PreparePlace s) o ≡ Some x → HasSum file (PreparePlace s) x
   of_prepare s None x shown is = absurd (cc)
-  of_prepare s (Some u) x shown is = subst (HasSum file (PreparePlace s)) (some-eq is) (prepare_sum s u shown)
+  of_prepare s (Some u) x shown is = subst (HasSum file (PreparePlace s)) (same_Some _ _ is) (prepare_sum s u shown)
 
   of_reply : (k : ℕ) (o : Option Message) (x : AnyUnit) → Shown.unit_at file.layout file.cluster image (place_in ClientReplies k) ≡ o → message_unit (ReplyPlace k) o ≡ Some x → HasSum file (ReplyPlace k) x
   of_reply k None x shown is = absurd (cc)
-  of_reply k (Some u) x shown is = subst (HasSum file (ReplyPlace k)) (some-eq is) (reply_sum k u shown)
+  of_reply k (Some u) x shown is = subst (HasSum file (ReplyPlace k)) (same_Some _ _ is) (reply_sum k u shown)
 
   of_block : (a : ℕ) (o : Option Message) (x : AnyUnit) → Shown.unit_at file.layout file.cluster image (place_in Grid a) ≡ o → message_unit (BlockPlace a) o ≡ Some x → HasSum file (BlockPlace a) x
   of_block a None x shown is = absurd (cc)
-  of_block a (Some u) x shown is = subst (HasSum file (BlockPlace a)) (some-eq is) (block_sum a u shown)
+  of_block a (Some u) x shown is = subst (HasSum file (BlockPlace a)) (same_Some _ _ is) (block_sum a u shown)
 
   has_sum : (place : Place) (x : AnyUnit) → unit_at file.layout file.cluster image place ≡ Some x → HasSum file place x
   has_sum (CopyPlace n) x is = of_copy n (content_at image n) x refl is

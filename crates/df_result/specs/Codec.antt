@@ -7,8 +7,9 @@ use Rattle.df_format.specs.declared.header.Header.{Header}
 use Rattle.df_format.specs.declared.kind.Kind.TheVariants.{Prepare, Reply, Block, Trailer}
 use Rattle.df_format.specs.declared.superblock.SuperFields.{SuperFields}
 use Rattle.df_format.specs.Copies.{content_with}
-use Rattle.df_format.specs.Making.{for_body}
-use Rattle.df_format.specs.Spelling.{no_checksum, sealed}
+use Rattle.df_format.specs.First.{blank_super}
+use Rattle.df_format.specs.Making.{blank_header, for_body}
+use Rattle.df_format.specs.Spelling.{sealed}
 use Rattle.df_theory.specs.Units
 use Rattle.df_theory.specs.Units.{AnyUnit, BlockPlace, BlockUnit, CopyPlace, CopyUnit, Place, PreparePlace, PrepareUnit, ReplyPlace, ReplyUnit}
 use Rattle.df_units.specs.Bytes.{unit_at}
@@ -20,68 +21,45 @@ use Rattle.df_replica.specs.Below.{DataFile, spelling}
 
 -- the header of a prepare, in the slot of its op; what follows from the body, and the checksum, come as it is sealed
 abbrev pub prepare_header : DataFile → Units.Header → Header
-prepare_header file h = record {
-  checksum = no_checksum;
-  checksum_body = no_checksum;
-  cluster = file.cluster;
+prepare_header file h = record (blank_header Prepare file.cluster) {
   parent = spelled 16 h.parent;
   client = h.client;
   op = h.op;
   request = h.request;
   mark = h.mark;
   checkpoint = h.checkpoint;
-  size = 0;
   slot = h.op % file.layout.slots;
-  kind = Prepare;
-  block_kind = 0;
 }
 
 -- of a reply, at a session's place
 abbrev pub reply_header : DataFile → (place : ℕ) → Units.Header → Header
-reply_header file place h = record {
-  checksum = no_checksum;
-  checksum_body = no_checksum;
-  cluster = file.cluster;
+reply_header file place h = record (blank_header Reply file.cluster) {
   parent = spelled 16 h.parent;
   client = h.client;
   op = h.op;
   request = h.request;
   mark = h.mark;
   checkpoint = h.checkpoint;
-  size = 0;
   slot = place;
-  kind = Reply;
-  block_kind = 0;
 }
 
--- of a block, at an address: one of kind 0 is a trailer's
-abbrev pub block_header : DataFile → (address : ℕ) → Units.Block → Header
-block_header file address b = record {
-  checksum = no_checksum;
-  checksum_body = no_checksum;
-  cluster = file.cluster;
+-- of a trailer's block, at an address
+abbrev pub trailer_header : DataFile → (address : ℕ) → Units.Block → Header
+trailer_header file address b = record (blank_header Trailer file.cluster) {
   parent = spelled 16 b.before_checksum;
-  client = 0;
   op = address;
   request = b.before;
   mark = b.index;
   checkpoint = b.sequence;
-  size = 0;
-  slot = 0;
-  kind = if b.kind == 0 then Trailer else Block;
-  block_kind = b.kind;
 }
+
+-- of any block, at an address: one of kind 0 is a trailer's
+abbrev pub block_header : DataFile → (address : ℕ) → Units.Block → Header
+block_header file address b = if b.kind == 0 then trailer_header file address b else record (blank_header Block file.cluster) { op = address; block_kind = b.kind }
 
 -- the fields of a superblock of the file
 abbrev pub fields_of : DataFile → Units.Content → SuperFields
-fields_of file c = record {
-  version = 1;
-  slots = file.layout.slots;
-  message_size = file.layout.message_size;
-  clients = file.layout.clients;
-  block_size = file.layout.block_size;
-  blocks = file.layout.blocks;
-  cluster = file.cluster;
+fields_of file c = record (blank_super file.layout file.cluster) {
   sequence = c.sequence;
   op = c.op;
   op_checksum = spelled 16 c.op_checksum;
@@ -90,8 +68,6 @@ fields_of file c = record {
   trailer_address = c.trailer;
   trailer_checksum = spelled 16 c.trailer_checksum;
   trailer_size = c.trailer_size;
-  boot = 0;
-  first_nonzero = None;
 }
 
 -- the checksum of the unit that is made of a header and a body

@@ -1,5 +1,6 @@
-// A run of the program over a disk in memory, and what it printed.
+// A run of the program over a disk, and what it printed; and files on a disk in memory.
 use df_base::{MemorySink, MemorySource};
+use df_disk::Disk;
 use df_memdisk::MemoryDisk;
 use df_top::{Status, run};
 use std::alloc::Global;
@@ -76,20 +77,20 @@ pub fn word(alloc: Global, text: &str) -> Result<WordList, Fail> {
 }
 
 // A run, of which a caller's proof is told nothing.
-fn run_in(
+fn run_in<D: Disk>(
     alloc: Global,
     words: &[String],
     source: &mut MemorySource,
     sink: &mut MemorySink,
-    disk: &mut MemoryDisk,
+    disk: &mut D,
 ) -> Status {
     run(alloc, words, source, sink, disk)
 }
 
 /// Runs these words with the listed calls of source and sink failing.
-pub fn run_failing(
+pub fn run_failing<D: Disk>(
     alloc: Global,
-    disk: &mut MemoryDisk,
+    disk: &mut D,
     words: &WordList,
     script: &[u8],
     source_fails: &[u64],
@@ -103,13 +104,13 @@ pub fn run_failing(
 }
 
 /// Runs a script.
-pub fn run_script(alloc: Global, disk: &mut MemoryDisk, script: &[u8]) -> Result<Ran, Fail> {
+pub fn run_script<D: Disk>(alloc: Global, disk: &mut D, script: &[u8]) -> Result<Ran, Fail> {
     let words = word(alloc, "run")?;
     run_failing(alloc, disk, &words, script, &[], &[])
 }
 
 /// Runs words that read no script.
-pub fn run_words(alloc: Global, disk: &mut MemoryDisk, texts: &[&str]) -> Result<Ran, Fail> {
+pub fn run_words<D: Disk>(alloc: Global, disk: &mut D, texts: &[&str]) -> Result<Ran, Fail> {
     let words = words(alloc, texts)?;
     run_failing(alloc, disk, &words, b"append 5 1 -\n", &[], &[])
 }

@@ -10,6 +10,7 @@ use Rattle.df_model.specs.declared.answers.Scrubbed.{Scrubbed}
 use Rattle.df_model.specs.declared.answers.Scrubbed.TheVariants.{Checked, TourEnd}
 use Rattle.df_model.specs.declared.answers.Verdict.{Verdict}
 use Rattle.df_model.specs.declared.answers.Verdict.TheVariants.{Sound, Failing}
+use Rattle.df_model.proofs.Laws.{newest_keeps, newest_short}
 use Rattle.df_grid.specs.Grid.{GridState, referenced_of}
 use Rattle.df_scrub.specs.Scrubber.{IsStep, IsVerdict, ScrubState, after_step, left_in, with_check}
 use Rattle.df_scrub.specs.Tours.{ListsSoFar, failing_among}
@@ -24,18 +25,6 @@ pub record IsTouring (g : GridState) (told : Option Told) (start : List Finding)
   pub findings : s.findings ≡ newest (start ++ report)
 
 -- ---- the ring
-
-newest_short : (fs : List Finding) → length fs ≤ 64 → newest fs ≡ fs
-newest_short fs short = ap (λ (n : ℕ). drop n fs) (let e : length fs - 64 ≡ 0 = omega arith in e)
-
-newest_keeps : (fs gs : List Finding) → newest (newest fs ++ gs) ≡ newest (fs ++ gs)
-newest_keeps fs gs =
-    let one : newest fs ++ gs ≡ drop (length fs - 64) (fs ++ gs) = sym (drop-append-le (length fs - 64) fs gs (omega arith)) in
-    let size : length (drop (length fs - 64) (fs ++ gs)) ≡ length fs + length gs - (length fs - 64) = length-drop (length fs - 64) (fs ++ gs) ∙ ap (λ (n : ℕ). n - (length fs - 64)) (length-append fs gs) in
-    ap newest one
-    ∙ ap (λ (n : ℕ). drop (n - 64) (drop (length fs - 64) (fs ++ gs))) size
-    ∙ drop-drop (length fs + length gs - (length fs - 64) - 64) (length fs - 64) (fs ++ gs)
-    ∙ ap (λ (n : ℕ). drop n (fs ++ gs)) (let e : (length fs - 64) + (length fs + length gs - (length fs - 64) - 64) ≡ length (fs ++ gs) - 64 = omega (arith, length-append fs gs) in e)
 
 -- ---- at the start
 

@@ -6,12 +6,9 @@ ghost use Rattle.df_scrub.specs.Scrubber.{ScrubState, judged, new_scrub, with_ch
 use crate::{Finding, Scrubbed, Verdict};
 use circular_buffer::HeapCircularBuffer;
 use df_base::OutOfMemory;
-use df_layout::Class;
+use df_layout::{Class, FINDINGS};
 use std::alloc::Global;
 use std::marker::Model;
-
-// How many findings are kept.
-const FINDINGS: usize = 64;
 
 /// A tour over the referenced blocks: the last address that it checked, how many blocks and how many failing ones so far, each
 /// count from its start; and the newest 64 findings of all tours, the oldest first.
@@ -38,15 +35,13 @@ impl Scrubber {
     pub fn reserve(alloc: Global) -> Result<Scrubber, OutOfMemory>
         ensures { IfOk result (λ scrubber. scrubber ≡ new_scrub) }
     {
-        match HeapCircularBuffer::with_capacity(alloc, FINDINGS) {
-            Ok(findings) => Ok(Scrubber {
-                last: 0,
-                checked: 0,
-                failing: 0,
-                findings,
-            }),
-            Err(_) => Err(OutOfMemory),
-        }
+        let findings = HeapCircularBuffer::with_capacity(alloc, FINDINGS)?;
+        Ok(Scrubber {
+            last: 0,
+            checked: 0,
+            failing: 0,
+            findings,
+        })
     }
 
     /// Begins with another file: the tour is at its start, and there is no finding.

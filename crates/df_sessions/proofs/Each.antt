@@ -2,20 +2,15 @@
 use Rattle.std.proofs.Common.{◌≡◌, ℕ, zero, suc, ◌<◌, Bool, true, false, inl, inr, Some, List, [], ◌∷◌, refl, ap, arith, IsTrue}
 use Rattle.std.specs.Prelude.{◌&&◌, nat_eq}
 use Rattle.std.specs.List.{AllByRecursion, IsDistinct, list_all}
-use Rattle.std.proofs.lemmas.Bool.{cases_Bool, eqb-true}
+use Rattle.std.proofs.lemmas.Bool.{cases_Bool, eqb-true, and_parts}
 use Rattle.df_sessions.specs.declared.session.Session.{Session}
 use Rattle.df_sessions.specs.Table.{has_client, ops_of, requested, with_request, with_reply}
-
--- both parts of a test of a list
-both : (a b : Bool) → (a && b) ≡ true → (a ≡ true) × (b ≡ true)
-both true b h = (refl, h)
-both false b h = cc
 
 pub passes_requested : (test : Session → Bool) (client request op : ℕ) (sessions : List Session)
     → IsTrue (list_all test sessions) → IsTrue (test (requested client request op)) → IsTrue (list_all test (with_request client request op sessions))
 passes_requested test client request op [] all here = rw here refl
 passes_requested test client request op (s ∷ sessions) all here =
-    let parts = both (test s) (list_all test sessions) all in
+    let parts = and_parts (test s) (list_all test sessions) all in
     elim (cases_Bool (has_client client s)) [
       | inl same ↦ rw (same, here) parts.1
       | inr other ↦ rw (other, parts.0) (passes_requested test client request op sessions parts.1 here)
@@ -26,10 +21,10 @@ pub passes_replied : (test : Session → Bool) (place : ℕ) (reply : List ℕ) 
     → IsTrue (list_all test sessions) → IsTrue (list_all test (with_reply place reply sessions))
 passes_replied test place reply [] keeps all = refl
 passes_replied test zero reply (s ∷ sessions) keeps all =
-    let parts = both (test s) (list_all test sessions) all in
+    let parts = and_parts (test s) (list_all test sessions) all in
     rw (keeps s parts.0) parts.1
 passes_replied test (suc place) reply (s ∷ sessions) keeps all =
-    let parts = both (test s) (list_all test sessions) all in
+    let parts = and_parts (test s) (list_all test sessions) all in
     rw parts.0 (passes_replied test place reply sessions keeps parts.1)
 
 -- a test of each op, as the sessions' and the request's pass it

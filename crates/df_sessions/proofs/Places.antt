@@ -7,6 +7,7 @@ use borrow.Author.Tests.{ltb-false}
 use Rattle.std.proofs.lemmas.List.{get_or-set_same, get_or-set_other, get_or_push, get_or_append_left, length-set, length_push}
 use Rattle.std.proofs.lemmas.List.Quantifiers.{position-Some}
 use Rattle.std.proofs.lemmas.List.Sums.{position_or_len_is, fails_before_first}
+use Rattle.df_base.proofs.Laws.{none_passes}
 use Rattle.df_sessions.specs.declared.session.Session.{Session}
 use Rattle.df_sessions.specs.Table.{has_client, requested, with_request, with_reply}
 
@@ -47,13 +48,6 @@ request_unknown client request op [] d none = refl
 request_unknown client request op (s ∷ sessions) d none =
     let other : has_client client s ≡ false = none 0 (omega arith) in
     rw other (ap (λ (all : List Session). s ∷ all) (request_unknown client request op sessions d (λ k h. none (suc k) (omega arith))))
-
--- no element passes where there is no place
-none_passes : {X : Type 0} (p : X → Bool) (xs : List X) (d : X) → position p xs ≡ None → (k : ℕ) → k < length xs → p (get_or xs k d) ≡ false
-none_passes p xs d none k within = elim (cases_Bool (nat_lt (position_or_len p xs) (length xs))) [
-  | inl inside ↦ let some : position p xs ≡ Some (position_or_len p xs) = (rw inside refl) in cc
-  | inr outside ↦ fails_before_first p xs k d (omega (arith, ltb-false (position_or_len p xs) (length xs) outside))
-]
 
 pub request_new : (client request op : ℕ) (sessions : List Session) (d : Session) → position (has_client client) sessions ≡ None
     → with_request client request op sessions ≡ sessions ++ requested client request op ∷ []

@@ -1,4 +1,4 @@
--- What the crates above cite of a state that goes on.
+-- What the crates above cite of a file, and of a state that goes on.
 use Rattle.std.proofs.Common.{◌<◌, ◌≤◌, inl, inr, ℕ, List, Option, Some, None, ap, arith}
 use Rattle.df_format.specs.declared.superblock.SuperFields.{SuperFields}
 use Rattle.df_theory.specs.Sessions.{noted}
@@ -7,6 +7,7 @@ use Rattle.df_theory.proofs.Laws.{noted_get}
 use Rattle.df_model.specs.Blocks.{Blocks}
 use Rattle.df_state.specs.declared.file.DataFile.{DataFile}
 use Rattle.df_state.specs.State.{AreAsked, Capture, IsCourse}
+pub use Rattle.df_state.proofs.SameFile.{same_file}
 
 -- a request that is noted is the last one of its client
 pub asked_noted : (h : Units.Header) (ss : List Units.Session) → AreAsked ss → 0 < h.request → AreAsked (noted h ss)

@@ -42,28 +42,19 @@ fn words(alloc: Global, count: usize) -> Result<Vec<u64>, OutOfMemory>
     ensures count { IfOk result (λ words. vec_len words ≡ count) }
     ensures zero { IfOk result (λ words. All (λ word. word ≡ 0) words.items) }
 {
-    match vec![in alloc; 0u64; count] {
-        Ok(words) => Ok(words),
-        Err(_) => Err(OutOfMemory),
-    }
+    Ok(vec![in alloc; 0u64; count]?)
 }
 
 fn checks(alloc: Global, layout: &Layout) -> Result<Vec<Check>, OutOfMemory>
     ensures { IfOk result (λ checks. length checks.items ≡ layout.now.blocks) }
 {
-    match vec![in alloc; [0u8; 16]; layout.blocks as usize] {
-        Ok(checks) => Ok(checks),
-        Err(_) => Err(OutOfMemory),
-    }
+    Ok(vec![in alloc; [0u8; 16]; layout.blocks as usize]?)
 }
 
 fn marks(alloc: Global, layout: &Layout) -> Result<Vec<u8>, OutOfMemory>
     ensures { IfOk result (λ marks. length marks.items ≡ layout.now.blocks) }
 {
-    match vec![in alloc; 0u8; layout.blocks as usize] {
-        Ok(marks) => Ok(marks),
-        Err(_) => Err(OutOfMemory),
-    }
+    Ok(vec![in alloc; 0u8; layout.blocks as usize]?)
 }
 
 fn free_set(alloc: Global, layout: &Layout) -> Result<FreeSet, OutOfMemory>

@@ -35,32 +35,13 @@ pub struct LogRooms {
     pub ghost mends_fit: { layout.slots + 4 ≤ vec_capacity mends },
 }
 
-// Stands in a table until the first header is put there.
-fn no_header() -> Header {
-    Header {
-        checksum: [0; 16],
-        checksum_body: [0; 16],
-        cluster: 0,
-        parent: [0; 16],
-        client: 0,
-        op: 0,
-        request: 0,
-        mark: 0,
-        checkpoint: 0,
-        size: 256,
-        slot: 0,
-        kind: Kind::Reserved,
-        block_kind: 0,
-    }
-}
-
 fn header_table(alloc: Global, layout: &Layout) -> Result<HeaderTable, OutOfMemory>
     ensures { IfOk result (λ table. length table ≡ layout.now.slots) }
 {
-    match vec![in alloc; no_header(); layout.slots as usize] {
-        Ok(room) => Ok(HeaderTable::over(room)),
-        Err(_) => Err(OutOfMemory),
-    }
+    // Stands in the table until a header is put there.
+    let blank = Header::of(Kind::Reserved, 0);
+    let room = vec![in alloc; blank; layout.slots as usize]?;
+    Ok(HeaderTable::over(room))
 }
 
 fn slot_table(alloc: Global, layout: &Layout) -> Result<SlotTable, OutOfMemory>
@@ -70,19 +51,14 @@ fn slot_table(alloc: Global, layout: &Layout) -> Result<SlotTable, OutOfMemory>
         header: Err(Class::Blank),
         prepare: Err(Class::Blank),
     };
-    match vec![in alloc; blank; layout.slots as usize] {
-        Ok(room) => Ok(SlotTable::over(room)),
-        Err(_) => Err(OutOfMemory),
-    }
+    let room = vec![in alloc; blank; layout.slots as usize]?;
+    Ok(SlotTable::over(room))
 }
 
 fn mend_list(alloc: Global, layout: &Layout) -> Result<Vec<Mend>, OutOfMemory>
     ensures { IfOk result (λ mends. layout.now.slots + 4 ≤ vec_capacity mends) }
 {
-    match Vec::with_capacity(alloc, layout.slots as usize + 4) {
-        Ok(mends) => Ok(mends),
-        Err(_) => Err(OutOfMemory),
-    }
+    Ok(Vec::with_capacity(alloc, layout.slots as usize + 4)?)
 }
 
 impl LogRooms {

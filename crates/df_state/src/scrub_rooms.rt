@@ -30,10 +30,7 @@ impl Drop for ScrubRooms {
 fn finding_list(alloc: Global, layout: &Layout) -> Result<Vec<Finding>, OutOfMemory>
     ensures { IfOk result (λ findings. layout.now.blocks ≤ vec_capacity findings) }
 {
-    match Vec::with_capacity(alloc, layout.blocks as usize) {
-        Ok(findings) => Ok(findings),
-        Err(_) => Err(OutOfMemory),
-    }
+    Ok(Vec::with_capacity(alloc, layout.blocks as usize)?)
 }
 
 impl ScrubRooms {

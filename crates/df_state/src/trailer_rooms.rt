@@ -1,5 +1,5 @@
 // The rooms that a trailer is read into and written from, and in which a new block is made.
-ghost use Rattle.std.specs.Prelude.{◌≡◌, ◌+◌, ◌-◌, ◌/◌, length, vec_len, IfOk};
+ghost use Rattle.std.specs.Prelude.{◌≡◌, ◌+◌, ◌-◌, ◌/◌, vec_len, IfOk};
 
 use df_base::{Check, HEADER, OutOfMemory};
 use df_buffers::{Block, Raw};
@@ -27,28 +27,19 @@ pub struct TrailerRooms {
 fn bits(alloc: Global, layout: &Layout) -> Result<Vec<u64>, OutOfMemory>
     ensures { IfOk result (λ bits. vec_len bits ≡ (layout.now.blocks + 63) / 64) }
 {
-    match vec![in alloc; 0u64; layout.blocks.div_ceil(64) as usize] {
-        Ok(bits) => Ok(bits),
-        Err(_) => Err(OutOfMemory),
-    }
+    Ok(vec![in alloc; 0u64; layout.blocks.div_ceil(64) as usize]?)
 }
 
 fn checks(alloc: Global, layout: &Layout) -> Result<Vec<Check>, OutOfMemory>
     ensures { IfOk result (λ checks. vec_len checks ≡ layout.now.blocks) }
 {
-    match vec![in alloc; [0u8; 16]; layout.blocks as usize] {
-        Ok(checks) => Ok(checks),
-        Err(_) => Err(OutOfMemory),
-    }
+    Ok(vec![in alloc; [0u8; 16]; layout.blocks as usize]?)
 }
 
 fn piece(alloc: Global, layout: &Layout) -> Result<Vec<u8>, OutOfMemory>
     ensures { IfOk result (λ piece. vec_len piece ≡ layout.now.block_size - 256) }
 {
-    match vec![in alloc; 0u8; layout.block_size as usize - HEADER] {
-        Ok(piece) => Ok(piece),
-        Err(_) => Err(OutOfMemory),
-    }
+    Ok(vec![in alloc; 0u8; layout.block_size as usize - HEADER]?)
 }
 
 impl TrailerRooms {

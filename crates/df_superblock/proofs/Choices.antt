@@ -8,10 +8,6 @@ use Rattle.df_format.specs.declared.superblock.SuperFields.{SuperFields}
 use Rattle.df_quorum.proofs.Laws.{two_law}
 use Rattle.df_quorum.specs.Quorum.{Copies, Agree, IsChosen}
 
--- a content that two copies show, where whatever else two copies show is lower
-pub chosen_above : (copies : Copies) (c : Content) → Agree copies c → ((d : Content) → Agree copies d → (d ≡ c) ⊎ (rank_of d < rank_of c)) → IsChosen copies c
-chosen_above copies c agreed other = two_law copies c agreed.first agreed.second (omega (arith, agreed.apart, agreed.inside)) agreed.inside (λ e. omega (arith, agreed.apart)) agreed.at_first agreed.at_second other
-
 -- another one of two copies that agree
 pub partner : (copies : Copies) (c : Content) → Agree copies c → (i : ℕ) → (j : ℕ) × (j < 4) × (i ≡ j → ⊥) × (copies j ≡ Some c)
 partner copies c a i = elim (cases_eq i a.first) [

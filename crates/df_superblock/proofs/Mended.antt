@@ -1,8 +1,9 @@
 -- What a repair's events make of the copies, where the disk tells its log.
 use Rattle.std.proofs.Common.{◌≡◌, ◌⊎◌, inl, inr, ◌<◌, ◌≤◌, ◌+◌, ℕ, suc, Bool, true, false, IsTrue, List, [], ◌∷◌, ◌++◌, length, get_or, Option, Some, None, refl, sym, ◌∙◌, ap, subst, arith, Result, Ok, Err, IsErr, OnOk}
+use Rattle.std.proofs.lemmas.Bool.{cases_Bool}
 use Rattle.df_base.specs.Image.{IsImage}
 use Rattle.df_base.specs.Log.{Event, Write, Sync, Stop, Log, IsLog, now}
-use Rattle.df_base.proofs.Laws.{now_is_image, AtEach, at_weaker}
+use Rattle.df_base.proofs.Laws.{now_is_image, AtEach, at_weaker, written_else}
 use Rattle.df_disk.specs.Told.{Told, did}
 use Rattle.df_disk.specs.Adds.{Adds, AddsPart, after_all}
 use Rattle.df_format.specs.Super.{copy_bytes}
@@ -15,16 +16,12 @@ use Rattle.df_superblock.specs.Copies.{AreQuiet, AreEqual, IsChoice, Spare}
 use Rattle.df_superblock.specs.Events.{mend_events, repair_events}
 use Rattle.df_base.specs.Moments.{adds}
 use Rattle.df_superblock.specs.Calls.{KeepsMembers, KeepsUnlessMisled, RepairsUnlessMisled, EndsRepaired}
-use Rattle.df_superblock.proofs.Sights.{PutsCopy, written_other}
-use Rattle.df_disk.proofs.Laws.{adds_part, part_then, all_then, passes}
+use Rattle.df_superblock.proofs.Sights.{PutsCopy}
+use Rattle.df_disk.proofs.Laws.{adds_part, part_then, all_then, passes, tells_on}
 use Rattle.df_superblock.proofs.Mends.{Spares, Writes, member_spared, other_written, shown_stays, written_shows}
 use Rattle.df_superblock.proofs.Misleads.{AreOutside, KeepsChoice, each_stays}
 use Rattle.df_superblock.proofs.Puts.{copy_put, one_content}
 use Rattle.df_superblock.proofs.Written.{tells_after}
-
-cases_bool : (b : Bool) → (b ≡ true) ⊎ (b ≡ false)
-cases_bool true = inl refl
-cases_bool false = inr refl
 
 -- ---- members
 
@@ -46,14 +43,9 @@ still_from e t (Some u) n same still = still ∙ same
 still_shown : (es : List Event) (t : Told) (new : Option Told) (n : ℕ) → Spare es n → AddsPart es (Some t) new → ShowsStill n t new
 still_shown [] t new n spare is = subst (λ (o : Option Told). ShowsStill n t o) (sym is) refl
 still_shown (e ∷ es) t new n spare (inl is) = subst (λ (o : Option Told). ShowsStill n t o) (sym is) refl
-still_shown ((Write at bytes) ∷ es) t new n spare (inr is) = still_from (Write at bytes) t new n (written_other at bytes t.shown n spare.0) (still_shown es (did (Write at bytes) t) new n spare.1 is)
+still_shown ((Write at bytes) ∷ es) t new n spare (inr is) = still_from (Write at bytes) t new n (written_else at bytes t.shown n spare.0) (still_shown es (did (Write at bytes) t) new n spare.1 is)
 still_shown (Sync ∷ es) t new n spare (inr is) = still_from Sync t new n refl (still_shown es (did Sync t) new n spare is)
 still_shown ((Stop cs) ∷ es) t new n spare (inr is) = absurd spare
-
-tells_still : (es : List Event) (t : Told) → AddsPart es (Some t) None → ⊥
-tells_still [] t is = let no : None ≡ Some t = is in cc
-tells_still (e ∷ es) t (inl is) = let no : None ≡ Some t = is in cc
-tells_still (e ∷ es) t (inr is) = tells_still es (did e t) is
 
 member_stays : (f : SuperFields) (members : List Bool) (t u : Told) (n : ℕ) → IsUsable f → length members ≡ 4 → AddsPart (repair_events f 0 members) (Some t) (Some u) → IsTrue (get_or members n false) → u.shown n ≡ t.shown n
 member_stays f members t u n usable size is member =
@@ -63,7 +55,7 @@ member_stays f members t u n usable size is member =
 
 pub keeps_members : {T E : Type 0} → (f : SuperFields) (members : List Bool) (old new : Option Told) (result : Result T E) → IsUsable f → length members ≡ 4 → Adds (repair_events f 0 members) old new result → KeepsMembers members old new
 keeps_members f members None new result usable size is = tt
-keeps_members f members (Some t) None result usable size is = absurd (tells_still (repair_events f 0 members) t (adds_part (repair_events f 0 members) (Some t) None result is))
+keeps_members f members (Some t) None result usable size is = absurd (tells_on (repair_events f 0 members) t (adds_part (repair_events f 0 members) (Some t) None result is))
 keeps_members f members (Some t) (Some u) result usable size is = λ n below member. member_stays f members t u n usable size (adds_part (repair_events f 0 members) (Some t) (Some u) result is) member
 
 -- ---- one place after the other
@@ -131,7 +123,7 @@ module _ (f : SuperFields) (chosen : Chosen) (for : IsFor f chosen) (log : Log) 
   puts n below = subst (λ (x : Content). PutsCopy n (copy_bytes n f) x) same (copy_put f for.usable n below)
 
   pub equal : AreEqual (now (adds (repair_events f 0 members) log)) c
-  equal n below = elim (cases_bool (get_or members n false)) [
+  equal n below = elim (cases_Bool (get_or members n false)) [
     | inl member ↦ shown_stays f c puts n 0 members log fits ((choice.members n below).0 member)
     | inr other ↦
         let place : 0 + n ≡ n = omega arith in

@@ -1,6 +1,6 @@
 -- A repair with no word on the history.
 use Rattle.std.proofs.Common.{◌≡◌, ◌⊎◌, inl, inr, ℕ, ◌<◌, ◌≤◌, ◌+◌, Bool, true, false, List, [], ◌∷◌, length, Some, refl, sym, ◌∙◌, ap, arith}
-use Rattle.std.proofs.lemmas.Bool.{cases_lt, cases_eq}
+use Rattle.std.proofs.lemmas.Bool.{cases_lt, cases_eq, cases_Bool}
 use Rattle.df_base.specs.Image.{Image, written}
 use Rattle.df_base.specs.Log.{Write, Sync, Log, add, loose, now}
 use Rattle.df_format.specs.Super.{copy_bytes}
@@ -34,10 +34,6 @@ under_wrote before log c k bytes put u outside = record {
 under_synced : (before : Copies) (log : Log) (c : Content) → IsUnder before log c → IsUnder before (add Sync log) c
 under_synced before log c u = record { shown = u.shown; firm = λ n below is. refl }
 
-cases_bool : (b : Bool) → (b ≡ true) ⊎ (b ≡ false)
-cases_bool true = inl refl
-cases_bool false = inr refl
-
 module _ (before : Copies) (log : Log) (c : Content) (image : Image) (u : IsUnder before log c) (keeps : Keeps log image) (not : IsMisled before log c image → ⊥) where
   member_stays : (n : ℕ) → n < 4 → before n ≡ Some c → content_at image n ≡ Some c
   member_stays n below is = firm_shows log image n keeps (u.firm n below is) ∙ go (u.shown n below)
@@ -63,9 +59,9 @@ module _ (before : Copies) (log : Log) (c : Content) (image : Image) (u : IsUnde
   ]
 
   pair_before : (d : Content) (i j : ℕ) → i < 4 → j < 4 → (i ≡ j → ⊥) → content_at image i ≡ Some d → content_at image j ≡ Some d → (d ≡ c → ⊥) → rank_of c ≤ rank_of d → (before i ≡ Some d) × (before j ≡ Some d)
-  pair_before d i j below_i below_j apart is_i is_j differs high = elim (cases_bool (loose log i)) [
+  pair_before d i j below_i below_j apart is_i is_j differs high = elim (cases_Bool (loose log i)) [
     | inl wet ↦ loose_pair d i j below_i below_j apart wet is_i is_j differs high
-    | inr firm_i ↦ elim (cases_bool (loose log j)) [
+    | inr firm_i ↦ elim (cases_Bool (loose log j)) [
       | inl wet ↦
           let w = loose_pair d j i below_j below_i (λ e. apart (sym e)) wet is_j is_i differs high in
           (w.1, w.0)

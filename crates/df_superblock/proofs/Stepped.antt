@@ -22,7 +22,7 @@ update_is_steps f is layout cluster = (
   (copy_put layout cluster 1 f (omega arith) is, (copy_put layout cluster 2 f (omega arith) is, (copy_put layout cluster 3 f (omega arith) is, tt))),
 )
 
-repair_from : (layout : Layout) (cluster number : ℕ) (f : SuperFields) (members : List Bool) → number + length members ≤ 4 → IsUsable f
+pub repair_from : (layout : Layout) (cluster number : ℕ) (f : SuperFields) (members : List Bool) → number + length members ≤ 4 → IsUsable f
     → AreSteps (format_of layout cluster) (repair_events f number members) (copy_steps (repaired f number members))
 repair_from layout cluster number f [] fits is = tt
 repair_from layout cluster number f (true ∷ members) fits is = repair_from layout cluster (number + 1) f members (omega (arith, fits)) is

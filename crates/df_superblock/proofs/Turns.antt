@@ -7,8 +7,8 @@ use Rattle.df_base.specs.Moments.{Extends}
 use Rattle.df_format.specs.Copies.{Content, content_at, rank_of}
 use Rattle.df_quorum.specs.Quorum.{Copies, Agree, IsChosen}
 use Rattle.df_superblock.specs.Copies.{AreQuiet, AreEqual, OfEither, Spare, IsOldOrNew}
-use Rattle.df_quorum.proofs.Laws.{same_content as same_copy}
-use Rattle.df_superblock.proofs.Choices.{chosen_above, shows_content}
+use Rattle.df_quorum.proofs.Laws.{same_content as same_copy, chosen_above}
+use Rattle.df_superblock.proofs.Choices.{shows_content}
 use Rattle.df_superblock.proofs.Sights.{Keeps, PutsCopy, firm_shows, loose_wrote, seen_apart}
 use Rattle.df_base.proofs.Laws.{AtEach}
 

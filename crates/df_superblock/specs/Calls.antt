@@ -1,6 +1,5 @@
 -- What the calls on the copies answer, and what they say of the log that a disk tells.
-use Rattle.std.specs.Prelude.{◌≡◌, ◌≢◌, ◌<◌, ◌≤◌, ℕ, false, Bool, IsTrue, List, get_or, Option, Some, None, Result, Ok, Err}
-use Rattle.df_base.specs.Causes.{Rose}
+use Rattle.std.specs.Prelude.{◌≡◌, ◌≢◌, ◌<◌, ◌≤◌, ℕ, true, false, Bool, IsTrue, List, get_or, Option, Some, None, Result, Ok, Err}
 use Rattle.df_base.specs.Image.{Image}
 use Rattle.df_base.specs.Log.{Event, Log, IsLog, IsLeft, now}
 use Rattle.df_disk.specs.Told.{Told}
@@ -106,11 +105,10 @@ AddsUpdate events old new (Ok x) = new ≡ after_all events old
 AddsUpdate events old new (Err (Damaged place class)) = new ≡ after_all events old
 AddsUpdate events old new (Err DiskFault) = AddsPart events old new
 
--- a fault is answered only where the count of faults rose, and each other answer leaves the count
-abbrev pub IsCausedBy : {T : Type 0} → ℕ → ℕ → Result T UpdateError → Type 0
-IsCausedBy before now (Ok x) = now ≡ before
-IsCausedBy before now (Err (Damaged place class)) = now ≡ before
-IsCausedBy before now (Err DiskFault) = (before ≤ now) × Rose before now
+-- the error that blames the disk
+abbrev pub is_update_fault : UpdateError → Bool
+is_update_fault DiskFault = true
+is_update_fault (Damaged place class) = false
 
 -- each answer but a fault comes from the copies that were read back
 abbrev pub IsJudged : {T : Type 0} → Option Told → SuperFields → Result T UpdateError → Type 0

@@ -1,15 +1,15 @@
 // Updates: the four copies in order, each durable before the next one is written, and a look at what became of them.
 ghost use Rattle.std.specs.Prelude.{◌≡◌, ◌<◌, ◌≤◌, ℕ, IsTrue, ◌↔◌, IfSome, IfNone, OnOk};
-ghost use Rattle.df_base.specs.Causes.{HasCause};
+ghost use Rattle.df_base.specs.Causes.{HasCause, IsBlamed};
 ghost use Rattle.df_disk.specs.Adds.{Adds};
-ghost use Rattle.df_superblock.specs.Calls.{Holds, IsRead, IsFirstMissing, IsVerdict, IsJudged, IsUndamaged, AddsUpdate, IsCausedBy, UpdatesSafely, ShowsEqual, EndsEqual, class_of_slot};
+ghost use Rattle.df_superblock.specs.Calls.{Holds, IsRead, IsFirstMissing, IsVerdict, IsJudged, IsUndamaged, AddsUpdate, UpdatesSafely, ShowsEqual, EndsEqual, class_of_slot, is_update_fault};
 ghost use Rattle.df_superblock.specs.Events.{update_events};
 ghost use Rattle.df_superblock.specs.Steps.{AreStepsOfCopies};
 ghost use Rattle.df_theory.specs.CopyPuts.{update_steps};
 ghost use Rattle.df_units.specs.Puts.{put_copies};
 
 use crate::copies::{read_all, write_copy};
-use df_base::Failed;
+use df_base::{BlamesDisk, Failed};
 use df_buffers::ProbeRoom;
 use df_disk::Disk;
 use df_format::{Super, SuperCopy};
@@ -24,6 +24,16 @@ pub enum UpdateError {
     Damaged { place: Place, class: Class },
     /// A call of the disk failed. Some of the copies, from copy 0 on, may have been written.
     DiskFault,
+}
+
+impl BlamesDisk for UpdateError {
+    ghost is_fault = { is_update_fault };
+
+    fn is_fault(&self) -> bool
+        ensures { result ≡ is_update_fault self.now }
+    {
+        *self == UpdateError::DiskFault
+    }
 }
 
 // Writes the four copies.
@@ -130,7 +140,7 @@ pub fn update<D: Disk>(
     ensures moments { UpdatesSafely content.now (D.told disk.old) (D.told disk.new) }
     ensures shown { OnOk result (ShowsEqual content.now (D.told disk.new)) }
     ensures equal { OnOk result (EndsEqual content.now (D.told disk.new)) }
-    ensures cause { IsCausedBy (D.faults disk.old) (D.faults disk.new) result }
+    ensures cause { IsBlamed is_update_fault (D.faults disk.old) (D.faults disk.new) result }
 {
     match write_all(disk, room, content) {
         Ok(()) => {}

@@ -14,4 +14,6 @@ mod stops;
 #[cfg(test)]
 mod told;
 #[cfg(test)]
+mod unmended;
+#[cfg(test)]
 mod work;

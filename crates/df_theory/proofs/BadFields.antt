@@ -16,12 +16,12 @@ use Rattle.df_theory.specs.HistoryLaws.{AreDistinct, ShowsSettled}
 use Rattle.df_theory.specs.Past.{FromEmpty}
 use Rattle.df_theory.proofs.OneAnswer.{in_behind}
 
-arrives_more : (image : Units) (bs : List (ℕ × Block)) (d : ℕ × Block) (address checksum a k : ℕ) → Arrives image bs address checksum a k → 0 < a → d.0 ≡ a → d.1.checksum ≡ k → d.1.kind ≡ 0 → image (BlockPlace a) ≡ Some (BlockUnit d.1) → Arrives image (bs ++ d ∷ []) address checksum d.1.before d.1.before_checksum
+pub arrives_more : (image : Units) (bs : List (ℕ × Block)) (d : ℕ × Block) (address checksum a k : ℕ) → Arrives image bs address checksum a k → 0 < a → d.0 ≡ a → d.1.checksum ≡ k → d.1.kind ≡ 0 → image (BlockPlace a) ≡ Some (BlockUnit d.1) → Arrives image (bs ++ d ∷ []) address checksum d.1.before d.1.before_checksum
 arrives_more image [] d address checksum a k arrives above place sum kind shown =
     (omega (arith, arrives.0), place ∙ arrives.0, sum ∙ arrives.1, ap (λ (e : ℕ). image (BlockPlace e)) (sym arrives.0) ∙ shown, kind, (refl, refl))
 arrives_more image (b ∷ bs) d address checksum a k arrives above place sum kind shown = (arrives.0, arrives.1, arrives.2, arrives.3, arrives.4, arrives_more image bs d b.1.before b.1.before_checksum a k arrives.5 above place sum kind shown)
 
-links_more : (sh : Shape) (c : Content) (n i : ℕ) (bs : List (ℕ × Block)) (d : ℕ × Block) → AreLinks sh c n bs → n ≡ length bs + (i + 1) → IsLink sh c i d.1 → AreLinks sh c n (bs ++ d ∷ [])
+pub links_more : (sh : Shape) (c : Content) (n i : ℕ) (bs : List (ℕ × Block)) (d : ℕ × Block) → AreLinks sh c n bs → n ≡ length bs + (i + 1) → IsLink sh c i d.1 → AreLinks sh c n (bs ++ d ∷ [])
 links_more sh c n i [] d are count link = (i, omega arith, link, tt)
 links_more sh c n i (b ∷ bs) d are count link = (are.0, are.1, are.2, links_more sh c are.0 i bs d are.3 (omega (arith, are.1)) link)
 

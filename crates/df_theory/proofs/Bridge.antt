@@ -17,7 +17,7 @@ use Rattle.df_base.specs.Image.{Image, IsImage, blank, written, changed, IsPiece
 use Rattle.df_base.specs.Log
 use Rattle.df_base.specs.Log.{Event, Write, Sync, Stop, IsLeft, AreLoose, new_log}
 use Rattle.df_base.specs.Moments.{EachMoment, adds}
-use Rattle.df_base.proofs.Laws.{now_is_image, adds_extends, started, from_before}
+use Rattle.df_base.proofs.Laws.{now_is_image, adds_extends, started, from_before, blank_is_image}
 
 pub now_units : (f : Format) (start : Image) (es : List Event) → now_of (f.unit_at start) (units_of f start es) ≡ f.unit_at (Log.now_of start es)
 now_units f start [] = refl
@@ -87,15 +87,6 @@ whole_write log at bytes whole piece = record { start = whole.start; events = (p
 whole_sync : (log : Log.Log) → Log.IsLog log → Log.IsLog (Log.add Sync log)
 whole_sync log whole = record { start = whole.start; events = whole.events }
 
-AreBytes-zeros : (n i : ℕ) → slice_index (replicate n 0) i < 256
-AreBytes-zeros zero i = omega arith
-AreBytes-zeros (suc n) zero = omega arith
-AreBytes-zeros (suc n) (suc i) = AreBytes-zeros n i
-
-pub blank_whole : IsImage blank
-unfolding blank
-blank_whole = record { sectors = λ sector. record { size = length-replicate {A = ℕ} 4096 0; each = AreBytes-zeros 4096 } }
-
 pub put_law : PutLaw
 put_law f log at bytes put whole is = λ i. record {
   start = f.unit_at log.start;
@@ -105,7 +96,7 @@ put_law f log at bytes put whole is = λ i. record {
     brings : (place : Place) (o : Option AnyUnit) → put place ≡ o → stands f at bytes place ≡ put place
     brings place None none = cond-false (f.touches at bytes place) _ _ (is.touches place ∙ ap is_some none) ∙ sym none
     brings place (Some x) some =
-        cond-true (f.touches at bytes place) _ _ (is.touches place ∙ ap is_some some) ∙ is.shows blank place blank_whole ∙ ap (λ (o : Option AnyUnit). or_else o (f.unit_at blank place)) some ∙ sym some
+        cond-true (f.touches at bytes place) _ _ (is.touches place ∙ ap is_some some) ∙ is.shows blank place blank_is_image ∙ ap (λ (o : Option AnyUnit). or_else o (f.unit_at blank place)) some ∙ sym some
 
     shows : (place : Place) → f.unit_at (written at bytes (Log.now log)) place ≡ overlay put (now (units_log f log)) place
     shows place = is.shows (Log.now log) place (now_is_image log.start log.events whole.start whole.events) ∙ (λ i. or_else (put place) (sym (now_units f log.start log.events) i place))

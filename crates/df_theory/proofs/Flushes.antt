@@ -1,6 +1,6 @@
 -- A group of prepares, written one after the other and synced once.
 use Rattle.std.proofs.Common.{◌≡◌, ◌⊎◌, inl, inr, ℕ, ◌||◌, false, ◌+◌, ◌%◌, ◌<◌, ◌≤◌, List, [], ◌∷◌, ◌++◌, length, Option, Some, None, refl, sym, ◌∙◌, ap, subst, arith, length-append}
-use Rattle.std.proofs.lemmas.Bool.{cases_eq, cases_lt}
+use Rattle.std.proofs.lemmas.Bool.{cases_eq, cases_lt, cases_Bool}
 use Rattle.std.specs.List.{slice_get}
 use Rattle.df_theory.specs.Units.{AnyUnit, BlockPlace, CopyPlace, HeaderPlace, Message, Place, PreparePlace, PrepareUnit, ReplyPlace, Units, is_some, or_else, overlay}
 use Rattle.df_theory.specs.Sessions.{sessions_after}
@@ -24,7 +24,7 @@ use Rattle.df_theory.proofs.Slots.{mod_apart}
 use Rattle.df_theory.proofs.Images.{IsClearIn, chosen_same, short_clear}
 use Rattle.df_theory.proofs.Grew.{agrees_grew, next_grew}
 use Rattle.df_theory.proofs.Torn.{IsPooled, Outcome}
-use Rattle.df_theory.proofs.Steps.{cases_bool, goes_same, old_agrees, safe_if, synced_rests}
+use Rattle.df_theory.proofs.Steps.{goes_same, old_agrees, safe_if, synced_rests}
 use Rattle.df_theory.proofs.Puts.{block_agrees, block_in_view}
 use Rattle.df_theory.proofs.Appends.{kept_some}
 use Rattle.df_theory.proofs.Sounds.{append_sound}
@@ -400,11 +400,11 @@ module _ (sh : Shape) (v : View) (ps : List Message) (sound : Sound sh v) (may :
     fair = rests.fair;
     grows = rests.grows;
     clear = clear;
-    needs = λ place x need. elim (cases_bool (loose log place)) [
+    needs = λ place x need. elim (cases_Bool (loose log place)) [
       | inl wet ↦ absurd ((rests.calm place wet).needless x need)
       | inr firm ↦ (firm, rests.holds.bears.needs place x need)
     ];
-    copies = λ n. elim (cases_bool (loose log (CopyPlace n))) [
+    copies = λ n. elim (cases_Bool (loose log (CopyPlace n))) [
       | inl wet ↦ absurd (quiet (CopyPlace n) wet)
       | inr firm ↦ firm
     ];

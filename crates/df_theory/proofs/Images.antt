@@ -1,11 +1,11 @@
 -- Images that hold a view.
-use Rattle.std.proofs.Common.{◌≡◌, ◌⊎◌, inl, inr, ℕ, ◌%◌, ◌≤◌, [], ◌∷◌, Some, refl, sym, ◌∙◌, arith}
-use Rattle.df_theory.specs.Units.{AnyUnit, Content, CopyPlace, Message, Place, PreparePlace, PrepareUnit, Units}
+use Rattle.std.proofs.Common.{◌≡◌, ◌⊎◌, inl, inr, ℕ, ◌%◌, ◌≤◌, [], ◌∷◌, Some, None, refl, sym, ◌∙◌, arith}
+use Rattle.df_theory.specs.Units.{AnyUnit, Content, CopyPlace, CopyUnit, Message, Place, PreparePlace, PrepareUnit, Units}
 use Rattle.df_theory.specs.Shape.{Shape}
 use Rattle.df_theory.specs.Copies.{Agree, IsChosen}
 use Rattle.df_theory.specs.View.{View, boot_of, head}
 use Rattle.df_theory.specs.Shows.{Agrees, Needs}
-use Rattle.df_theory.specs.Holds.{Bears}
+use Rattle.df_theory.specs.Holds.{Bears, Holds}
 use Rattle.df_theory.specs.Groups.{IsShort}
 
 -- nothing is needed at this place, and what is shown agrees
@@ -63,3 +63,9 @@ short_same sh i j v same short ps more = short ps (record {
   some = more.some;
   ends = more.ends;
 })
+
+-- an image that shows nothing has no view
+pub unheld : (sh : Shape) (u : Units) (v : View) → ((place : Place) → u place ≡ None) → Holds sh u v → ⊥
+unheld sh u v blank holds =
+    let both : Some (CopyUnit v.checkpoint.content) ≡ None = sym holds.chosen.agreed.at_first ∙ blank (CopyPlace holds.chosen.agreed.first) in
+    cc

@@ -114,10 +114,10 @@ whole_block_law sh image put v a b one whole = record {
 apart : (n k : ℕ) → (n ≡ k → ⊥) → CopyPlace n ≡ CopyPlace k → ⊥
 apart n k differ same = differ (let at : CopyPlace n ≡ CopyPlace k = same in cc)
 
-copy_over : (put image : Units) (k n : ℕ) (c : Content) → PutsOne put (CopyPlace k) (CopyUnit c) → (n ≡ k → ⊥) → overlay put image (CopyPlace n) ≡ image (CopyPlace n)
+pub copy_over : (put image : Units) (k n : ℕ) (c : Content) → PutsOne put (CopyPlace k) (CopyUnit c) → (n ≡ k → ⊥) → overlay put image (CopyPlace n) ≡ image (CopyPlace n)
 copy_over put image k n c one differ = put_else put image (CopyPlace k) (CopyPlace n) (CopyUnit c) one (apart n k differ)
 
-copy_here : (put image : Units) (k : ℕ) (c : Content) → PutsOne put (CopyPlace k) (CopyUnit c) → overlay put image (CopyPlace k) ≡ Some (CopyUnit c)
+pub copy_here : (put image : Units) (k : ℕ) (c : Content) → PutsOne put (CopyPlace k) (CopyUnit c) → overlay put image (CopyPlace k) ≡ Some (CopyUnit c)
 copy_here put image k c one = ap (λ (o : Option AnyUnit). or_else o (image (CopyPlace k))) one.at
 
 -- a number below 4

@@ -10,6 +10,7 @@ use Rattle.df_theory.specs.View.{Checkpoint}
 use Rattle.df_theory.specs.Found.{IsTail}
 use Rattle.df_theory.specs.Opens.{AreFitting, AreKnown, IsUnfit, LacksKnown, named_by}
 use Rattle.df_theory.proofs.Sessions.{chain_take}
+use Rattle.df_theory.proofs.Tails.{in_front}
 
 -- lists that are shown from one op on are one
 pub known_one : (n : ℕ) (image : Units) (op c : ℕ) (xs ys : List Message) → AreKnown n image op c xs → AreKnown n image op c ys → length xs ≡ length ys → xs ≡ ys
@@ -75,16 +76,11 @@ pub groups_front : (f l op : ℕ) (xs ys : List Message) → AreGroups f l op (x
 groups_front f l op [] ys groups = tt
 groups_front f l op (x ∷ xs) ys groups = (groups.0, groups_front x.header.group x.header.group_last (op + 1) xs ys groups.1)
 
-in_first : (p : Message) (xs ys : List Message) → In p xs → In p (xs ++ ys)
-in_first p [] ys at = absurd at
-in_first p (x ∷ xs) ys (inl here) = inl here
-in_first p (x ∷ xs) ys (inr there) = inr (in_first p xs ys there)
-
 pub fitting_front : (sh : Shape) (b : Checkpoint) (xs ys : List Message) → AreFitting sh b (xs ++ ys) → AreFitting sh b xs
 fitting_front sh b xs ys fits = record {
   chain = chain_front sh.layout.clients (b.content.op + 1) b.content.op_checksum 0 b.parts.sessions xs ys fits.chain;
   grouped = groups_front 0 b.content.op (b.content.op + 1) xs ys fits.grouped;
-  ends = λ p at op. fits.ends p (in_first p xs ys at) op;
+  ends = λ p at op. fits.ends p (in_front p xs ys at) op;
 }
 
 -- of two fronts of one list the shorter one goes on with what stands behind it

@@ -1,29 +1,23 @@
 -- The write of one unit.
-use Rattle.std.proofs.Common.{◌≡◌, ℕ, ◌==◌, Bool, if◌then◌else◌, true, false, Some, None, refl, sym, ap, arith}
+use Rattle.std.proofs.Common.{◌≡◌, ℕ, ◌==◌, Bool, if◌then◌else◌, true, false, Some, None, refl, sym, ap, arith, eqb-true, eq-eqb}
 use Rattle.std.proofs.lemmas.Bool.Decides.{nat_tests}
 use Rattle.df_theory.specs.Units.{AnyUnit, BlockPlace, CopyPlace, HeaderPlace, Place, PreparePlace, ReplyPlace}
 use Rattle.df_theory.specs.UnitLog.{same_place}
 use Rattle.df_theory.specs.WriterLaws.{PutOneLaw}
 
-eq_true : (a b : ℕ) → (a == b) ≡ true → a ≡ b
-eq_true a b e = grind (arith, nat_tests)
-
-eq_same : (a : ℕ) → (a == a) ≡ true
-eq_same a = grind (arith, nat_tests)
-
 pub same_here : (place : Place) → same_place place place ≡ true
-same_here (CopyPlace n) = eq_same n
-same_here (HeaderPlace n) = eq_same n
-same_here (PreparePlace n) = eq_same n
-same_here (ReplyPlace n) = eq_same n
-same_here (BlockPlace n) = eq_same n
+same_here (CopyPlace n) = eq-eqb n n refl
+same_here (HeaderPlace n) = eq-eqb n n refl
+same_here (PreparePlace n) = eq-eqb n n refl
+same_here (ReplyPlace n) = eq-eqb n n refl
+same_here (BlockPlace n) = eq-eqb n n refl
 
 pub same_is : (place other : Place) → same_place place other ≡ true → other ≡ place
-same_is (CopyPlace n) (CopyPlace m) is = ap CopyPlace (sym (eq_true n m is))
-same_is (HeaderPlace n) (HeaderPlace m) is = ap HeaderPlace (sym (eq_true n m is))
-same_is (PreparePlace n) (PreparePlace m) is = ap PreparePlace (sym (eq_true n m is))
-same_is (ReplyPlace n) (ReplyPlace m) is = ap ReplyPlace (sym (eq_true n m is))
-same_is (BlockPlace n) (BlockPlace m) is = ap BlockPlace (sym (eq_true n m is))
+same_is (CopyPlace n) (CopyPlace m) is = ap CopyPlace (sym (eqb-true n m is))
+same_is (HeaderPlace n) (HeaderPlace m) is = ap HeaderPlace (sym (eqb-true n m is))
+same_is (PreparePlace n) (PreparePlace m) is = ap PreparePlace (sym (eqb-true n m is))
+same_is (ReplyPlace n) (ReplyPlace m) is = ap ReplyPlace (sym (eqb-true n m is))
+same_is (BlockPlace n) (BlockPlace m) is = ap BlockPlace (sym (eqb-true n m is))
 same_is place other is = absurd (let no_unit : false ≡ true = is in cc)
 
 pub put_one_law : PutOneLaw

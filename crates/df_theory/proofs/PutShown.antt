@@ -2,16 +2,13 @@
 use Rattle.std.proofs.Common.{◌≡◌, ℕ, false, List, Option, Some, None, refl, sym, ◌∙◌, ap}
 use Rattle.std.proofs.lemmas.Bool.{cond-false}
 use Rattle.df_base.specs.Image.{Image, IsImage, covers, written}
+use Rattle.df_base.proofs.Laws.{written_else}
 use Rattle.df_theory.specs.Units.{AnyUnit, Place, is_some, or_else}
 use Rattle.df_theory.specs.Device.{Format, IsFormat}
 use Rattle.df_theory.specs.DeviceLaws.{PutShownLaw}
 
-kept : (at : ℕ) (bytes : List ℕ) (image : Image) (sector : ℕ) → covers at bytes sector ≡ false → written at bytes image sector ≡ image sector
-unfolding written
-kept at bytes image sector outside = cond-false _ _ _ outside
-
 untouched_stays : (f : Format) → IsFormat f → (at : ℕ) (bytes : List ℕ) (place : Place) (image : Image) → f.touches at bytes place ≡ false → f.unit_at (written at bytes image) place ≡ f.unit_at image place
-untouched_stays f is at bytes place image apart = is.local (written at bytes image) image place (λ sector here. kept at bytes image sector (is.apart at bytes place sector apart here))
+untouched_stays f is at bytes place image apart = is.local (written at bytes image) image place (λ sector here. written_else at bytes image sector (is.apart at bytes place sector apart here))
 
 pub put_shown_law : PutShownLaw
 put_shown_law f at bytes put is piece touched shown = record { piece = piece; touches = touched; shows = λ image place whole. shows_at image place (put place) whole refl }

@@ -1,5 +1,5 @@
 -- Tails and sessions, longer and shorter.
-use Rattle.std.proofs.Common.{◌≡◌, ◌⊎◌, inl, inr, ℕ, zero, suc, ◌==◌, Bool, true, false, if◌then◌else◌, ◌+◌, ◌<◌, ◌≤◌, List, [], ◌∷◌, ◌++◌, length, take, drop, Some, None, refl, sym, ◌∙◌, ap, subst, arith}
+use Rattle.std.proofs.Common.{◌≡◌, ◌⊎◌, inl, inr, ℕ, zero, suc, ◌==◌, Bool, true, false, if◌then◌else◌, ◌+◌, ◌<◌, ◌≤◌, List, [], ◌∷◌, ◌++◌, length, take, drop, Some, None, refl, sym, ◌∙◌, ap, subst, arith, eqb-true, eq-eqb}
 use Rattle.std.specs.List.{slice_get}
 use Rattle.std.proofs.lemmas.List.{take-append-drop}
 use Rattle.std.proofs.lemmas.Bool.Decides.{nat_tests}
@@ -84,21 +84,15 @@ pub noted_has : (h : Header) (ss : List Session) → Has (noted h ss) h.op
 noted_has h [] = (0, session_of h, refl, refl)
 noted_has h (s ∷ ss) = noted_has_case h s ss (noted h ss) (s.client == h.client) (noted_has h ss)
 
-is_true : (a b : ℕ) → (a == b) ≡ true → a ≡ b
-is_true a b e = grind (arith, nat_tests)
-
-eq_true : (a b : ℕ) → a ≡ b → (a == b) ≡ true
-eq_true a b e = grind (arith, nat_tests)
-
 keeps_case : (room : ℕ) (h : Header) (s t : Session) (ss rest : List Session) (k : ℕ) (b : Bool) → (s.client == h.client) ≡ b → MayAsk room h (s ∷ ss) → ((rooms j : ℕ) → MayAsk rooms h ss → slice_get ss j ≡ Some t → (slice_get rest j ≡ Some t) ⊎ (t.op ≤ h.mark)) → slice_get (s ∷ ss) k ≡ Some t
     → (slice_get (if b then session_of h ∷ ss else s ∷ rest) k ≡ Some t) ⊎ (t.op ≤ h.mark)
 keeps_case room h s t ss rest zero true is (inl here) more at =
     let one : s ≡ t = (let two : Some s ≡ Some t = at in cc) in
     inr (omega (arith, here.2, ap (λ (w : Session). w.op) one))
-keeps_case room h s t ss rest zero true is (inr there) more at = absurd (there.0 (is_true s.client h.client is))
+keeps_case room h s t ss rest zero true is (inr there) more at = absurd (there.0 (eqb-true s.client h.client is))
 keeps_case room h s t ss rest (suc k) true is may more at = inl at
 keeps_case room h s t ss rest zero false is may more at = inl at
-keeps_case room h s t ss rest (suc k) false is (inl here) more at = absurd (let both : true ≡ false = sym (eq_true s.client h.client here.0) ∙ is in cc)
+keeps_case room h s t ss rest (suc k) false is (inl here) more at = absurd (let both : true ≡ false = sym (eq-eqb s.client h.client here.0) ∙ is in cc)
 keeps_case room h s t ss rest (suc k) false is (inr there) more at = more there.1 k there.3 at
 
 -- who asks has had the last reply: each session stays, or was answered

@@ -1,5 +1,6 @@
 -- Events, one after another, on logs that are quiet but for free blocks.
 use Rattle.std.proofs.Common.{◌≡◌, ◌⊎◌, inl, inr, arith, Bool, true, false, ◌||◌, List, [], ◌∷◌, length, Option, Some, None, refl, sym, ◌∙◌, ap, subst}
+use Rattle.std.proofs.lemmas.Bool.{cases_Bool}
 use Rattle.df_theory.specs.Units.{AnyUnit, BlockPlace, CopyPlace, HeaderPlace, Place, PreparePlace, PrepareUnit, ReplyPlace, Units, is_some, or_else, overlay}
 use Rattle.df_theory.specs.Shape.{Shape}
 use Rattle.df_theory.specs.View.{Checkpoint, View}
@@ -100,17 +101,13 @@ synced_rests sh log v g = record {
   pooled = λ place x is. inl (inl is);
 }
 
-pub cases_bool : (b : Bool) → (b ≡ true) ⊎ (b ≡ false)
-cases_bool true = inl refl
-cases_bool false = inr refl
-
 -- nothing that is loose matters: each image left has the view
 pub rests_left : (sh : Shape) (log : UnitLog) (v : View) → RestsOn sh log v → (j : Units) → IsLeftBy log j → IsPooled log j → Outcome sh (settled log) v j
 rests_left sh log v rest j left pooled = record {
   view = v;
   next = goes_same (settled log) v;
   holds = record {
-    bears = bears_open sh v (now log) j rest.holds.bears (λ place. elim (cases_bool (loose log place)) [
+    bears = bears_open sh v (now log) j rest.holds.bears (λ place. elim (cases_Bool (loose log place)) [
       | inl is ↦ inr (record {
         needless = (rest.calm place is).needless;
         agrees = λ x shown. elim (pooled place x shown) [
@@ -120,11 +117,11 @@ rests_left sh log v rest j left pooled = record {
       })
       | inr firm ↦ inl (left place firm)
     ]);
-    chosen = chosen_same (now log) j v.checkpoint.content (λ n. elim (cases_bool (loose log (CopyPlace n))) [
+    chosen = chosen_same (now log) j v.checkpoint.content (λ n. elim (cases_Bool (loose log (CopyPlace n))) [
       | inl is ↦ absurd ((rest.calm (CopyPlace n) is).no_copy tt)
       | inr firm ↦ left (CopyPlace n) firm
     ]) rest.holds.chosen;
-    short = short_same sh (now log) j v (λ s. elim (cases_bool (loose log (PreparePlace s))) [
+    short = short_same sh (now log) j v (λ s. elim (cases_Bool (loose log (PreparePlace s))) [
       | inl is ↦ absurd ((rest.calm (PreparePlace s) is).no_prepare tt)
       | inr firm ↦ left (PreparePlace s) firm
     ]) rest.holds.short;

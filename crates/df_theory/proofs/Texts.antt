@@ -1,19 +1,15 @@
 -- The text of a trailer that an image shows is of bytes.
 use Rattle.std.proofs.Common.{◌≡◌, inl, inr, ℕ, zero, suc, List, [], ◌∷◌, ◌++◌, Some, refl, subst, arith}
 use Rattle.df_base.specs.Fields.{AreBytes}
+use Rattle.df_base.proofs.Laws.{AreBytes-append}
 use Rattle.df_theory.specs.Units.{Block, BlockPlace, BlockUnit, Units}
 use Rattle.df_theory.specs.Shape.{Shape}
 use Rattle.df_theory.specs.Trailer.{InChain, text_of}
 use Rattle.df_theory.specs.Found.{AreOfPlaces}
-
-joined : (xs ys : List ℕ) → AreBytes xs → AreBytes ys → AreBytes (xs ++ ys)
-joined [] ys one two i = two i
-joined (x ∷ xs) ys one two zero = one 0
-joined (x ∷ xs) ys one two (suc i) = joined xs ys (λ k. one (suc k)) two i
 
 pub text_bytes : (sh : Shape) (image : Units) (chain : List (ℕ × Block)) → AreOfPlaces sh image → ((a : ℕ) (b : Block) → InChain a b chain → image (BlockPlace a) ≡ Some (BlockUnit b)) → AreBytes (text_of chain)
 text_bytes sh image [] places shown = λ i. omega arith
 text_bytes sh image (b ∷ bs) places shown =
     let of = places (BlockPlace b.0) (BlockUnit b.1) (shown b.0 b.1 (inl (refl, refl))) in
     let own : AreBytes b.1.body = subst (λ (x : Block). AreBytes x.body) (let same : of.0 ≡ b.1 = (let e = of.1 in cc) in same) of.3 in
-    joined (text_of bs) b.1.body (text_bytes sh image bs places (λ a x at. shown a x (inr at))) own
+    AreBytes-append (text_of bs) b.1.body (text_bytes sh image bs places (λ a x at. shown a x (inr at))) own

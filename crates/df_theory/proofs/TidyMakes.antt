@@ -17,7 +17,7 @@ use Rattle.df_theory.proofs.Clear.{clear_one}
 use Rattle.df_theory.proofs.Writes.{put_else}
 use Rattle.df_theory.proofs.Runs.{after_append}
 use Rattle.df_theory.proofs.Births.{format_law}
-use Rattle.df_theory.proofs.Keeps.{four}
+use Rattle.df_theory.proofs.Keeps.{four, copy_here, copy_over}
 
 -- a slot that some write reaches shows a header
 abbrev ShowsHeader : Units → ℕ → Type 0
@@ -39,12 +39,6 @@ all_reached [] log s all (inr none) = absurd none
 all_reached (put ∷ puts) log s all (inl shown) = all_reached puts (wrote put log) s all.1 (inl (reserved_still put (now log) s all.0 shown))
 all_reached (put ∷ puts) log s all (inr (inl here)) = all_reached puts (wrote put log) s all.1 (inl (reserved_here put (now log) s here.0 all.0 here.1))
 all_reached (put ∷ puts) log s all (inr (inr there)) = all_reached puts (wrote put log) s all.1 (inr there)
-
-copy_over : (put image : Units) (k n : ℕ) (c : Content) → PutsOne put (CopyPlace k) (CopyUnit c) → (n ≡ k → ⊥) → overlay put image (CopyPlace n) ≡ image (CopyPlace n)
-copy_over put image k n c one away = put_else put image (CopyPlace k) (CopyPlace n) (CopyUnit c) one (λ same. away (let at : n ≡ k = cc (same) in at))
-
-copy_here : (put image : Units) (k : ℕ) (c : Content) → PutsOne put (CopyPlace k) (CopyUnit c) → overlay put image (CopyPlace k) ≡ Some (CopyUnit c)
-copy_here put image k c one = ap (λ (o : Option AnyUnit). or_else o (image (CopyPlace k))) one.at
 
 -- the image with the four copies over it
 module _ (sh : Shape) (v : View) (under : Units) (puts : PutsCopies v.checkpoint.content) (first : IsFirst sh v) where

@@ -160,7 +160,7 @@ slot s = record { from = inl (header_shown s); tail = λ p at mine. own p at min
 abbrev mends : List (ℕ × Units)
 mends = (2, put_one (CopyPlace 2) (CopyUnit content1)) ∷ []
 
-never_kept : (o : Option Session) (op : ℕ) (r : Message) → kept o op None ≡ Some r → ⊥
+pub never_kept : (o : Option Session) (op : ℕ) (r : Message) → kept o op None ≡ Some r → ⊥
 never_kept None op r is = let both : None ≡ Some r = is in cc
 never_kept (Some s) op r is = go (nat_lt op s.op) is
   where

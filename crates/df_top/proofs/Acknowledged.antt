@@ -6,6 +6,7 @@ use Rattle.df_base.specs.Log.{Event, Log}
 use Rattle.df_base.specs.Moments.{Extends}
 use Rattle.df_disk.specs.Told.{Told}
 use Rattle.df_disk.specs.Adds.{after_all}
+use Rattle.df_disk.proofs.Laws.{after_append}
 use Rattle.df_model.specs.Commands.{Answer}
 use Rattle.df_model.specs.Work.{Work}
 use Rattle.df_replica.specs.Below.{DataFile, State as Replica}
@@ -13,7 +14,7 @@ use Rattle.df_replica.specs.Serving.{Grade, Keeps, next}
 use Rattle.df_replica.specs.Session.{Act, EachIsMidway, IsMidway, work_after}
 use Rattle.df_top.specs.Acknowledging.{CallsMade, HadAnswers, HadReturned, IsUntil, KeepsAnswered}
 use Rattle.df_top.specs.Session.{AreCalls, Calls, EndsCalls, events_of, events_to, list_of}
-use Rattle.df_replica.proofs.Laws.{added_on, fault_stops_them}
+use Rattle.df_replica.proofs.Laws.{fault_stops_them}
 use Rattle.df_top.proofs.Kept.{all_served}
 
 module _ (file : DataFile) (g : Grade) where
@@ -50,7 +51,7 @@ module _ (file : DataFile) (g : Grade) where
         live = later.live;
         keeps = later.keeps;
         calls = later.calls;
-        ends = added_on es (events_of calls.0 calls.1 acts answers t new calls.3) base ∙ later.ends;
+        ends = after_append es (events_of calls.0 calls.1 acts answers t new calls.3) base ∙ later.ends;
         since = later.since;
       }
 
@@ -76,7 +77,7 @@ module _ (file : DataFile) (g : Grade) where
         let served = all_served b.replica t b.old new (drop k acts) b.answers b.live b.calls in
         let stopped = fault_stops_them b.replica t u b.old new end (drop k acts) b.answers events a served call.call in
         at_moment b.replica (work_after file w (take k acts)) (drop k acts ++ a ∷ []) b.told (after_all (events ++ call.call.events) (Some b.told)) log b.same (stopped.moments g (work_after file w (take k acts)) (Some b.told) b.keeps) b.since
-        (subst (λ (o : Option Told). IsUntil o log) (ap (after_all call.call.events) b.ends ∙ sym (added_on events call.call.events (Some b.told))) until)
+        (subst (λ (o : Option Told). IsUntil o log) (ap (after_all call.call.events) b.ends ∙ sym (after_append events call.call.events (Some b.told))) until)
 
   midway : (w : Work) (s t : Replica) (old new base : Option Told) (acts : List Act) (answers : List Answer) (failed : Option Act) → s.file ≡ file → s.live ≡ true → Keeps g s w base → (calls : EndsCalls s t old new acts answers failed) → (k : ℕ) (log : Log)
       → HadAnswers k base log s t old new acts answers failed calls → IsUntil (after_all (events_to s t old new acts answers failed calls) base) log → IsMidway file g (work_after file w (take k acts)) (drop k acts ++ list_of failed) log
@@ -85,7 +86,7 @@ module _ (file : DataFile) (g : Grade) where
   midway w s t old new base acts answers (Some a) same live keeps calls k log had until =
       let es = events_of s old acts answers calls.0 calls.1 calls.2 in
       midway_failed k w acts calls.0 calls.1 (after_all es base) log (behind k w s old base acts answers calls.0 calls.1 log same live keeps calls.2 had) a t new calls.3
-      (subst (λ (o : Option Told). IsUntil o log) (added_on es calls.3.call.events base) until)
+      (subst (λ (o : Option Told). IsUntil o log) (after_append es calls.3.call.events base) until)
 
 pub keeps_answered : (file : DataFile) (g : Grade) (w : Work) (base : Option Told) (c : CallsMade) → c.from.file ≡ file → c.from.live ≡ true → Keeps g c.from w base → KeepsAnswered file g w base c
 keeps_answered file g w base c same live keeps k log had until = midway file g w c.from c.to c.old c.new base c.acts c.answers c.failed same live keeps c.calls k log had until

@@ -3,6 +3,7 @@ use Rattle.std.proofs.Common.{◌≡◌, inl, inr, List, [], ◌∷◌, Option, 
 use Rattle.std.specs.Prelude.{Ok, Err}
 use Rattle.df_base.specs.Log.{Sync}
 use Rattle.df_disk.specs.Told.{Told, did}
+use Rattle.df_disk.proofs.Laws.{goes_told}
 use Rattle.df_layout.specs.declared.layout.Layout.{Layout}
 use Rattle.df_model.specs.Commands.{Answer}
 use Rattle.df_model.specs.Work.{Work, opened}
@@ -21,7 +22,6 @@ use Rattle.df_top.specs.Opening.{RefusesFile}
 use Rattle.df_top.specs.Outside.{Outside}
 use Rattle.df_top.specs.Run.{Does, RefusesSuperblock, Runs, ServesIn, ServesOwn, ServesScript}
 use Rattle.df_top.specs.Session.{AreCalls, Calls, EndsCalls}
-use Rattle.df_top.proofs.Kept.{goes_told}
 use Rattle.df_top.specs.declared.mode.Mode.{Mode}
 use Rattle.df_top.specs.declared.mode.Mode.TheVariants.{Format, Run, Recover, Inspect, Scrub, Workload}
 use Rattle.df_top.specs.declared.status.Status.{Status}

@@ -4,9 +4,10 @@ use Rattle.std.proofs.lemmas.List.{append-nil}
 use Rattle.df_base.specs.Image.{Image, changed, written}
 use Rattle.df_base.specs.Log.{Event, Log, Stop, Sync, Write}
 use Rattle.df_base.specs.Moments.{EachMoment, Extends, adds}
-use Rattle.df_base.proofs.Laws.{extends_self, weaker}
+use Rattle.df_base.proofs.Laws.{extends_self, weaker, adds_on, extends_on, either_same}
 use Rattle.df_disk.specs.Adds.{after_all}
 use Rattle.df_disk.specs.Told.{IsHonest, Told, did}
+use Rattle.df_disk.proofs.Laws.{Goes, after_append, goes_by, honest_did}
 use Rattle.df_theory.specs.Device.{units_log}
 use Rattle.df_theory.specs.Shape.{Shape}
 use Rattle.df_theory.specs.UnitLog.{UnitLog}
@@ -22,15 +23,15 @@ use Rattle.df_replica.specs.Leaving.{AreSettled, SparesHeld}
 use Rattle.df_replica.specs.Opened.{MendsAll, ToldBy}
 use Rattle.df_replica.specs.Serving.{Firm, Grade, IsGoodFor, IsKept, Keeps, KeptFor, StandsFor, Whole, format}
 use Rattle.df_replica.specs.Session.{Act, EachIsMidway, HasView, HoldsSome, IsMidway, IsServed, LeavesEither, LeavesView, answers_of, work_after}
-use Rattle.df_replica.proofs.Laws.{added_is_told, added_on, answered_is_there, extends_on, fault_stops_them, good_left, good_safe, joined, keeps_alone, nothing_is_served, one_more_is_served}
+use Rattle.df_replica.proofs.Laws.{added_is_told, answered_is_there, fault_stops_them, good_left, good_safe, joined, keeps_alone, nothing_is_served, one_more_is_served}
 use Rattle.df_top.specs.Keeping.{KeepsFile}
 use Rattle.df_top.specs.Session.{AreCalls, Calls, EndsCalls, events_of, events_to}
-use Rattle.df_top.proofs.Untouched.{adds_on, settled_told, stay_settled}
+use Rattle.df_top.proofs.Untouched.{settled_told, stay_settled}
 
 -- ---- what is told
 
 told_on : (old mid new : Option Told) → ToldBy old mid → ToldBy mid new → ToldBy old new
-told_on old mid new one two = (one.0 ++ two.0, two.1 ∙ ap (after_all two.0) one.1 ∙ sym (added_on one.0 two.0 old))
+told_on old mid new one two = (one.0 ++ two.0, two.1 ∙ ap (after_all two.0) one.1 ∙ sym (after_append one.0 two.0 old))
 
 calls_told : (s t : Replica) (old new : Option Told) (acts : List Act) (answers : List Answer) → AreCalls s old acts answers t new → ToldBy old new
 calls_told s t old new [] [] calls = ([], calls.1)
@@ -49,32 +50,13 @@ calls_add s t old new [] (x ∷ answers) calls = absurd calls
 calls_add s t old new (a ∷ acts) [] calls = absurd calls
 calls_add s t old new (a ∷ acts) (x ∷ answers) calls =
     let rest = events_of calls.0 calls.1 acts answers t new calls.3 in
-    calls_add calls.0 t calls.1 new acts answers calls.3 ∙ ap (after_all rest) calls.2.call.told ∙ sym (added_on calls.2.call.events rest old)
+    calls_add calls.0 t calls.1 new acts answers calls.3 ∙ ap (after_all rest) calls.2.call.told ∙ sym (after_append calls.2.call.events rest old)
 
 pub ends_add : (s t : Replica) (old new : Option Told) (acts : List Act) (answers : List Answer) (failed : Option Act) → (calls : EndsCalls s t old new acts answers failed) → new ≡ after_all (events_to s t old new acts answers failed calls) old
 ends_add s t old new acts answers None calls = calls_add s t old new acts answers calls
 ends_add s t old new acts answers (Some a) calls =
     let front = events_of s old acts answers calls.0 calls.1 calls.2 in
-    calls.3.call.told ∙ ap (after_all calls.3.call.events) (calls_add s calls.0 old calls.1 acts answers calls.2) ∙ sym (added_on front calls.3.call.events old)
-
-honest_did : (e : Event) (t : Told) → IsHonest t → IsHonest (did e t)
-honest_did (Write at bytes) t honest = record { shows = λ sector i. written at bytes (λ s. honest.shows s i) sector }
-honest_did Sync t honest = record { shows = honest.shows }
-honest_did (Stop changes) t honest = record { shows = λ sector i. changed changes (λ s. honest.shows s i) sector }
-
--- a disk that tells goes on telling, and an honest one stays so
-pub record Goes (t n : Told) : Type 0 where
-  pub grew : Extends n.log t.log
-  pub honest : IsHonest t → IsHonest n
-
-goes_by : (es : List Event) (t : Told) (new : Option Told) → new ≡ after_all es (Some t) → (n : Told) × (new ≡ Some n) × Goes t n
-goes_by [] t new is = (t, is, record { grew = extends_self t.log; honest = λ h. h })
-goes_by (e ∷ es) t new is =
-    let rest = goes_by es (did e t) new is in
-    (rest.0, rest.1, record { grew = extends_on rest.0.log (did e t).log t.log rest.2.grew (e ∷ [], refl, refl); honest = λ h. rest.2.honest (honest_did e t h) })
-
-pub goes_told : (t : Told) (new : Option Told) → ToldBy (Some t) new → (n : Told) × (new ≡ Some n) × Goes t n
-goes_told t new told = goes_by told.0 t new told.1
+    calls.3.call.told ∙ ap (after_all calls.3.call.events) (calls_add s calls.0 old calls.1 acts answers calls.2) ∙ sym (after_append front calls.3.call.events old)
 
 -- what a base tells behind events goes on from it
 pub goes_over : (es : List Event) (t : Told) → Goes t (told_after es t)
@@ -113,10 +95,6 @@ all_served s t old new acts answers live calls = serves_on s s t old old new [] 
 some_first : (file : DataFile) (g : Grade) (w : Work) (acts : List Act) (image : Image) → HasView file g w image → HoldsSome file g w acts image
 some_first file g w [] image has = has
 some_first file g w (a ∷ acts) image has = inl has
-
-either_same : (A : Type 0) → A ⊎ A → A
-either_same A (inl a) = a
-either_same A (inr a) = a
 
 -- what is kept for a grade is tidy
 tidy_for : (g : Grade) (sh : Shape) (spell : Parts → List ℕ) (log : UnitLog) (w : Work) → KeptFor g sh spell log w → IsTidy sh log (kept w)

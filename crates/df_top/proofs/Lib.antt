@@ -29,3 +29,4 @@ mod Hurts
 mod WorksOn
 mod Made
 mod SafelyServed
+pub mod Laws

@@ -2,6 +2,7 @@
 use Rattle.std.proofs.Common.{◌≡◌, ℕ, List, Option, Some, [], refl, subst, Result, Ok, Err, OnOk}
 use Rattle.df_base.specs.Log.{Event}
 use Rattle.df_disk.specs.Told.{IsHonest, Told}
+use Rattle.df_disk.proofs.Laws.{goes_told}
 use Rattle.df_layout.specs.declared.layout.Layout.{Layout}
 use Rattle.df_model.specs.declared.errors.FormatError.{FormatError}
 use Rattle.df_model.specs.declared.errors.FormatError.TheVariants as formats
@@ -14,7 +15,6 @@ use Rattle.df_top.specs.declared.status.Status.{Status}
 use Rattle.df_top.specs.declared.status.Status.TheVariants.{Done, Refused}
 use Rattle.df_top.proofs.Answered.{part_told}
 use Rattle.df_top.proofs.Causes.{line_ends}
-use Rattle.df_top.proofs.Kept.{goes_told}
 
 format_told : {T : Type 0} (es : List Event) (old new : Option Told) (r : Result T FormatError) → AddsFormat es old new r → ToldBy old new
 format_told es old new (Ok x) is = (es, is)

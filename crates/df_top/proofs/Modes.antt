@@ -6,15 +6,11 @@ use Rattle.std.proofs.lemmas.Str.Parse.{digit_from_value}
 use Rattle.std.proofs.lemmas.Fmt.{decimal_is_IsNumeral, decimal_is_IsNumeral_wide}
 use Rattle.df_layout.specs.declared.layout.Layout.{Layout}
 use Rattle.df_layout.proofs.Laws.{same_layout}
+use Rattle.df_lines.proofs.Laws.{one_number}
 use Rattle.df_top.specs.declared.mode.Mode.{Mode}
 use Rattle.df_top.specs.declared.mode.Mode.TheVariants.{Format, Run, Recover, Inspect, Scrub, Workload}
 use Rattle.df_top.specs.Mode.{HasNumbers, numbers_of, NamesLayout, Means, OneMeaning, SpellsFormat, SpellsWorkload}
 use Rattle.df_top.proofs.Commas.{fit, from_message_size, from_clients, from_block_size, from_blocks, Five, one_five}
-
--- a number below 2^128 has one spelling
-one_number : (m n : ℕ) → m < 2 ^ 128 → n < 2 ^ 128 → decimal m ≡ decimal n → m ≡ n
-one_number m n m_fits n_fits same =
-    sym (decimal_is_IsNumeral_wide m (omega arith)).1 ∙ ap (λ (l : List ℕ). digits_value 10 l) same ∙ (decimal_is_IsNumeral_wide n (omega arith)).1
 
 -- what begins with digits begins with one
 first_digit : (ds rest : List ℕ) (x : ℕ) (xs : List ℕ) → AllDigits 10 ds → 0 < length ds → x ∷ xs ≡ ds ++ rest → (48 ≤ x) × (x ≤ 57)

@@ -15,7 +15,7 @@ use Rattle.df_layout.specs.declared.layout.Layout.{Layout}
 use Rattle.df_layout.specs.declared.places.Zone.TheVariants.{WalHeaders}
 use Rattle.df_quorum.specs.Quorum.{AreMembers}
 use Rattle.df_quorum.proofs.Laws.{one_law}
-use Rattle.df_replica.proofs.Laws.{filter_more, one_super}
+use Rattle.df_replica.proofs.Laws.{filter_more, one_super, same_file}
 use Rattle.df_replica.specs.Below.{if_wanted, needs_header, slot_mends, IsOpened, memory, reply_sum, shape, spelling, stored_sum, DataFile}
 use Rattle.df_replica.specs.Replica.{Survey, summary_of}
 use Rattle.df_replica.specs.Surveying.{IsMendable, copy_mend_at, mends_of}
@@ -31,24 +31,6 @@ use Rattle.df_model.specs.Memory.{Memory, memory_of}
 use Rattle.df_model.specs.Work.{opened}
 use Rattle.df_model.specs.declared.answers.Summary.{Summary}
 use Rattle.df_top.specs.Reporting.{OneReport, report_of, status_of}
-
--- ---- a file is its layout and its cluster
-
-of_pair : (n : Layout × ℕ) → 0 < n.1 → DataFile
-of_pair n named = record { layout = n.0; cluster = n.1; named = named }
-
-named_prop : (n : Layout × ℕ) → IsProp (0 < n.1)
-named_prop n = hlevel (le_prop, ℕ_set)
-
-same_of_pair : (n m : Layout × ℕ) → n ≡ m → (x : 0 < n.1) (y : 0 < m.1) → of_pair n x ≡ of_pair m y
-same_of_pair n m e x = subst (λ (k : Layout × ℕ). (y : 0 < k.1) → of_pair n x ≡ of_pair k y) e (λ y. ap (of_pair n) (named_prop n x y))
-
-same_pair : (a b : Layout) (c d : ℕ) → a ≡ b → c ≡ d → let x : Layout × ℕ = (a, c) in x ≡ (b, d)
-same_pair a b c d one two = cc (one, two)
-
-pub same_file : (a b : DataFile) → a.layout ≡ b.layout → a.cluster ≡ b.cluster → a ≡ b
-unfolding of_pair
-same_file a b one two = same_of_pair (a.layout, a.cluster) (b.layout, b.cluster) (same_pair a.layout b.layout a.cluster b.cluster one two) a.named b.named
 
 -- ---- the sessions' lines say what the model knows of them
 
@@ -79,7 +61,7 @@ texts_same place (s ∷ ss) (u ∷ us) one two =
     text_is place s ∙ ap (λ (x : Units.Session). model_text place x (stored_sum s)) first ∙ ap (model_text place (session_of u)) stored ∙ sym (text_is place u) in
     ap (λ (l : List ℕ). l ++ each_text session_text (place + 1) ss) line ∙ ap (λ (l : List ℕ). session_text place u ++ l) rest
 
-count_is : (ss : List Session) → length (sessions_of ss) ≡ length ss
+pub count_is : (ss : List Session) → length (sessions_of ss) ≡ length ss
 count_is [] = refl
 count_is (s ∷ ss) = omega (arith, count_is ss)
 

@@ -1,7 +1,8 @@
 -- A session goes on by one line, or ends.
 use Rattle.std.proofs.Common.{◌≡◌, ℕ, suc, ◌+◌, true, false, List, [], ◌∷◌, ◌++◌, length, map, Option, Some, None, refl, sym, ap, subst, arith, length-append}
-use Rattle.std.proofs.lemmas.List.{append-nil}
+use Rattle.std.proofs.lemmas.List.{append-nil, map_push}
 use Rattle.df_base.specs.Streams.{Appends, AppendsPart}
+use Rattle.df_base.proofs.Laws.{appends_none, appends_more, appends_part}
 use Rattle.df_disk.specs.Told.{Told}
 use Rattle.df_inspect.specs.Opening.{script_text}
 use Rattle.df_lines.specs.Grammar.{Said}
@@ -15,7 +16,7 @@ use Rattle.df_top.specs.Session.{AreCalls, Ended, EndsText, Executed, State}
 use Rattle.df_top.specs.Step.{EndsIn, GoesOn, IsLineAnswered, IsLineDamaged, IsLineFailed, Takes}
 use Rattle.df_top.specs.declared.status.Status.{Status}
 use Rattle.df_top.specs.declared.status.Status.TheVariants.{Done, Script, Refused, DiskFault, ReadFault, WriteFault}
-use Rattle.df_top.proofs.Written.{acts_more, answers_more, appends_more, appends_none, appends_part, are_more, begins_more, map_more, text_more}
+use Rattle.df_top.proofs.Written.{acts_more, answers_more, are_more, begins_more, text_more}
 
 -- ---- calls
 
@@ -76,7 +77,7 @@ module _ (bound : ℕ) (old new : State) (said : Said) (takes : Takes bound old 
   unfolding line
   said_on text is =
       let more = text_on bound origin old turns said new.text new.budget so_far takes text is in
-      (more.0, more.1, subst (λ (l : List Said). Begins bound origin.budget text l new.budget more.0) (sym (map_more said_in turns line)) more.2)
+      (more.0, more.1, subst (λ (l : List Said). Begins bound origin.budget text l new.budget more.0) (sym (map_push said_in turns line)) more.2)
 
   pub line_done : Appends old.outside.written new.outside.written (line_text said answers) → new.lines ≡ old.lines + 1 → (t : Turned) × Executed bound origin new (turns ++ t ∷ [])
   unfolding line

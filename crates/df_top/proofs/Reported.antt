@@ -4,6 +4,7 @@ use Rattle.df_base.specs.Image.{Image, IsImage}
 use Rattle.df_base.specs.Log.{Sync}
 use Rattle.df_disk.specs.Adds.{AddsPart}
 use Rattle.df_disk.specs.Told.{Told, after, did}
+use Rattle.df_disk.proofs.Laws.{goes_told}
 use Rattle.df_inspect.specs.Reports.{inspection_text, summary_text}
 use Rattle.df_layout.specs.declared.damage.Mend.{Mend}
 use Rattle.df_layout.specs.declared.layout.Layout.{Layout}
@@ -19,12 +20,14 @@ use Rattle.df_model.specs.declared.errors.OpenError.TheVariants as opens
 use Rattle.df_replica.specs.Below.{Syncs, IsOpened, State as Replica, shape, told_after}
 use Rattle.df_sessions.specs.declared.session.Session.{Session}
 use Rattle.df_replica.specs.Following.{MayOpen}
+use Rattle.df_replica.specs.Leaving.{SparesReads}
 use Rattle.df_replica.specs.Opened.{MendsAll, ToldBy}
 use Rattle.df_replica.specs.Reading.{shown_of}
 use Rattle.df_replica.specs.Replica.{Survey, summary_of}
 use Rattle.df_replica.specs.Scrubbing.{IsMachineTour, at_start}
 use Rattle.df_replica.specs.Serving.{Grade, StandsFor}
 use Rattle.df_replica.specs.Surveying.{TellsMends, TellsSurvey}
+use Rattle.df_replica.proofs.Laws.{added_is_told, shown_after}
 use Rattle.df_top.specs.Keeping.{KeepsFile}
 use Rattle.df_top.specs.Opening.{RefusesFile}
 use Rattle.df_top.specs.Outside.{Outside, PrintsLine}
@@ -33,7 +36,7 @@ use Rattle.df_top.specs.Reporting.{FailsToSurvey, Inspects, Recovers, report_of,
 use Rattle.df_top.specs.Scrubs.{PrintsTour, ScrubsFile}
 use Rattle.df_top.specs.declared.status.Status.{Status}
 use Rattle.df_top.specs.declared.status.Status.TheVariants.{Done}
-use Rattle.df_top.proofs.Kept.{goes_told, keeps_over, opened_over}
+use Rattle.df_top.proofs.Kept.{keeps_over, opened_over}
 use Rattle.df_top.proofs.Served.{by_fault, refuses}
 
 -- ---- the barrier
@@ -111,23 +114,33 @@ module _ (layout : Layout) (t : Told) (old new : Outside) (status : Status) (s :
       keeps_over g s (opened (shape s.file) (unit_at s.file.layout s.file.cluster t.shown) view) base n live (opened_over t s new.told over g view base same may stands) s (Some n) (Some n) [] [] None (refl, refl)
 
   pub recovers : PrintsLine (summary_text (summary_of s)) Done old.written new.written status → Recovers layout t old new status
-  recovers prints = record { replica = s; is_opened = is_opened; prints = prints; unread = unread; barrier = synced; keeps = keeps }
+  recovers prints = record { replica = s; is_opened = is_opened; prints = prints; unread = unread; barrier = synced; keeps = keeps; mending = over.spares }
 
   -- its tour is at the start
   first : s.tour ≡ first_tour
   first = ap (λ (m : Memory). m.tour) is_opened.stands
 
-  pub scrubs : ((n : Told) → new.told ≡ Some n → s.tour ≡ first_tour → PrintsTour s n.shown old.written new.written status) → ScrubsFile layout t old new status
-  scrubs tours =
-      let goes = goes_told (did Sync t) new.told synced in
-      record {
-        replica = s;
-        is_opened = is_opened;
-        after = goes.0;
-        told = goes.1;
-        prints = tours goes.0 goes.1 first;
-        machine = machine_tour s goes.0.shown;
-        unread = unread;
-        barrier = synced;
-        keeps = keeps;
-      }
+  -- what is told then, and that it shows what the mending left
+  abbrev after_mending : Told
+  after_mending = told_after over.mending (did Sync t)
+
+  told_then : new.told ≡ Some after_mending
+  told_then = over.told ∙ added_is_told over.mending (did Sync t)
+
+  spared : IsImage t.shown → SparesReads s.file t.shown after_mending.shown
+  spared whole = subst (SparesReads s.file t.shown) (sym (shown_after over.mending (did Sync t))) (over.spares t.shown whole)
+
+  pub scrubs : IsImage t.shown → ((n : Told) → new.told ≡ Some n → s.tour ≡ first_tour → PrintsTour s n.shown old.written new.written status) → ScrubsFile layout t old new status
+  scrubs whole tours = record {
+    replica = s;
+    is_opened = is_opened;
+    after = after_mending;
+    told = told_then;
+    prints = tours after_mending told_then first;
+    machine = machine_tour s after_mending.shown;
+    unread = unread;
+    barrier = synced;
+    keeps = keeps;
+    mending = over.spares;
+    spares = spared whole;
+  }

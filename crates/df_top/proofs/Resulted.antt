@@ -1,6 +1,7 @@
 -- A session's answers are the result, and its text is the machine's.
 use Rattle.std.specs.List.{range_with_len, slice_get}
 use Rattle.std.proofs.Common.{◌≡◌, ℕ, zero, suc, ◌+◌, ◌-◌, ◌≤◌, List, [], ◌∷◌, ◌++◌, length, map, Option, Some, None, refl, sym, ◌∙◌, ap, subst, arith, length-drop}
+use Rattle.std.proofs.lemmas.List.{map-append, length-map}
 use Rattle.df_base.specs.Image.{Image, IsImage}
 use Rattle.df_base.specs.Log.{Sync}
 use Rattle.df_disk.specs.Told.{Told, did}
@@ -64,14 +65,6 @@ append_splits (x ∷ xs) (u ∷ us) ys vs same all =
     let behind : xs ++ ys ≡ us ++ vs = cc all in
     let rest = append_splits xs us ys vs (omega (arith, same)) behind in
     ((λ i. first i ∷ rest.0 i), rest.1)
-
-map_append : {A B : Type 0} (f : A → B) (xs ys : List A) → map f (xs ++ ys) ≡ map f xs ++ map f ys
-map_append f [] ys = refl
-map_append f (x ∷ xs) ys = ap (λ (l : List _). f x ∷ l) (map_append f xs ys)
-
-map_length : {A B : Type 0} (f : A → B) (xs : List A) → length (map f xs) ≡ length xs
-map_length f [] = refl
-map_length f (x ∷ xs) = ap suc (map_length f xs)
 
 -- ---- the machine
 
@@ -207,10 +200,10 @@ module _ (sh : Shape) (codec : Codec) where
       let cs = commands_of t.said in
       let behind : Shown = last_shown sh codec shown w cs in
       let u : Work = last_work sh codec shown w cs in
-      let commands : map command_in (t.acts ++ all_acts turns) ≡ cs ++ map command_in (all_acts turns) = map_append command_in t.acts (all_acts turns) ∙ ap (λ (l : List Command). l ++ map command_in (all_acts turns)) are.0.0 in
+      let commands : map command_in (t.acts ++ all_acts turns) ≡ cs ++ map command_in (all_acts turns) = map-append command_in t.acts (all_acts turns) ∙ ap (λ (l : List Command). l ++ map command_in (all_acts turns)) are.0.0 in
       let all : t.answers ++ all_answers turns ≡ result sh codec shown w cs ++ result sh codec behind u (map command_in (all_acts turns)) =
       answers ∙ ap (result sh codec shown w) commands ∙ result_append shown w cs (map command_in (all_acts turns)) in
-      let many : length t.answers ≡ length (result sh codec shown w cs) = are.0.1 ∙ sym (map_length command_in t.acts) ∙ ap length are.0.0 ∙ sym (result_length shown w cs) in
+      let many : length t.answers ≡ length (result sh codec shown w cs) = are.0.1 ∙ sym (length-map t.acts command_in) ∙ ap length are.0.0 ∙ sym (result_length shown w cs) in
       let parts = append_splits t.answers (result sh codec shown w cs) (all_answers turns) (result sh codec behind u (map command_in (all_acts turns))) many all in
       let rest = text_is behind u turns (last_few shown w cs few) are.1 parts.1 in
       (λ i. line_text t.said (parts.0 i) ++ rest i) ∙ sym (line_prints shown w t.said (map line_of (map said_in turns)) few)
@@ -218,7 +211,7 @@ module _ (sh : Shape) (codec : Codec) where
 -- ---- a session that was opened
 
 -- what spares the places that calls read agrees with what was there
-unit_spared : (file : DataFile) (before after : Image) → SparesReads file before after → (place : Place) → IsReadPlace file.layout place → unit_at file.layout file.cluster after place ≡ unit_at file.layout file.cluster before place
+pub unit_spared : (file : DataFile) (before after : Image) → SparesReads file before after → (place : Place) → IsReadPlace file.layout place → unit_at file.layout file.cluster after place ≡ unit_at file.layout file.cluster before place
 unit_spared file before after spares (CopyPlace k) read = absurd read
 unit_spared file before after spares (HeaderPlace k) read = absurd read
 unit_spared file before after spares (PreparePlace k) read = spares.units.prepare k

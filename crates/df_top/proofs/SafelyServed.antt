@@ -8,7 +8,7 @@ use Rattle.df_lines.specs.Grammar.{Said}
 use Rattle.df_lines.specs.Room.{line_bound}
 use Rattle.df_lines.specs.Script.{Begins, IsRefused, IsScript}
 use Rattle.df_lines.specs.Text.{after_line, taken}
-use Rattle.df_lines.proofs.Laws.{one_script}
+use Rattle.df_lines.proofs.Laws.{one_script, begins_one}
 use Rattle.df_replica.specs.Below.{DataFile, IsNotRefused, State as Replica}
 use Rattle.df_theory.specs.View.{View}
 use Rattle.df_replica.specs.Following.{MayOpen}
@@ -72,17 +72,13 @@ session_ends n old new turns (Some a) cut Memory ends = absurd ends
 
 -- ---- a text that is whole has no line that is refused
 
-one_rest : (bound budget : ℕ) (text : List ℕ) (lines : List Said) (l m : ℕ) (r s : List ℕ) → Begins bound budget text lines l r → Begins bound budget text lines m s → r ≡ s
-one_rest bound budget text [] l m r s one two = one.1 ∙ sym two.1
-one_rest bound budget text (x ∷ xs) l m r s one two = one_rest bound (budget - taken text) (after_line text) xs l m r s one.1 two.1
-
 whole_uncut : (layout : Layout) (text rest : List ℕ) (asked : List Said) (budget : ℕ) → IsWhole layout text → Begins (line_bound layout) script_budget text asked budget rest → IsRefused (line_bound layout) budget rest → ⊥
 whole_uncut layout text rest asked budget whole begins refused =
     let cut : IsScript (line_bound layout) script_budget text asked = record { left = budget; rest = rest; begins = begins; ends = inr refused } in
     let all : IsScript (line_bound layout) script_budget text whole.lines = record { left = whole.left; rest = []; begins = whole.begins; ends = inl refl } in
     let same : whole.lines ≡ asked = one_script (line_bound layout) script_budget text whole.lines asked all cut in
     let read : Begins (line_bound layout) script_budget text asked whole.left [] = subst (λ (l : List Said). Begins (line_bound layout) script_budget text l whole.left []) same whole.begins in
-    refused.some (one_rest (line_bound layout) script_budget text asked budget whole.left rest [] begins read)
+    refused.some (begins_one (line_bound layout) script_budget text asked budget whole.left rest [] begins read)
 
 -- a generated run ends at its end, at a step that is damaged, or with a cause
 run_ends : (run : Generated) (last : Replica) (told : Option Told) (failed : Option Act) (written took : Option (List ℕ)) (status : Status) → Writes run last told failed written took status

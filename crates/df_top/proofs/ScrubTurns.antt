@@ -2,7 +2,7 @@
 use Rattle.std.proofs.Common.{◌≡◌, ℕ, ◌+◌, List, [], ◌∷◌, ◌++◌, ◌≤◌, ◌<◌, length, take, Option, Some, None, inl, refl, sym, ◌∙◌, ap, subst, arith, append_assoc, Result, Ok, Err}
 use Rattle.std.specs.Prelude.{zero, suc, map, slice_set}
 use Rattle.std.specs.List.{range_with_len}
-use Rattle.std.proofs.lemmas.List.{append-nil}
+use Rattle.std.proofs.lemmas.List.{append-nil, map_push}
 use Rattle.df_base.specs.Streams.{Appends, AppendsPart}
 use Rattle.df_base.specs.declared.Failed.{Failed}
 use Rattle.df_disk.specs.Told.{Told}
@@ -28,7 +28,6 @@ use Rattle.df_top.specs.Turning.{Tells, printed_turn}
 use Rattle.df_top.specs.declared.turns.Turn.{Turn}
 use Rattle.df_top.proofs.Answered.{Comes, comes_answered}
 use Rattle.df_top.proofs.Progress.{calls_join}
-use Rattle.df_top.proofs.Written.{map_more}
 
 -- ---- what a check is rightly supplied with
 
@@ -106,7 +105,7 @@ ring_more s told n findings found shows serves =
     let given : Given = record { checksum = 0; message = Err Blank; block = Err Blank; verdict = Sound } in
     let act : Act = record { command = Recent n; given = given } in
     let commands : map command_in (shows.0 ++ act ∷ []) ≡ map Recent (range_with_len 0 (n + 1)) =
-    map_more command_in shows.0 act ∙ ap (λ (l : List Command). l ++ Recent n ∷ []) shows.2 ∙ sym (map_more Recent (range_with_len 0 n) n) ∙ ap (map Recent) (sym (range_more n)) in
+    map_push command_in shows.0 act ∙ ap (λ (l : List Command). l ++ Recent n ∷ []) shows.2 ∙ sym (map_push Recent (range_with_len 0 n) n) ∙ ap (map Recent) (sym (range_more n)) in
     let one : AreCalls s told (act ∷ []) (ToRecent found ∷ []) s told = (s, told, record { call = serves given refl; told = ([], refl) }, (refl, refl)) in (
       shows.0 ++ act ∷ [],
       shows.1 ++ ToRecent found ∷ [],

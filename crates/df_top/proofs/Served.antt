@@ -1,8 +1,10 @@
 -- A file that was opened is served, and one that wasn't is refused.
 use Rattle.std.proofs.Common.{◌≡◌, ◌⊎◌, inl, inr, ℕ, Bool, true, List, [], Option, Some, None, refl, sym, ◌∙◌, ap, subst, Err}
+use Rattle.std.proofs.lemmas.Option.{none-some}
 use Rattle.df_base.specs.Image.{IsImage}
 use Rattle.df_base.specs.Log.{Sync}
 use Rattle.df_disk.specs.Told.{Told, after, did}
+use Rattle.df_disk.proofs.Laws.{goes_told}
 use Rattle.df_layout.specs.declared.layout.Layout.{Layout}
 use Rattle.df_lines.specs.Room.{IsFresh, line_bound}
 use Rattle.df_lines.specs.Text.{Reading, unread}
@@ -27,7 +29,7 @@ use Rattle.df_top.specs.declared.session.Session.{Session}
 use Rattle.df_top.specs.declared.status.Status.{Status}
 use Rattle.df_top.specs.declared.status.Status.TheVariants.{Refused}
 use Rattle.df_top.proofs.Acknowledged.{keeps_answered}
-use Rattle.df_top.proofs.Kept.{answers_alone, ends_add, ends_told, goes_told, keeps_over, opened_over}
+use Rattle.df_top.proofs.Kept.{answers_alone, ends_add, ends_told, keeps_over, opened_over}
 use Rattle.df_top.proofs.Resulted.{opened_prints}
 use Rattle.df_top.proofs.Spared.{spares_blocks}
 
@@ -54,13 +56,10 @@ from_start told old s layout last status fresh none ended =
 
 -- ---- a disk that tells what it shows
 
-untold_is_none : (u : Told) → None ≡ Some u → ⊥
-untold_is_none u is = cc
-
 -- no session ends there by a step that is damaged
 refused_never : (n : ℕ) (old new : Outside) (turns : List Turned) (failed : Option Act) (cut : Bool) (u : Told) → new.told ≡ Some u → EndsWith n old new turns failed cut Refused → ⊥
 refused_never n old new turns None cut u is ends = ends
-refused_never n old new turns (Some a) cut u is ends = untold_is_none u (sym ends.2.untold ∙ is)
+refused_never n old new turns (Some a) cut u is ends = none-some u (sym ends.2.untold ∙ is)
 
 -- ---- it is served
 
@@ -96,6 +95,7 @@ module _ (layout : Layout) (t : Told) (old new : Outside) (status : Status) (s :
     is_opened = is_opened;
     mended = mended;
     barrier = synced;
+    mending = over.spares;
     last = last;
     last_is = last_is;
     session = ended;

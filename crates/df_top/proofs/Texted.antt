@@ -1,6 +1,6 @@
 -- A session's text and status follow from its script and from what the disk shows.
 use Rattle.std.proofs.Common.{◌≡◌, ◌⊎◌, inl, inr, ℕ, ◌+◌, ◌-◌, Bool, List, [], ◌∷◌, ◌++◌, length, map, Option, Some, None, refl, sym, ◌∙◌, ap, subst, arith, suc}
-use Rattle.std.proofs.lemmas.List.{append-nil}
+use Rattle.std.proofs.lemmas.List.{append-nil, length-map}
 use Rattle.df_base.specs.Image.{Image}
 use Rattle.df_base.specs.Streams.{Appends}
 use Rattle.df_disk.specs.Told.{Told}
@@ -23,7 +23,7 @@ use Rattle.df_model.specs.Supply.{Shown}
 use Rattle.df_model.specs.Work.{Work, opened}
 use Rattle.df_replica.specs.Below.{DataFile, IsOpened, State as Replica, shape}
 use Rattle.df_replica.specs.Reading.{shown_of}
-use Rattle.df_replica.proofs.Laws.{one_super}
+use Rattle.df_replica.proofs.Laws.{one_super, same_file}
 use Rattle.df_result.specs.Agreeing.{AgreeShown}
 use Rattle.df_top.specs.Lines.{Turned, all_text, printed, said_in}
 use Rattle.df_top.specs.OneText.{IsThrough, OneText, ShowSame, TextIsResult, status_by, text_by}
@@ -33,17 +33,12 @@ use Rattle.df_top.specs.Run.{ServesScript, script_budget, start}
 use Rattle.df_top.specs.Session.{EndsText, EndsWith, Failing, act_of, said_of}
 use Rattle.df_top.specs.declared.status.Status.{Status}
 use Rattle.df_top.specs.declared.status.Status.TheVariants.{Done, Script, Words, Refused, Memory, DiskFault, ReadFault, WriteFault, Found}
-use Rattle.df_top.proofs.OneReport.{same_file}
 
 -- ---- how a text ends
 
 begins_one : (bound budget : ℕ) (text : List ℕ) (says : List Said) (left other : ℕ) (rest more : List ℕ) → Begins bound budget text says left rest → Begins bound budget text says other more → (left ≡ other) × (rest ≡ more)
 begins_one bound budget text [] left other rest more one two = (one.0 ∙ sym two.0, one.1 ∙ sym two.1)
 begins_one bound budget text (said ∷ says) left other rest more one two = begins_one bound (budget - taken text) (after_line text) says left other rest more one.1 two.1
-
-count_map : {A B : Type 0} (f : A → B) (xs : List A) → length (map f xs) ≡ length xs
-count_map f [] = refl
-count_map f (x ∷ xs) = ap suc (count_map f xs)
 
 -- what was executed is the script, and this is how it ends
 pub record EndsAs (bound budget : ℕ) (text : List ℕ) (says lines : List Said) (script : IsScript bound budget text says) (status : Status) (more : ℕ → List ℕ → List ℕ) : Type 0 where
@@ -158,14 +153,14 @@ module _ (layout : Layout) (t : Told) (old new : Outside) (status : Status) (ser
           (done ∙ ends.status_is, subst Prints line (written_new (all_text turns) wrote))
       | inr (cut, refused, wrote) ↦
           let ends = ends_refused (line_bound layout) script_budget text says (map said_in turns) script by.left by.rest by.begins refused in
-          let count : length turns ≡ length says = sym (count_map said_in turns) ∙ ap length ends.lines_are in
+          let count : length turns ≡ length says = sym (length-map turns said_in) ∙ ap length ends.lines_are in
           let line : all_text turns ++ script_text (length turns + 1) ≡ text_by script.ends (length says) (text_over file shown w says) =
           ap (λ (l : List ℕ). l ++ script_text (length turns + 1)) (lines_text ∙ ap (text_over file shown w) ends.lines_are)
           ∙ ap (λ (n : ℕ). text_over file shown w says ++ script_text (n + 1)) count ∙ ends.text_is (length says) (text_over file shown w says) in
           (cut ∙ ends.status_is, subst Prints line (written_new (all_text turns ++ script_text (length turns + 1)) wrote))
     ]
 
-agree_self : (layout : Layout) (shown : Shown) → AgreeShown layout shown shown
+pub agree_self : (layout : Layout) (shown : Shown) → AgreeShown layout shown shown
 agree_self layout shown = record { units = record { prepare = λ k. refl; reply = λ k. refl; block = λ k. refl }; classes = λ place read none. refl }
 
 pub text_is_result : TextIsResult
@@ -214,7 +209,7 @@ module _ (layout : Layout) (a b : Image) (same : ShowSame layout a b) where
       ∙ ap (λ (v : View). text_over s.file (shown_of s.file b) (opened (shape s.file) (unit_at s.file.layout s.file.cluster b) v) says) (one_view s u one other)
       ∙ ap (λ (f : DataFile). text_over f (shown_of f b) (opened (shape f) (unit_at f.layout f.cluster b) other.view) says) (one_file s u one other)
 
-found_here : (layout : Layout) (image : Image) (s : Replica) (is : IsOpened layout image s) → IsFound (shape s.file) (unit_at s.file.layout s.file.cluster image) is.view
+pub found_here : (layout : Layout) (image : Image) (s : Replica) (is : IsOpened layout image s) → IsFound (shape s.file) (unit_at s.file.layout s.file.cluster image) is.view
 found_here layout image s is = subst (λ (l : Layout). IsFound (shape s.file) (unit_at l s.file.cluster image) is.view) (sym is.of) is.found
 
 pub one_text : OneText

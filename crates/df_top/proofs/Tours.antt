@@ -3,6 +3,7 @@ use Rattle.std.proofs.Common.{◌≡◌, inl, inr, ℕ, zero, suc, ◌+◌, ◌<
 use Rattle.std.specs.Prelude.{Ok}
 use Rattle.std.proofs.lemmas.List.{append-nil, take-append-le}
 use Rattle.df_base.specs.Streams.{Appends, AppendsPart}
+use Rattle.df_base.proofs.Laws.{appends_more, appends_part, part_of_more}
 use Rattle.df_disk.specs.Told.{Told}
 use Rattle.df_inspect.specs.Reports.{failing_text, failing_texts}
 use Rattle.df_layout.specs.declared.damage.Finding.{Finding}
@@ -23,7 +24,6 @@ use Rattle.df_top.specs.declared.turns.Turn.{Turn}
 use Rattle.df_top.specs.declared.turns.Turn.TheVariants.{Ends, GoesOn}
 use Rattle.df_top.specs.Turning.{BlamesIfEnds}
 use Rattle.df_top.proofs.Causes.{no_blame}
-use Rattle.df_top.proofs.Written.{appends_more, appends_part}
 use Rattle.df_top.proofs.Checks.{IsChecked, IsEnded, IsStepOf, above, all_above, check_counts, check_fails, checked, ended, failing_of, left_of, referenced, referenced_rise}
 
 -- ---- what is printed
@@ -31,10 +31,6 @@ use Rattle.df_top.proofs.Checks.{IsChecked, IsEnded, IsStepOf, above, all_above,
 texts_join : (xs ys : List Finding) → failing_texts (xs ++ ys) ≡ failing_texts xs ++ failing_texts ys
 texts_join [] ys = refl
 texts_join (x ∷ xs) ys = ap (λ (l : List ℕ). failing_text x ++ l) (texts_join xs ys) ∙ sym (append_assoc (failing_text x) (failing_texts xs) (failing_texts ys))
-
--- a front of a text is one of what begins with it
-part_longer : (old new : Option (List ℕ)) (x y : List ℕ) → AppendsPart old new x → AppendsPart old new (x ++ y)
-part_longer old new x y part = (part.0, omega (arith, part.1, length-append x y), subst (λ (l : List ℕ). Appends old new l) (sym (take-append-le part.0 x y part.1)) part.2)
 
 put_first : (a : ℕ) (v : Verdict) (rest : List Finding) → with_finding a v rest ≡ with_finding a v [] ++ rest
 put_first a Sound rest = refl
@@ -162,7 +158,7 @@ module _ (s : Replica) (t : Told) where
       cut : AppendsPart mid new (failing_texts (with_finding a w [])) → AppendsPart old new (tour_report s t.shown)
       cut last =
           subst (λ (l : List ℕ). AppendsPart old new l) longer_is
-          (part_longer old new so_long behind (appends_part old mid new (failing_texts so.listed) (failing_texts (with_finding a w [])) so.printed last))
+          (part_of_more old new so_long behind (appends_part old mid new (failing_texts so.listed) (failing_texts (with_finding a w [])) so.printed last))
 
     pub ends : (status : Status) → TakesStep u v (Some t) mid new (Ends status) → PrintsTour s t.shown old new status
     ends status (inl (Checked a w, is, inl one)) = absurd (let no : Ends status ≡ GoesOn = one.0 in cc)

@@ -1,6 +1,7 @@
 -- What isn't written stays out of a stop's reach: the blocks of the durable checkpoint, behind a call that answered or not.
-use Rattle.std.proofs.Common.{◌≡◌, ◌⊎◌, inl, inr, ℕ, ◌==◌, ◌||◌, Bool, true, false, List, [], ◌∷◌, ◌++◌, Some, refl, sym, ◌∙◌, ap, subst, arith}
+use Rattle.std.proofs.Common.{◌≡◌, ◌⊎◌, inl, inr, ℕ, ◌==◌, ◌||◌, Bool, true, false, List, [], ◌∷◌, ◌++◌, Some, refl, sym, ◌∙◌, ap, subst, arith, eqb-true}
 use Rattle.std.proofs.lemmas.Bool.Decides.{nat_tests}
+use Rattle.std.proofs.lemmas.Bool.{or_parts, or_from, or_cases}
 use Rattle.df_base.specs.Image.{covers}
 use Rattle.df_base.specs.Log.{Event, Log, Stop, Sync, Write, add, loose}
 use Rattle.df_base.specs.Moments.{adds}
@@ -11,30 +12,16 @@ use Rattle.df_theory.specs.Units.{Block}
 use Rattle.df_model.specs.Commands.{Advance, Command}
 use Rattle.df_model.specs.Sense.{AtEachOf, IsClear}
 use Rattle.df_model.specs.Work.{Running, Work, is_captured, is_held, is_known, is_of}
+use Rattle.df_model.proofs.Laws.{some_of}
 use Rattle.df_replica.specs.Below.{DataFile}
 use Rattle.df_replica.specs.Leaving.{AreSettled, SparesHeld, WritesNext, is_durable, writes_to}
 
 -- ---- tests
 
-neither : (x y : Bool) → (x || y) ≡ false → (x ≡ false) × (y ≡ false)
-neither true y is = absurd (cc)
-neither false y is = (refl, is)
-
-both_not : (x y : Bool) → x ≡ false → y ≡ false → (x || y) ≡ false
-both_not true y is dry = absurd (cc)
-both_not false y is dry = dry
-
-either : (x y : Bool) → (x || y) ≡ true → (x ≡ true) ⊎ (y ≡ true)
-either true y is = inl refl
-either false y is = inr is
-
 last_true : (x y z : Bool) → z ≡ true → (x || (y || z)) ≡ true
 last_true true y z is = refl
 last_true false true z is = refl
 last_true false false z is = is
-
-same_number : (a b : ℕ) → (a == b) ≡ true → a ≡ b
-same_number a b is = grind (arith, nat_tests)
 
 -- ---- logs
 
@@ -45,32 +32,24 @@ log_after : (events : List Event) (t n : Told) → after_all events (Some t) ≡
 log_after [] t n is = ap (λ (x : Told). x.log) (same_told t n is)
 log_after (e ∷ es) t n is = log_after es (did e t) n is
 
-pub adds_on : (es fs : List Event) (log : Log) → adds (es ++ fs) log ≡ adds fs (adds es log)
-adds_on [] fs log = refl
-adds_on (e ∷ es) fs log = adds_on es fs (add e log)
-
 firm_on : (es : List Event) (log : Log) (sector : ℕ) → writes_to es sector ≡ false → loose log sector ≡ false → loose (adds es log) sector ≡ false
 firm_on [] log sector none firm = firm
 firm_on ((Write at bytes) ∷ es) log sector none firm =
-    let parts = neither (covers at bytes sector) (writes_to es sector) none in
-    firm_on es (add (Write at bytes) log) sector parts.1 (both_not (covers at bytes sector) (loose log sector) parts.0 firm)
+    let parts = or_parts (covers at bytes sector) (writes_to es sector) none in
+    firm_on es (add (Write at bytes) log) sector parts.1 (or_from (covers at bytes sector) (loose log sector) parts.0 firm)
 firm_on (Sync ∷ es) log sector none firm = firm_on es (add Sync log) sector none refl
 firm_on ((Stop changes) ∷ es) log sector none firm = firm_on es (add (Stop changes) log) sector none refl
 
 -- ---- blocks of the durable checkpoint
 
 one_of : (a : ℕ) (x : ℕ × Block) (xs : List (ℕ × Block)) (b : Bool) → (a == x.0) ≡ b → (b || is_of a xs) ≡ true → (is_of a xs ≡ true → (y : Block) × InChain a y xs) → (y : Block) × InChain a y (x ∷ xs)
-one_of a x xs true same is more = (x.1, inl (same_number a x.0 same, refl))
+one_of a x xs true same is more = (x.1, inl (eqb-true a x.0 same, refl))
 one_of a x xs false same is more = let rest = more is in (rest.0, inr rest.1)
-
-some_of : (a : ℕ) (xs : List (ℕ × Block)) → is_of a xs ≡ true → (y : Block) × InChain a y xs
-some_of a [] is = absurd (cc)
-some_of a (x ∷ xs) is = one_of a x xs (a == x.0) refl is (λ more. some_of a xs more)
 
 -- no address of the running trailer is one of theirs
 module _ (w : Work) (clear : (r : Running) → w.running ≡ Some r → AtEachOf (IsClear w.live w.view.checkpoint) r.left) where
   clear_is_none : (a : ℕ) → IsClear w.live w.view.checkpoint a → is_durable w a ≡ true → ⊥
-  clear_is_none a is durable = elim (either (is_known (w.view.checkpoint.parts.references a)) (is_of a w.view.checkpoint.chain) durable) [
+  clear_is_none a is durable = elim (or_cases (is_known (w.view.checkpoint.parts.references a)) (is_of a w.view.checkpoint.chain) durable) [
     | inl known ↦ let no : false ≡ true = sym (ap is_known is.unreferenced) ∙ known in cc
     | inr chained ↦ let at = some_of a w.view.checkpoint.chain chained in is.no_trailer at.0 at.1
   ]

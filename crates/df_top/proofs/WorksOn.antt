@@ -1,9 +1,11 @@
 -- A file that was opened, and on which a generated run was carried out: what is answered and kept, and who is to blame.
 use Rattle.std.proofs.Common.{◌≡◌, inl, inr, ℕ, true, List, Option, Some, None, refl, sym, ◌∙◌, subst, Result, Ok, Err}
+use Rattle.std.proofs.lemmas.Option.{none-some}
 use Rattle.df_base.specs.Causes.{HasCause}
 use Rattle.df_base.specs.Image.{IsImage}
 use Rattle.df_base.specs.Log.{Sync}
 use Rattle.df_disk.specs.Told.{Told, did}
+use Rattle.df_disk.proofs.Laws.{goes_told}
 use Rattle.df_inspect.specs.Prints.{Prints}
 use Rattle.df_inspect.specs.Reports.{workload_text}
 use Rattle.df_inspect.specs.declared.counts.Workload.{Workload}
@@ -30,7 +32,7 @@ use Rattle.df_top.specs.declared.status.Status.{Status}
 use Rattle.df_top.specs.declared.status.Status.TheVariants.{Done, Words, Refused, DiskFault, ReadFault, WriteFault, Memory}
 use Rattle.df_top.proofs.Causes.{calm_done, calm_refused, disk_blame, line_ends, never_printed, no_blame}
 use Rattle.df_top.proofs.Acknowledged.{keeps_answered}
-use Rattle.df_top.proofs.Kept.{answers_alone, ends_add, ends_told, goes_told, keeps_over, opened_over}
+use Rattle.df_top.proofs.Kept.{answers_alone, ends_add, ends_told, keeps_over, opened_over}
 use Rattle.df_top.proofs.Runs.{EndsRun}
 use Rattle.df_top.proofs.Resulted.{opened_answers}
 use Rattle.df_top.proofs.Spared.{spares_blocks}
@@ -88,13 +90,10 @@ run_never run t (Err Disk) old new status printed = (λ is. cc (printed.0, is), 
 
 -- ---- a disk that tells what it shows
 
-untold_is_none : (u : Told) → None ≡ Some u → ⊥
-untold_is_none u is = cc
-
 -- no run ends there by a step that is damaged
 damaged_never : (run : Run) (t : Replica) (told : Option Told) (failed : Option Act) (old new : Option (List ℕ)) (u : Told) → told ≡ Some u → Writes run t told failed old new Refused → ⊥
 damaged_never run t told None old new u is writes = writes
-damaged_never run t told (Some a) old new u is writes = untold_is_none u (sym writes.1.untold ∙ is)
+damaged_never run t told (Some a) old new u is writes = none-some u (sym writes.1.untold ∙ is)
 
 -- ---- it is carried out
 
@@ -134,6 +133,7 @@ module _ (seed count : ℕ) (layout : Layout) (t : Told) (old new : Outside) (st
         answers_alone Firm (opened (shape s.file) (unit_at s.file.layout s.file.cluster t.shown) view) s last mended new.told ended.worked.acts ended.worked.answers ended.worked.failed live
         (found_keeps s t.shown view image opened_here found) ended.worked.calls;
     barrier = synced;
+    mending = over.spares;
     result = λ view shown found agree.
         opened_answers s t mended over image (opened (shape s.file) (unit_at s.file.layout s.file.cluster t.shown) view) (found_keeps s t.shown view image opened_here found) last new.told ended.worked.failed shown agree ended.worked.acts
         ended.worked.answers ended.worked.calls;

@@ -2,6 +2,7 @@
 use Rattle.std.proofs.Common.{◌≡◌, ℕ, ◌+◌, ◌-◌, List, [], ◌∷◌, ◌++◌, length, map, take, suc, Option, Some, None, refl, sym, ◌∙◌, ap, subst, arith, append_assoc, length-append}
 use Rattle.std.proofs.lemmas.List.{append-nil}
 use Rattle.df_base.specs.Streams.{Appends, AppendsPart}
+use Rattle.df_base.proofs.Laws.{appends_more}
 use Rattle.df_lines.specs.Grammar.{Said}
 use Rattle.df_lines.specs.Script.{Begins, IsLine}
 use Rattle.df_lines.specs.Text.{after_line, taken}
@@ -9,33 +10,7 @@ use Rattle.df_model.specs.Commands.{Answer}
 use Rattle.df_replica.specs.Session.{Act}
 use Rattle.df_top.specs.Lines.{AreTurned, IsTurned, Turned, all_acts, all_answers, all_text, line_text}
 
-pub appends_none : (old : Option (List ℕ)) → Appends old old []
-appends_none None = tt
-appends_none (Some xs) = sym (append-nil xs)
-
-pub appends_more : (old mid new : Option (List ℕ)) (x y : List ℕ) → Appends old mid x → Appends mid new y → Appends old new (x ++ y)
-appends_more None None None x y one two = tt
-appends_more None None (Some n) x y one two = absurd two
-appends_more None (Some m) new x y one two = absurd one
-appends_more (Some o) None new x y one two = absurd one
-appends_more (Some o) (Some m) None x y one two = absurd two
-appends_more (Some o) (Some m) (Some n) x y one two = two ∙ ap (λ (l : List ℕ). l ++ y) one ∙ append_assoc o x y
-
-take_behind : (x y : List ℕ) (n : ℕ) → take (length x + n) (x ++ y) ≡ x ++ take n y
-take_behind [] y n = let same : 0 + n ≡ n = omega arith in ap (λ (k : ℕ). take k y) same
-take_behind (a ∷ x) y n =
-    let same : suc (length x) + n ≡ suc (length x + n) = omega arith in
-    ap (λ (k : ℕ). take k (a ∷ (x ++ y))) same ∙ ap (λ (l : List ℕ). a ∷ l) (take_behind x y n)
-
-pub appends_part : (old mid new : Option (List ℕ)) (x y : List ℕ) → Appends old mid x → AppendsPart mid new y → AppendsPart old new (x ++ y)
-appends_part old mid new x y one two =
-    (length x + two.0, omega (arith, two.1, length-append x y), subst (λ (l : List ℕ). Appends old new l) (sym (take_behind x y two.0)) (appends_more old mid new x (take two.0 y) one two.2))
-
 -- ---- one line more
-
-pub map_more : {A B : Type 0} (f : A → B) (xs : List A) (x : A) → map f (xs ++ x ∷ []) ≡ map f xs ++ f x ∷ []
-map_more f [] x = refl
-map_more f (y ∷ xs) x = ap (λ (l : List _). f y ∷ l) (map_more f xs x)
 
 pub are_more : (turns : List Turned) (t : Turned) → AreTurned turns → IsTurned t → AreTurned (turns ++ t ∷ [])
 are_more [] t are is = (is, tt)

@@ -1,6 +1,6 @@
 -- What the program promises of words that work on a file.
 use Rattle.std.specs.Prelude.{◌≡◌, ◌⊎◌, ◌^◌, ℕ, List, [], Option, Some}
-use Rattle.df_base.specs.Image.{IsImage}
+use Rattle.df_base.specs.Image.{Image, IsImage}
 use Rattle.df_base.specs.Log.{Sync}
 use Rattle.df_base.specs.Streams.{Appends, AppendsPart}
 use Rattle.df_disk.specs.Adds.{after_all}
@@ -15,6 +15,7 @@ use Rattle.df_model.specs.Work.{opened}
 use Rattle.df_model.specs.declared.errors.OpenError.{OpenError}
 use Rattle.df_replica.specs.Below.{IsLayoutShown, Refuses, IsOpened, State as Replica, shape, told_after}
 use Rattle.df_replica.specs.Following.{MayOpen}
+use Rattle.df_replica.specs.Leaving.{SparesReads, image_after}
 use Rattle.df_replica.specs.Opened.{ToldBy}
 use Rattle.df_replica.specs.Reading.{shown_of}
 use Rattle.df_replica.specs.Serving.{Grade, IsKept, StandsFor}
@@ -55,12 +56,13 @@ start told old replica = record { outside = record { told = told; left = old.lef
 -- image, and what is answered and printed is a function of what the disk shows at first, and of the lines; and by each log that shows what the disk showed, and by which the file may be opened, the told one or one that is begun anew there, all that was
 -- answered is kept, at the end and at each moment from its answer on. On whatever image, no call writes a sector of a block that is held, but a step those of the
 -- running trailer's next. No step finds the superblock damaged that it wrote, since the disk tells what it shows. Between the barrier and the first call what the
--- disk tells changed by events alone.
+-- disk tells changed by events alone, and whatever is shown these leave each place that a call reads as it was.
 pub record ServesScript (layout : Layout) (t : Told) (old new : Outside) (status : Status) : Type 0 where
   pub replica : Replica
   pub is_opened : IsOpened layout t.shown replica
   pub mended : Option Told
   pub barrier : ToldBy (Some (did Sync t)) mended
+  pub mending : (image : Image) → IsImage image → SparesReads replica.file image (image_after barrier.0 image)
   pub last : State
   pub last_is : last.outside ≡ new
   pub session : Ended (line_bound layout) (start mended old replica) last status

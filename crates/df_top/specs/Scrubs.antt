@@ -1,6 +1,6 @@
 -- What the word `scrub` promises of a file.
 use Rattle.std.specs.Prelude.{◌≡◌, ◌⊎◌, ℕ, zero, suc, List, [], ◌++◌, length, None, Option, Some}
-use Rattle.df_base.specs.Image.{Image}
+use Rattle.df_base.specs.Image.{Image, IsImage}
 use Rattle.df_base.specs.Log.{Sync}
 use Rattle.df_base.specs.Streams.{Appends}
 use Rattle.df_disk.specs.Told.{Told, did}
@@ -15,6 +15,7 @@ use Rattle.df_model.specs.declared.answers.Scrubbed.TheVariants.{TourEnd}
 use Rattle.df_replica.specs.Below.{IsOpened, failing_in, State as Replica, grid_with, memory, shape}
 use Rattle.df_script_model.specs.Texts.{scrubbed_text}
 use Rattle.df_replica.specs.Following.{MayOpen}
+use Rattle.df_replica.specs.Leaving.{SparesReads, image_after}
 use Rattle.df_replica.specs.Opened.{ToldBy}
 use Rattle.df_replica.specs.Scrubbing.{IsMachineTour}
 use Rattle.df_replica.specs.Serving.{Grade, StandsFor}
@@ -53,7 +54,8 @@ PrintsTour s image old new status = PrintsLine (tour_report s image) (tour_statu
 -- ---- the word
 
 -- The file that the disk shows is opened, and a whole tour over what the disk shows from then on is printed; it is the machine's. By each log that shows what
--- the disk showed, and by which the file may be opened, the view that was found is kept.
+-- the disk showed, and by which the file may be opened, the view that was found is kept. Whatever a disk shows, the open and the tour leave each place that a call
+-- reads as it was: no block is written.
 pub record ScrubsFile (layout : Layout) (t : Told) (old new : Outside) (status : Status) : Type 0 where
   pub replica : Replica
   pub is_opened : IsOpened layout t.shown replica
@@ -65,3 +67,5 @@ pub record ScrubsFile (layout : Layout) (t : Told) (old new : Outside) (status :
   pub barrier : ToldBy (Some (did Sync t)) new.told
   pub keeps : (g : Grade) (view : View) (base : Told) → base.shown ≡ t.shown → MayOpen replica.file view base → StandsFor g (unit_at replica.file.layout replica.file.cluster t.shown) view
       → KeepsFile replica.file g (opened (shape replica.file) (unit_at replica.file.layout replica.file.cluster t.shown) view) base [] [] None (over barrier.0 [] base)
+  pub mending : (image : Image) → IsImage image → SparesReads replica.file image (image_after barrier.0 image)
+  pub spares : SparesReads replica.file t.shown after.shown

@@ -1,5 +1,6 @@
 -- What the word `workload` promises of a file.
 use Rattle.std.specs.Prelude.{◌≡◌, ℕ, [], Option, Some}
+use Rattle.df_base.specs.Image.{Image, IsImage}
 use Rattle.df_base.specs.Log.{Sync}
 use Rattle.df_disk.specs.Adds.{after_all}
 use Rattle.df_disk.specs.Told.{Told, did}
@@ -11,6 +12,7 @@ use Rattle.df_model.specs.Supply.{Shown}
 use Rattle.df_model.specs.Work.{opened}
 use Rattle.df_replica.specs.Below.{IsOpened, State as Replica, shape, told_after}
 use Rattle.df_replica.specs.Following.{MayOpen}
+use Rattle.df_replica.specs.Leaving.{SparesReads, image_after}
 use Rattle.df_replica.specs.Opened.{ToldBy}
 use Rattle.df_replica.specs.Reading.{shown_of}
 use Rattle.df_replica.specs.Serving.{Grade, IsKept, StandsFor}
@@ -30,13 +32,15 @@ use Rattle.df_top.specs.declared.status.Status.TheVariants.{Refused}
 -- The file that the disk shows is opened, and the run is carried out: what is answered is what the machine answers from the state that is found, on whatever
 -- image; and by each log that shows what the disk showed, and by which the file may be opened, the told one or one that is begun anew there, all that was
 -- answered is kept, at the end and at each moment from its answer on. On whatever image, no call writes a sector of a block that is held, but a step those of the
--- running trailer's next. No step finds the superblock damaged that it wrote, since the disk tells what it shows.
+-- running trailer's next, and the mending before them leaves each place that a call reads as it was. No step finds the superblock damaged that it wrote, since the
+-- disk tells what it shows.
 pub record WorksThrough (seed count : ℕ) (layout : Layout) (t : Told) (old new : Outside) (status : Status) : Type 0 where
   pub replica : Replica
   pub is_opened : IsOpened layout t.shown replica
   pub unread : new.left ≡ old.left
   pub mended : Option Told
   pub barrier : ToldBy (Some (did Sync t)) mended
+  pub mending : (image : Image) → IsImage image → SparesReads replica.file image (image_after barrier.0 image)
   pub run : Run
   pub last : Replica
   pub worked : Worked (start seed count layout.clients) replica mended run last new.told

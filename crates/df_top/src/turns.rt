@@ -2,7 +2,7 @@
 ghost use Rattle.std.specs.Prelude.{◌≡◌, ◌<◌, ◌≤◌, ◌+◌, ◌^◌, length, true};
 ghost use Rattle.df_lines.specs.Grammar.{body_length, said_with};
 ghost use Rattle.df_top.specs.Outside.{Blames};
-ghost use Rattle.df_top.specs.Session.{Ended, EndedIsEnd, state};
+ghost use Rattle.df_top.specs.Session.{Ended, state};
 ghost use Rattle.df_top.specs.Step.{RefusesLine, ServesLine, Turns};
 ghost use Rattle.df_top.specs.Turning.{BlamesIfEnds, IsReady, OnGoing};
 

@@ -17,7 +17,7 @@ first_bit : (b : Bool) (m : ℕ) → ((if b then 1 else 0) + 2 * m) / 1 % 2 ≡ 
 first_bit true m = omega arith
 first_bit false m = omega arith
 
-half : (b : Bool) (m : ℕ) → ((if b then 1 else 0) + 2 * m) / 2 ≡ m
+pub half : (b : Bool) (m : ℕ) → ((if b then 1 else 0) + 2 * m) / 2 ≡ m
 half true m = omega arith
 half false m = omega arith
 

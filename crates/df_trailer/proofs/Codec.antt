@@ -2,17 +2,16 @@
 use Rattle.std.proofs.Common.{◌≡◌, ℕ, suc, ◌+◌, ◌*◌, ◌/◌, ◌^◌, ◌<◌, ◌≤◌, Bool, true, false, Option, Some, None, List, [], ◌∷◌, ◌++◌, length, refl, ap, arith, length-append}
 use Rattle.std.specs.Prelude.{map, min}
 use Rattle.df_base.specs.Fields.{AreBytes, spelled}
-use Rattle.df_base.proofs.Laws.{AreBytes-spelled, length-spelled}
+use Rattle.df_base.proofs.Laws.{AreBytes-spelled, length-spelled, AreBytes-nil, AreBytes-append}
 use Rattle.df_theory.specs.Units.{Layout, Parts, Session}
 use Rattle.df_theory.specs.Shape.{Shape}
 use Rattle.df_model.specs.Codec.{IsCodec, IsLawful}
 use Rattle.df_trailer.specs.Laws.{HasLimits}
 use Rattle.df_trailer.specs.Spelling.{bits_size, blocks_of, is_referenced, number_of, spell, spell_blocks, spell_checks, spell_sessions}
 use Rattle.df_trailer.specs.Text.{ones, parse_of}
-use Rattle.df_trailer.proofs.Bytes.{AreBytes-append, AreBytes-nil}
 use Rattle.df_trailer.proofs.Blocks as blocks
 use Rattle.df_trailer.proofs.Read.{text_read}
-use Rattle.df_trailer.proofs.Spelled.{lawful_stands, read_again}
+use Rattle.df_trailer.proofs.Spelled.{lawful_stands, read_again, length_map}
 
 sessions_bytes : (ss : List Session) → AreBytes (spell_sessions ss)
 sessions_bytes [] = AreBytes-nil
@@ -37,10 +36,6 @@ few_ones : (bits : List Bool) → ones bits ≤ length bits
 few_ones [] = omega arith
 few_ones (false ∷ bits) = omega (arith, few_ones bits)
 few_ones (true ∷ bits) = omega (arith, few_ones bits)
-
-length_map : (bs : List (Option ℕ)) → length (map is_referenced bs) ≡ length bs
-length_map [] = refl
-length_map (b ∷ bs) = ap suc (length_map bs)
 
 pub codec : (sh : Shape) → HasLimits sh.layout → 256 < sh.layout.block_size → sh.parse ≡ parse_of sh.layout → IsCodec sh (spell sh.layout)
 codec sh limits room is = record {

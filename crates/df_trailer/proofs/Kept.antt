@@ -7,7 +7,7 @@ use Rattle.df_base.specs.Fields.{field_at}
 use Rattle.df_base.proofs.Laws.{field_front}
 use Rattle.df_theory.specs.Units.{Layout}
 use Rattle.df_model.specs.Refusals.{first_refusal}
-use Rattle.df_trailer.proofs.Passing.{all_pass}
+use Rattle.df_model.proofs.Laws.{all_pass}
 use Rattle.df_trailer.specs.declared.fault.Failing.{Failing}
 use Rattle.df_trailer.specs.Reading.{AreChecksKept, IsKept, failing_of, rest_tests}
 use Rattle.df_trailer.specs.Text.{bits, bits_at, bits_in, bits_of, head_end, head_tests, is_whole, ones, sessions_at, tests}

@@ -1,7 +1,6 @@
 pub mod BitBytes
 pub mod Bits
 pub mod Blocks
-pub mod Bytes
 pub mod Codec
 pub mod Places
 pub mod Laws

@@ -1,7 +1,7 @@
 -- What stands in a text stays where more comes behind it.
 use Rattle.std.proofs.Common.{◌≡◌, ℕ, zero, suc, ◌+◌, ◌-◌, ◌*◌, ◌/◌, ◌<◌, ◌≤◌, Bool, true, false, ◌||◌, nat_lt, inl, inr, ◌⊎◌, List, [], ◌∷◌, ◌++◌, length, take, get_or, refl, sym, ap, ◌∙◌, arith, append_assoc, append-nil, length-append}
 use Rattle.std.specs.Prelude.{nat_le, min}
-use Rattle.std.proofs.lemmas.Bool.{both_ways, cases_lt, lt-ltb, le-ltb, leb-true, leb-false}
+use Rattle.std.proofs.lemmas.Bool.{both_ways, cases_lt, lt-ltb, le-ltb, leb-true, leb-false, or_parts, or_cases}
 use Rattle.std.proofs.lemmas.List.{take_more}
 use Rattle.df_base.specs.Fields.{field_at}
 use Rattle.df_base.proofs.Laws.{field_front}
@@ -69,12 +69,8 @@ pushed_fits h ys one more = elim (cases_lt (length (h ++ ys)) 4) [
   ]
 ]
 
-no_or : (a b : Bool) → (a || b) ≡ false → (a ≡ false) × (b ≡ false)
-no_or true b is = absurd (cc)
-no_or false b is = (refl, is)
-
 pub not_whole : (h : List ℕ) → is_whole h ≡ false → (length h < 3080) × (length h < head_end h)
-not_whole h is = let p = no_or (nat_le 3080 (length h)) (nat_le (head_end h) (length h)) is in (leb-false 3080 (length h) p.0, leb-false (head_end h) (length h) p.1)
+not_whole h is = let p = or_parts (nat_le 3080 (length h)) (nat_le (head_end h) (length h)) is in (leb-false 3080 (length h) p.0, leb-false (head_end h) (length h) p.1)
 
 -- ---- the tests of a head, where more comes behind it
 
@@ -83,10 +79,6 @@ pub record IsWhole (clients : ℕ) (h : List ℕ) : Type 0 where
   pub four : 4 ≤ length h
   pub sessions : root_size h ≤ 1024 → sessions_at h ≤ length h
   pub bits : root_size h ≤ 1024 → count h ≤ clients → bits_at h ≤ length h
-
-or_true : (a b : Bool) → (a || b) ≡ true → (a ≡ true) ⊎ (b ≡ true)
-or_true true b is = inl refl
-or_true false b is = inr is
 
 reaches : (h : List ℕ) → head_end h ≤ length h → (4 ≤ length h) × (sessions_at h ≤ length h) × (bits_at h ≤ length h)
 reaches h ends = elim (cases_lt (length h) 4) [
@@ -98,7 +90,7 @@ reaches h ends = elim (cases_lt (length h) 4) [
 ]
 
 pub whole_has : (clients : ℕ) (h : List ℕ) → clients ≤ 64 → is_whole h ≡ true → IsWhole clients h
-whole_has clients h few is = elim (or_true (nat_le 3080 (length h)) (nat_le (head_end h) (length h)) is) [
+whole_has clients h few is = elim (or_cases (nat_le 3080 (length h)) (nat_le (head_end h) (length h)) is) [
   | inl long ↦ let l : 3080 ≤ length h = leb-true 3080 (length h) long in record { four = omega arith; sessions = λ r. omega arith; bits = λ r c. omega arith }
   | inr ends ↦ let e = reaches h (leb-true (head_end h) (length h) ends) in record { four = e.0; sessions = λ r. e.1; bits = λ r c. e.2 }
 ]

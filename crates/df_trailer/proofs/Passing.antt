@@ -10,15 +10,3 @@ AllPass (t ∷ ts) = (t.0 ≡ false) × AllPass ts
 pass_case : {E : Type 0} (b : Bool) (e : E) (ts : List (Bool × E)) → (if b then Some e else first_refusal ts) ≡ None → (first_refusal ts ≡ None → AllPass ts) → (b ≡ false) × AllPass ts
 pass_case true e ts none more = absurd (cc)
 pass_case false e ts none more = (refl, more none)
-
-pub all_pass : {E : Type 0} (ts : List (Bool × E)) → first_refusal ts ≡ None → AllPass ts
-all_pass [] none = tt
-all_pass (t ∷ ts) none = pass_case t.0 t.1 ts none (λ more. all_pass ts more)
-
-pub or_false : (a b : Bool) → (a || b) ≡ false → (a ≡ false) × (b ≡ false)
-or_false true b is = absurd (cc)
-or_false false b is = (refl, is)
-
-pub not_false : (a : Bool) → not a ≡ false → a ≡ true
-not_false true is = refl
-not_false false is = absurd (cc)

@@ -3,19 +3,18 @@ use Rattle.std.proofs.Common.{◌≡◌, ℕ, zero, suc, ◌+◌, ◌-◌, ◌*�
 use Rattle.std.specs.Prelude.{map, min}
 use Rattle.std.specs.List.{slice_get}
 use Rattle.std.proofs.lemmas.List.{length-take-le}
-use Rattle.std.proofs.lemmas.Bool.{ltb-false, leb-false, eqb-true}
+use Rattle.std.proofs.lemmas.Bool.{ltb-false, leb-false, eqb-true, not-false}
 use Rattle.df_base.specs.Fields.{AreBytes, field_at, spelled}
-use Rattle.df_base.proofs.Laws.{field_at-lt}
+use Rattle.df_base.proofs.Laws.{field_at-lt, AreBytes-take, AreBytes-drop}
 use Rattle.df_theory.specs.Units.{Layout, Parts, Session}
 use Rattle.df_model.specs.Codec.{InGrid, IsChecksum, IsLawful}
 use Rattle.df_model.specs.Refusals.{first_refusal}
-use Rattle.df_trailer.proofs.Passing.{all_pass, not_false}
+use Rattle.df_model.proofs.Laws.{all_pass}
 use Rattle.df_trailer.specs.declared.fault.Failing.{Failing}
 use Rattle.df_trailer.specs.declared.fault.Fault.{Fault}
 use Rattle.df_trailer.specs.Spelling.{bits_size, blocks_of, is_referenced, listed, number_of, spell, spell_blocks, spell_checks, spell_sessions}
 use Rattle.df_trailer.specs.Text.{at_address, at_place, bits, bits_at, bits_of, checks_at, count, count_at, end_at, fault, fault_in, first_wrong, parse, parts_of, read_blocks, read_sessions, root_size, sessions_at, tests, unless, whole}
 use Rattle.df_trailer.proofs.Pieces.{joined, number_joined}
-use Rattle.df_trailer.proofs.Bytes.{AreBytes-drop, AreBytes-take}
 use Rattle.df_trailer.proofs.Bits.{length_bits, number_bits}
 use Rattle.df_trailer.proofs.Blocks as blocks
 use Rattle.df_trailer.proofs.Sessions as sessions
@@ -52,7 +51,7 @@ fine l op text none =
       few = ltb-false l.clients (count text) t4.0;
       rules = subst (λ (n : ℕ). KeepRules op [] (read_sessions n (sessions_at text) text)) all kept;
       bits_are = leb-false (2 ^ l.blocks) (bits l text) t8.0;
-      ends = eqb-true (length text) (end_at l text) (not_false (length text == end_at l text) t9.0);
+      ends = eqb-true (length text) (end_at l text) (not-false (length text == end_at l text) t9.0);
     }
   where
     below : {a b c : ℕ} → a ≡ b → b ≤ c → a ≤ c

@@ -1,9 +1,8 @@
 -- The rules of sessions, as a test finds them broken.
 use Rattle.std.proofs.Common.{◌≡◌, ◌≢◌, ℕ, zero, suc, ◌^◌, ◌<◌, ◌≤◌, ◌==◌, false, nat_lt, Some, List, [], ◌∷◌, length, refl, sym, ap, ◌∙◌, arith, inl, inr}
 use Rattle.std.specs.List.{slice_get}
-use Rattle.std.proofs.lemmas.Bool.{ne_eqb, le-ltb, eqb-false, ltb-false, cases_Bool}
+use Rattle.std.proofs.lemmas.Bool.{ne_eqb, le-ltb, eqb-false, ltb-false, cases_Bool, or_parts}
 use Rattle.df_theory.specs.Units.{Session}
-use Rattle.df_trailer.proofs.Passing.{or_false}
 use Rattle.df_trailer.specs.Text.{is_repeated, is_wrong, wrong_place}
 
 -- the sessions keep the rules behind the earlier ones
@@ -33,11 +32,11 @@ not_zero x is = positive x (eqb-false x 0 is)
 pub one_right : (op : ℕ) (earlier : List Session) (s : Session) → is_wrong op earlier s ≡ false
     → ((0 < s.client) × (0 < s.request) × (s.request ≤ 2 ^ 62) × (0 < s.op) × (s.op ≤ op)) × (is_repeated s.client s.op earlier ≡ false)
 one_right op earlier s is =
-    let a = or_false (s.client == 0) _ is in
-    let b = or_false (s.request == 0) _ a.1 in
-    let c = or_false (nat_lt (2 ^ 62) s.request) _ b.1 in
-    let d = or_false (s.op == 0) _ c.1 in
-    let g = or_false (nat_lt op s.op) _ d.1 in
+    let a = or_parts (s.client == 0) _ is in
+    let b = or_parts (s.request == 0) _ a.1 in
+    let c = or_parts (nat_lt (2 ^ 62) s.request) _ b.1 in
+    let d = or_parts (s.op == 0) _ c.1 in
+    let g = or_parts (nat_lt op s.op) _ d.1 in
     ((not_zero s.client a.0, not_zero s.request b.0, ltb-false (2 ^ 62) s.request c.0, not_zero s.op d.0, ltb-false op s.op g.0), g.1)
 
 pub none_wrong : (op : ℕ) (earlier ss : List Session) → KeepRules op earlier ss → wrong_place op earlier ss ≡ length ss
@@ -80,7 +79,7 @@ rules_behind op earlier ss s here keep = record {
     one s t e = cc
 
     parts : (k : ℕ) (t : Session) → slice_get ss k ≡ Some t → ((s.client == t.client) ≡ false) × (((s.op == t.op) ≡ false) × (is_repeated t.client t.op earlier ≡ false))
-    parts k t at = let a = or_false (s.client == t.client) _ (keep.fresh k t at) in let b = or_false (s.op == t.op) _ a.1 in (a.0, (b.0, b.1))
+    parts k t at = let a = or_parts (s.client == t.client) _ (keep.fresh k t at) in let b = or_parts (s.op == t.op) _ a.1 in (a.0, (b.0, b.1))
 
     each : (k : ℕ) (t : Session) → slice_get (s ∷ ss) k ≡ Some t → (0 < t.client) × (0 < t.request) × (t.request ≤ 2 ^ 62) × (0 < t.op) × (t.op ≤ op)
     each zero t at = rw (sym (one s t at)) mine.0

@@ -29,7 +29,7 @@ pub record Stands (l : Layout) (root : List ℕ) (ss : List Session) (bs : List 
   pub blocks : read_blocks (map is_referenced bs) (checks_at l text) text ≡ bs
   pub size : length text ≡ checks_at l text + 16 * ones (map is_referenced bs)
 
-length_map : (bs : List (Option ℕ)) → length (map is_referenced bs) ≡ length bs
+pub length_map : (bs : List (Option ℕ)) → length (map is_referenced bs) ≡ length bs
 length_map [] = refl
 length_map (b ∷ bs) = ap suc (length_map bs)
 

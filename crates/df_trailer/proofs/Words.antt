@@ -7,6 +7,7 @@ use Rattle.std.proofs.lemmas.Nat.{le_bytes_8}
 use Rattle.std.proofs.lemmas.Bool.{cases_eq}
 use Rattle.std.proofs.lemmas.List.{get_or-set_same, get_or-set_other, length-set, take-append-le, take_all}
 use Rattle.df_base.specs.Fields.{AreBytes}
+use Rattle.df_base.proofs.Laws.{byte_at-lt}
 use Rattle.df_trailer.specs.Rooms.{bits_in_words, byte_in_words, byte_of_word}
 use Rattle.df_trailer.specs.Spelling.{listed}
 use Rattle.df_trailer.specs.Text.{bits_in}
@@ -31,10 +32,6 @@ bytes_listed f (suc n) are (suc i) = bytes_listed (λ k. f (suc k)) n (λ k. are
 
 -- ---- the bytes of a word
 
-byte_small : (k x : ℕ) → byte_at k x < 256
-byte_small zero x = omega arith
-byte_small (suc k) x = omega arith
-
 low_first : (i n k x : ℕ) → k < n → slice_index (bytes_low_first i n x) k ≡ byte_at (i + k) x
 low_first i zero k x within = absurd (omega arith)
 low_first i (suc n) zero x within = ap (λ (j : ℕ). byte_at j x) (none i)
@@ -48,7 +45,7 @@ low_first i (suc n) (suc k) x within = low_first (suc i) n k x (omega arith) ∙
 
 low_first_small : (i n k x : ℕ) → slice_index (bytes_low_first i n x) k < 256
 low_first_small i zero k x = omega arith
-low_first_small i (suc n) zero x = byte_small i x
+low_first_small i (suc n) zero x = byte_at-lt i x
 low_first_small i (suc n) (suc k) x = low_first_small (suc i) n k x
 
 pub byte_is : (word place : ℕ) → place < 8 → byte_of_word word place ≡ byte_at place word

@@ -1,5 +1,5 @@
 // Bytes behind the head, put into the rooms for bits and checksums by how many bytes came before them.
-ghost use Rattle.std.specs.Prelude.{◌≡◌, ◌≢◌, ◌+◌, ◌*◌, ◌/◌, ◌<◌, ◌≤◌, ◌^◌, ℕ, length};
+ghost use Rattle.std.specs.Prelude.{◌≡◌, ◌≢◌, ◌+◌, ◌*◌, ◌/◌, ◌<◌, ◌≤◌, ℕ, length};
 ghost use Rattle.df_trailer.specs.Rooms.{byte_in_checks, byte_in_words};
 
 use crate::bitmap::put_byte;

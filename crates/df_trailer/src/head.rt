@@ -1,18 +1,15 @@
 // Root and sessions, which a text begins with: how much of a text is its head, and the first part of it that fails.
-ghost use Rattle.std.specs.Prelude.{◌≡◌, ◌+◌, ◌*◌, ◌<◌, ◌≤◌, ◌^◌, ℕ, Some, [], length};
+ghost use Rattle.std.specs.Prelude.{◌≡◌, ◌+◌, ◌*◌, ◌<◌, ◌≤◌, ◌^◌, Some, [], length};
 ghost use Rattle.df_model.specs.Refusals.{first_refusal};
 ghost use Rattle.df_trailer.specs.declared.fault.Cause.TheVariants.{Ends, Says};
 ghost use Rattle.df_trailer.specs.Text.{earlier, fails, head_end, head_tests, is_repeated, is_wrong, session, wrong_place, read_sessions};
 
 use crate::fault::{Cause, Failing, Fault};
 use df_base::{u32_at, u64_at, u128_at};
-use df_layout::Field;
+use df_layout::{Field, ROOT};
 
 /// The most bytes of a head: two lengths, a root, and 64 sessions.
 pub(crate) const HEAD: usize = 3080;
-
-/// The longest root.
-const ROOT: u64 = 1024;
 
 /// How many bytes the head of a text has, as far as its front tells.
 pub(crate) fn end_of_head(front: &[u8]) -> u64
@@ -104,7 +101,7 @@ pub(crate) fn failing_head(head: &[u8], clients: u32, op: u64) -> Option<Failing
         return ends(Field::TrailerRoot, size);
     }
     let root = u64::from(u32_at(head, 0));
-    if root > ROOT {
+    if root > ROOT as u64 {
         return says(Field::TrailerRoot, root);
     }
     if size < 4 + root {

@@ -1,5 +1,5 @@
 // The parts of a trailer, as a reader gives them, in rooms that its caller gave.
-ghost use Rattle.std.specs.Prelude.{◌≡◌, ◌+◌, ◌*◌, ◌/◌, ◌≤◌, ◌<◌, ◌^◌, ◌==◌, ℕ, [], length, take, drop, map, get_or, slice_set, replicate, true, false};
+ghost use Rattle.std.specs.Prelude.{◌≡◌, ◌+◌, ◌*◌, ◌/◌, ◌≤◌, ◌<◌, ◌==◌, ℕ, [], length, take, drop, map, get_or, slice_set, replicate, true, false};
 ghost use Rattle.std.specs.Int.{bit_at};
 ghost use Rattle.df_trailer.specs.Rooms.{bits_in_words, without_reply};
 ghost use Rattle.df_trailer.specs.Text.{session, bits_at, bits_of, count, count_at, ones, read_sessions, root_size, sessions_at};
@@ -7,13 +7,14 @@ ghost use Rattle.df_trailer.specs.Text.{session, bits_at, bits_of, count, count_
 use crate::bitmap::{count_set, is_set};
 use arrayvec::ArrayVec;
 use df_base::{Check, u32_at, u64_at, u128_at};
+use df_layout::ROOT;
 use df_sessions::Session;
 
 /// What a trailer says.
 #[derive(Drop)]
 pub struct Parts {
     /// What the caller of the checkpoint gave: at most 1,024 bytes.
-    pub root: ArrayVec<u8, 1024>,
+    pub root: ArrayVec<u8, ROOT>,
     /// The sessions in order of their places, without the checksums of replies.
     pub sessions: ArrayVec<Session, 64>,
     /// A bit for each block, from the lowest bit of the first word on: `(blocks + 63) / 64` words.
@@ -23,7 +24,7 @@ pub struct Parts {
 }
 
 /// The root that a head has.
-pub(crate) fn root_in(head: &[u8]) -> ArrayVec<u8, 1024>
+pub(crate) fn root_in(head: &[u8]) -> ArrayVec<u8, ROOT>
     requires some { 4 ≤ length head.now }
     requires few { root_size head.now ≤ 1024 }
     requires inside { count_at head.now ≤ length head.now }

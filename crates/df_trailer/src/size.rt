@@ -1,5 +1,5 @@
 // How long a trailer is, and how many blocks it needs.
-ghost use Rattle.std.specs.Prelude.{◌≡◌, ◌+◌, ◌-◌, ◌*◌, ◌/◌, ◌≤◌, ◌<◌};
+ghost use Rattle.std.specs.Prelude.{◌≡◌, ◌+◌, ◌-◌, ◌*◌, ◌≤◌};
 ghost use Rattle.df_theory.specs.Trailer.{IsCount};
 ghost use Rattle.df_units.specs.Meaning.{layout_of};
 ghost use Rattle.df_trailer.specs.Spelling.{text_size};

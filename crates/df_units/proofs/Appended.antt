@@ -11,8 +11,9 @@ use Rattle.df_format.specs.Message.{Message}
 use Rattle.df_format.specs.Own.{place_in}
 use Rattle.df_format.specs.Brings.{Brings}
 use Rattle.df_format.specs.Valid.{IsInSlot}
-use Rattle.df_format.proofs.Laws.{read_belongs, some-eq}
+use Rattle.df_format.proofs.Laws.{read_belongs}
 use Rattle.std.specs.Prelude.{◌++◌}
+use Rattle.std.proofs.lemmas.Option.{same_Some}
 use Rattle.df_theory.specs.Units
 use Rattle.df_theory.specs.Units.{AnyUnit, HeaderPlace, HeaderUnit, PreparePlace, PrepareUnit}
 use Rattle.df_theory.specs.Shape.{Shape}
@@ -51,7 +52,7 @@ module _ (layout : Layout) (cluster : ℕ) (sh : Shape) (u : Message) (sector : 
           elim (is.others one.0 one.1 one.4 one.5) [
             | inr shown ↦ inl (shows (HeaderPlace one.0) ∙ shown)
             | inl own ↦
-                let same : one.1 ≡ u.header = some-eq (sym one.5 ∙ ap (λ (s : ℕ). slice_get headers (s % 16)) own ∙ is.has) in
+                let same : one.1 ≡ u.header = same_Some _ _ (sym one.5 ∙ ap (λ (s : ℕ). slice_get headers (s % 16)) own ∙ is.has) in
                 inr (own ∙ slot, ap header_of same)
           ],
         );

@@ -17,7 +17,7 @@ use Rattle.df_format.specs.Shown
 use Rattle.df_format.specs.Shown.{bytes_of, part_in, unit_in}
 use Rattle.df_format.specs.Copies.{Content, class_of_copy, content_at, content_of as content_of_copy, copy_at, copy_in, copy_or_class, if_here}
 use Rattle.df_format.specs.Valid.{IsUnit}
-use Rattle.df_format.proofs.Laws.{read_shown, shown_belongs, shown_is_unit}
+use Rattle.df_format.proofs.Laws.{read_shown, shown_belongs, shown_is_unit, header_count}
 use Rattle.df_theory.specs.Units
 use Rattle.df_theory.specs.Units.{AnyUnit, BlockPlace, BlockUnit, CopyPlace, CopyUnit, HeaderPlace, HeaderUnit, PreparePlace, PrepareUnit, ReplyPlace, ReplyUnit}
 use Rattle.df_theory.specs.Found.{IsInRange, IsOfPlace}
@@ -27,7 +27,6 @@ use Rattle.df_units.specs.Format.{shape_of}
 use Rattle.df_units.specs.Shown.{CopyReadIsUnit, HeaderReadIsUnit, ReadIsUnit, UnitsAreOfPlaces, read_copy}
 use Rattle.df_units.proofs.Chosen.{shown_checks}
 use Rattle.df_units.proofs.Numbers.{check_small, sealed_check}
-use Rattle.df_units.proofs.Writes.{header_count}
 
 -- ---- reads
 

@@ -1,12 +1,14 @@
 -- The choice among the copies is the model's: contents are told apart by what the model sees of them.
 use Rattle.std.proofs.Common.{◌≡◌, ◌*◌, ℕ, suc, ◌+◌, ◌≤◌, List, ◌∷◌, take, drop, Option, Some, None, refl, sym, ◌∙◌, ap, subst, arith}
 use Rattle.std.proofs.lemmas.List.{length-drop, length-take-le}
+use Rattle.std.proofs.lemmas.Option.{same_Some}
 use Rattle.df_base.specs.Image.{Image, IsImage, IsSector}
+use Rattle.df_base.proofs.Laws.{AreBytes-take, AreBytes-drop}
 use Rattle.df_layout.specs.declared.layout.Layout.{Layout}
 use Rattle.df_format.specs.declared.superblock.SuperCopy.{SuperCopy}
 use Rattle.df_format.specs.Spelling.{IsCheck}
 use Rattle.df_format.specs.Copies.{Content, content_at, content_of as content_of_copy, copy_at, copy_in, if_here, super_fields_of}
-use Rattle.df_format.proofs.Laws.{bytes-drop, bytes-take, is_here, read_as, some-eq}
+use Rattle.df_format.proofs.Laws.{is_here, read_as}
 use Rattle.df_quorum.specs.Quorum
 use Rattle.df_theory.specs.Units
 use Rattle.df_theory.specs.Units.{AnyUnit, CopyPlace, CopyUnit}
@@ -61,7 +63,7 @@ one_content c d one two same =
 check_in : (bytes : List ℕ) (at : ℕ) → IsSector bytes → at + 16 ≤ 4096 → IsCheck (take 16 (drop at bytes))
 check_in bytes at sector fits = record {
   size = length-take-le 16 (drop at bytes) (omega (arith, length-drop at bytes, sector.size, fits));
-  each = bytes-take 16 (drop at bytes) (bytes-drop at bytes sector.each);
+  each = AreBytes-take 16 (drop at bytes) (AreBytes-drop at bytes sector.each);
 }
 
 read_checks : (bytes : List ℕ) → IsSector bytes → HasChecks (record { checksum = take 16 bytes; fields = super_fields_of bytes })
@@ -70,7 +72,7 @@ read_checks bytes sector = record { checksum = check_in bytes 0 sector (omega ar
 
 content_parts : (o : Option SuperCopy) (c : Content) → content_of_copy o ≡ Some c → (copy : SuperCopy) × (o ≡ Some copy) × (record { checksum = copy.checksum; fields = copy.fields } ≡ c)
 content_parts None c is = absurd (cc)
-content_parts (Some copy) c is = (copy, refl, some-eq is)
+content_parts (Some copy) c is = (copy, refl, same_Some _ _ is)
 
 pub shown_checks : ShownHasChecks
 unfolding copy_at
@@ -82,7 +84,7 @@ shown_checks image n c whole is =
 
 -- ---- copies
 
-copy_parts : (o : Option Content) (d : Units.Content) → copy_unit o ≡ Some (CopyUnit d) → (c : Content) × (o ≡ Some c) × (content_of c ≡ d)
+pub copy_parts : (o : Option Content) (d : Units.Content) → copy_unit o ≡ Some (CopyUnit d) → (c : Content) × (o ≡ Some c) × (content_of c ≡ d)
 copy_parts None d is = absurd (cc)
 copy_parts (Some c) d is = (c, refl, cc)
 

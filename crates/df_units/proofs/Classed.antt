@@ -1,6 +1,7 @@
 -- What is wanted of a place, and the class of what it shows, in the words of the model.
 use Rattle.std.proofs.Common.{◌≡◌, ◌≢◌, ◌↔◌, inl, inr, ℕ, ◌<◌, List, Option, Some, None, refl, sym, ◌∙◌, ap, subst, arith}
 use Rattle.std.specs.Prelude.{◌⊎◌, ⊤}
+use Rattle.std.proofs.lemmas.Option.{same_Some}
 use Rattle.df_base.specs.Image.{Image, IsImage}
 use Rattle.df_layout.specs.declared.damage.Class.TheVariants.{Stale}
 use Rattle.df_layout.specs.declared.layout.Layout.{Layout}
@@ -17,7 +18,7 @@ use Rattle.df_format.specs.Spelling.{IsCheck}
 use Rattle.df_format.specs.Valid.{IsUnit}
 use Rattle.df_format.specs.Wanted
 use Rattle.df_format.specs.Wanted.{Any, Op, Checksum, Answer}
-use Rattle.df_format.proofs.Laws.{none_unless, shown_is_unit, some-eq, stale_copy, stale_valid, valid_belongs, valid_is_stale, valid_stale}
+use Rattle.df_format.proofs.Laws.{none_unless, shown_is_unit, stale_copy, stale_valid, valid_belongs, valid_is_stale, valid_stale}
 use Rattle.df_theory.specs.Units
 use Rattle.df_theory.specs.Units.{AnyUnit, BlockPlace, BlockUnit, CopyPlace, CopyUnit, HeaderPlace, HeaderUnit, PreparePlace, PrepareUnit, ReplyPlace, ReplyUnit}
 use Rattle.df_units.specs.Meaning.{block_of, content_of as content_of_copy, header_of, message_of, number_of, place_of, unit_of}
@@ -180,16 +181,16 @@ pub units_told : UnitsAreTold
 units_told layout cluster (CopyPlace n) kind wanted u x fits is means = absurd (cc)
 units_told layout cluster (HeaderPlace s) kind wanted u x fits is means =
     let ring = in_ring layout cluster s u is in
-    subst (λ (y : AnyUnit). IsTold kind wanted u y) (some-eq means) (record { of_kind = header_kind u kind ring; is_wanted = header_wanted u wanted fits is.sealed ring })
+    subst (λ (y : AnyUnit). IsTold kind wanted u y) (same_Some _ _ means) (record { of_kind = header_kind u kind ring; is_wanted = header_wanted u wanted fits is.sealed ring })
 units_told layout cluster (PreparePlace s) kind wanted u x fits is means =
     let prepare = (valid_belongs layout cluster (place_in WalPrepares s) u is).belongs.kind in
-    subst (λ (y : AnyUnit). IsTold kind wanted u y) (some-eq means) (record { of_kind = prepare_kind u kind prepare; is_wanted = prepare_wanted u wanted fits is.sealed prepare })
+    subst (λ (y : AnyUnit). IsTold kind wanted u y) (same_Some _ _ means) (record { of_kind = prepare_kind u kind prepare; is_wanted = prepare_wanted u wanted fits is.sealed prepare })
 units_told layout cluster (ReplyPlace k) kind wanted u x fits is means =
     let reply = (valid_belongs layout cluster (place_in ClientReplies k) u is).belongs.kind in
-    subst (λ (y : AnyUnit). IsTold kind wanted u y) (some-eq means) (record { of_kind = reply_kind u kind reply; is_wanted = reply_wanted u wanted fits is.sealed reply })
+    subst (λ (y : AnyUnit). IsTold kind wanted u y) (same_Some _ _ means) (record { of_kind = reply_kind u kind reply; is_wanted = reply_wanted u wanted fits is.sealed reply })
 units_told layout cluster (BlockPlace a) kind wanted u x fits is means =
     let grid = in_grid layout cluster a u is in
-    subst (λ (y : AnyUnit). IsTold kind wanted u y) (some-eq means) (record { of_kind = block_kind u kind grid; is_wanted = block_wanted u wanted fits is.sealed grid })
+    subst (λ (y : AnyUnit). IsTold kind wanted u y) (same_Some _ _ means) (record { of_kind = block_kind u kind grid; is_wanted = block_wanted u wanted fits is.sealed grid })
 
 module _ (layout : Layout) (cluster : ℕ) (image : Image) (place : Units.Place) (kind : Kind) (wanted : Wanted.Wanted) (whole : IsImage image) (fits : HasCheck wanted) (none : (u : Message) → Shown.unit_at layout cluster image (place_of place) ≡ Some u → u.header.kind ≡ kind → ¬ Wanted.IsWanted wanted u) where
   none_by : (o : Option Message) (x : AnyUnit) → Shown.unit_at layout cluster image (place_of place) ≡ o → message_unit place o ≡ Some x → IsOfKind kind x → ¬ IsWanted wanted x
@@ -200,7 +201,7 @@ module _ (layout : Layout) (cluster : ℕ) (image : Image) (place : Units.Place)
 
 copy_of_none : (kind : Kind) (o : Option Content) (x : AnyUnit) → copy_unit o ≡ Some x → IsOfKind kind x → ⊥
 copy_of_none kind None x is of_kind = absurd (cc)
-copy_of_none kind (Some c) x is of_kind = no_kind kind c (subst (λ (y : AnyUnit). IsOfKind kind y) (sym (some-eq is)) of_kind)
+copy_of_none kind (Some c) x is of_kind = no_kind kind c (subst (λ (y : AnyUnit). IsOfKind kind y) (sym (same_Some _ _ is)) of_kind)
   where
     no_kind : (kind : Kind) (c : Content) → IsOfKind kind (CopyUnit (content_of_copy c)) → ⊥
     no_kind Reserved c is = is

@@ -31,7 +31,7 @@ use Rattle.df_units.proofs.Local.{blank_empty, is_format}
 use Rattle.df_units.proofs.Told.{reserved_put}
 use Rattle.df_units.proofs.Writes.{copy_put, headers_put, some_header}
 
-headers_are_steps : (layout : Layout) (cluster sector : ℕ) (sectors : List (List Header)) → AreReserved layout cluster sector sectors → AreSteps (format_of layout cluster) (header_writes layout sector sectors) (all_puts (header_puts sector sectors))
+pub headers_are_steps : (layout : Layout) (cluster sector : ℕ) (sectors : List (List Header)) → AreReserved layout cluster sector sectors → AreSteps (format_of layout cluster) (header_writes layout sector sectors) (all_puts (header_puts sector sectors))
 headers_are_steps layout cluster sector [] are = tt
 headers_are_steps layout cluster sector (headers ∷ rest) are = (headers_put layout cluster sector headers are.0, headers_are_steps layout cluster (sector + 1) rest are.2)
 

@@ -27,6 +27,10 @@ check_small check is = omega (arith, field_at-lt 16 0 check is.each)
 pub sealed_check : (h : Header) → IsSealed h → IsCheck h.checksum
 sealed_check h is = subst IsCheck (sym is.checksum) (record { size = length-check_of (spelling_rest h); each = AreBytes-check_of (spelling_rest h) })
 
+-- and is spelled as it was read
+pub whole_check : (check : List ℕ) → IsCheck check → spelled 16 (number_of check) ≡ check
+whole_check check is = spelled-field_at 16 0 check is.each (omega (arith, is.size)) ∙ take_all 16 check (omega (arith, is.size))
+
 pub no_number : NoChecksumIsZero
 unfolding no_checksum field_at
 no_number = refl

@@ -1,24 +1,20 @@
 -- A call adds its events, or a part of them from the first on.
 use Rattle.std.proofs.Common.{◌≡◌, inl, inr, List, [], ◌∷◌, ◌++◌, Some, sym, ◌∙◌, ap, subst, append_assoc}
+use Rattle.std.proofs.lemmas.Option.{same_Some}
 use Rattle.df_base.specs.Log.{Event, Log}
 use Rattle.df_base.specs.Moments.{EachMoment, Extends, adds}
-use Rattle.df_base.proofs.Laws.{adds_extends, extends_self}
+use Rattle.df_base.proofs.Laws.{adds_extends, extends_self, extends_on}
 use Rattle.df_disk.specs.Told.{Told, did}
 use Rattle.df_disk.specs.Adds.{AddsPart, after_all}
 use Rattle.df_theory.specs.Rests.{IsGoodLog}
 use Rattle.df_theory.specs.Device.{IsGoodDisk, IsGoodWholeDisk, IsSafeDisk, units_log}
 use Rattle.df_theory.proofs.Laws.{moments_law, safe_moments_law, same_log, standing_moments_law, unit_moments_law}
-use Rattle.df_format.proofs.Laws.{some-eq}
 use Rattle.df_units.specs.Calls.{CallEnds, CallIsGood, CallIsGoodByUnits, CallIsSafe, CallIsWhole}
 
 part_grows : (es : List Event) (before after : Told) → AddsPart es (Some before) (Some after) → Extends (adds es before.log) after.log
-part_grows [] before after is = subst (λ (t : Told). Extends before.log t.log) (sym (some-eq is)) (extends_self before.log)
-part_grows (e ∷ es) before after (inl is) = subst (λ (t : Told). Extends (adds (e ∷ es) before.log) t.log) (sym (some-eq is)) (adds_extends (e ∷ es) before.log)
+part_grows [] before after is = subst (λ (t : Told). Extends before.log t.log) (sym (same_Some _ _ is)) (extends_self before.log)
+part_grows (e ∷ es) before after (inl is) = subst (λ (t : Told). Extends (adds (e ∷ es) before.log) t.log) (sym (same_Some _ _ is)) (adds_extends (e ∷ es) before.log)
 part_grows (e ∷ es) before after (inr more) = part_grows es (did e before) after more
-
-extends_on : (last later earlier : Log) → Extends last later → Extends later earlier → Extends last earlier
-extends_on last later earlier one two =
-    (one.0 ++ two.0, one.1 ∙ ap (λ (l : List Event). one.0 ++ l) two.1 ∙ sym (append_assoc one.0 two.0 earlier.events), one.2 ∙ two.2)
 
 -- the moments of a part are moments of the whole
 pub part_moments : (es : List Event) (before after : Told) (Q : Log → Type 0) → AddsPart es (Some before) (Some after) → EachMoment before.log (adds es before.log) Q → EachMoment before.log after.log Q
@@ -42,7 +38,7 @@ call_whole f sh v c es before after is call keeps =
     part_moments es before after (IsGoodWholeDisk f sh v c.view) call.adds (standing_moments_law f sh v c before.log es is call.log call.steps keeps).0
 
 pub all_added : (es : List Event) (before after : Told) → Some after ≡ after_all es (Some before) → after.log ≡ adds es before.log
-all_added [] before after is = ap (λ (t : Told). t.log) (some-eq is)
+all_added [] before after is = ap (λ (t : Told). t.log) (same_Some _ _ is)
 all_added (e ∷ es) before after is = all_added es (did e before) after is
 
 pub call_ends : CallEnds

@@ -2,24 +2,24 @@
 use Rattle.std.proofs.Common.{◌≡◌, inl, inr, ℕ, zero, suc, ◌+◌, ◌*◌, ◌/◌, ◌%◌, ◌^◌, ◌<◌, ◌==◌, List, [], length, Option, Some, None, refl, sym, ◌∙◌, ap, subst, arith}
 use Rattle.std.specs.Prelude.{slice_get}
 use Rattle.std.proofs.lemmas.Bool.{cases_eq, cond-false, cond-true, eq-eqb, ne_eqb}
-use Rattle.df_base.specs.Fields.{check_of}
+use Rattle.std.proofs.lemmas.Option.{same_Some}
 use Rattle.df_base.specs.Image.{IsImage, blank}
-use Rattle.df_base.proofs.Laws.{AreBytes-check_of, length-check_of, written_is_image}
+use Rattle.df_base.proofs.Laws.{written_is_image, blank_is_image}
 use Rattle.df_layout.specs.declared.layout.Layout.{Layout}
 use Rattle.df_layout.specs.declared.places.Zone.TheVariants.{WalHeaders}
 use Rattle.df_format.specs.declared.header.Header.{Header}
+use Rattle.df_format.specs.declared.kind.Kind.TheVariants.{Reserved}
+use Rattle.df_format.specs.Making.{blank_header, for_body}
 use Rattle.df_format.specs.Own.{place_in}
 use Rattle.df_format.specs.Rules.{IsSealed}
-use Rattle.df_format.specs.Spelling.{IsCheck, spelling_rest}
 use Rattle.df_format.specs.Valid.{IsUnit}
-use Rattle.df_format.proofs.Laws.{blank_image, headers_fill, is_own, some-eq, valid_belongs}
+use Rattle.df_format.proofs.Laws.{given_obeys, headers_fill, is_own, sealed_is, valid_belongs}
 use Rattle.df_theory.specs.Units.{AnyUnit, HeaderPlace, HeaderUnit, or_else}
 use Rattle.df_theory.specs.UnitLog.{put_one}
 use Rattle.df_units.specs.Meaning.{header_of}
 use Rattle.df_units.specs.Bytes.{unit_at}
 use Rattle.df_units.specs.Puts.{AreHeaders, IsNextSector, header_unit, put_headers}
 use Rattle.df_units.specs.Sample.{OneOfSixteenIsNew, ReservedIsUnit, TableIsWritten, headers_of, reserved_header, reserved_image, sector_of, with_new}
-use Rattle.df_units.proofs.Usable.{zeros_check}
 use Rattle.df_units.proofs.Writes.{headers_put, one_new}
 
 -- ---- headers of a table
@@ -44,7 +44,7 @@ inside_of table slot (suc n) (suc i) h is = omega (arith, inside_of table (slot 
 is_of_table : (table : ℕ → Header) (sector i : ℕ) (h : Header) → slice_get (sector_of table sector) i ≡ Some h → (i < 16) × (table (16 * sector + i) ≡ h)
 is_of_table table sector i h is =
     let inside = inside_of table (16 * sector) 16 i h is in
-    (inside, some-eq (sym (header_in table (16 * sector) 16 i inside) ∙ is))
+    (inside, same_Some _ _ (sym (header_in table (16 * sector) 16 i inside) ∙ is))
 
 pub table_written : TableIsWritten
 table_written layout cluster sector table inside valid = record {
@@ -62,32 +62,10 @@ table_written layout cluster sector table inside valid = record {
 
 -- ---- reserved headers
 
-check_is : (bytes : List ℕ) → IsCheck (check_of bytes)
-check_is bytes = record { size = length-check_of bytes; each = AreBytes-check_of bytes }
-
 reserved_sealed : (cluster slot : ℕ) → 0 < cluster → cluster < 2 ^ 128 → slot < 2 ^ 32 → IsSealed (reserved_header cluster slot)
-unfolding spelling_rest
-reserved_sealed cluster slot named small inside = record {
-  rules = record {
-    fits = record {
-      body = check_is [];
-      cluster = small;
-      parent = zeros_check;
-      client = omega arith;
-      op = omega arith;
-      request = omega arith;
-      mark = omega arith;
-      checkpoint = omega arith;
-      size = omega arith;
-      slot = inside;
-      block_kind = omega arith;
-    };
-    cluster = named;
-    size = omega arith;
-    kind = record { body = refl; parent = refl; client = refl; op = refl; request = refl; mark = refl; checkpoint = refl; size = refl; block_kind = refl };
-  };
-  checksum = refl;
-}
+reserved_sealed cluster slot named small inside =
+    let given : Header = record (blank_header Reserved cluster) { slot = slot } in
+    sealed_is (for_body given []) (given_obeys cluster (named, small) given [] Reserved (inside, refl))
 
 pub reserved_unit : ReservedIsUnit
 reserved_unit layout cluster slot named small inside = record {
@@ -135,7 +113,7 @@ module _ (layout : Layout) (cluster : ℕ) (new : Header) (named : 0 < cluster) 
       let got : slice_get (sector_of (reserved_header cluster) sector) (slot % 16) ≡ Some (reserved_header cluster slot) = header_in (reserved_header cluster) (16 * sector) 16 (slot % 16) (omega arith) ∙ ap (λ (s : ℕ). Some (reserved_header cluster s)) same in
       let put : put_headers sector (sector_of (reserved_header cluster) sector) (HeaderPlace slot) ≡ Some (HeaderUnit (header_of (reserved_header cluster slot))) =
       cond-true (slot / 16 == sector) (header_unit (slice_get (sector_of (reserved_header cluster) sector) (slot % 16))) None (eq-eqb (slot / 16) sector here) ∙ ap header_unit got in
-      (headers_put layout cluster sector (sector_of (reserved_header cluster) sector) reserved_are).shows blank (HeaderPlace slot) blank_image
+      (headers_put layout cluster sector (sector_of (reserved_header cluster) sector) reserved_are).shows blank (HeaderPlace slot) blank_is_image
       ∙ ap (λ (o : Option AnyUnit). or_else o (unit_at layout cluster blank (HeaderPlace slot))) put
 
   next_sector : IsNextSector layout cluster (reserved_image layout cluster sector) new sector (sector_of (with_new cluster new) sector)
@@ -167,7 +145,7 @@ module _ (layout : Layout) (cluster : ℕ) (new : Header) (named : 0 < cluster) 
   ]
 
   reserved_whole : IsImage (reserved_image layout cluster sector)
-  reserved_whole = written_is_image _ _ blank (headers_fill layout (16 * sector) (sector_of (reserved_header cluster) sector) reserved_are.sixteen).piece blank_image
+  reserved_whole = written_is_image _ _ blank (headers_fill layout (16 * sector) (sector_of (reserved_header cluster) sector) reserved_are.sixteen).piece blank_is_image
 
 pub one_of_sixteen : OneOfSixteenIsNew
 one_of_sixteen layout cluster slot new named small valid here =

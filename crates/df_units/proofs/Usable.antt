@@ -2,9 +2,9 @@
 use Rattle.std.proofs.Common.{◌≡◌, ℕ, zero, suc, ◌<◌, List, ◌∷◌, Option, Some, None, refl, sym, ◌∙◌, ap, subst, arith}
 use Rattle.std.specs.Prelude.{slice_index}
 use Rattle.std.proofs.lemmas.List.{length-replicate}
+use Rattle.df_base.proofs.Laws.{AreBytes-zeros}
 use Rattle.df_layout.specs.Limits.{AreSlots, IsMessageSize, AreClients, IsBlockSize, AreBlocks}
 use Rattle.df_format.specs.Spelling.{IsCheck, no_checksum}
-use Rattle.df_format.proofs.Laws.{AreBytes-zeros}
 use Rattle.df_theory.specs.Units
 use Rattle.df_units.specs.Meaning.{number_of, offset_list}
 use Rattle.df_units.specs.Superblocks.{PassingIsUsable, UsablePasses}

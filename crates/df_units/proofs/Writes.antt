@@ -21,7 +21,7 @@ use Rattle.df_format.specs.Brings.{Brings}
 use Rattle.df_format.specs.Copies.{content_with}
 use Rattle.df_format.specs.UnitLaws.{AreForPlace, headers_bytes}
 use Rattle.df_format.specs.Super.{copy_bytes}
-use Rattle.df_format.proofs.Laws.{has-from, has-true, header_shown, headers_fill, one_sector, read_belongs, read_shown, written_begins, written_copy}
+use Rattle.df_format.proofs.Laws.{has-from, has-true, header_shown, headers_fill, one_sector, read_belongs, read_shown, written_begins, written_copy, header_count, header_first}
 use Rattle.df_theory.specs.Units
 use Rattle.df_theory.specs.Units.{AnyUnit, BlockPlace, BlockUnit, CopyPlace, CopyUnit, HeaderPlace, HeaderUnit, PreparePlace, PrepareUnit, ReplyPlace, ReplyUnit, is_some, or_else}
 use Rattle.df_theory.specs.UnitLog.{put_one, same_place}
@@ -142,15 +142,6 @@ copy_put layout cluster number f small is =
     (λ image whole. subst (λ (at : ℕ). unit_at layout cluster (written at bytes image) (CopyPlace number) ≡ Some x) (sym (copy_first layout number)) (ap copy_unit (written_copy image number f small is))))
 
 -- ---- a write of sixteen headers
-
--- the slots of one sector begin at one sector
-header_first : (layout : Layout) (a b : ℕ) → a / 16 ≡ b / 16 → (span_of layout (place_in WalHeaders a)).first ≡ (span_of layout (place_in WalHeaders b)).first
-unfolding span_of sectors_before
-header_first layout a b same = omega arith
-
-pub header_count : (layout : Layout) (slot : ℕ) → (span_of layout (place_in WalHeaders slot)).count ≡ 1
-unfolding span_of place_sectors
-header_count layout slot = refl
 
 pub some_header : (headers : List Header) (i : ℕ) (o : Option Header) → slice_get headers i ≡ o → i < length headers → is_some (header_unit o) ≡ true
 some_header headers i (Some h) is inside = refl

@@ -1,14 +1,14 @@
 -- A sample: a header sector of reserved headers, as a new file has it, and one header put into it. Sixteen headers lie in one sector,
 -- and the write of all sixteen changes one slot alone.
 use Rattle.std.specs.Prelude.{◌≡◌, ◌<◌, ◌+◌, ◌*◌, ◌/◌, ◌^◌, ◌==◌, ℕ, zero, suc, if◌then◌else◌, List, [], ◌∷◌, Some}
-use Rattle.df_base.specs.Fields.{check_of}
 use Rattle.df_base.specs.Image.{Image, blank, written}
 use Rattle.df_layout.specs.declared.layout.Layout.{Layout}
 use Rattle.df_layout.specs.declared.places.Zone.TheVariants.{WalHeaders}
 use Rattle.df_format.specs.declared.header.Header.{Header}
 use Rattle.df_format.specs.declared.kind.Kind.TheVariants.{Reserved}
+use Rattle.df_format.specs.Making.{blank_header, for_body}
 use Rattle.df_format.specs.Own.{place_in}
-use Rattle.df_format.specs.Spelling.{no_checksum, sealed}
+use Rattle.df_format.specs.Spelling.{sealed}
 use Rattle.df_format.specs.Valid.{IsUnit}
 use Rattle.df_format.specs.UnitLaws.{headers_bytes}
 use Rattle.df_theory.specs.Units.{HeaderPlace, HeaderUnit}
@@ -32,23 +32,9 @@ TableIsWritten =
     → ((slot : ℕ) → slot < layout.slots → IsUnit layout cluster (place_in WalHeaders slot) (record { header = table slot; body = [] }))
     → AreHeaders layout cluster sector (sector_of table sector)
 
--- the header of an empty slot
+-- the header of an empty slot: it names its slot alone, and has no body
 abbrev pub reserved_header : ℕ → ℕ → Header
-reserved_header cluster slot = sealed (record {
-  checksum = no_checksum;
-  checksum_body = check_of [];
-  cluster = cluster;
-  parent = no_checksum;
-  client = 0;
-  op = 0;
-  request = 0;
-  mark = 0;
-  checkpoint = 0;
-  size = 256;
-  slot = slot;
-  kind = Reserved;
-  block_kind = 0;
-})
+reserved_header cluster slot = sealed (for_body (record (blank_header Reserved cluster) { slot = slot }) [])
 
 -- it is valid in its slot
 abbrev pub ReservedIsUnit : Type 0

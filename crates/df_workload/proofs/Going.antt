@@ -1,5 +1,5 @@
 -- From one point of a run to the next: it stays sound, and what is still to come fits in what was left.
-use Rattle.std.proofs.Common.{◌≡◌, ◌≤◌, ◌<◌, ℕ, suc, ◌+◌, ◌-◌, ◌*◌, ◌/◌, ◌%◌, ◌^◌, ◌==◌, ◌||◌, Bool, true, false, nat_lt, if◌then◌else◌, List, length, refl, arith}
+use Rattle.std.proofs.Common.{◌≡◌, ◌≤◌, ◌<◌, ℕ, suc, ◌+◌, ◌-◌, ◌*◌, ◌/◌, ◌%◌, ◌^◌, ◌==◌, ◌||◌, Bool, true, false, nat_lt, if◌then◌else◌, List, length, refl, arith, ltb-true, ltb-false, eqb-true}
 use Rattle.std.proofs.lemmas.Bool.Decides.{nat_tests}
 use Rattle.df_workload.specs.Rounds.{after_reply, at, first_op, is_replied_to, to_append, to_begin, to_block, to_next, to_release, to_replies, to_step, with_draw}
 use Rattle.df_workload.specs.Sound.{HasPoint, IsSound, IsWithin, counted, flag, left, left_at}
@@ -41,15 +41,6 @@ drawn n s w = record { number = below s.number; some = w.some; four = w.four; mi
 
 -- ---- tests
 
-is_below : (a b : ℕ) → nat_lt a b ≡ true → a < b
-is_below a b is = grind (arith, nat_tests)
-
-is_not_below : (a b : ℕ) → nat_lt a b ≡ false → b ≤ a
-is_not_below a b is = grind (arith, nat_tests)
-
-is_same : (a b : ℕ) → (a == b) ≡ true → a ≡ b
-is_same a b is = grind (arith, nat_tests)
-
 is_other : (a b : ℕ) → (a == b) ≡ false → a ≤ b → a < b
 is_other a b is h = grind (arith, nat_tests)
 
@@ -67,9 +58,9 @@ next_round s w few more = record {
 pub comes_next : (s : State) → IsWithin 0 s → length s.held ≤ 8 → Comes 0 s (to_next s)
 comes_next s w few =
     by_test (λ t. Comes 0 s t) (nat_lt s.round s.count) (to_append (record s { round = s.round + 1 })) (at Ending s)
-    (λ holds. next_round s w few (is_below s.round s.count holds))
+    (λ holds. next_round s w few (ltb-true s.round s.count holds))
     (λ fails.
-    let over : s.count ≤ s.round = is_not_below s.round s.count fails in
+    let over : s.count ≤ s.round = ltb-false s.round s.count fails in
     let same : s.round ≡ s.count = omega arith in
     go_at 0 Ending s w (omega arith) (same, few))
 
@@ -82,7 +73,7 @@ comes_begin s w few =
 pub comes_release : (s : State) → IsWithin 2 s → length s.held ≤ 9 → Comes 2 s (to_release s)
 comes_release s w some =
     by_test (λ t. Comes 2 s t) (length s.held == 9) (at Releasing s) (to_begin s)
-    (λ holds. go_at 2 Releasing s w (omega arith) (is_same (length s.held) 9 holds))
+    (λ holds. go_at 2 Releasing s w (omega arith) (eqb-true (length s.held) 9 holds))
     (λ fails.
     let few : length s.held < 9 = is_other (length s.held) 9 fails some in
     wider 1 2 s (to_begin s) (comes_begin s (less_to_come 2 1 s w (omega arith)) (omega arith)) (omega arith))
@@ -115,6 +106,6 @@ pub comes_reply : (op : ℕ) (s : State) → IsWithin (4 + (s.round - op)) s →
 comes_reply op s w few =
     by_test (λ t. Comes (4 + (s.round - op)) s t) (nat_lt op s.round) (at (Replying (op + 1)) s) (to_step s)
     (λ holds.
-    let more : op < s.round = is_below op s.round holds in
+    let more : op < s.round = ltb-true op s.round holds in
     go_at (4 + (s.round - op)) (Replying (op + 1)) s w (omega arith) (omega arith, few))
     (λ fails. wider 4 (4 + (s.round - op)) s (to_step s) (comes_step s (less_to_come (4 + (s.round - op)) 4 s w (omega arith)) few) (omega arith))

@@ -78,7 +78,7 @@ begun_so root Finished s = refl
 some_is : (c d : Command) → Option.Some c ≡ Some d → c ≡ d
 some_is c d is = cc
 
-asks_end : (running : Bool) (c : Command) → (if running then Some Advance else None) ≡ Some c → Advance ≡ c
+pub asks_end : (running : Bool) (c : Command) → (if running then Some Advance else None) ≡ Some c → Advance ≡ c
 asks_end true c is = cc
 asks_end false c is = absurd (cc)
 

@@ -1,6 +1,6 @@
 // What an answer makes of a generated run.
 ghost use Rattle.std.specs.Prelude.{◌≡◌, ◌≤◌, ◌<◌, ◌+◌, ◌^◌, length};
-ghost use Rattle.df_workload.specs.Hearing.{appended, begun, refused, released, replied, stepped, told, told_at, wrote};
+ghost use Rattle.df_workload.specs.Hearing.{appended, begun, refused, released, replied, stepped, told, wrote};
 ghost use Rattle.df_workload.specs.Sound.{IsSound, MayBeTold, counted};
 
 use crate::draw::body_length;

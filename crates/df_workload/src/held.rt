@@ -1,5 +1,5 @@
 // The addresses of the blocks that a run has written and not released, the oldest first.
-ghost use Rattle.std.specs.Prelude.{◌≡◌, ◌<◌, ◌==◌, ◌≤◌, [], ◌∷◌, ◌++◌, length, drop, slice_index};
+ghost use Rattle.std.specs.Prelude.{◌≡◌, ◌<◌, ◌==◌, [], ◌∷◌, ◌++◌, length, drop, slice_index};
 
 use arrayvec::ArrayVec;
 use std::marker::Model;

@@ -1,6 +1,6 @@
 // From one point of a generated run to the next one that asks for something.
 ghost use Rattle.std.specs.Prelude.{◌≡◌, ◌≤◌, ◌<◌, ◌+◌, ◌^◌};
-ghost use Rattle.df_workload.specs.Rounds.{after_reply, first_op, is_replied_to, start, to_append, to_begin, to_block, to_next, to_release, to_replies, to_step};
+ghost use Rattle.df_workload.specs.Rounds.{after_reply, is_replied_to, start, to_append, to_begin, to_block, to_next, to_release, to_replies, to_step};
 
 use crate::draw::{first_number, next_number};
 use crate::{Counts, Held, Point, State};

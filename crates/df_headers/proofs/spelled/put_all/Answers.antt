@@ -1,22 +1,31 @@
-use Rattle.std.proofs.Common.{◌≡◌, ◌+◌, ◌*◌, ◌++◌, [], ◌∷◌, ℕ, suc, take, slice_index_or, List, ap, ◌∙◌, sym, arith, rules}
+use Rattle.std.proofs.Common.{◌≡◌, ◌<◌, ◌+◌, ◌*◌, ◌++◌, [], ◌∷◌, ℕ, suc, take, length, slice_index_or, List, ap, ◌∙◌, sym, arith, rules}
 use Rattle.std.proofs.lemmas.Option.{slice_get-get_or}
 use Rattle.df_format.specs.UnitLaws.{headers_bytes}
 use Rattle.df_format.specs.declared.header.Header.{Header}
-use Rattle.df_format.specs.declared.kind.Kind.TheVariants.{Reserved}
 use Rattle.df_headers.proofs.Bytes.{bytes_more}
 use Rattle.df_headers.proofs.spelled.put_all.Goals as goal
 
-abbrev no_header : Header
-no_header = record { checksum = []; checksum_body = []; cluster = 0; parent = []; client = 0; op = 0; request = 0; mark = 0; checkpoint = 0; size = 0; slot = 0; kind = Reserved; block_kind = 0 }
+-- the bytes of one header more; what stands past the end of the list doesn't matter
+one_more : (headers : List Header) (i : ℕ) (past : Header) → i < length headers → headers_bytes (take i headers) ++ headers_bytes (slice_index_or headers i past ∷ []) ≡ headers_bytes (take (i + 1) headers)
+one_more headers i past inside =
+    let one : i + 1 ≡ suc i = omega arith in
+    sym (ap (λ (n : ℕ). headers_bytes (take n headers)) one ∙ bytes_more headers i (slice_index_or headers i past) (slice_get-get_or headers i past inside))
+
+-- so they stand at the front behind its write
+pub front_more : (headers : List Header) (i : ℕ) (past : Header) (old new : List ℕ) → i < length headers → take (256 * i + 256) new ≡ take (256 * i) old ++ headers_bytes (slice_index_or headers i past ∷ [])
+    → take (256 * i) old ≡ headers_bytes (take i headers) → take (256 * (i + 1)) new ≡ headers_bytes (take (i + 1) headers)
+front_more headers i past old new inside is before =
+    let same : 256 * (i + 1) ≡ 256 * i + 256 = omega arith in
+    ap (λ (n : ℕ). take n new) same ∙ is ∙ ap (λ (l : List ℕ). l ++ headers_bytes (slice_index_or headers i past ∷ [])) before ∙ one_more headers i past inside
 
 pub put_one-requires-clause-header : goal.put_one-requires-clause-header
-put_one-requires-clause-header c = c.requires.sixteen.each c.loop-i.i (slice_index_or c.args.headers.now c.loop-i.i no_header) (slice_get-get_or c.args.headers.now c.loop-i.i no_header (omega (arith, c.requires.sixteen.count, c.loop-i-test.true)))
+put_one-requires-clause-header c = c.requires.sixteen.each c.loop-i.i _ (slice_get-get_or c.args.headers.now c.loop-i.i _ (omega (arith, c.requires.sixteen.count, c.loop-i-test.true)))
 
 pub loop-i-preserved : goal.loop-i-preserved
-loop-i-preserved c = record {
-  size = search (rules, c.put_one.ensures.size, c.loop-i.invariant.size);
-  within = omega (arith, c.requires.sixteen.count, c.loop-i-test.true);
-  front =
-      ap (λ (n : ℕ). take n c.put_one.new.bytes) (let same : 256 * (c.loop-i.i + 1) ≡ 256 * c.loop-i.i + 256 = omega arith in same) ∙ c.put_one.ensures.front ∙ ap (λ (l : List ℕ). l ++ headers_bytes (slice_index_or c.args.headers.now c.loop-i.i no_header ∷ [])) c.loop-i.invariant.front
-      ∙ sym (ap (λ (n : ℕ). headers_bytes (take n c.args.headers.now)) (let one : c.loop-i.i + 1 ≡ suc c.loop-i.i = omega arith in one) ∙ bytes_more c.args.headers.now c.loop-i.i (slice_index_or c.args.headers.now c.loop-i.i no_header) (slice_get-get_or c.args.headers.now c.loop-i.i no_header (omega (arith, c.requires.sixteen.count, c.loop-i-test.true))));
-}
+loop-i-preserved c =
+    let inside : c.loop-i.i < length c.args.headers.now = omega (arith, c.requires.sixteen.count, c.loop-i-test.true) in
+    record {
+      size = search (rules, c.put_one.ensures.size, c.loop-i.invariant.size);
+      within = omega (arith, c.requires.sixteen.count, c.loop-i-test.true);
+      front = front_more c.args.headers.now c.loop-i.i _ _ c.put_one.new.bytes inside c.put_one.ensures.front c.loop-i.invariant.front;
+    }

@@ -1,7 +1,7 @@
 -- The laws are proved.
 use Rattle.df_lifetime.proofs.OneRun.{workload_has_one_text}
 use Rattle.df_lifetime.proofs.OneText.{recover_has_one_text}
-use Rattle.df_lifetime.proofs.OneTour.{scrub_has_one_text, spared_scrub_has_one_text}
+use Rattle.df_lifetime.proofs.OneTour.{scrub_has_one_text}
 use Rattle.df_lifetime.proofs.printed.a_word_has_one_text.Goals as goal
 
 pub returns-clause-recover : goal.returns-clause-recover
@@ -9,9 +9,6 @@ returns-clause-recover c = recover_has_one_text
 
 pub returns-clause-scrub : goal.returns-clause-scrub
 returns-clause-scrub c = scrub_has_one_text
-
-pub returns-clause-spared : goal.returns-clause-spared
-returns-clause-spared c = spared_scrub_has_one_text
 
 pub returns-clause-workload : goal.returns-clause-workload
 returns-clause-workload c = workload_has_one_text

@@ -1,9 +1,10 @@
 use Rattle.std.proofs.Common.{◌∙◌, ◌∷◌, [], inl, inr, sym, ap, arith}
-use Rattle.df_lines.proofs.Decimals.{first_byte, digit_is}
+use Rattle.std.proofs.lemmas.Fmt.{decimal_digit}
+use Rattle.df_lines.proofs.Decimals.{first_byte}
 use Rattle.df_lines.proofs.number.first_digit.Goals as goal
 
 pub returns-in-49-to-57-clause-found : goal.returns-in-49-to-57-clause-found
-returns-in-49-to-57-clause-found c = sym (digit_is c.from.result (omega arith) ∙ ap (λ (b : _). b ∷ []) (omega arith))
+returns-in-49-to-57-clause-found c = sym (decimal_digit c.from.result (omega arith) ∙ ap (λ (b : _). b ∷ []) (omega arith))
 
 pub returns-in_default-clause-none : goal.returns-in_default-clause-none
 returns-in_default-clause-none c =

@@ -1,5 +1,6 @@
 -- The block that is made is valid at its address.
 use Rattle.std.proofs.Common.{◌≡◌, ◌∙◌, ℕ, List, Option, Some, sym, ap, subst}
+use Rattle.std.proofs.lemmas.Option.{same_Some}
 use Rattle.df_layout.specs.declared.layout.Layout.{Layout}
 use Rattle.df_layout.specs.declared.places.Place.{Place}
 use Rattle.df_layout.specs.declared.places.Zone.{Zone}
@@ -10,7 +11,7 @@ use Rattle.df_format.specs.declared.kind.Kind.TheVariants.{Block}
 use Rattle.df_format.specs.Message.{Message}
 use Rattle.df_format.specs.Own.{named_elsewhere, named_place, place_in}
 use Rattle.df_format.specs.Valid.{IsUnit}
-use Rattle.df_format.proofs.Laws.{own_is, some-eq}
+use Rattle.df_format.proofs.Laws.{own_is}
 use Rattle.df_buffers.specs.Sounds.{Holding, IsSound}
 use Rattle.df_places.specs.Shelves.{HoldsMade}
 use Rattle.df_replica.specs.Appending.{unit_of}
@@ -20,7 +21,7 @@ its_place : (layout : Layout) (cluster : ℕ) (place : Place) (u : Message) → 
 its_place layout cluster place u here of_kind is =
     let named : Some (place_in Grid u.header.op) ≡ Some place =
     ap (λ (k : Kind). named_elsewhere k u.header) (sym of_kind) ∙ ap (λ (z : Zone). named_place z u.header) (sym here) ∙ (own_is layout place.zone u.header place is.own).named in
-    subst (λ (p : Place). IsUnit layout cluster p u) (sym (some-eq named)) is
+    subst (λ (p : Place). IsUnit layout cluster p u) (sym (same_Some _ _ named)) is
 
 its_own : (layout : Layout) (h : Header) (body : List ℕ) (held : Option Holding) (unit : Holding) → held ≡ Some unit → HoldsMade layout h body held → IsSound Grid Block unit
     → IsUnit layout h.cluster (place_in Grid h.op) (unit_of h body)

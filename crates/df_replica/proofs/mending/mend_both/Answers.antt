@@ -1,8 +1,7 @@
 -- The header sectors, and the copies behind them.
-use Rattle.df_disk.proofs.Laws.{part_then}
+use Rattle.df_disk.proofs.Laws.{part_then, adds_then}
 use Rattle.df_superblock.specs.Events.{repair_events}
 use Rattle.df_replica.specs.Mending.{header_events, sectors_of}
-use Rattle.df_replica.proofs.MendEvents.{adds_then}
 use Rattle.df_replica.proofs.mending.mend_both.Goals as goal
 
 pub returns-in-Ok-clause-events : goal.returns-in-Ok-clause-events

@@ -21,7 +21,7 @@ returns-in-Ok-clause-scrubs g c = λ left t told whole.
     let opened : Outside = record { told = g.D.Disk.told c.open.new.disk; left = left; written = g.W.Sink.written c.tour.new.sink } in
     inr (inr (subst (λ (o : Option Told). ScrubsFile layout t old (record { told = o; left = left; written = g.W.Sink.written c.tour.new.sink }) status) (sym c.tour.ensures.same)
     (scrubs layout t old opened status c.in-Ok.replica told refl c.in-Ok.ensures.live
-    ((subst (λ (o : Option Told). TellsSurvey layout o (Ok c.in-Ok.replica)) told c.in-Ok.ensures.answer) whole) (c.in-Ok.ensures.opened t told) c.tour.ensures.tours)))
+    ((subst (λ (o : Option Told). TellsSurvey layout o (Ok c.in-Ok.replica)) told c.in-Ok.ensures.answer) whole) (c.in-Ok.ensures.opened t told) whole c.tour.ensures.tours)))
 
 pub returns-clause-scrubs : goal.returns-clause-scrubs
 returns-clause-scrubs g c = λ left t told whole.

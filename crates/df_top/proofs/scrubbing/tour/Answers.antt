@@ -1,5 +1,6 @@
 -- Each check lists what it found, and leaves less to be checked; at the end nothing is left.
 use Rattle.std.proofs.Common.{◌∙◌, Ok, Option, ap, refl, subst}
+use Rattle.df_base.proofs.Laws.{appends_none}
 use Rattle.df_disk.specs.Told.{Told}
 use Rattle.df_model.specs.declared.answers.Scrubbed.TheVariants.{Checked}
 use Rattle.df_replica.specs.Scrubbing.{IsScrub}
@@ -8,7 +9,6 @@ use Rattle.df_top.specs.Touring.{TakesStep}
 use Rattle.df_top.specs.declared.status.Status.{Status}
 use Rattle.df_top.specs.declared.turns.Turn.TheVariants.{Ends}
 use Rattle.df_top.proofs.Tours.{ends, ends_so, fewer, found_told, goes_on, same_on, starts, went_on}
-use Rattle.df_top.proofs.Written.{appends_none}
 use Rattle.df_top.proofs.scrubbing.tour.Goals as goal
 
 pub loop-status-init : goal.loop-status-init

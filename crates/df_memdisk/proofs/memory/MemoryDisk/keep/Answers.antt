@@ -4,11 +4,12 @@ use Rattle.std.specs.Prelude.{reverse}
 use Rattle.std.proofs.lemmas.List.{length-append}
 use Rattle.df_base.specs.Log.{AreEvents}
 use Rattle.df_disk.specs.Told.{IsHonest, did}
+use Rattle.df_disk.proofs.Laws.{honest_did}
 use Rattle.df_memdisk.specs.History.{event_of, events_of}
 use Rattle.df_memdisk.specs.State.{DiskState, IsDisk, told_by, told_of}
 use Rattle.df_memdisk.specs.declared.history.Happened.{Happened}
 use Rattle.df_memdisk.proofs.Past.{events_of-push}
-use Rattle.df_memdisk.proofs.Struck.{AreBehind-more, told-more, honest-did}
+use Rattle.df_memdisk.proofs.Struck.{AreBehind-more, told-more}
 use Rattle.df_memdisk.proofs.memory.MemoryDisk.keep.Goals as goal
 use Rattle.df_memdisk.proofs.memory.MemoryDisk.keep.Goals.{in-Ok, in-Err}
 
@@ -46,7 +47,7 @@ returns-clause-honest c =
     elim c.match-push.branch [
       | in-Ok w ↦
           (let now-told = rw w.result-is at told in
-          λ honest. subst IsHonest (sym now-told) (honest-did (event_of c.args.happened) (told_of c.args.self.now) honest))
+          λ honest. subst IsHonest (sym now-told) (honest_did (event_of c.args.happened) (told_of c.args.self.now) honest))
       | in-Err w ↦
           (let P : List Happened → Type 0 = λ hs. IsHonest (told_by (events_of hs) (reverse c.self.inside.strikes.items)) in
           let Q : DiskState → Type 0 = λ d. IsHonest (told_of d) in

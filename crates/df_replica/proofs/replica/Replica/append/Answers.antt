@@ -1,6 +1,5 @@
 -- What isn't refused may be the next prepare, and each call is the machine's.
-use Rattle.std.proofs.Common.{false, List, refl, sym, ap, ◌∙◌}
-use Rattle.df_format.specs.declared.header.Header.{Header}
+use Rattle.std.proofs.Common.{refl, sym, ap, ◌∙◌}
 use Rattle.df_state.specs.State.{State}
 use Rattle.df_replica.proofs.AppendAnswers.{fault_serves, receipt_serves, refusal_serves}
 use Rattle.df_replica.proofs.AppendTests.{may_next}
@@ -20,11 +19,4 @@ returns-in-Ok-clause-call g c =
 pub returns-in-Err-clause-call : goal.returns-in-Err-clause-call
 returns-in-Err-clause-call g c =
     fault_serves c.args.self.now c.args.client c.args.request c.args.body.now c.append_refusal.ensures.state c.requires.live c.ranges.client.fits c.append_refusal.ensures.table (sym (c.append_refusal.ensures.why c.args.body.now refl) ∙ c.in_default.is)
-    c.append_next.ensures.own _ (g.D.Disk.told c.args.disk.now) (g.D.Disk.told c.append_next.new.disk) refl c.in-Err.ensures.events
-
-pub returns-in-Err-clause-exact : goal.returns-in-Err-clause-exact
-returns-in-Err-clause-exact g c = (
-  sym (c.append_refusal.ensures.why c.args.body.now refl) ∙ c.in_default.is,
-  ap (λ (s : State). record s { live = false }) (c.self.view_is ∙ c.in-Err.ensures.kept) ∙ ap (λ (headers : List Header). record c.args.self.now { live = false; headers = headers }) (sym (ap (λ (s : State). s.headers) c.self.view_is)),
-  c.in-Err.ensures.events,
-)
+    c.append_next.ensures.own c.stop.new.self (g.D.Disk.told c.args.disk.now) (g.D.Disk.told c.append_next.new.disk) (ap (λ (s : State). s.live) c.stop.ensures) c.in-Err.ensures.events

@@ -1,26 +1,26 @@
 -- What the maker says obeys the rules of a block, with any body that fits.
-use Rattle.std.proofs.Common.{refl, arith, rules}
-use Rattle.df_base.proofs.Laws.{length-check_of, AreBytes-check_of}
-use Rattle.df_format.specs.Spelling.{no_checksum}
+use Rattle.std.proofs.Common.{sym, subst, arith, rules}
+use Rattle.df_format.specs.declared.header.Header.{Header}
+use Rattle.df_format.specs.declared.kind.Kind.TheVariants.{Block as AsBlock}
+use Rattle.df_format.specs.Making.{for_body}
+use Rattle.df_format.specs.Rules.{ObeysRules}
+use Rattle.df_format.proofs.Laws.{given_obeys}
+use Rattle.df_model.specs.Making.{next_address}
+use Rattle.df_state.specs.State.{memory}
+use Rattle.df_replica.specs.Blocks.{block_given}
 use Rattle.df_replica.proofs.replica.Replica.block_given.Goals as goal
 
+pub returns-clause-value : goal.returns-clause-value
+returns-clause-value c = search rules
+
 pub returns-clause-rules : goal.returns-clause-rules
-unfolding no_checksum
-returns-clause-rules c = record {
-  fits = record {
-    body = record { size = length-check_of c.args.body.now; each = AreBytes-check_of c.args.body.now };
-    cluster = c.self.invariant.0.cluster;
-    parent = search rules;
-    client = omega arith;
-    op = c.ranges.address.fits;
-    request = omega arith;
-    mark = omega arith;
-    checkpoint = omega arith;
-    size = omega (arith, c.requires.may.fits, c.args.self.now.file.layout.block_size_within.1);
-    slot = omega arith;
-    block_kind = c.ranges.kind.fits;
-  };
-  cluster = c.self.inside.file.named;
-  size = omega arith;
-  kind = record { parent = refl; client = refl; op = omega (arith, c.requires.may.free.inside.0, c.requires.address); request = refl; mark = refl; checkpoint = refl; slot = refl; block_kind = c.requires.may.named };
-}
+returns-clause-rules c =
+    let s = c.args.self.now in
+    subst (λ (h : Header). ObeysRules (for_body h c.args.body.now)) (sym (returns-clause-value c))
+    (given_obeys s.file.cluster (c.self.inside.file.named, c.self.invariant.0.cluster) (block_given s (next_address (memory s)) c.args.kind) c.args.body.now AsBlock (
+      record {
+        op = (omega (arith, c.requires.may.free.inside.0, c.requires.address), omega (arith, c.requires.address, c.ranges.address.fits));
+        block_kind = (c.requires.may.named, c.ranges.kind.fits);
+      },
+      omega (arith, c.requires.may.fits, s.file.layout.block_size_within.1),
+    ))

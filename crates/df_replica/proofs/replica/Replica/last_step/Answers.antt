@@ -1,5 +1,5 @@
 -- The step is the machine's.
-use Rattle.std.proofs.Common.{◌≡◌, ap, refl, subst}
+use Rattle.std.proofs.Common.{◌≡◌, ap, subst}
 use Rattle.df_format.specs.declared.superblock.SuperFields.{SuperFields}
 use Rattle.df_state.specs.State.{State}
 use Rattle.df_replica.specs.Stepping.{OfRunning, finished}
@@ -14,4 +14,4 @@ returns-in-Ok-clause-call g c =
 pub returns-in-Err-clause-call : goal.returns-in-Err-clause-call
 returns-in-Err-clause-call g c =
     error_serves c.args.self.now c.requires.state c.requires.live c.requires.may.done c.next_superblock-content.ensures.sum c.next_superblock-content.result c.next_superblock-content.ensures.fields c.write_superblock.ensures.steps
-    (g.D.Disk.told c.args.disk.now) (g.D.Disk.told c.write_superblock.new.disk) _ c.in-Err.error refl c.in-Err.ensures.made
+    (g.D.Disk.told c.args.disk.now) (g.D.Disk.told c.write_superblock.new.disk) c.stop.new.self c.in-Err.error (ap (λ (s : State). s.live) c.stop.ensures) c.in-Err.ensures.made

@@ -8,9 +8,10 @@ use Rattle.df_layout.specs.declared.layout.Layout.{Layout}
 use Rattle.df_state.specs.Captures.{capture_of}
 use Rattle.df_state.specs.State.{State}
 use Rattle.df_units.specs.Meaning.{number_of}
+use Rattle.df_units.proofs.Laws.{whole_check}
 use Rattle.df_replica.specs.contracts.replica.Replica.{the_view}
 use Rattle.df_replica.specs.Stepping.{MayFinish, fields_for, next_fields}
-use Rattle.df_replica.proofs.FinishState.{first_pair, no_fault, spelled_check}
+use Rattle.df_replica.proofs.FinishState.{first_pair, no_fault}
 use Rattle.df_replica.proofs.StepState.{of_running, taken_runs}
 use Rattle.df_replica.proofs.replica.Replica.next_fields.Goals as goal
 
@@ -22,7 +23,7 @@ returns-clause-fields c =
     let last = c.in-Some-trailer.last in
     let may = subst MayFinish (sym c.self.view_is) c.requires in
     let pair = first_pair i.grid.blocks.written i.grid.blocks.left last.address (number_of last.checksum) may.done (c.in-Some-trailer.ensures {u = tt}).pair in
-    let checksum : last.checksum ≡ spelled 16 (first_sum i.grid.blocks.written) = sym (spelled_check last.checksum c.fields_for.ensures.check) ∙ ap (spelled 16) (sym pair.1) in
+    let checksum : last.checksum ≡ spelled 16 (first_sum i.grid.blocks.written) = sym (whole_check last.checksum c.fields_for.ensures.check) ∙ ap (spelled 16) (sym pair.1) in
     of_running (λ x q. c.fields_for.result ≡ next_fields x q) s c.args.self.now i.running r c.in-Some.is refl c.self.view_is
     (c.fields_for.ensures.fields ∙ (λ k. fields_for i.file (capture_of r) i.head i.replies (sym pair.0 k) (checksum k)))
 
@@ -35,7 +36,7 @@ returns-clause-rules c =
     let may = subst MayFinish (sym c.self.view_is) c.requires in
     let pair = first_pair i.grid.blocks.written i.grid.blocks.left last.address (number_of last.checksum) may.done (c.in-Some-trailer.ensures {u = tt}).pair in
     let inside = (c.in-Some-trailer.ensures {u = tt}).inside in
-    let checksum : last.checksum ≡ spelled 16 (first_sum i.grid.blocks.written) = sym (spelled_check last.checksum c.fields_for.ensures.check) ∙ ap (spelled 16) (sym pair.1) in
+    let checksum : last.checksum ≡ spelled 16 (first_sum i.grid.blocks.written) = sym (whole_check last.checksum c.fields_for.ensures.check) ∙ ap (spelled 16) (sym pair.1) in
     let runs = taken_runs i.file i.content i.head i.grid.blocks i.running r c.in-Some.is c.self.invariant.0.course in
     let some : 1 ≤ first_address i.grid.blocks.written = omega (arith, inside.0, pair.0) in
     let within : first_address i.grid.blocks.written ≤ i.file.layout.blocks = omega (arith, inside.1, pair.0, ap (λ (l : Layout). l.blocks) c.self.invariant.2) in
@@ -49,4 +50,4 @@ returns-clause-sum c =
     let may = subst MayFinish (sym c.self.view_is) c.requires in
     let pair = first_pair i.grid.blocks.written i.grid.blocks.left last.address (number_of last.checksum) may.done (c.in-Some-trailer.ensures {u = tt}).pair in
     subst (λ (s : State). number_of (spelled 16 (first_sum s.blocks.written)) ≡ first_sum s.blocks.written) c.self.view_is
-    (ap (λ (n : ℕ). number_of (spelled 16 n)) pair.1 ∙ ap number_of (spelled_check last.checksum c.fields_for.ensures.check) ∙ sym pair.1)
+    (ap (λ (n : ℕ). number_of (spelled 16 n)) pair.1 ∙ ap number_of (whole_check last.checksum c.fields_for.ensures.check) ∙ sym pair.1)

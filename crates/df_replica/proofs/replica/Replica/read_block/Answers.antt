@@ -1,11 +1,12 @@
 -- What the room holds is what the machine reads.
-use Rattle.std.proofs.Common.{◌≡◌, ℕ, false, None, Some, refl, ap, subst}
+use Rattle.std.proofs.Common.{◌≡◌, ◌∙◌, ℕ, None, Some, refl, ap, subst}
 use Rattle.df_layout.specs.declared.layout.Layout.{Layout}
 use Rattle.df_model.specs.Blocks.{sum_at}
 use Rattle.df_model.specs.Refusals.{first_refusal, read_refusals}
 use Rattle.df_model.specs.declared.reading.ReadError.TheVariants as read
 use Rattle.df_grid.specs.Reads.{HoldsKnown, Loads}
 use Rattle.df_state.specs.State.{State, memory}
+use Rattle.df_replica.specs.Stopping.{stopped}
 use Rattle.df_replica.specs.contracts.replica.Replica.{the_view}
 use Rattle.df_replica.proofs.BlockReadCalls.{block_refused, block_stopped, is_live, lends_block, not_live, tells_block}
 use Rattle.df_replica.proofs.Lent.{lends_written_block}
@@ -27,13 +28,13 @@ returns-in-Err g c =
     let v = c.args.self.now in
     let none = subst (λ (s : State). first_refusal (read_refusals (memory s) c.args.address) ≡ None) c.self.view_is
     (is_live (the_view c.self.inside) c.args.address c.live.result c.is_none.result c.live.ensures c.is_none.ensures c.if-is_none.false) in (
-      (refl, (λ _. tt), ap (λ (s : State). record s { live = false }) c.self.view_is),
+      (refl, (λ _. tt), c.stop.ensures ∙ ap stopped c.self.view_is),
       record {
         after = tt;
         exact = none;
         lent = tt;
         written = tt;
-        call = block_stopped v c.args.address c.requires.live told (record v { live = false }) refl;
+        call = block_stopped v c.args.address c.requires.live told (stopped v) refl;
         same = c.load.ensures.same;
         cause = (c.in-Err.ensures.cause.later, c.in-Err.ensures.cause.failed);
       },

@@ -1,5 +1,5 @@
 -- What the room holds is what the machine reads.
-use Rattle.std.proofs.Common.{◌≡◌, List, Option, Some, None, true, false, refl, sym, ap, subst, ◌∙◌}
+use Rattle.std.proofs.Common.{◌≡◌, List, Option, Some, None, true, refl, sym, ap, subst, ◌∙◌}
 use Rattle.std.specs.Prelude.{Result, IfOk}
 use Rattle.df_base.specs.Causes.{HasCause}
 use Rattle.df_base.specs.declared.Failed.{Failed}
@@ -8,13 +8,16 @@ use Rattle.df_format.specs.declared.header.Header.{Header}
 use Rattle.df_format.specs.declared.kind.Kind.TheVariants.{Prepare}
 use Rattle.df_buffers.specs.Sounds.{Holding}
 use denote.Ref.{Bor}
+use Rattle.df_model.specs.Faults.{is_prepare_fault}
 use Rattle.df_model.specs.Refusals.{first_refusal, prepare_refusals}
 use Rattle.df_state.specs.State.{State, memory}
 use Rattle.df_replica.specs.Held.{headers_of}
 use Rattle.df_replica.specs.Reading.{IsLoaded, prepare_wanted}
+use Rattle.df_replica.specs.Stopping.{stopped}
 use Rattle.df_replica.specs.contracts.replica.Replica.{the_view}
 use Rattle.df_replica.proofs.Lent.{lends_written_prepare}
-use Rattle.df_replica.proofs.ReadCalls.{LendsAs, TellsOf, lends_as, prepare_stopped, refused_blames, refused_leaves, refused_reads, refused_serves, tells_of}
+use Rattle.df_replica.proofs.ReadCalls.{LendsAs, TellsOf, lends_as, prepare_stopped, refused_reads, refused_serves, tells_of}
+use Rattle.df_replica.proofs.Unblamed.{prepare_unblamed, refused_blames, refused_leaves}
 use Rattle.df_replica.proofs.replica.Replica.read_prepare.Goals as goal
 
 pub returns-in-Some : goal.returns-in-Some
@@ -22,8 +25,9 @@ returns-in-Some g c =
     let told = g.D.Disk.told c.args.disk.now in
     let some = subst (λ (s : State). first_refusal (prepare_refusals (memory s) c.args.op) ≡ Some c.in-Some.error) c.self.view_is (sym c.prepare_refusal.ensures.why ∙ c.in-Some.is) in
     let v = c.args.self.now in
-    let e = c.in-Some.error in (
-      (refl, (λ _. tt), c.self.view_is ∙ refused_leaves (Bor Holding) v c.args.op c.requires.live told e some),
+    let e = c.in-Some.error in
+    let no = prepare_unblamed (memory v) c.args.op e some in (
+      (refl, (λ _. tt), c.self.view_is ∙ refused_leaves is_prepare_fault e no v),
       record {
         after = tt;
         exact = refused_reads v c.args.op c.requires.live told e some;
@@ -31,7 +35,7 @@ returns-in-Some g c =
         written = tt;
         call = refused_serves (Bor Holding) v c.args.op c.requires.live told e some;
         same = refl;
-        cause = refused_blames (Bor Holding) v c.args.op c.requires.live told e some (g.D.Disk.faults c.args.disk.now);
+        cause = refused_blames is_prepare_fault e no (g.D.Disk.faults c.args.disk.now);
       },
     )
 
@@ -42,8 +46,8 @@ returns-in-Err g c =
     let none = subst (λ (s : State). first_refusal (prepare_refusals (memory s) c.args.op) ≡ None) c.self.view_is (sym c.prepare_refusal.ensures.why ∙ c.in_default.is) in
     let cause : HasCause (g.D.Disk.faults c.args.disk.now) (g.D.Disk.faults c.load_prepare-rooms.new.disk) c.load_prepare-rooms.result.1 = c.load_prepare-rooms.ensures.cause in
     let blames = subst (λ (r : Result (Option Class) Failed). HasCause (g.D.Disk.faults c.args.disk.now) (g.D.Disk.faults c.load_prepare-rooms.new.disk) r) c.in-Err.is cause in (
-      (refl, (λ _. tt), ap (λ (hs : List Header). record (the_view c.self.inside) { headers = hs; live = false }) headers ∙ ap (λ (s : State). record s { live = false }) c.self.view_is),
-      record { after = tt; exact = none; lent = tt; written = tt; call = prepare_stopped c.args.self.now c.args.op c.requires.live told (record c.args.self.now { live = false }) refl; same = c.load_prepare-rooms.ensures.same; cause = (blames.later, blames.failed) },
+      (refl, (λ _. tt), c.stop.ensures ∙ ap stopped (ap (λ (hs : List Header). record (the_view c.self.inside) { headers = hs }) headers ∙ c.self.view_is)),
+      record { after = tt; exact = none; lent = tt; written = tt; call = prepare_stopped c.args.self.now c.args.op c.requires.live told (stopped c.args.self.now) refl; same = c.load_prepare-rooms.ensures.same; cause = (blames.later, blames.failed) },
     )
 
 pub returns-in-Some-wrong : goal.returns-in-Some-wrong

@@ -1,5 +1,5 @@
 -- What the room holds is what the machine reads.
-use Rattle.std.proofs.Common.{◌≡◌, List, Option, Some, true, false, refl, sym, ap, subst, ◌∙◌}
+use Rattle.std.proofs.Common.{◌≡◌, List, Option, Some, true, refl, sym, ap, subst, ◌∙◌}
 use Rattle.std.specs.Prelude.{Result, IfOk}
 use Rattle.df_base.specs.Causes.{HasCause}
 use Rattle.df_base.specs.declared.Failed.{Failed}
@@ -9,13 +9,16 @@ use Rattle.df_format.specs.declared.header.Header.{Header}
 use Rattle.df_format.specs.declared.kind.Kind.TheVariants.{Reply}
 use Rattle.df_format.specs.Own.{place_in}
 use Rattle.df_buffers.specs.Sounds.{Holding}
+use Rattle.df_model.specs.Faults.{is_lookup_fault}
 use Rattle.df_model.specs.Refusals.{first_refusal, lookup_refusals}
 use Rattle.df_state.specs.State.{State, memory, reply_sum}
 use Rattle.df_replica.specs.Held.{headers_of}
 use Rattle.df_replica.specs.Lookups.{HoldsKnown, IsStoredFor, Tells, reply_shown}
+use Rattle.df_replica.specs.Stopping.{stopped}
 use Rattle.df_replica.specs.contracts.replica.Replica.{the_view}
 use Rattle.df_replica.proofs.Lent.{lends_written_reply}
-use Rattle.df_replica.proofs.LookupCalls.{LendsAs, TellsOf, lends_as, lookup_stopped, refused_blames, refused_leaves, refused_reads, refused_serves, tells_of}
+use Rattle.df_replica.proofs.LookupCalls.{LendsAs, TellsOf, lends_as, lookup_stopped, refused_reads, refused_serves, tells_of}
+use Rattle.df_replica.proofs.Unblamed.{lookup_unblamed, refused_blames, refused_leaves}
 use Rattle.df_replica.proofs.replica.Replica.read_reply.Goals as goal
 use denote.Ref.{Bor}
 
@@ -24,8 +27,9 @@ returns-in-Err g c =
     let told = g.D.Disk.told c.args.disk.now in
     let some : first_refusal (lookup_refusals (memory c.args.self.now) c.args.client) ≡ Some c.in-Err.error = subst (λ (s : State). first_refusal (lookup_refusals (memory s) c.args.client) ≡ Some c.in-Err.error) c.self.view_is c.in-Err.ensures.refused in
     let v = c.args.self.now in
-    let e = c.in-Err.error in (
-      (refl, (λ _. tt), c.self.view_is ∙ refused_leaves (Bor Holding) v c.args.client c.requires.live told e some),
+    let e = c.in-Err.error in
+    let no = lookup_unblamed (memory v) c.args.client e some in (
+      (refl, (λ _. tt), c.self.view_is ∙ refused_leaves is_lookup_fault e no v),
       record {
         after = tt;
         exact = refused_reads v c.args.client c.requires.live told e some;
@@ -33,7 +37,7 @@ returns-in-Err g c =
         written = tt;
         call = refused_serves (Bor Holding) v c.args.client c.requires.live told e some;
         same = refl;
-        cause = refused_blames (Bor Holding) v c.args.client c.requires.live told e some (g.D.Disk.faults c.args.disk.now);
+        cause = refused_blames is_lookup_fault e no (g.D.Disk.faults c.args.disk.now);
       },
     )
 
@@ -44,8 +48,8 @@ returns-in-Err-loaded g c =
     let for = subst (λ (s : State). IsStoredFor s c.args.client c.in-Ok.stored) c.self.view_is c.in-Ok.ensures.stored in
     let cause : HasCause (g.D.Disk.faults c.args.disk.now) (g.D.Disk.faults c.load_reply-rooms.new.disk) c.load_reply-rooms.result.1 = c.load_reply-rooms.ensures.cause in
     let blames = subst (λ (r : Result (Option Class) Failed). HasCause (g.D.Disk.faults c.args.disk.now) (g.D.Disk.faults c.load_reply-rooms.new.disk) r) c.in-Err-loaded.is cause in (
-      (refl, (λ _. tt), ap (λ (hs : List Header). record (the_view c.self.inside) { headers = hs; live = false }) headers ∙ ap (λ (s : State). record s { live = false }) c.self.view_is),
-      record { after = tt; exact = for.served; lent = tt; written = tt; call = lookup_stopped c.args.self.now c.args.client c.requires.live told (record c.args.self.now { live = false }) refl; same = c.load_reply-rooms.ensures.same; cause = (blames.later, blames.failed) },
+      (refl, (λ _. tt), c.stop.ensures ∙ ap stopped (ap (λ (hs : List Header). record (the_view c.self.inside) { headers = hs }) headers ∙ c.self.view_is)),
+      record { after = tt; exact = for.served; lent = tt; written = tt; call = lookup_stopped c.args.self.now c.args.client c.requires.live told (stopped c.args.self.now) refl; same = c.load_reply-rooms.ensures.same; cause = (blames.later, blames.failed) },
     )
 
 pub returns-in-Some-wrong : goal.returns-in-Some-wrong

@@ -1,5 +1,5 @@
 -- What isn't refused may be the next reply, and each call is the machine's.
-use Rattle.std.proofs.Common.{false, refl, sym, ap, ◌∙◌}
+use Rattle.std.proofs.Common.{refl, sym, ap, ◌∙◌}
 use Rattle.df_state.specs.State.{State}
 use Rattle.df_replica.proofs.ReplyAnswers.{fault_serves, refusal_serves, stored_serves}
 use Rattle.df_replica.proofs.ReplyTests.{may_reply}
@@ -19,11 +19,4 @@ returns-in-Ok-clause-call g c =
 pub returns-in-Err-clause-call : goal.returns-in-Err-clause-call
 returns-in-Err-clause-call g c =
     fault_serves c.args.self.now c.args.op c.args.body.now c.why_no_reply.ensures.state c.requires.live (sym (c.why_no_reply.ensures.why c.args.body.now refl) ∙ c.in_default.is)
-    c.reply_next.ensures.own _ (g.D.Disk.told c.args.disk.now) (g.D.Disk.told c.reply_next.new.disk) refl c.in-Err.ensures.events
-
-pub returns-in-Err-clause-exact : goal.returns-in-Err-clause-exact
-returns-in-Err-clause-exact g c = (
-  sym (c.why_no_reply.ensures.why c.args.body.now refl) ∙ c.in_default.is,
-  ap (λ (s : State). record s { live = false }) (c.self.view_is ∙ c.in-Err.ensures.kept),
-  c.in-Err.ensures.events,
-)
+    c.reply_next.ensures.own c.stop.new.self (g.D.Disk.told c.args.disk.now) (g.D.Disk.told c.reply_next.new.disk) (ap (λ (s : State). s.live) c.stop.ensures) c.in-Err.ensures.events

@@ -6,7 +6,7 @@ use Rattle.df_format.specs.declared.superblock.SuperFields.{SuperFields}
 use Rattle.df_format.specs.Making.{for_body}
 use Rattle.df_format.specs.Own.{own_place}
 use Rattle.df_format.specs.Rules.{ObeysRules}
-use Rattle.df_format.specs.Spelling.{IsCheck, no_checksum}
+use Rattle.df_format.specs.Spelling.{IsCheck}
 use Rattle.df_sessions.specs.Table.{IsTable}
 use Rattle.df_state.specs.State.{IsState, State}
 use Rattle.df_replica.specs.contracts.replica.Replica.{the_view}
@@ -26,11 +26,10 @@ overflow_cast-result c =
     omega (arith, c.place_of_op-place.ensures.place, place_small _ c.self.invariant.0 c.place_of_op-place.ensures.table waits)
 
 pub returns-clause-value : goal.returns-clause-value
-unfolding no_checksum
 returns-clause-value c =
     let s : State = the_view c.self.inside in
     let same : s ≡ c.args.self.now = c.self.view_is in
-    header_is s c.first_waiting-parent.result c.client_of-client.result c.place_of_op-place.result c.fields.result.now.sequence c.session_in-session.result c.client_of-client.ensures.value
+    header_is s c.of.result c.first_waiting-parent.result c.client_of-client.result c.place_of_op-place.result c.fields.result.now.sequence c.session_in-session.result c.of.ensures c.client_of-client.ensures.value
     (c.first_waiting-parent.ensures.value ∙ ap (λ (x : State). first_check x.waiting) (sym same)) c.place_of_op-place.ensures.place c.session_in-session.ensures (ap (λ (f : SuperFields). f.sequence) c.fields.ensures.value)
     ∙ ap (λ (x : State). reply_given x) same
 

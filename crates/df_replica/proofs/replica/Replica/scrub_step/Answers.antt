@@ -25,4 +25,4 @@ returns-in-Ok-clause-call g c =
     (subst (λ (x : State). ServesScrub s x told (Ok answer)) after (scrub_serves s live told answer scrub machines))
 
 pub returns-in-Err-clause-call : goal.returns-in-Err-clause-call
-returns-in-Err-clause-call g c = scrub_stopped c.args.self.now c.requires.live (g.D.Disk.told c.args.disk.now) _ c.in-Err.failed refl
+returns-in-Err-clause-call g c = scrub_stopped c.args.self.now c.requires.live (g.D.Disk.told c.args.disk.now) c.stop.new.self c.in-Err.failed (ap (λ (s : State). s.live) c.stop.ensures)

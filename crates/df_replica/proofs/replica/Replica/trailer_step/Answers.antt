@@ -1,5 +1,6 @@
 -- The step is the machine's.
-use Rattle.std.proofs.Common.{refl}
+use Rattle.std.proofs.Common.{ap}
+use Rattle.df_state.specs.State.{State}
 use Rattle.df_replica.proofs.BlockSteps.{block_fault_serves, block_serves}
 use Rattle.df_replica.proofs.replica.Replica.trailer_step.Goals as goal
 
@@ -11,4 +12,4 @@ returns-in-Ok-clause-call g c =
 pub returns-in-Err-clause-call : goal.returns-in-Err-clause-call
 returns-in-Err-clause-call g c =
     block_fault_serves c.args.self.now c.requires.state c.requires.live c.requires.may.some c.write_trailer_block.ensures.unit c.write_trailer_block.ensures.steps
-    _ (g.D.Disk.told c.args.disk.now) (g.D.Disk.told c.write_trailer_block.new.disk) refl c.in-Err.ensures.events
+    c.stop.new.self (g.D.Disk.told c.args.disk.now) (g.D.Disk.told c.write_trailer_block.new.disk) (ap (λ (s : State). s.live) c.stop.ensures) c.in-Err.ensures.events

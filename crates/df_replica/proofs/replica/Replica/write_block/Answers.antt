@@ -1,6 +1,7 @@
 -- What isn't refused may be written next, and each call is the machine's.
-use Rattle.std.proofs.Common.{refl, sym, ◌∙◌}
+use Rattle.std.proofs.Common.{refl, sym, ap, ◌∙◌}
 use Rattle.df_format.specs.declared.reference.Reference.{Reference}
+use Rattle.df_state.specs.State.{State}
 use Rattle.df_replica.proofs.BlockAnswers.{fault_serves, refusal_serves, written_serves}
 use Rattle.df_replica.proofs.BlockStates.{address_given, refusal_given}
 use Rattle.df_replica.proofs.replica.Replica.write_block.Goals as goal
@@ -20,4 +21,4 @@ returns-in-Ok-write_next_block-clause-call g c =
 pub returns-in-Err-write_next_block-clause-call : goal.returns-in-Err-write_next_block-clause-call
 returns-in-Err-write_next_block-clause-call g c =
     let here = address_given _ _ c.in-Ok.address (sym c.in-Ok.is ∙ c.address_for.ensures.why c.args.body.now refl) in
-    fault_serves c.args.self.now c.args.kind c.args.body.now c.requires.live here.0 c.write_next_block.ensures.made.own _ (g.D.Disk.told c.args.disk.now) (g.D.Disk.told c.write_next_block.new.disk) refl c.in-Err-write_next_block.ensures.events
+    fault_serves c.args.self.now c.args.kind c.args.body.now c.requires.live here.0 c.write_next_block.ensures.made.own c.stop.new.self (g.D.Disk.told c.args.disk.now) (g.D.Disk.told c.write_next_block.new.disk) (ap (λ (s : State). s.live) c.stop.ensures) c.in-Err-write_next_block.ensures.events

@@ -1,0 +1,106 @@
+// A step whose copies of the new superblock are lost: where fewer than three are read back as they were written it is damaged, its line
+// is the last one, and the run ends Refused. Nothing behind it is executed, and what was answered before is found again.
+use df_memdisk::{DroppingDisk, MemoryDisk};
+use df_runs::{Ran, Status, printed, run_script, run_words, small_file};
+use std::alloc::Global;
+use std::test::Fail;
+
+// The append writes its prepare and its header sector, the first step a block of the trailer: writes 1 to 3 of the run. The last step
+// writes the four copies of the superblock, 4 to 7.
+const SCRIPT: &str = "append 1 1 aa\ncheckpoint 0b\nstep\nstep\nreply 1 cc\nprepare 1\n";
+
+const FRONT: &str = "appended 1\nbegun 1\nworking 1\n";
+
+// What comes behind a step that is done.
+const BEHIND: &str = "done 2\nreplied 1\nrefused NotKept first 2 last 1\n";
+
+// The disk behind a run over it that loses these writes, and what the run answered.
+fn run_losing(
+    alloc: Global,
+    disk: MemoryDisk,
+    lost: &[u64],
+    script: &str,
+) -> Result<(MemoryDisk, Ran), Fail> {
+    let mut disk = DroppingDisk::new(disk, Vec::from_slice(alloc, lost)?);
+    let ran = run_script(alloc, &mut disk, script.as_bytes())?;
+    Ok((disk.into_disk(), ran))
+}
+
+// What the script printed, that front and this behind it.
+fn is_printed(alloc: Global, ran: &Ran, behind: &str) -> Result<bool, Fail> {
+    let text = format!(in alloc; "{FRONT}{behind}")?;
+    Ok(printed(ran, &text))
+}
+
+// Which writes are lost, what is printed behind the front, how the run ends, and the sequence and the checkpoint that the next open
+// chooses: the greatest content on which two copies agree.
+struct Row {
+    lost: &'static [u64],
+    behind: &'static str,
+    status: Status,
+    summary: &'static str,
+}
+
+const OLD: &str =
+    "cluster 7\nlayout 32 8192 4 16384 64\nsequence 1\ncheckpoint 0\nhead 1\nreplies 0\nsessions 1\nreferences 0\n";
+
+const NEW: &str =
+    "cluster 7\nlayout 32 8192 4 16384 64\nsequence 2\ncheckpoint 1\nhead 1\nreplies 0\nsessions 1\nreferences 0\n";
+
+const REPLIED: &str =
+    "cluster 7\nlayout 32 8192 4 16384 64\nsequence 2\ncheckpoint 1\nhead 1\nreplies 1\nsessions 1\nreferences 0\n";
+
+const ROWS: [Row; 4] = [
+    Row {
+        lost: &[5, 6],
+        behind: "refused Damaged Superblock 1 Stale\n",
+        status: Status::Refused,
+        summary: NEW,
+    },
+    Row {
+        lost: &[4, 7],
+        behind: "refused Damaged Superblock 0 Stale\n",
+        status: Status::Refused,
+        summary: NEW,
+    },
+    Row {
+        lost: &[4, 5, 6, 7],
+        behind: "refused Damaged Superblock 0 Stale\n",
+        status: Status::Refused,
+        summary: OLD,
+    },
+    Row {
+        lost: &[6],
+        behind: BEHIND,
+        status: Status::Done,
+        summary: REPLIED,
+    },
+];
+
+#[test]
+fn a_step_whose_copies_are_lost_ends_the_run(rt: HostRuntime) -> Result<(), Fail> {
+    for row in &ROWS {
+        let file = small_file(rt.alloc(), &[])?;
+        let (mut disk, ran) = run_losing(rt.alloc(), file, row.lost, SCRIPT)?;
+        assert_eq!(rt; ran.status, row.status);
+        let told = is_printed(rt.alloc(), &ran, row.behind)?;
+        assert!(rt; told, "{}", row.behind);
+        let recovered = run_words(rt.alloc(), &mut disk, &["recover"])?;
+        assert_eq!(rt; recovered.status, Status::Done);
+        assert!(rt; printed(&recovered, row.summary), "{}", row.behind);
+    }
+    Ok(())
+}
+
+// Before the last step of a run of 16 rounds come two writes of each append, one of each reply, one of each of four blocks, and the
+// trailer's block: 53. Its line is then the only one.
+#[test]
+fn a_generated_run_ends_at_a_step_that_is_damaged(rt: HostRuntime) -> Result<(), Fail> {
+    let lost: [u64; 2] = [55, 56];
+    let file = small_file(rt.alloc(), &[])?;
+    let mut disk = DroppingDisk::new(file, Vec::from_slice(rt.alloc(), &lost)?);
+    let ran = run_words(rt.alloc(), &mut disk, &["workload", "42", "16"])?;
+    assert_eq!(rt; ran.status, Status::Refused);
+    assert!(rt; printed(&ran, "refused Damaged Superblock 1 Stale\n"));
+    Ok(())
+}
