@@ -1,6 +1,6 @@
 -- What a call comes to for a session, by what it answered and by what was printed of it.
 use Rattle.std.proofs.Common.{◌≡◌, ℕ, Bool, true, false, List, [], ◌∷◌, Option, Some, None, inl, inr, refl, sym, ◌∙◌, ap, subst, Result, Ok, Err}
-use Rattle.df_base.specs.Causes.{Rose}
+use Rattle.df_base.specs.Causes.{Blamed, Rose}
 use Rattle.df_base.specs.Log.{Event}
 use Rattle.df_disk.specs.Told as told
 use Rattle.df_disk.specs.Told.{Told}
@@ -21,7 +21,6 @@ use Rattle.df_replica.specs.Opened.{ToldBy}
 use Rattle.df_replica.specs.Supply.{IsSupplied}
 use Rattle.df_script_model.specs.Script.{answer_text}
 use Rattle.df_script_model.specs.Texts.{damaged_text}
-use Rattle.df_top.specs.Bridge.{Blamed}
 use Rattle.df_top.specs.Calls.{LendsNothing, is_damaged, is_fault, machine_answer}
 use Rattle.df_top.specs.Lines.{commands_of, line_text}
 use Rattle.df_top.specs.Step.{Answers, EndsDamaged, IsAnswered, IsLineAnswered, IsLineDamaged, Makes, ServesLine}

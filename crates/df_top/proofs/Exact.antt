@@ -1,14 +1,14 @@
 -- What follows from a call that is exact: what the disk then tells, whether a checkpoint runs behind it, and what its answer is in the machine's words.
 use Rattle.std.proofs.Common.{◌≡◌, ℕ, Bool, List, [], Option, Some, None, refl, sym, ◌∙◌, ap, subst, Result, Ok, Err}
 use Rattle.df_base.specs.Log.{Event}
+use Rattle.df_base.specs.Causes.{Blamed, IsBlamed}
 use Rattle.df_disk.specs.Adds.{AddsPart, after_all}
 use Rattle.df_disk.specs.Told.{Told}
 use Rattle.df_format.specs.declared.reference.Reference.{Reference}
-use Rattle.df_top.specs.Faults.{is_append_fault, is_block_fault, is_reply_fault, is_step_fault}
 use Rattle.df_layout.specs.declared.damage.Class.{Class}
 use Rattle.df_layout.specs.declared.damage.Class.TheVariants.{Blank}
 use Rattle.df_layout.specs.declared.places.Place.{Place}
-use Rattle.df_model.specs.Commands.{Advance, Answer as Answered, Append, Begin, Command, Given, ReadBlock, ReadPrepare, ReadReply, Recent, Release, Reply, Scrub, WriteBlock}
+use Rattle.df_model.specs.Commands.{Advance, Append, Begin, Command, Given, ReadBlock, ReadPrepare, ReadReply, Recent, Release, Reply, Scrub, WriteBlock}
 use Rattle.df_model.specs.declared.answers.Progress.{Progress}
 use Rattle.df_model.specs.declared.answers.Progress.TheVariants.{Done, Working}
 use Rattle.df_model.specs.declared.answers.Receipt.{Receipt}
@@ -25,22 +25,21 @@ use Rattle.df_model.specs.declared.errors.ReplyError.{ReplyError}
 use Rattle.df_model.specs.declared.errors.ReplyError.TheVariants as reply
 use Rattle.df_model.specs.declared.errors.StepError.{StepError}
 use Rattle.df_model.specs.declared.errors.StepError.TheVariants as step
-use Rattle.df_replica.specs.Answering.{Serves, append_answer, begin_answer, release_answer, reply_answer, step_answer, write_block_answer}
-use Rattle.df_replica.specs.Appending.{IsAppend, IsBlamed as BlamesAppend, append_events, next_unit}
+use Rattle.df_replica.specs.Answering.{Serves, begin_answer, release_answer}
+use Rattle.df_replica.specs.Appending.{IsAppend, append_events, next_unit}
 use Rattle.df_replica.specs.Beginning.{IsBegin}
 use Rattle.df_replica.specs.Below.{Capture, State as Replica}
-use Rattle.df_replica.specs.Blocks.{BlamesWriteBlock, IsRelease, IsWriteBlock, block_events, next_block}
+use Rattle.df_replica.specs.Blocks.{IsRelease, IsWriteBlock, block_events, next_block}
 use Rattle.df_replica.specs.Opened.{ToldBy}
-use Rattle.df_replica.specs.Replying.{BlamesReply, IsReply, next_reply, reply_events}
-use Rattle.df_replica.specs.Stepping.{BlamesStep, IsStep, OfRunning, Tells, block_events as piece_events, last_events, made_by, step_events}
+use Rattle.df_replica.specs.Replying.{IsReply, next_reply, reply_events}
+use Rattle.df_replica.specs.Stepping.{IsStep, OfRunning, Tells, block_events as piece_events, last_events, made_by, step_events}
 use Rattle.df_script_model.specs.Texts.{damaged_text}
 use Rattle.df_units.specs.Meaning.{number_of}
-use Rattle.df_top.specs.Bridge.{Blamed, IsBlamed}
+use Rattle.df_model.specs.Faults.{is_append_fault, is_block_fault, is_reply_fault, is_step_fault}
 use Rattle.df_top.specs.Calls.{IsExact, LendsNothing, blames, is_fault, machine_answer}
 use Rattle.df_top.specs.Session.{IsDamaged}
 use Rattle.df_top.specs.Step.{Makes}
 use Rattle.df_top.proofs.Answered.{made, part_told}
-use Rattle.df_top.proofs.Bridged.{append_blamed, append_in, reply_blamed, reply_in, step_blamed, step_in, write_blamed, write_in}
 
 -- ---- a running checkpoint
 
@@ -124,43 +123,43 @@ cause_of is_fault before now (Ok x) is = is
 cause_of is_fault before now (Err e) is = is
 
 module _ (s t : Replica) (old new : Option Told) (before now : ℕ) where
-  pub append_called : (client request : ℕ) (body : List ℕ) (r : Result Receipt AppendError) → IsAppend client request body s t old new r → Serves (Append client request body) s t old new (append_answer r) → BlamesAppend before now r
+  pub append_called : (client request : ℕ) (body : List ℕ) (r : Result Receipt AppendError) → IsAppend client request body s t old new r → Serves (Append client request body) s t old new (machine_answer (answers.Append r)) → IsBlamed is_append_fault before now r
       → Called (Append client request body) s t old new before now (answers.Append r)
   append_called client request body r is serves blamed = record {
     exact = (r, refl, is);
     makes =
         made (Append client request body) (supply (number_of (next_unit s client request body).header.checksum)) s t old new (machine_answer (answers.Append r)) refl
-        (subst (λ (x : Option Answered). Serves (Append client request body) s t old new x) (append_in r) serves) (append_moves s t old new client request body r is).0;
-    cause = cause_of is_append_fault before now r (append_blamed before now r blamed);
+        serves (append_moves s t old new client request body r is).0;
+    cause = cause_of is_append_fault before now r blamed;
   }
 
-  pub reply_called : (op : ℕ) (body : List ℕ) (r : Result (List ℕ) ReplyError) → IsReply op body s t old new r → Serves (Reply op body) s t old new (reply_answer r) → BlamesReply before now r
+  pub reply_called : (op : ℕ) (body : List ℕ) (r : Result (List ℕ) ReplyError) → IsReply op body s t old new r → Serves (Reply op body) s t old new (machine_answer (answers.Reply r)) → IsBlamed is_reply_fault before now r
       → Called (Reply op body) s t old new before now (answers.Reply r)
   reply_called op body r is serves blamed = record {
     exact = (r, refl, is);
     makes =
         made (Reply op body) (supply (number_of (next_reply s body).header.checksum)) s t old new (machine_answer (answers.Reply r)) refl
-        (subst (λ (x : Option Answered). Serves (Reply op body) s t old new x) (reply_in r) serves) (reply_moves s t old new op body r is).0;
-    cause = cause_of is_reply_fault before now r (reply_blamed before now r blamed);
+        serves (reply_moves s t old new op body r is).0;
+    cause = cause_of is_reply_fault before now r blamed;
   }
 
-  pub write_called : (kind : ℕ) (body : List ℕ) (r : Result Reference BlockError) → IsWriteBlock kind body s t old new r → Serves (WriteBlock kind body) s t old new (write_block_answer r) → BlamesWriteBlock before now r
+  pub write_called : (kind : ℕ) (body : List ℕ) (r : Result Reference BlockError) → IsWriteBlock kind body s t old new r → Serves (WriteBlock kind body) s t old new (machine_answer (answers.WriteBlock r)) → IsBlamed is_block_fault before now r
       → Called (WriteBlock kind body) s t old new before now (answers.WriteBlock r)
   write_called kind body r is serves blamed = record {
     exact = (r, refl, is);
     makes =
         made (WriteBlock kind body) (supply (number_of (next_block s kind body).header.checksum)) s t old new (machine_answer (answers.WriteBlock r)) refl
-        (subst (λ (x : Option Answered). Serves (WriteBlock kind body) s t old new x) (write_in r) serves) (write_moves s t old new kind body r is).0;
-    cause = cause_of is_block_fault before now r (write_blamed before now r blamed);
+        serves (write_moves s t old new kind body r is).0;
+    cause = cause_of is_block_fault before now r blamed;
   }
 
-  pub step_called : (r : Result Progress StepError) → IsStep s t old new r → Serves Advance s t old new (step_answer r) → BlamesStep {T = Progress} before now r → Called Advance s t old new before now (answers.Advance r)
+  pub step_called : (r : Result Progress StepError) → IsStep s t old new r → Serves Advance s t old new (machine_answer (answers.Advance r)) → IsBlamed is_step_fault before now r → Called Advance s t old new before now (answers.Advance r)
   step_called r is serves blamed = record {
     exact = (r, refl, is);
     makes =
-        made Advance (supply (made_by s s.running)) s t old new (machine_answer (answers.Advance r)) refl (subst (λ (x : Option Answered). Serves Advance s t old new x) (step_in r) serves)
+        made Advance (supply (made_by s s.running)) s t old new (machine_answer (answers.Advance r)) refl serves
         (step_told s t old new r is);
-    cause = cause_of is_step_fault before now r (step_blamed before now r blamed);
+    cause = cause_of is_step_fault before now r blamed;
   }
 
 -- those that touch no disk

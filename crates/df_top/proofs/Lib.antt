@@ -6,7 +6,6 @@ mod Progress
 mod LineEnds
 mod InWords
 mod Answered
-mod Bridged
 mod Exact
 mod BlockReadTurns
 mod ScrubTurns

@@ -1,5 +1,6 @@
 -- What each call of a generated run comes to, by what the run hears of its answer.
 use Rattle.std.proofs.Common.{◌≡◌, ◌<◌, ℕ, Bool, true, false, List, [], ◌∷◌, length, Option, Some, None, if◌then◌else◌, refl, sym, ◌∙◌, ap, subst, Result, Ok, Err, arith}
+use Rattle.df_base.specs.Causes.{Blamed, IsBlamed}
 use Rattle.df_disk.specs.Told.{Told}
 use Rattle.df_format.specs.declared.reference.Reference.{Reference}
 use Rattle.df_layout.specs.declared.damage.Class.{Class}
@@ -21,11 +22,10 @@ use Rattle.df_script_model.specs.Texts.{damaged_text}
 use Rattle.df_workload.specs.Hearing.{outcome_of}
 use Rattle.df_workload.specs.declared.outcome.Outcome.{Outcome}
 use Rattle.df_workload.specs.declared.outcome.Outcome.TheVariants.{Refused, Accepted, Wrote, Finished}
-use Rattle.df_top.specs.Bridge.{Blamed}
 use Rattle.df_top.specs.Calls.{IsExact, is_damaged, is_fault, machine_answer}
 use Rattle.df_top.specs.Session.{IsDamaged}
 use Rattle.df_top.specs.Step.{Makes}
-use Rattle.df_top.specs.Works.{BlamesFault, IsRunning, MakesTo, RunsOn, StepsOn, heard, outcome_in}
+use Rattle.df_top.specs.Works.{IsRunning, MakesTo, RunsOn, StepsOn, heard, is_disk, outcome_in}
 use Rattle.df_top.specs.declared.works.Fault.{Fault}
 use Rattle.df_top.specs.declared.works.Fault.TheVariants.{Damaged, Disk}
 use Rattle.df_top.proofs.Exact.{append_moves, exact_damaged, exact_lends, on_running, reply_moves, write_moves}
@@ -35,7 +35,7 @@ use Rattle.df_top.proofs.InWords.{InWords, in_words}
 
 -- the call was made and this much was heard of it, and who is to blame
 abbrev Heard : Command → (s t : Replica) → (old new : Option Told) → (before now : ℕ) → Result Outcome Fault → Type 0
-Heard command s t old new before now r = MakesTo command s t old new r × BlamesFault before now r
+Heard command s t old new before now r = MakesTo command s t old new r × IsBlamed is_disk before now r
 
 module _ (command : Command) (s t : Replica) (old new : Option Told) (before now : ℕ) (a : Answer) (makes : Makes command s t old new (machine_answer a))
     (damaged : (place : Place) (class : Class) → a ≡ answers.Advance (Err (step.Damaged place class)) → IsDamaged command new (damaged_text place class)) where
@@ -44,7 +44,7 @@ module _ (command : Command) (s t : Replica) (old new : Option Told) (before now
 
   heard_as : (fault damages : Bool) → is_fault a ≡ fault → InWords fault damages command a → Blamed fault before now → Heard command s t old new before now (heard a)
   heard_as true damages is none blamed =
-      subst (λ (r : Result Outcome Fault). Heard command s t old new before now r) (sym (unless_fault true is)) (subst (λ (x : Option Answered). Makes command s t old new x) none makes, blamed.1)
+      subst (λ (r : Result Outcome Fault). Heard command s t old new before now r) (sym (unless_fault true is)) (subst (λ (x : Option Answered). Makes command s t old new x) none makes, blamed)
   heard_as false true is found same =
       subst (λ (r : Result Outcome Fault). Heard command s t old new before now r) (sym (unless_fault false is ∙ ap outcome_in found.2))
       ((subst (λ (x : Option Answered). Makes command s t old new x) found.3 makes, damaged found.0 found.1 found.2), same)
@@ -130,7 +130,7 @@ pub record Call (command : Command) (s t : Replica) (old new : Option Told) (bef
   pub makes : MakesTo command s t old new result
   pub runs : RunsOn command s t result
   pub steps : command ≡ Advance → StepsOn s t result
-  pub disk : BlamesFault before now result
+  pub disk : IsBlamed is_disk before now result
 
 module _ (s t : Replica) (old new : Option Told) (a : Answer) where
   exact_on : (command : Command) → IsExact command s t old new a → RunsOn command s t (heard a)

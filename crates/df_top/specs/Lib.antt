@@ -6,8 +6,6 @@ pub mod Lines
 pub mod Resulting
 pub mod Session
 pub mod Step
-pub mod Faults
-pub mod Bridge
 pub mod Calls
 pub mod Turning
 pub mod Refusing

@@ -1,6 +1,5 @@
 -- What a generated run does to a replica: its commands are the generator's, each is one call, and the run hears of each answer.
-use Rattle.std.specs.Prelude.{◌≡◌, ◌<◌, ◌+◌, ℕ, Bool, true, if◌then◌else◌, List, [], length, map, Option, Some, None, Result, Ok, Err}
-use Rattle.df_base.specs.Causes.{Rose}
+use Rattle.std.specs.Prelude.{◌≡◌, ◌<◌, ◌+◌, ℕ, Bool, true, false, if◌then◌else◌, List, [], length, map, Option, Some, None, Result, Ok, Err}
 use Rattle.df_base.specs.Streams.{Appends, AppendsPart}
 use Rattle.df_disk.specs.Told.{Told}
 use Rattle.df_inspect.specs.Reports.{workload_text}
@@ -39,10 +38,10 @@ MakesTo command s t old new (Ok outcome) = (x : Answered) × Makes command s t o
 MakesTo command s t old new (Err Disk) = Makes command s t old new None
 MakesTo command s t old new (Err (Damaged place class)) = Makes command s t old new None × IsDamaged command new (damaged_text place class)
 
--- the disk is blamed where its count rose
-abbrev pub BlamesFault : {T : Type 0} → (before now : ℕ) → Result T Fault → Type 0
-BlamesFault before now (Err Disk) = Rose before now
-BlamesFault before now result = now ≡ before
+-- the disk failed
+abbrev pub is_disk : Fault → Bool
+is_disk Disk = true
+is_disk (Damaged place class) = false
 
 -- what a run hears of an answer, where the disk didn't fail
 abbrev pub outcome_in : Answer → Result Outcome Fault

@@ -1,7 +1,7 @@
 // The one call that a command asks for, and what it answers.
 ghost use Rattle.std.specs.Prelude.{◌≡◌, true};
+ghost use Rattle.df_base.specs.Causes.{Blamed};
 ghost use Rattle.df_inspect.specs.Answers.{command_of};
-ghost use Rattle.df_top.specs.Bridge.{Blamed};
 ghost use Rattle.df_top.specs.Calls.{HasAnswer, IsExact, is_fault, machine_answer};
 ghost use Rattle.df_top.specs.Step.{Makes};
 

@@ -5,11 +5,10 @@ ghost use Rattle.df_top.specs.Calls.{HasAnswer, blames, is_damaged, is_fault};
 ghost use Rattle.df_top.specs.Step.{Answers};
 ghost use Rattle.df_top.specs.Turning.{BlamesIfEnds, Tells, last_turn, printed_turn};
 
-use crate::blame::BlamesDisk;
 use crate::calls::call;
 use crate::status::Status;
 use crate::turns::Turn;
-use df_base::{Failed, Sink};
+use df_base::{BlamesDisk, Failed, Sink};
 use df_disk::Disk;
 use df_inspect::print_answer;
 use df_model::{Answer, Command, StepError};

@@ -1,10 +1,11 @@
 // The commands of a generated run: each is one call of the replica, and what the run hears of its answer.
 ghost use Rattle.std.specs.Prelude.{◌≡◌, true, None, Some};
+ghost use Rattle.df_base.specs.Causes.{IsBlamed};
 ghost use Rattle.df_model.specs.Commands.{Advance, Command as Asks};
 ghost use Rattle.df_inspect.specs.Answers.{command_of};
 ghost use Rattle.df_workload.specs.Asking.{asks};
 ghost use Rattle.df_top.specs.Calls.{HasAnswer};
-ghost use Rattle.df_top.specs.Works.{BlamesFault, MakesTo, RunsOn, StepsOn, heard, outcome_in};
+ghost use Rattle.df_top.specs.Works.{MakesTo, RunsOn, StepsOn, heard, is_disk, outcome_in};
 
 use crate::calls::call;
 use crate::telling::is_fault;
@@ -76,7 +77,7 @@ pub(crate) fn carry_out<D: Disk>(
     ensures makes { MakesTo (command_of command.entry) replica.old replica.new (D.told disk.old) (D.told disk.new) result }
     ensures runs { RunsOn (command_of command.entry) replica.old replica.new result }
     ensures steps { command_of command.entry ≡ Advance → StepsOn replica.old replica.new result }
-    ensures disk { BlamesFault (D.faults disk.old) (D.faults disk.new) result }
+    ensures disk { IsBlamed is_disk (D.faults disk.old) (D.faults disk.new) result }
 {
     let answer = call(disk, replica, command);
     hear(&answer)
@@ -92,7 +93,7 @@ pub(crate) fn make<D: Disk>(
     requires asks { asks generator.now ≡ None → ⊥ }
     ensures makes { (c : Asks) → asks generator.now ≡ Some c → MakesTo c replica.old replica.new (D.told disk.old) (D.told disk.new) result }
     ensures runs { (c : Asks) → asks generator.now ≡ Some c → RunsOn c replica.old replica.new result }
-    ensures disk { BlamesFault (D.faults disk.old) (D.faults disk.new) result }
+    ensures disk { IsBlamed is_disk (D.faults disk.old) (D.faults disk.new) result }
 {
     match generator.asks() {
         Some(Asked::Append { client, request }) => {

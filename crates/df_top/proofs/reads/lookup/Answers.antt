@@ -3,7 +3,8 @@ use Rattle.std.proofs.Common.{◌≡◌, ap, subst, sym, ◌∙◌}
 use Rattle.std.specs.Prelude.{codes}
 use Rattle.df_replica.specs.Below.{State as Replica}
 use Rattle.df_model.specs.Commands.{ReadReply}
-use Rattle.df_replica.specs.Lookups.{reply_leaves}
+use Rattle.df_model.specs.Faults.{is_lookup_fault}
+use Rattle.df_replica.specs.Stopping.{left_by}
 use Rattle.df_top.specs.Step.{Answers}
 use Rattle.df_top.proofs.ReadTurns.{reply_ends, reply_shown, shown_turn}
 use Rattle.df_top.proofs.reads.lookup.Goals as goal
@@ -12,7 +13,7 @@ pub returns-in-Ok-clause-answers : goal.returns-in-Ok-clause-answers
 returns-in-Ok-clause-answers g c =
     let s : Replica = c.args.replica.now in
     let t : Replica = c.read_reply.follows.lender-at-none in
-    let same : t ≡ s = c.read_reply.follows.holds-at-none ∙ ap (reply_leaves s) c.in-Ok.is in
+    let same : t ≡ s = c.read_reply.follows.holds-at-none ∙ ap (left_by is_lookup_fault s) c.in-Ok.is in
     subst (λ (r : Replica). Answers (ReadReply c.args.client) s r (g.D.Disk.told c.args.disk.now) (g.D.Disk.told c.read_reply.new.disk) (g.W.Sink.written c.args.sink.now) (g.W.Sink.written c.print_reply.new.sink) c.printed.result) (sym same)
     (reply_shown s s (g.D.Disk.told c.args.disk.now) (g.D.Disk.told c.read_reply.new.disk) c.in-Ok.ensures.same (g.W.Sink.written c.args.sink.now) (g.W.Sink.written c.print_reply.new.sink)
     (g.D.Disk.faults c.args.disk.now) (g.D.Disk.faults c.read_reply.new.disk) c.printed.result c.args.client _ c.in-Ok.ensures.call c.in-Ok.ensures.cause

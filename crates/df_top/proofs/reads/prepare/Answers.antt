@@ -3,7 +3,8 @@ use Rattle.std.proofs.Common.{◌≡◌, ap, subst, sym, ◌∙◌}
 use Rattle.std.specs.Prelude.{codes}
 use Rattle.df_replica.specs.Below.{State as Replica}
 use Rattle.df_model.specs.Commands.{ReadPrepare}
-use Rattle.df_replica.specs.Reading.{prepare_leaves}
+use Rattle.df_model.specs.Faults.{is_prepare_fault}
+use Rattle.df_replica.specs.Stopping.{left_by}
 use Rattle.df_top.specs.Step.{Answers}
 use Rattle.df_top.proofs.ReadTurns.{prepare_ends, prepare_shown, shown_turn}
 use Rattle.df_top.proofs.reads.prepare.Goals as goal
@@ -12,7 +13,7 @@ pub returns-in-Ok-clause-answers : goal.returns-in-Ok-clause-answers
 returns-in-Ok-clause-answers g c =
     let s : Replica = c.args.replica.now in
     let t : Replica = c.read_prepare.follows.lender-at-none in
-    let same : t ≡ s = c.read_prepare.follows.holds-at-none ∙ ap (prepare_leaves s) c.in-Ok.is in
+    let same : t ≡ s = c.read_prepare.follows.holds-at-none ∙ ap (left_by is_prepare_fault s) c.in-Ok.is in
     subst (λ (r : Replica). Answers (ReadPrepare c.args.op) s r (g.D.Disk.told c.args.disk.now) (g.D.Disk.told c.read_prepare.new.disk) (g.W.Sink.written c.args.sink.now) (g.W.Sink.written c.print_prepare.new.sink) c.printed.result) (sym same)
     (prepare_shown s s (g.D.Disk.told c.args.disk.now) (g.D.Disk.told c.read_prepare.new.disk) c.in-Ok.ensures.same (g.W.Sink.written c.args.sink.now) (g.W.Sink.written c.print_prepare.new.sink)
     (g.D.Disk.faults c.args.disk.now) (g.D.Disk.faults c.read_prepare.new.disk) c.printed.result c.args.op _ c.in-Ok.ensures.call c.in-Ok.ensures.cause

@@ -2,7 +2,8 @@
 use Rattle.std.proofs.Common.{◌≡◌, ap, subst, sym, ◌∙◌}
 use Rattle.df_replica.specs.Below.{State as Replica}
 use Rattle.df_model.specs.Commands.{ReadBlock}
-use Rattle.df_replica.specs.BlockReads.{block_leaves}
+use Rattle.df_model.specs.Faults.{is_read_fault}
+use Rattle.df_replica.specs.Stopping.{left_by}
 use Rattle.df_top.specs.Step.{Answers}
 use Rattle.df_top.proofs.BlockReadTurns.{block_ends, block_shown, shown_turn}
 use Rattle.df_top.proofs.reads.read_block.Goals as goal
@@ -11,7 +12,7 @@ pub returns-in-Ok-clause-answers : goal.returns-in-Ok-clause-answers
 returns-in-Ok-clause-answers g c =
     let s : Replica = c.args.replica.now in
     let t : Replica = c.read_block.follows.lender-at-none in
-    let same : t ≡ s = c.read_block.follows.holds-at-none ∙ ap (block_leaves s) c.in-Ok.is in
+    let same : t ≡ s = c.read_block.follows.holds-at-none ∙ ap (left_by is_read_fault s) c.in-Ok.is in
     subst (λ (r : Replica). Answers (ReadBlock c.args.address) s r (g.D.Disk.told c.args.disk.now) (g.D.Disk.told c.read_block.new.disk) (g.W.Sink.written c.args.sink.now) (g.W.Sink.written c.print_block.new.sink) c.printed.result) (sym same)
     (block_shown c.args.address s s (g.D.Disk.told c.args.disk.now) (g.D.Disk.told c.read_block.new.disk) c.in-Ok.ensures.same (g.W.Sink.written c.args.sink.now) (g.W.Sink.written c.print_block.new.sink)
     (g.D.Disk.faults c.args.disk.now) (g.D.Disk.faults c.read_block.new.disk) c.printed.result _ c.in-Ok.ensures.call c.in-Ok.ensures.cause
