@@ -1,59 +1,18 @@
-// The answers of the commands on blocks and checkpoints, and the line that shows a block.
-ghost use Rattle.std.specs.Prelude.{◌≡◌, ◌≤◌, ◌+◌, ◌++◌, length, codes};
+// The line that shows a block, and those of the scrubber.
+ghost use Rattle.std.specs.Prelude.{◌≡◌, ◌≤◌, ◌+◌, ◌++◌, length};
 ghost use Rattle.df_base.specs.Causes.{HasCause};
 ghost use Rattle.df_model.specs.declared.answers.Scrubbed.TheVariants as scrubs;
-ghost use Rattle.df_script_model.specs.Texts.{line_of, numbered, progress_text, scrubbed_text, verdict_text};
+ghost use Rattle.df_script_model.specs.Texts.{scrubbed_text, verdict_text};
 ghost use Rattle.df_inspect.specs.Messages.{block_front, shown_block};
 ghost use Rattle.df_inspect.specs.Prints.{Prints};
 
-use crate::line::{Line, number_line, put, put_field, put_number, put_numbered, write_line};
+use crate::line::{Line, put, put_field, put_number, put_numbered, write_line};
 use crate::messages::print_body;
 use crate::names::put_class;
 use arrayvec::ArrayVec;
 use df_base::{Failed, Sink};
 use df_format::Header;
-use df_model::{Progress, Scrubbed, Verdict};
-
-/// `wrote ADDRESS`: where a block was written.
-pub fn print_wrote<W: Sink>(sink: &mut W, address: u64) -> Result<(), Failed>
-    ensures prints { Prints (line_of (numbered (codes "wrote") address)) (W.written sink.old) (W.written sink.new) result }
-    ensures cause { HasCause (W.faults sink.old) (W.faults sink.new) result }
-{
-    write_line(sink, &number_line("wrote", u128::from(address)))
-}
-
-/// `released ADDRESS`: the block that is live no longer.
-pub fn print_released<W: Sink>(sink: &mut W, address: u64) -> Result<(), Failed>
-    ensures prints { Prints (line_of (numbered (codes "released") address)) (W.written sink.old) (W.written sink.new) result }
-    ensures cause { HasCause (W.faults sink.old) (W.faults sink.new) result }
-{
-    write_line(sink, &number_line("released", u128::from(address)))
-}
-
-/// `begun BLOCKS`: how many trailer blocks the checkpoint that was begun has.
-pub fn print_begun<W: Sink>(sink: &mut W, blocks: u64) -> Result<(), Failed>
-    ensures prints { Prints (line_of (numbered (codes "begun") blocks)) (W.written sink.old) (W.written sink.new) result }
-    ensures cause { HasCause (W.faults sink.old) (W.faults sink.new) result }
-{
-    write_line(sink, &number_line("begun", u128::from(blocks)))
-}
-
-/// `working LEFT` or `done SEQUENCE`: how far the running checkpoint came.
-pub fn print_progress<W: Sink>(sink: &mut W, progress: Progress) -> Result<(), Failed>
-    ensures prints { Prints (progress_text progress) (W.written sink.old) (W.written sink.new) result }
-    ensures cause { HasCause (W.faults sink.old) (W.faults sink.new) result }
-{
-    write_line(sink, &progress_line(progress))
-}
-
-fn progress_line(progress: Progress) -> Line
-    ensures { result.items ≡ progress_text progress }
-{
-    match progress {
-        Progress::Working { left } => number_line("working", u128::from(left)),
-        Progress::Done { sequence } => number_line("done", u128::from(sequence)),
-    }
-}
+use df_model::{Scrubbed, Verdict};
 
 /// `block ADDRESS kind KIND body BODY`: a block that was read at this address.
 pub fn print_block<W: Sink>(
@@ -81,14 +40,7 @@ fn block_line(address: u64, header: &Header) -> Line
 }
 
 /// `checked ADDRESS Sound`, `checked ADDRESS CLASS` or `tour CHECKED FAILING`: how far the scrubber came.
-pub fn print_scrubbed<W: Sink>(sink: &mut W, scrubbed: Scrubbed) -> Result<(), Failed>
-    ensures prints { Prints (scrubbed_text scrubbed) (W.written sink.old) (W.written sink.new) result }
-    ensures cause { HasCause (W.faults sink.old) (W.faults sink.new) result }
-{
-    write_line(sink, &scrubbed_line(scrubbed))
-}
-
-fn scrubbed_line(scrubbed: Scrubbed) -> Line
+pub(crate) fn scrubbed_line(scrubbed: Scrubbed) -> Line
     ensures { result.items ≡ scrubbed_text scrubbed }
 {
     match scrubbed {

@@ -1,5 +1,5 @@
 // A line in the making, in a buffer of its own and without taking memory, and its one call of the sink.
-ghost use Rattle.std.specs.Prelude.{◌≡◌, ◌≤◌, ◌+◌, [], ◌++◌, length, decimal, IsOk};
+ghost use Rattle.std.specs.Prelude.{◌≡◌, ◌≤◌, ◌+◌, ◌++◌, length, decimal};
 ghost use Rattle.df_base.specs.Causes.{HasCause};
 ghost use Rattle.df_script_model.specs.Texts.{line_of, numbered, spaced};
 ghost use Rattle.df_inspect.specs.Prints.{Prints};
@@ -100,14 +100,10 @@ pub(crate) fn two_numbers_line(words: &str, number: u128, word: &str, other: u12
     line
 }
 
-/// Writes a line by one call of the sink; where it is empty by none.
+/// Writes a line by one call of the sink.
 pub(crate) fn write_line<W: Sink>(sink: &mut W, line: &Line) -> Result<(), Failed>
     ensures prints { Prints line.now.items (W.written sink.old) (W.written sink.new) result }
-    ensures silent { line.now.items ≡ [] → IsOk result × (sink.new ≡ sink.old) }
     ensures cause { HasCause (W.faults sink.old) (W.faults sink.new) result }
 {
-    if line.is_empty() {
-        return Ok(());
-    }
     sink.write(line.as_slice())
 }

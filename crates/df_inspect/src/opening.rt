@@ -1,10 +1,9 @@
-// The lines that say why a file isn't made or opened. A failing disk has no line.
-ghost use Rattle.std.specs.Prelude.{◌≡◌, ◌≤◌, ◌+◌, ◌++◌, length, decimal, IsOk};
+// The lines that say that a file was made, why one isn't made or opened, and which line of a script is none. A failing disk has no line.
+ghost use Rattle.std.specs.Prelude.{◌≡◌, ◌≤◌, ◌+◌, ◌++◌, length, decimal};
 ghost use Rattle.df_base.specs.Causes.{HasCause};
-ghost use Rattle.df_model.specs.declared.errors.FormatError.TheVariants as formats;
 ghost use Rattle.df_model.specs.declared.errors.OpenError.TheVariants as opens;
 ghost use Rattle.df_script_model.specs.Texts.{spaced};
-ghost use Rattle.df_inspect.specs.Opening.{format_refusal, layout_text, open_refusal};
+ghost use Rattle.df_inspect.specs.Opening.{format_refusal, formatted_text, layout_text, open_refusal, script_text};
 ghost use Rattle.df_inspect.specs.Prints.{Prints};
 
 use crate::line::{Line, number_line, put, put_number, put_numbered, text_line, write_line};
@@ -14,10 +13,25 @@ use df_base::{Failed, Sink};
 use df_layout::{Class, Field, Layout};
 use df_model::{FormatError, OpenError};
 
+/// `formatted SECTORS`: the size of the file that was made, in sectors.
+pub fn print_formatted<W: Sink>(sink: &mut W, sectors: u64) -> Result<(), Failed>
+    ensures prints { Prints (formatted_text sectors) (W.written sink.old) (W.written sink.new) result }
+    ensures cause { HasCause (W.faults sink.old) (W.faults sink.new) result }
+{
+    write_line(sink, &number_line("formatted", u128::from(sectors)))
+}
+
+/// `script LINE`: the line of a script, counted from 1, that is none, is too long, or is past the budget.
+pub fn print_script<W: Sink>(sink: &mut W, line: u64) -> Result<(), Failed>
+    ensures prints { Prints (script_text line) (W.written sink.old) (W.written sink.new) result }
+    ensures cause { HasCause (W.faults sink.old) (W.faults sink.new) result }
+{
+    write_line(sink, &number_line("script", u128::from(line)))
+}
+
 /// Why a file isn't made.
 pub fn print_format_refusal<W: Sink>(sink: &mut W, error: FormatError) -> Result<(), Failed>
     ensures prints { Prints (format_refusal error) (W.written sink.old) (W.written sink.new) result }
-    ensures silent { error ≡ formats.DiskFault → IsOk result × (sink.new ≡ sink.old) }
     ensures cause { HasCause (W.faults sink.old) (W.faults sink.new) result }
 {
     write_line(sink, &format_line(error))
@@ -36,7 +50,6 @@ fn format_line(error: FormatError) -> Line
 /// Why a file isn't opened.
 pub fn print_open_refusal<W: Sink>(sink: &mut W, error: &OpenError) -> Result<(), Failed>
     ensures prints { Prints (open_refusal error.now) (W.written sink.old) (W.written sink.new) result }
-    ensures silent { error.now ≡ opens.DiskFault → IsOk result × (sink.new ≡ sink.old) }
     ensures cause { HasCause (W.faults sink.old) (W.faults sink.new) result }
 {
     write_line(sink, &open_line(error))

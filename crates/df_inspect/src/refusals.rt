@@ -1,28 +1,17 @@
 // The lines that say why a command is refused: the name of the cause and its numbers. A failing disk has no line.
-ghost use Rattle.std.specs.Prelude.{◌≡◌, IsOk};
-ghost use Rattle.df_base.specs.Causes.{HasCause};
+ghost use Rattle.std.specs.Prelude.{◌≡◌};
 ghost use Rattle.df_model.specs.declared.errors.AppendError.TheVariants as append;
-ghost use Rattle.df_model.specs.declared.errors.ReplyError.TheVariants as reply;
-ghost use Rattle.df_model.specs.declared.reading.LookupError.TheVariants as lookup;
-ghost use Rattle.df_model.specs.declared.reading.PrepareError.TheVariants as prepare;
-ghost use Rattle.df_script_model.specs.Texts.{append_refusal, lookup_refusal, prepare_refusal, reply_refusal};
-ghost use Rattle.df_inspect.specs.Prints.{Prints};
+ghost use Rattle.df_script_model.specs.Texts.{append_refusal, begin_refusal, block_refusal, lookup_refusal, prepare_refusal, read_refusal, reply_refusal, step_refusal};
 
-use crate::line::{Line, number_line, text_line, two_numbers_line, write_line};
+use crate::line::{Line, number_line, text_line, two_numbers_line};
 use crate::names::damaged_line;
-use df_base::{Failed, Sink};
-use df_model::{AppendError, LookupError, PrepareError, ReplyError};
+use df_model::{
+    AppendError, BeginError, BlockError, LookupError, PrepareError, ReadError, ReplyError,
+    StepError,
+};
 
 /// Why a prepare isn't appended.
-pub fn print_append_refusal<W: Sink>(sink: &mut W, error: AppendError) -> Result<(), Failed>
-    ensures prints { Prints (append_refusal error) (W.written sink.old) (W.written sink.new) result }
-    ensures silent { error ≡ append.DiskFault → IsOk result × (sink.new ≡ sink.old) }
-    ensures cause { HasCause (W.faults sink.old) (W.faults sink.new) result }
-{
-    write_line(sink, &append_line(error))
-}
-
-fn append_line(error: AppendError) -> Line
+pub(crate) fn append_refusal(error: AppendError) -> Line
     ensures { result.items ≡ append_refusal error }
 {
     match error {
@@ -56,15 +45,7 @@ fn wal_full_line(op: u64, checkpoint_op: u64) -> Line
 }
 
 /// Why a reply isn't stored.
-pub fn print_reply_refusal<W: Sink>(sink: &mut W, error: ReplyError) -> Result<(), Failed>
-    ensures prints { Prints (reply_refusal error) (W.written sink.old) (W.written sink.new) result }
-    ensures silent { error ≡ reply.DiskFault → IsOk result × (sink.new ≡ sink.old) }
-    ensures cause { HasCause (W.faults sink.old) (W.faults sink.new) result }
-{
-    write_line(sink, &reply_line(error))
-}
-
-fn reply_line(error: ReplyError) -> Line
+pub(crate) fn reply_refusal(error: ReplyError) -> Line
     ensures { result.items ≡ reply_refusal error }
 {
     match error {
@@ -79,16 +60,50 @@ fn reply_line(error: ReplyError) -> Line
     }
 }
 
-/// Why a prepare isn't read.
-pub fn print_prepare_refusal<W: Sink>(sink: &mut W, error: PrepareError) -> Result<(), Failed>
-    ensures prints { Prints (prepare_refusal error) (W.written sink.old) (W.written sink.new) result }
-    ensures silent { error ≡ prepare.DiskFault → IsOk result × (sink.new ≡ sink.old) }
-    ensures cause { HasCause (W.faults sink.old) (W.faults sink.new) result }
+/// Why a block isn't written.
+pub(crate) fn block_refusal(error: BlockError) -> Line
+    ensures { result.items ≡ block_refusal error }
 {
-    write_line(sink, &prepare_line(error))
+    match error {
+        BlockError::KindZero => text_line("refused KindZero\n"),
+        BlockError::BodyTooLong { max } => number_line("refused BodyTooLong max", u128::from(max)),
+        BlockError::GridFull { blocks } => {
+            number_line("refused GridFull blocks", u128::from(blocks))
+        }
+        BlockError::DiskFault => text_line(""),
+    }
 }
 
-fn prepare_line(error: PrepareError) -> Line
+/// Why a checkpoint isn't begun.
+pub(crate) fn begin_refusal(error: BeginError) -> Line
+    ensures { result.items ≡ begin_refusal error }
+{
+    match error {
+        BeginError::Running { left } => number_line("refused Running left", u128::from(left)),
+        BeginError::RootTooLong { max } => number_line("refused RootTooLong max", u128::from(max)),
+        BeginError::GridFull { needed, free } => two_numbers_line(
+            "refused GridFull needed",
+            u128::from(needed),
+            "free",
+            u128::from(free),
+        ),
+        BeginError::SequenceSpent => text_line("refused SequenceSpent\n"),
+    }
+}
+
+/// Why a step of a checkpoint isn't done.
+pub(crate) fn step_refusal(error: StepError) -> Line
+    ensures { result.items ≡ step_refusal error }
+{
+    match error {
+        StepError::NotRunning => text_line("refused NotRunning\n"),
+        StepError::Damaged { place, class } => damaged_line(place, class),
+        StepError::DiskFault => text_line(""),
+    }
+}
+
+/// Why a prepare isn't read.
+pub(crate) fn prepare_refusal(error: PrepareError) -> Line
     ensures { result.items ≡ prepare_refusal error }
 {
     match error {
@@ -104,15 +119,7 @@ fn prepare_line(error: PrepareError) -> Line
 }
 
 /// Why a client's reply isn't read.
-pub fn print_lookup_refusal<W: Sink>(sink: &mut W, error: LookupError) -> Result<(), Failed>
-    ensures prints { Prints (lookup_refusal error) (W.written sink.old) (W.written sink.new) result }
-    ensures silent { error ≡ lookup.DiskFault → IsOk result × (sink.new ≡ sink.old) }
-    ensures cause { HasCause (W.faults sink.old) (W.faults sink.new) result }
-{
-    write_line(sink, &lookup_line(error))
-}
-
-fn lookup_line(error: LookupError) -> Line
+pub(crate) fn lookup_refusal(error: LookupError) -> Line
     ensures { result.items ≡ lookup_refusal error }
 {
     match error {
@@ -120,5 +127,16 @@ fn lookup_line(error: LookupError) -> Line
         LookupError::ReplyPending { op } => number_line("refused ReplyPending op", u128::from(op)),
         LookupError::Damaged { place, class } => damaged_line(place, class),
         LookupError::DiskFault => text_line(""),
+    }
+}
+
+/// Why a block isn't read.
+pub(crate) fn read_refusal(error: ReadError) -> Line
+    ensures { result.items ≡ read_refusal error }
+{
+    match error {
+        ReadError::NotLive => text_line("refused NotLive\n"),
+        ReadError::Damaged { place, class } => damaged_line(place, class),
+        ReadError::DiskFault => text_line(""),
     }
 }

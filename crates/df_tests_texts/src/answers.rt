@@ -2,20 +2,29 @@
 use crate::printed::{expect, header, new_sink};
 use df_base::{Failed, MemorySink, Sink};
 use df_format::Kind;
-use df_inspect::{
-    print_append_refusal, print_appended, print_format_refusal, print_formatted,
-    print_lookup_refusal, print_open_refusal, print_prepare, print_prepare_refusal, print_replied,
-    print_reply, print_reply_refusal, print_script,
-};
+use df_inspect::{print_answer, print_formatted, print_prepare, print_reply, print_script};
 use df_layout::{Class, Place, Zone};
-use df_model::{AppendError, FormatError, LookupError, OpenError, PrepareError, ReplyError};
+use df_model::{Answer, AppendError, Command, LookupError, PrepareError, Receipt, ReplyError};
 use std::test::Fail;
+
+const APPEND: Command = Command::Append {
+    client: 5,
+    request: 1,
+    body: b"",
+};
+
+const REPLY: Command = Command::Reply { op: 10, body: b"" };
+
+fn print_appended(sink: &mut MemorySink, op: u64) -> Result<(), Failed> {
+    let checksum = [1; 16];
+    print_answer(sink, &APPEND, &Answer::Append(Ok(Receipt { op, checksum })))
+}
 
 fn print_numbers(sink: &mut MemorySink) -> Result<(), Failed> {
     for op in &[1, u64::MAX] {
         print_appended(sink, *op)?;
     }
-    print_replied(sink, 10)?;
+    print_answer(sink, &REPLY, &Answer::Reply(Ok([1; 16])))?;
     for sectors in &[336, 2_375_808] {
         print_formatted(sink, *sectors)?;
     }
@@ -54,7 +63,7 @@ const APPEND_ERRORS: [AppendError; 10] = [
 
 fn print_append_refusals(sink: &mut MemorySink, errors: &[AppendError]) -> Result<(), Failed> {
     for error in errors {
-        print_append_refusal(sink, *error)?;
+        print_answer(sink, &APPEND, &Answer::Append(Err(*error)))?;
     }
     Ok(())
 }
@@ -85,7 +94,7 @@ const REPLY_ERRORS: [ReplyError; 4] = [
 
 fn print_reply_refusals(sink: &mut MemorySink, errors: &[ReplyError]) -> Result<(), Failed> {
     for error in errors {
-        print_reply_refusal(sink, *error)?;
+        print_answer(sink, &REPLY, &Answer::Reply(Err(*error)))?;
     }
     Ok(())
 }
@@ -101,16 +110,20 @@ fn a_refused_reply_says_why(rt: HostRuntime) {
     expect(&rt, done, &sink, REPLY_REFUSALS);
 }
 
+const READ: Command = Command::ReadPrepare { op: 3 };
+
+const LOOKUP: Command = Command::ReadReply { client: 5 };
+
 fn print_prepare_refusals(sink: &mut MemorySink, errors: &[PrepareError]) -> Result<(), Failed> {
     for error in errors {
-        print_prepare_refusal(sink, *error)?;
+        print_answer(sink, &READ, &Answer::ReadPrepare(Err(*error)))?;
     }
     Ok(())
 }
 
 fn print_lookup_refusals(sink: &mut MemorySink, errors: &[LookupError]) -> Result<(), Failed> {
     for error in errors {
-        print_lookup_refusal(sink, *error)?;
+        print_answer(sink, &LOOKUP, &Answer::ReadReply(Err(*error)))?;
     }
     Ok(())
 }
@@ -221,25 +234,5 @@ fn a_failing_sink_has_a_front_of_the_line(rt: HostRuntime) -> Result<(), Fail> {
         assert_eq!(rt; printed, Err(Failed));
         assert_eq!(rt; sink.bytes(), front.as_bytes());
     }
-    Ok(())
-}
-
-// Each refusal of the log that is the disk's failure.
-fn print_disk_faults(sink: &mut MemorySink) -> Result<(), Failed> {
-    print_append_refusals(sink, &[AppendError::DiskFault])?;
-    print_reply_refusals(sink, &[ReplyError::DiskFault])?;
-    print_prepare_refusals(sink, &[PrepareError::DiskFault])?;
-    print_lookup_refusals(sink, &[LookupError::DiskFault])?;
-    print_open_refusal(sink, &OpenError::DiskFault)?;
-    print_format_refusal(sink, FormatError::DiskFault)
-}
-
-#[test]
-fn a_failing_disk_asks_nothing_of_the_sink(rt: HostRuntime) -> Result<(), Fail> {
-    let alloc = rt.alloc();
-    let mut sink = MemorySink::new(alloc, Vec::from_slice(alloc, &[1])?);
-    let done = print_disk_faults(&mut sink);
-    expect(&rt, done, &sink, "");
-    assert_eq!(rt; sink.write(b"now"), Err(Failed));
     Ok(())
 }

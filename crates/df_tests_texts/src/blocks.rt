@@ -1,27 +1,39 @@
 // The printed lines of the commands on blocks and checkpoints, as the worked sessions give them.
 use crate::printed::{expect, header, new_sink};
-use df_base::{Failed, MemorySink, Sink};
+use df_base::{Failed, MemorySink};
 use df_format::Kind;
-use df_inspect::{
-    print_begin_refusal, print_begun, print_block, print_block_refusal, print_not_live,
-    print_progress, print_read_refusal, print_released, print_scrubbed, print_step_refusal,
-    print_wrote,
-};
+use df_inspect::{print_answer, print_block};
 use df_layout::{Class, Place, Zone};
-use df_model::{BeginError, BlockError, Progress, ReadError, Scrubbed, StepError, Verdict};
-use std::test::Fail;
+use df_model::{
+    Answer, BeginError, BlockError, Command, NotLive, Progress, ReadError, Reference, Scrubbed,
+    StepError, Verdict,
+};
 
 const PROGRESS: [Progress; 2] = [
     Progress::Working { left: 1 },
     Progress::Done { sequence: 2 },
 ];
 
+const WRITE: Command = Command::WriteBlock { kind: 1, body: b"" };
+
+const RELEASE: Command = Command::Release { address: 16_384 };
+
+const BEGIN: Command = Command::Begin { root: b"" };
+
+const READ: Command = Command::ReadBlock { address: 4 };
+
+fn print_wrote(sink: &mut MemorySink, address: u64) -> Result<(), Failed> {
+    let checksum = [1; 16];
+    let reference = Reference { address, checksum };
+    print_answer(sink, &WRITE, &Answer::WriteBlock(Ok(reference)))
+}
+
 fn print_numbers(sink: &mut MemorySink) -> Result<(), Failed> {
     print_wrote(sink, 1)?;
-    print_released(sink, 16_384)?;
-    print_begun(sink, 1)?;
+    print_answer(sink, &RELEASE, &Answer::Release(Ok(())))?;
+    print_answer(sink, &BEGIN, &Answer::Begin(Ok(1)))?;
     for progress in &PROGRESS {
-        print_progress(sink, *progress)?;
+        print_answer(sink, &Command::Advance, &Answer::Advance(Ok(*progress)))?;
     }
     Ok(())
 }
@@ -37,28 +49,28 @@ fn answers_on_blocks_are_a_word_and_a_number(rt: HostRuntime) {
 
 fn print_block_refusals(sink: &mut MemorySink, errors: &[BlockError]) -> Result<(), Failed> {
     for error in errors {
-        print_block_refusal(sink, *error)?;
+        print_answer(sink, &WRITE, &Answer::WriteBlock(Err(*error)))?;
     }
     Ok(())
 }
 
 fn print_begin_refusals(sink: &mut MemorySink, errors: &[BeginError]) -> Result<(), Failed> {
     for error in errors {
-        print_begin_refusal(sink, *error)?;
+        print_answer(sink, &BEGIN, &Answer::Begin(Err(*error)))?;
     }
     Ok(())
 }
 
 fn print_step_refusals(sink: &mut MemorySink, errors: &[StepError]) -> Result<(), Failed> {
     for error in errors {
-        print_step_refusal(sink, *error)?;
+        print_answer(sink, &Command::Advance, &Answer::Advance(Err(*error)))?;
     }
     Ok(())
 }
 
 fn print_read_refusals(sink: &mut MemorySink, errors: &[ReadError]) -> Result<(), Failed> {
     for error in errors {
-        print_read_refusal(sink, *error)?;
+        print_answer(sink, &READ, &Answer::ReadBlock(Err(*error)))?;
     }
     Ok(())
 }
@@ -99,7 +111,7 @@ const READ_ERRORS: [ReadError; 2] = [
 
 fn print_refusals(sink: &mut MemorySink) -> Result<(), Failed> {
     print_block_refusals(sink, &BLOCK_ERRORS)?;
-    print_not_live(sink)?;
+    print_answer(sink, &RELEASE, &Answer::Release(Err(NotLive)))?;
     print_begin_refusals(sink, &BEGIN_ERRORS)?;
     print_step_refusals(sink, &STEP_ERRORS)?;
     print_read_refusals(sink, &READ_ERRORS)
@@ -154,7 +166,7 @@ const SCRUBBED: [Scrubbed; 3] = [
 
 fn print_checks(sink: &mut MemorySink) -> Result<(), Failed> {
     for scrubbed in &SCRUBBED {
-        print_scrubbed(sink, *scrubbed)?;
+        print_answer(sink, &Command::Scrub, &Answer::Scrub(*scrubbed))?;
     }
     Ok(())
 }
@@ -175,21 +187,4 @@ fn blocks_and_checks_are_shown(rt: HostRuntime) {
     let mut sink = new_sink(rt.alloc());
     let done = print_blocks_and_checks(&mut sink);
     expect(&rt, done, &sink, BLOCKS);
-}
-
-// Each refusal of the grid that is the disk's failure.
-fn print_disk_faults(sink: &mut MemorySink) -> Result<(), Failed> {
-    print_block_refusals(sink, &[BlockError::DiskFault])?;
-    print_step_refusals(sink, &[StepError::DiskFault])?;
-    print_read_refusals(sink, &[ReadError::DiskFault])
-}
-
-#[test]
-fn a_failing_disk_under_the_grid_asks_nothing_of_the_sink(rt: HostRuntime) -> Result<(), Fail> {
-    let alloc = rt.alloc();
-    let mut sink = MemorySink::new(alloc, Vec::from_slice(alloc, &[1])?);
-    let done = print_disk_faults(&mut sink);
-    expect(&rt, done, &sink, "");
-    assert_eq!(rt; sink.write(b"now"), Err(Failed));
-    Ok(())
 }

@@ -1,25 +1,34 @@
 -- What a call comes to for a session, by what it answered and by what was printed of it.
-use Rattle.std.proofs.Common.{◌≡◌, ℕ, List, [], ◌∷◌, Option, Some, None, inl, inr, refl, sym, ◌∙◌, ap, subst, Result, Ok, Err}
-use Rattle.df_base.specs.Causes.{Rose}
+use Rattle.std.proofs.Common.{◌≡◌, ℕ, Bool, true, false, List, [], ◌∷◌, Option, Some, None, inl, inr, refl, sym, ◌∙◌, ap, subst, Result, Ok, Err}
+use Rattle.df_base.specs.Causes.{Blamed, Rose}
 use Rattle.df_base.specs.Log.{Event}
 use Rattle.df_disk.specs.Told as told
 use Rattle.df_disk.specs.Told.{Told}
 use Rattle.df_disk.specs.Adds.{AddsPart}
 use Rattle.df_base.specs.Streams.{Appends, AppendsPart}
+use Rattle.df_inspect.specs.Answers.{text_of}
 use Rattle.df_inspect.specs.Prints.{Prints}
 use Rattle.df_lines.specs.Grammar.{Said}
+use Rattle.df_layout.specs.declared.damage.Class.{Class}
+use Rattle.df_layout.specs.declared.places.Place.{Place}
 use Rattle.df_model.specs.Commands.{Answer, Command, Given}
+use Rattle.df_model.specs.declared.commands.Answer.{Answer as Called}
+use Rattle.df_model.specs.declared.commands.Answer.TheVariants as answers
+use Rattle.df_model.specs.declared.errors.StepError.TheVariants as step
 use Rattle.df_replica.specs.Below.{State as Replica}
 use Rattle.df_replica.specs.Answering.{Serves}
 use Rattle.df_replica.specs.Opened.{ToldBy}
 use Rattle.df_replica.specs.Supply.{IsSupplied}
 use Rattle.df_script_model.specs.Script.{answer_text}
+use Rattle.df_script_model.specs.Texts.{damaged_text}
+use Rattle.df_top.specs.Calls.{LendsNothing, is_damaged, is_fault, machine_answer}
 use Rattle.df_top.specs.Lines.{commands_of, line_text}
 use Rattle.df_top.specs.Step.{Answers, EndsDamaged, IsAnswered, IsLineAnswered, IsLineDamaged, Makes, ServesLine}
 use Rattle.df_top.specs.Session.{IsDamaged}
-use Rattle.df_top.specs.Turning.{BlamesIfEnds, IsLastPrinted, IsPrinted, last_turn, printed_turn}
+use Rattle.df_top.specs.Turning.{BlamesIfEnds, IsLastPrinted, IsPrinted, Tells, TellsAs, last_turn, printed_turn}
 use Rattle.df_top.specs.declared.turns.Turn.{Turn}
 use Rattle.df_top.specs.declared.turns.Turn.TheVariants.{GoesOn, Ends}
+use Rattle.df_top.proofs.InWords.{InWords, in_words}
 use Rattle.df_top.specs.declared.status.Status.TheVariants.{Done, Found, Words, Script, Refused, DiskFault, ReadFault, WriteFault, Memory}
 
 -- ---- what is printed
@@ -111,6 +120,20 @@ module _ (command : Command) (s t : Replica) (old new : Option Told) (written to
     damaged_is command s t old new written took line makes damaged turn printed,
     disk_same before now turn same (last_not_fault line written took turn printed),
   )
+
+  -- its answer was told
+  module _ (a : Called) (makes : Makes command s t old new (machine_answer a)) (lends : LendsNothing a)
+      (damaged : (place : Place) (class : Class) → a ≡ answers.Advance (Err (step.Damaged place class)) → IsDamaged command new (damaged_text place class)) where
+    comes_as : (fault damages : Bool) → InWords fault damages command a → Blamed fault before now → TellsAs fault damages (text_of command a) written took turn → Comes
+    comes_as true damages none blamed tells = comes_failed (subst (λ (x : Option Answer). Makes command s t old new x) none makes) tells blamed.1
+    comes_as false true found same tells =
+        comes_damaged (text_of command a) (subst (λ (x : Option Answer). Makes command s t old new x) found.3 makes)
+        (subst (λ (x : Called). IsDamaged command new (text_of command x)) (sym found.2) (damaged found.0 found.1 found.2)) same tells
+    comes_as false false found same tells =
+        comes_answered found.0 (subst (λ (x : Option Answer). Makes command s t old new x) found.1 makes) same (subst (λ (l : List ℕ). IsPrinted l written took turn) found.2 tells)
+
+    pub comes_told : Blamed (is_fault a) before now → Tells command a written took turn → Comes
+    comes_told blamed tells = comes_as (is_fault a) (is_damaged a) (in_words command a lends) blamed tells
 
 -- ---- the one call of a line
 

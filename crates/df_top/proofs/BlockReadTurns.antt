@@ -1,5 +1,6 @@
 -- A read of a block, and what is printed of it.
 use Rattle.std.proofs.Common.{◌≡◌, ℕ, List, [], Option, Some, None, refl, sym, ◌∙◌, ap, subst, Result, Ok, Err}
+use Rattle.df_base.specs.Causes.{IsBlamed}
 use Rattle.df_disk.specs.Told.{Told}
 use Rattle.df_layout.specs.declared.damage.Class.{Class}
 use Rattle.df_layout.specs.declared.damage.Class.TheVariants.{Blank}
@@ -10,18 +11,21 @@ use Rattle.df_inspect.specs.Prints.{Prints}
 use Rattle.df_theory.specs.Units.{Block}
 use Rattle.df_units.specs.Meaning.{block_of}
 use Rattle.df_model.specs.Commands.{Answer, Given, ReadBlock, ToReadBlock}
+use Rattle.df_model.specs.declared.commands.Answer.TheVariants as answers
 use Rattle.df_model.specs.declared.answers.Verdict.TheVariants.{Sound}
 use Rattle.df_model.specs.declared.reading.ReadError.{ReadError}
 use Rattle.df_model.specs.declared.reading.ReadError.TheVariants as read
+use Rattle.df_model.specs.Faults.{is_read_fault}
 use Rattle.df_replica.specs.Below.{State as Replica}
-use Rattle.df_replica.specs.Answering.{GivesBlock, ServesBlockRead, read_block_answer}
-use Rattle.df_replica.specs.BlockReads.{BlamesRead, IsBlockFound, block_found, block_leaves, what_block}
+use Rattle.df_replica.specs.Answering.{GivesBlock, ServesBlockRead, answer_of}
+use Rattle.df_replica.specs.BlockReads.{IsBlockFound, block_found, what_block}
 use Rattle.df_replica.specs.Serving.{IsCall}
-use Rattle.df_script_model.specs.Texts.{block_text, read_refusal}
+use Rattle.df_replica.specs.Stopping.{left_by}
+use Rattle.df_script_model.specs.Texts.{block_text}
 use Rattle.df_top.specs.Step.{Answers, Makes}
-use Rattle.df_top.specs.Turning.{IsPrinted, TellsRefusal, printed_turn}
+use Rattle.df_top.specs.Turning.{IsPrinted, Tells, printed_turn}
 use Rattle.df_top.specs.declared.turns.Turn.{Turn}
-use Rattle.df_top.proofs.Answered.{Comes, comes_answered, comes_failed, prints_turn}
+use Rattle.df_top.proofs.Answered.{Comes, comes_answered, comes_told, prints_turn}
 
 -- ---- what a read is rightly supplied with
 
@@ -68,20 +72,21 @@ module _ (address : ℕ) (s t : Replica) (old new : Option Told) (same : new ≡
     abbrev Reads : Type 0
     Reads = Comes (ReadBlock address) s t old new written took before now turn
 
-    pub block_shown : (b : Block) → ServesBlockRead (ReadBlock address) s t old (what_block (Ok b)) (read_block_answer (Ok b)) → now ≡ before → IsPrinted (block_text address b) written took turn → Reads
+    pub block_shown : (b : Block) → ServesBlockRead (ReadBlock address) s t old (what_block (Ok b)) (answer_of is_read_fault ToReadBlock (Ok b)) → now ≡ before → IsPrinted (block_text address b) written took turn → Reads
     block_shown b serves still printed = comes_answered (ReadBlock address) s t old new written took before now turn (ToReadBlock (Ok b)) (makes (Some (Ok b)) (Some (ToReadBlock (Ok b))) serves) still printed
 
-    pub block_refused : (e : ReadError) → ServesBlockRead (ReadBlock address) s t old (what_block (Err e)) (read_block_answer (Err e)) → BlamesRead {A = Block} before now (Err e) → TellsRefusal read.DiskFault (read_refusal e) e written took turn → Reads
-    block_refused read.DiskFault serves blamed tells = comes_failed (ReadBlock address) s t old new written took before now turn (makes None None serves) (tells.failed refl) blamed.1
+    pub block_refused : (e : ReadError) → ServesBlockRead (ReadBlock address) s t old (what_block (Err e)) (answer_of is_read_fault ToReadBlock (Err e)) → IsBlamed {T = Block} is_read_fault before now (Err e) → Tells (ReadBlock address) (answers.ReadBlock (Err e)) written took turn → Reads
+    block_refused read.DiskFault serves blamed tells =
+        comes_told (ReadBlock address) s t old new written took before now turn (answers.ReadBlock (Err read.DiskFault)) (makes None None serves) tt (λ place class no. absurd (cc)) blamed tells
     block_refused read.NotLive serves still tells =
-        comes_answered (ReadBlock address) s t old new written took before now turn (ToReadBlock (Err read.NotLive)) (makes None (Some (ToReadBlock (Err read.NotLive))) serves) still (tells.other (λ no. cc))
+        comes_told (ReadBlock address) s t old new written took before now turn (answers.ReadBlock (Err read.NotLive)) (makes None (Some (ToReadBlock (Err read.NotLive))) serves) tt (λ place class no. absurd (cc)) still tells
     block_refused (read.Damaged a b) serves still tells =
-        comes_answered (ReadBlock address) s t old new written took before now turn (ToReadBlock (Err (read.Damaged a b))) (makes (Some (Err b)) (Some (ToReadBlock (Err (read.Damaged a b)))) serves) still (tells.other (λ no. cc))
+        comes_told (ReadBlock address) s t old new written took before now turn (answers.ReadBlock (Err (read.Damaged a b))) (makes (Some (Err b)) (Some (ToReadBlock (Err (read.Damaged a b)))) serves) tt (λ place class no. absurd (cc)) still tells
 
 -- a read that lends nothing, where the result says what it leaves
-pub block_ends : {A : Type 0} (s t : Replica) (r : Result A ReadError) (e : ReadError) (old new : Option Told) (same : new ≡ old) (written took : Option (List ℕ)) (before now : ℕ) (turn : Turn) (address : ℕ) → t ≡ block_leaves s r → r ≡ Err e
-    → ServesBlockRead (ReadBlock address) s (block_leaves {A = A} s (Err e)) old (what_block (Err e)) (read_block_answer (Err e)) → BlamesRead {A = Block} before now (Err e) → TellsRefusal read.DiskFault (read_refusal e) e written took turn
+pub block_ends : {A : Type 0} (s t : Replica) (r : Result A ReadError) (e : ReadError) (old new : Option Told) (same : new ≡ old) (written took : Option (List ℕ)) (before now : ℕ) (turn : Turn) (address : ℕ) → t ≡ left_by is_read_fault s r → r ≡ Err e
+    → ServesBlockRead (ReadBlock address) s (left_by {T = A} is_read_fault s (Err e)) old (what_block (Err e)) (answer_of is_read_fault ToReadBlock (Err e)) → IsBlamed {T = Block} is_read_fault before now (Err e) → Tells (ReadBlock address) (answers.ReadBlock (Err e)) written took turn
     → Answers (ReadBlock address) s t old new written took turn
 block_ends {A} s t r e old new same written took before now turn address leaves is serves blamed tells =
-    subst (λ (u : Replica). Answers (ReadBlock address) s u old new written took turn) (sym (leaves ∙ ap (λ (x : Result A ReadError). block_leaves s x) is))
-    (block_refused address s (block_leaves {A = A} s (Err e)) old new same written took before now turn e serves blamed tells).0
+    subst (λ (u : Replica). Answers (ReadBlock address) s u old new written took turn) (sym (leaves ∙ ap (λ (x : Result A ReadError). left_by is_read_fault s x) is))
+    (block_refused address s (left_by {T = A} is_read_fault s (Err e)) old new same written took before now turn e serves blamed tells).0

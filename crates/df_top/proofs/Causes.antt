@@ -1,9 +1,9 @@
 -- The causes of a file that isn't opened or made.
 use Rattle.std.proofs.Common.{◌≡◌, inl, inr, ℕ, Bool, List, [], ◌∷◌, Option, Some, None, refl, sym, ◌∙◌, subst, Err}
-use Rattle.df_base.specs.Causes.{Rose}
+use Rattle.df_base.specs.Causes.{IsBlamed, Rose}
 use Rattle.df_model.specs.declared.errors.OpenError.{OpenError}
 use Rattle.df_model.specs.declared.errors.OpenError.TheVariants as opens
-use Rattle.df_replica.specs.Below.{SurveysBy}
+use Rattle.df_model.specs.Faults.{is_open_fault}
 use Rattle.df_top.specs.Outside.{Blames, HasCauses, Outside, PrintsLine}
 use Rattle.df_top.specs.Refusing.{PrintsError}
 use Rattle.df_layout.specs.declared.damage.Mend.{Mend}
@@ -62,7 +62,7 @@ module _ (disk disk_now source sink sink_now : ℕ) (old new : Option (List ℕ)
     sink = blame;
   }
 
-  pub open_causes : (T : Type 0) (e : OpenError) → SurveysBy {T = T} disk disk_now (Err e) → PrintsError e old new status → Blames WriteFault sink sink_now status → Causes
+  pub open_causes : (T : Type 0) (e : OpenError) → IsBlamed {T = T} is_open_fault disk disk_now (Err e) → PrintsError e old new status → Blames WriteFault sink sink_now status → Causes
   open_causes T opens.DiskFault by prints blame = fault_causes (prints.fault refl).0 by.1 blame
   open_causes T opens.NotFormatted by prints blame = line_causes _ Refused calm_refused by (prints.other (λ no. cc)) blame
   open_causes T (opens.NoQuorum a) by prints blame = line_causes _ Refused calm_refused by (prints.other (λ no. cc)) blame

@@ -4,12 +4,10 @@ mod Words
 mod Written
 mod Progress
 mod LineEnds
+mod InWords
 mod Answered
-mod AppendTurns
-mod ReplyTurns
-mod BlockTurns
+mod Exact
 mod BlockReadTurns
-mod CheckpointTurns
 mod ScrubTurns
 mod Checks
 mod Tours

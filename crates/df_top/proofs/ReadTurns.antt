@@ -1,6 +1,7 @@
 -- A read of a prepare or of a reply, and what is printed of it.
 use Rattle.std.proofs.Common.{◌≡◌, ℕ, List, [], Option, Some, None, refl, sym, ◌∙◌, ap, subst, Result, Ok, Err}
 use Rattle.std.specs.Prelude.{codes}
+use Rattle.df_base.specs.Causes.{Blamed, IsBlamed}
 use Rattle.df_disk.specs.Told.{Told}
 use Rattle.df_layout.specs.declared.damage.Class.{Class}
 use Rattle.df_layout.specs.declared.damage.Class.TheVariants.{Blank}
@@ -11,23 +12,29 @@ use Rattle.df_inspect.specs.Prints.{Prints}
 use Rattle.df_theory.specs.Units.{Message}
 use Rattle.df_units.specs.Meaning.{message_of}
 use Rattle.df_model.specs.Commands.{Answer, Command, Given, ReadPrepare, ReadReply, ToReadPrepare, ToReadReply}
+use Rattle.df_layout.specs.declared.places.Place.{Place}
+use Rattle.df_model.specs.declared.commands.Answer.{Answer as Called}
+use Rattle.df_model.specs.declared.commands.Answer.TheVariants as answers
+use Rattle.df_model.specs.declared.errors.StepError.TheVariants as step
 use Rattle.df_model.specs.declared.answers.Verdict.TheVariants.{Sound}
 use Rattle.df_model.specs.declared.reading.LookupError.{LookupError}
 use Rattle.df_model.specs.declared.reading.LookupError.TheVariants as lookup
 use Rattle.df_model.specs.declared.reading.PrepareError.{PrepareError}
 use Rattle.df_model.specs.declared.reading.PrepareError.TheVariants as prepare
+use Rattle.df_model.specs.Faults.{is_lookup_fault, is_prepare_fault}
 use Rattle.df_replica.specs.Below.{State as Replica}
-use Rattle.df_replica.specs.Answering.{Gives, ServesRead, read_prepare_answer, read_reply_answer}
-use Rattle.df_replica.specs.Lookups.{ReplyBlames, reply_found, reply_leaves}
-use Rattle.df_replica.specs.Reading.{IsFoundBy, PrepareBlames, message_at, prepare_found, prepare_leaves}
+use Rattle.df_replica.specs.Answering.{Gives, ServesRead, answer_of}
+use Rattle.df_replica.specs.Lookups.{reply_found}
+use Rattle.df_replica.specs.Reading.{IsFoundBy, message_at, prepare_found}
 use Rattle.df_replica.specs.Serving.{IsCall}
-use Rattle.df_script_model.specs.Script.{answer_text}
-use Rattle.df_script_model.specs.Texts.{lookup_refusal, message_text, prepare_refusal}
+use Rattle.df_replica.specs.Stopping.{left_by}
+use Rattle.df_script_model.specs.Texts.{damaged_text, message_text}
+use Rattle.df_top.specs.Calls.{LendsNothing, is_fault, machine_answer}
+use Rattle.df_top.specs.Session.{IsDamaged}
 use Rattle.df_top.specs.Step.{Answers, Makes}
-use Rattle.df_top.specs.Turning.{BlamesIfEnds, IsPrinted, TellsRefusal, printed_turn}
+use Rattle.df_top.specs.Turning.{IsPrinted, Tells, printed_turn}
 use Rattle.df_top.specs.declared.turns.Turn.{Turn}
-use Rattle.df_top.specs.declared.status.Status.TheVariants.{DiskFault}
-use Rattle.df_top.proofs.Answered.{disk_rose, disk_same, failed_is, not_fault, printed_is, prints_turn}
+use Rattle.df_top.proofs.Answered.{Comes, comes_answered, comes_told, prints_turn}
 
 -- ---- what a read is rightly supplied with
 
@@ -66,11 +73,12 @@ module _ (s t : Replica) (old new : Option Told) (same : new ≡ old) where
   }
 
   module _ (written took : Option (List ℕ)) (before now : ℕ) (turn : Turn) where
-    abbrev Comes : Command → Type 0
-    Comes command = Answers command s t old new written took turn × BlamesIfEnds DiskFault before now turn
+    abbrev Reads : Command → Type 0
+    Reads command = Comes command s t old new written took before now turn
 
-    answered : (command : Command) (x : Answer) → Makes command s t old new (Some x) → now ≡ before → IsPrinted (answer_text command x) written took turn → Comes command
-    answered command x makes still printed = (printed_is command s t old new written took x makes turn printed, disk_same before now turn still (not_fault (answer_text command x) written took turn printed))
+    told : (command : Command) (a : Called) → LendsNothing a → Makes command s t old new (machine_answer a) → ((place : Place) (class : Class) → a ≡ answers.Advance (Err (step.Damaged place class)) → IsDamaged command new (damaged_text place class))
+        → Blamed (is_fault a) before now → Tells command a written took turn → Reads command
+    told command a lends makes damaged blamed tells = comes_told command s t old new written took before now turn a makes lends damaged blamed tells
 
     -- a prepare
     module _ (op : ℕ) where
@@ -78,16 +86,15 @@ module _ (s t : Replica) (old new : Option Told) (same : new ≡ old) where
       makes_prepare found answer serves =
           read_made (ReadPrepare op) (supply s (ReadPrepare op) old found) answer (serves (supply s (ReadPrepare op) old found) (refl, found_by s (ReadPrepare op) old found) (gives s (ReadPrepare op) old found))
 
-      pub prepare_shown : (m : Message) → ServesRead (ReadPrepare op) s t old (prepare_found (Ok m)) (read_prepare_answer (Ok m)) → now ≡ before → IsPrinted (message_text (codes "prepare") m) written took turn → Comes (ReadPrepare op)
-      prepare_shown m serves still printed = answered (ReadPrepare op) (ToReadPrepare (Ok m)) (makes_prepare (Some (Ok m)) (Some (ToReadPrepare (Ok m))) serves) still printed
+      pub prepare_shown : (m : Message) → ServesRead (ReadPrepare op) s t old (prepare_found (Ok m)) (answer_of is_prepare_fault ToReadPrepare (Ok m)) → now ≡ before → IsPrinted (message_text (codes "prepare") m) written took turn → Reads (ReadPrepare op)
+      prepare_shown m serves still printed = comes_answered (ReadPrepare op) s t old new written took before now turn (ToReadPrepare (Ok m)) (makes_prepare (Some (Ok m)) (Some (ToReadPrepare (Ok m))) serves) still printed
 
-      pub prepare_refused : (e : PrepareError) → ServesRead (ReadPrepare op) s t old (prepare_found (Err e)) (read_prepare_answer (Err e)) → PrepareBlames {A = Message} before now (Err e) → TellsRefusal prepare.DiskFault (prepare_refusal e) e written took turn → Comes (ReadPrepare op)
-      prepare_refused prepare.DiskFault serves blamed tells = (
-        failed_is (ReadPrepare op) s t old new written took (makes_prepare None None serves) turn (tells.failed refl),
-        disk_rose before now turn (tells.failed refl).0 blamed.1,
-      )
-      prepare_refused (prepare.NotKept a b) serves still tells = answered (ReadPrepare op) (ToReadPrepare (Err (prepare.NotKept a b))) (makes_prepare None (Some (ToReadPrepare (Err (prepare.NotKept a b)))) serves) still (tells.other (λ no. cc))
-      prepare_refused (prepare.Damaged a b) serves still tells = answered (ReadPrepare op) (ToReadPrepare (Err (prepare.Damaged a b))) (makes_prepare (Some (Err b)) (Some (ToReadPrepare (Err (prepare.Damaged a b)))) serves) still (tells.other (λ no. cc))
+      pub prepare_refused : (e : PrepareError) → ServesRead (ReadPrepare op) s t old (prepare_found (Err e)) (answer_of is_prepare_fault ToReadPrepare (Err e)) → IsBlamed {T = Message} is_prepare_fault before now (Err e) → Tells (ReadPrepare op) (answers.ReadPrepare (Err e)) written took turn → Reads (ReadPrepare op)
+      prepare_refused prepare.DiskFault serves blamed tells = told (ReadPrepare op) (answers.ReadPrepare (Err prepare.DiskFault)) tt (makes_prepare None None serves) (λ place class no. absurd (cc)) blamed tells
+      prepare_refused (prepare.NotKept a b) serves still tells =
+          told (ReadPrepare op) (answers.ReadPrepare (Err (prepare.NotKept a b))) tt (makes_prepare None (Some (ToReadPrepare (Err (prepare.NotKept a b)))) serves) (λ place class no. absurd (cc)) still tells
+      prepare_refused (prepare.Damaged a b) serves still tells =
+          told (ReadPrepare op) (answers.ReadPrepare (Err (prepare.Damaged a b))) tt (makes_prepare (Some (Err b)) (Some (ToReadPrepare (Err (prepare.Damaged a b)))) serves) (λ place class no. absurd (cc)) still tells
 
     -- a reply
     module _ (client : ℕ) where
@@ -95,30 +102,29 @@ module _ (s t : Replica) (old new : Option Told) (same : new ≡ old) where
       makes_reply found answer serves =
           read_made (ReadReply client) (supply s (ReadReply client) old found) answer (serves (supply s (ReadReply client) old found) (refl, found_by s (ReadReply client) old found) (gives s (ReadReply client) old found))
 
-      pub reply_shown : (m : Message) → ServesRead (ReadReply client) s t old (reply_found (Ok m)) (read_reply_answer (Ok m)) → now ≡ before → IsPrinted (message_text (codes "reply") m) written took turn → Comes (ReadReply client)
-      reply_shown m serves still printed = answered (ReadReply client) (ToReadReply (Ok m)) (makes_reply (Some (Ok m)) (Some (ToReadReply (Ok m))) serves) still printed
+      pub reply_shown : (m : Message) → ServesRead (ReadReply client) s t old (reply_found (Ok m)) (answer_of is_lookup_fault ToReadReply (Ok m)) → now ≡ before → IsPrinted (message_text (codes "reply") m) written took turn → Reads (ReadReply client)
+      reply_shown m serves still printed = comes_answered (ReadReply client) s t old new written took before now turn (ToReadReply (Ok m)) (makes_reply (Some (Ok m)) (Some (ToReadReply (Ok m))) serves) still printed
 
-      pub reply_refused : (e : LookupError) → ServesRead (ReadReply client) s t old (reply_found (Err e)) (read_reply_answer (Err e)) → ReplyBlames {A = Message} before now (Err e) → TellsRefusal lookup.DiskFault (lookup_refusal e) e written took turn → Comes (ReadReply client)
-      reply_refused lookup.DiskFault serves blamed tells = (
-        failed_is (ReadReply client) s t old new written took (makes_reply None None serves) turn (tells.failed refl),
-        disk_rose before now turn (tells.failed refl).0 blamed.1,
-      )
-      reply_refused lookup.NoClient serves still tells = answered (ReadReply client) (ToReadReply (Err lookup.NoClient)) (makes_reply None (Some (ToReadReply (Err lookup.NoClient))) serves) still (tells.other (λ no. cc))
-      reply_refused (lookup.ReplyPending a) serves still tells = answered (ReadReply client) (ToReadReply (Err (lookup.ReplyPending a))) (makes_reply None (Some (ToReadReply (Err (lookup.ReplyPending a)))) serves) still (tells.other (λ no. cc))
-      reply_refused (lookup.Damaged a b) serves still tells = answered (ReadReply client) (ToReadReply (Err (lookup.Damaged a b))) (makes_reply (Some (Err b)) (Some (ToReadReply (Err (lookup.Damaged a b)))) serves) still (tells.other (λ no. cc))
+      pub reply_refused : (e : LookupError) → ServesRead (ReadReply client) s t old (reply_found (Err e)) (answer_of is_lookup_fault ToReadReply (Err e)) → IsBlamed {T = Message} is_lookup_fault before now (Err e) → Tells (ReadReply client) (answers.ReadReply (Err e)) written took turn → Reads (ReadReply client)
+      reply_refused lookup.DiskFault serves blamed tells = told (ReadReply client) (answers.ReadReply (Err lookup.DiskFault)) tt (makes_reply None None serves) (λ place class no. absurd (cc)) blamed tells
+      reply_refused lookup.NoClient serves still tells = told (ReadReply client) (answers.ReadReply (Err lookup.NoClient)) tt (makes_reply None (Some (ToReadReply (Err lookup.NoClient))) serves) (λ place class no. absurd (cc)) still tells
+      reply_refused (lookup.ReplyPending a) serves still tells =
+          told (ReadReply client) (answers.ReadReply (Err (lookup.ReplyPending a))) tt (makes_reply None (Some (ToReadReply (Err (lookup.ReplyPending a)))) serves) (λ place class no. absurd (cc)) still tells
+      reply_refused (lookup.Damaged a b) serves still tells =
+          told (ReadReply client) (answers.ReadReply (Err (lookup.Damaged a b))) tt (makes_reply (Some (Err b)) (Some (ToReadReply (Err (lookup.Damaged a b)))) serves) (λ place class no. absurd (cc)) still tells
 
 -- ---- a read that lends nothing, where the result says what it leaves
 
-pub prepare_ends : {A : Type 0} (s t : Replica) (r : Result A PrepareError) (e : PrepareError) (old new : Option Told) (same : new ≡ old) (written took : Option (List ℕ)) (before now : ℕ) (turn : Turn) (op : ℕ) → t ≡ prepare_leaves s r → r ≡ Err e
-    → ServesRead (ReadPrepare op) s (prepare_leaves {A = A} s (Err e)) old (prepare_found (Err e)) (read_prepare_answer (Err e)) → PrepareBlames {A = Message} before now (Err e) → TellsRefusal prepare.DiskFault (prepare_refusal e) e written took turn
+pub prepare_ends : {A : Type 0} (s t : Replica) (r : Result A PrepareError) (e : PrepareError) (old new : Option Told) (same : new ≡ old) (written took : Option (List ℕ)) (before now : ℕ) (turn : Turn) (op : ℕ) → t ≡ left_by is_prepare_fault s r → r ≡ Err e
+    → ServesRead (ReadPrepare op) s (left_by {T = A} is_prepare_fault s (Err e)) old (prepare_found (Err e)) (answer_of is_prepare_fault ToReadPrepare (Err e)) → IsBlamed {T = Message} is_prepare_fault before now (Err e) → Tells (ReadPrepare op) (answers.ReadPrepare (Err e)) written took turn
     → Answers (ReadPrepare op) s t old new written took turn
 prepare_ends {A} s t r e old new same written took before now turn op leaves is serves blamed tells =
-    subst (λ (u : Replica). Answers (ReadPrepare op) s u old new written took turn) (sym (leaves ∙ ap (λ (x : Result A PrepareError). prepare_leaves s x) is))
-    (prepare_refused s (prepare_leaves {A = A} s (Err e)) old new same written took before now turn op e serves blamed tells).0
+    subst (λ (u : Replica). Answers (ReadPrepare op) s u old new written took turn) (sym (leaves ∙ ap (λ (x : Result A PrepareError). left_by is_prepare_fault s x) is))
+    (prepare_refused s (left_by {T = A} is_prepare_fault s (Err e)) old new same written took before now turn op e serves blamed tells).0
 
-pub reply_ends : {A : Type 0} (s t : Replica) (r : Result A LookupError) (e : LookupError) (old new : Option Told) (same : new ≡ old) (written took : Option (List ℕ)) (before now : ℕ) (turn : Turn) (client : ℕ) → t ≡ reply_leaves s r → r ≡ Err e
-    → ServesRead (ReadReply client) s (reply_leaves {A = A} s (Err e)) old (reply_found (Err e)) (read_reply_answer (Err e)) → ReplyBlames {A = Message} before now (Err e) → TellsRefusal lookup.DiskFault (lookup_refusal e) e written took turn
+pub reply_ends : {A : Type 0} (s t : Replica) (r : Result A LookupError) (e : LookupError) (old new : Option Told) (same : new ≡ old) (written took : Option (List ℕ)) (before now : ℕ) (turn : Turn) (client : ℕ) → t ≡ left_by is_lookup_fault s r → r ≡ Err e
+    → ServesRead (ReadReply client) s (left_by {T = A} is_lookup_fault s (Err e)) old (reply_found (Err e)) (answer_of is_lookup_fault ToReadReply (Err e)) → IsBlamed {T = Message} is_lookup_fault before now (Err e) → Tells (ReadReply client) (answers.ReadReply (Err e)) written took turn
     → Answers (ReadReply client) s t old new written took turn
 reply_ends {A} s t r e old new same written took before now turn client leaves is serves blamed tells =
-    subst (λ (u : Replica). Answers (ReadReply client) s u old new written took turn) (sym (leaves ∙ ap (λ (x : Result A LookupError). reply_leaves s x) is))
-    (reply_refused s (reply_leaves {A = A} s (Err e)) old new same written took before now turn client e serves blamed tells).0
+    subst (λ (u : Replica). Answers (ReadReply client) s u old new written took turn) (sym (leaves ∙ ap (λ (x : Result A LookupError). left_by is_lookup_fault s x) is))
+    (reply_refused s (left_by {T = A} is_lookup_fault s (Err e)) old new same written took before now turn client e serves blamed tells).0

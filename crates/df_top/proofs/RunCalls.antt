@@ -1,148 +1,90 @@
--- What each call of a generated run comes to, by what it answered.
-use Rattle.std.proofs.Common.{◌≡◌, ◌<◌, ℕ, Bool, true, List, [], ◌∷◌, length, Option, Some, None, refl, sym, ap, subst, Result, Ok, Err, arith}
-use Rattle.df_base.specs.Causes.{Rose}
+-- What each call of a generated run comes to, by what the run hears of its answer.
+use Rattle.std.proofs.Common.{◌≡◌, ◌<◌, ℕ, Bool, true, false, List, [], ◌∷◌, length, Option, Some, None, if◌then◌else◌, refl, sym, ◌∙◌, ap, subst, Result, Ok, Err, arith}
+use Rattle.df_base.specs.Causes.{Blamed, IsBlamed}
 use Rattle.df_disk.specs.Told.{Told}
 use Rattle.df_format.specs.declared.reference.Reference.{Reference}
-use Rattle.df_layout.specs.declared.damage.Class.TheVariants.{Blank}
-use Rattle.df_model.specs.Commands.{Advance, Answer, Append, Begin, Command, Given, Release, Reply, ToAdvance, ToAppend, ToBegin, ToRelease, ToReply, ToWriteBlock, WriteBlock}
+use Rattle.df_layout.specs.declared.damage.Class.{Class}
+use Rattle.df_layout.specs.declared.places.Place.{Place}
+use Rattle.df_model.specs.Commands.{Advance, Answer as Answered, Append, Begin, Command, ReadBlock, ReadPrepare, ReadReply, Recent, Release, Reply, Scrub, WriteBlock}
 use Rattle.df_model.specs.declared.answers.Progress.{Progress}
 use Rattle.df_model.specs.declared.answers.Progress.TheVariants.{Done, Working}
-use Rattle.df_model.specs.declared.answers.Receipt.{Receipt}
-use Rattle.df_model.specs.declared.answers.Verdict.TheVariants.{Sound}
-use Rattle.df_model.specs.declared.errors.AppendError.{AppendError}
-use Rattle.df_model.specs.declared.errors.AppendError.TheVariants as append
+use Rattle.df_model.specs.declared.commands.Answer.{Answer}
+use Rattle.df_model.specs.declared.commands.Answer.TheVariants as answers
 use Rattle.df_model.specs.declared.errors.BeginError.{BeginError}
-use Rattle.df_model.specs.declared.errors.BlockError.{BlockError}
-use Rattle.df_model.specs.declared.errors.BlockError.TheVariants as block
 use Rattle.df_model.specs.declared.errors.NotLive.{NotLive}
-use Rattle.df_model.specs.declared.errors.ReplyError.{ReplyError}
-use Rattle.df_model.specs.declared.errors.ReplyError.TheVariants as reply
 use Rattle.df_model.specs.declared.errors.StepError.{StepError}
 use Rattle.df_model.specs.declared.errors.StepError.TheVariants as step
-use Rattle.df_replica.specs.Below.{Capture, State as Replica}
-use Rattle.df_replica.specs.Answering.{Serves, append_answer, begin_answer, reply_answer, step_answer, write_block_answer}
-use Rattle.df_replica.specs.Appending.{IsAppend, IsBlamed, append_events, next_unit}
 use Rattle.df_replica.specs.Beginning.{IsBegin}
-use Rattle.df_replica.specs.Blocks.{BlamesWriteBlock, IsWriteBlock, block_events, next_block, released}
-use Rattle.df_replica.specs.Opened.{ToldBy}
-use Rattle.df_replica.specs.Replying.{BlamesReply, IsReply, next_reply, reply_events}
-use Rattle.df_replica.specs.Stepping.{BlamesStep, IsStep, OfRunning, advanced, block_events as piece_events, finished, last_events, made_by, step_events}
-use Rattle.df_units.specs.Meaning.{number_of}
+use Rattle.df_replica.specs.Below.{Capture, State as Replica}
+use Rattle.df_replica.specs.Blocks.{IsRelease}
+use Rattle.df_replica.specs.Stepping.{IsStep, OfRunning, advanced, finished}
+use Rattle.df_script_model.specs.Texts.{damaged_text}
 use Rattle.df_workload.specs.Hearing.{outcome_of}
 use Rattle.df_workload.specs.declared.outcome.Outcome.{Outcome}
 use Rattle.df_workload.specs.declared.outcome.Outcome.TheVariants.{Refused, Accepted, Wrote, Finished}
+use Rattle.df_top.specs.Calls.{IsExact, is_damaged, is_fault, machine_answer}
+use Rattle.df_top.specs.Session.{IsDamaged}
 use Rattle.df_top.specs.Step.{Makes}
-use Rattle.df_top.specs.Works.{BlamesFault, IsRunning, MakesTo, RunsOn, StepsOn, TellsFault, TellsStepFault}
+use Rattle.df_top.specs.Works.{IsRunning, MakesTo, RunsOn, StepsOn, heard, is_disk, outcome_in}
 use Rattle.df_top.specs.declared.works.Fault.{Fault}
-use Rattle.df_top.specs.declared.works.Fault.TheVariants.{Disk}
-use Rattle.df_top.proofs.Answered.{made, part_told}
-use Rattle.df_top.proofs.CheckpointTurns.{never, on_running, told_all, told_part, untold}
+use Rattle.df_top.specs.declared.works.Fault.TheVariants.{Damaged, Disk}
+use Rattle.df_top.proofs.Exact.{append_moves, exact_damaged, exact_lends, on_running, reply_moves, write_moves}
+use Rattle.df_top.proofs.InWords.{InWords, in_words}
 
--- what a call is rightly supplied with
-abbrev supply : (checksum : ℕ) → Given
-supply checksum = record { checksum = checksum; message = Err Blank; block = Err Blank; verdict = Sound }
+-- ---- what is heard
 
--- what a call comes to
-pub record Call (command : Command) (s t : Replica) (old new : Option Told) (before now : ℕ) (result : Result Outcome Fault) : Type 0 where
-  pub makes : MakesTo command s t old new result
-  pub runs : RunsOn command s t result
-  pub disk : BlamesFault before now result
+-- the call was made and this much was heard of it, and who is to blame
+abbrev Heard : Command → (s t : Replica) → (old new : Option Told) → (before now : ℕ) → Result Outcome Fault → Type 0
+Heard command s t old new before now r = MakesTo command s t old new r × IsBlamed is_disk before now r
 
-module _ (command : Command) (s t : Replica) (old new : Option Told) (before now : ℕ) where
-  abbrev To : Result Outcome Fault → Type 0
-  To result = Call command s t old new before now result
+module _ (command : Command) (s t : Replica) (old new : Option Told) (before now : ℕ) (a : Answer) (makes : Makes command s t old new (machine_answer a))
+    (damaged : (place : Place) (class : Class) → a ≡ answers.Advance (Err (step.Damaged place class)) → IsDamaged command new (damaged_text place class)) where
+  unless_fault : (fault : Bool) → is_fault a ≡ fault → heard a ≡ (if fault then Err Disk else outcome_in a)
+  unless_fault fault is = ap (λ (b : Bool). if b then Err Disk else outcome_in a) is
 
-  -- it was answered
-  pub answered : (x : Answer) → Makes command s t old new (Some x) → RunsOn command s t (Ok (outcome_of x)) → now ≡ before → To (Ok (outcome_of x))
-  answered x makes runs same = record { makes = (x, makes, refl); runs = runs; disk = same }
+  heard_as : (fault damages : Bool) → is_fault a ≡ fault → InWords fault damages command a → Blamed fault before now → Heard command s t old new before now (heard a)
+  heard_as true damages is none blamed =
+      subst (λ (r : Result Outcome Fault). Heard command s t old new before now r) (sym (unless_fault true is)) (subst (λ (x : Option Answered). Makes command s t old new x) none makes, blamed)
+  heard_as false true is found same =
+      subst (λ (r : Result Outcome Fault). Heard command s t old new before now r) (sym (unless_fault false is ∙ ap outcome_in found.2))
+      ((subst (λ (x : Option Answered). Makes command s t old new x) found.3 makes, damaged found.0 found.1 found.2), same)
+  heard_as false false is found same =
+      subst (λ (r : Result Outcome Fault). Heard command s t old new before now r) (sym (unless_fault false is ∙ found.3))
+      ((found.0, subst (λ (x : Option Answered). Makes command s t old new x) found.1 makes, refl), same)
 
-  -- the disk failed in it
-  pub failed : Makes command s t old new None → Rose before now → To (Err Disk)
-  failed makes rose = record { makes = makes; runs = tt; disk = rose }
+-- ---- a running checkpoint
 
--- a checkpoint runs as before
+-- it runs as before
 stays : (s t : Replica) → t.running ≡ s.running → (flag : Bool) → (flag ≡ true → IsRunning s) → flag ≡ true → IsRunning t
 stays s t same flag had set = subst (λ (r : Option Capture). OfRunning r (λ c. Unit {0})) (sym same) (had set)
 
 same_running : (s t : Replica) → t ≡ s → t.running ≡ s.running
 same_running s t is = ap (λ (r : Replica). r.running) is
 
--- ---- append
+module _ (s t : Replica) (same : t.running ≡ s.running) where
+  append_on : (client request : ℕ) (body : List ℕ) (r : Result Outcome Fault) → RunsOn (Append client request body) s t r
+  append_on client request body (Ok outcome) = stays s t same
+  append_on client request body (Err e) = tt
 
-module _ (client request : ℕ) (body : List ℕ) (s t : Replica) (old new : Option Told) (before now : ℕ) where
-  append_makes : (answer : Option Answer) → Serves (Append client request body) s t old new answer → ToldBy old new → Makes (Append client request body) s t old new answer
-  append_makes answer serves told = made (Append client request body) (supply (number_of (next_unit s client request body).header.checksum)) s t old new answer refl serves told
+  reply_on : (op : ℕ) (body : List ℕ) (r : Result Outcome Fault) → RunsOn (Reply op body) s t r
+  reply_on op body (Ok outcome) = stays s t same
+  reply_on op body (Err e) = tt
 
-  pub append_done : (x : Receipt) → IsAppend client request body s t old new (Ok x) → Serves (Append client request body) s t old new (append_answer (Ok x)) → IsBlamed before now (Ok x) → Call (Append client request body) s t old new before now (Ok (Accepted))
-  append_done x is serves same = answered (Append client request body) s t old new before now (ToAppend (Ok (x.op, number_of x.checksum))) (append_makes (Some (ToAppend (Ok (x.op, number_of x.checksum)))) serves (append_events s (next_unit s client request body), is.3)) (λ flag had set. stays s t (ap (λ (r : Replica). r.running) is.2) flag had set) same
+  write_on : (kind : ℕ) (body : List ℕ) (r : Result Outcome Fault) → RunsOn (WriteBlock kind body) s t r
+  write_on kind body (Ok outcome) = stays s t same
+  write_on kind body (Err e) = tt
 
-  pub append_refused : (e : AppendError) → IsAppend client request body s t old new (Err e) → Serves (Append client request body) s t old new (append_answer (Err e)) → IsBlamed before now (Err e) → (result : Result Outcome Fault) → TellsFault append.DiskFault e result → Call (Append client request body) s t old new before now result
-  append_refused append.DiskFault is serves blamed result tells = subst (λ (r : Result Outcome Fault). Call (Append client request body) s t old new before now r) (sym (tells.failed refl)) (failed (Append client request body) s t old new before now (append_makes None serves (part_told (append_events s (next_unit s client request body)) old new is.2)) blamed.1)
-  append_refused append.ClientZero is serves same result tells = subst (λ (r : Result Outcome Fault). Call (Append client request body) s t old new before now r) (sym (tells.other (λ no. cc))) (answered (Append client request body) s t old new before now (ToAppend (Err append.ClientZero)) (append_makes (Some (ToAppend (Err append.ClientZero))) serves ([], is.2)) (λ flag had set. stays s t (same_running s t is.1) flag had set) same)
-  append_refused (append.BodyTooLong a) is serves same result tells = subst (λ (r : Result Outcome Fault). Call (Append client request body) s t old new before now r) (sym (tells.other (λ no. cc))) (answered (Append client request body) s t old new before now (ToAppend (Err (append.BodyTooLong a))) (append_makes (Some (ToAppend (Err (append.BodyTooLong a)))) serves ([], is.2)) (λ flag had set. stays s t (same_running s t is.1) flag had set) same)
-  append_refused (append.ClientsFull a) is serves same result tells = subst (λ (r : Result Outcome Fault). Call (Append client request body) s t old new before now r) (sym (tells.other (λ no. cc))) (answered (Append client request body) s t old new before now (ToAppend (Err (append.ClientsFull a))) (append_makes (Some (ToAppend (Err (append.ClientsFull a)))) serves ([], is.2)) (λ flag had set. stays s t (same_running s t is.1) flag had set) same)
-  append_refused (append.Repeated a) is serves same result tells = subst (λ (r : Result Outcome Fault). Call (Append client request body) s t old new before now r) (sym (tells.other (λ no. cc))) (answered (Append client request body) s t old new before now (ToAppend (Err (append.Repeated a))) (append_makes (Some (ToAppend (Err (append.Repeated a)))) serves ([], is.2)) (λ flag had set. stays s t (same_running s t is.1) flag had set) same)
-  append_refused (append.ReplyPending a) is serves same result tells = subst (λ (r : Result Outcome Fault). Call (Append client request body) s t old new before now r) (sym (tells.other (λ no. cc))) (answered (Append client request body) s t old new before now (ToAppend (Err (append.ReplyPending a))) (append_makes (Some (ToAppend (Err (append.ReplyPending a)))) serves ([], is.2)) (λ flag had set. stays s t (same_running s t is.1) flag had set) same)
-  append_refused (append.RequestOrder a) is serves same result tells = subst (λ (r : Result Outcome Fault). Call (Append client request body) s t old new before now r) (sym (tells.other (λ no. cc))) (answered (Append client request body) s t old new before now (ToAppend (Err (append.RequestOrder a))) (append_makes (Some (ToAppend (Err (append.RequestOrder a)))) serves ([], is.2)) (λ flag had set. stays s t (same_running s t is.1) flag had set) same)
-  append_refused (append.PipelineFull a) is serves same result tells = subst (λ (r : Result Outcome Fault). Call (Append client request body) s t old new before now r) (sym (tells.other (λ no. cc))) (answered (Append client request body) s t old new before now (ToAppend (Err (append.PipelineFull a))) (append_makes (Some (ToAppend (Err (append.PipelineFull a)))) serves ([], is.2)) (λ flag had set. stays s t (same_running s t is.1) flag had set) same)
-  append_refused (append.WalFull a b) is serves same result tells = subst (λ (r : Result Outcome Fault). Call (Append client request body) s t old new before now r) (sym (tells.other (λ no. cc))) (answered (Append client request body) s t old new before now (ToAppend (Err (append.WalFull a b))) (append_makes (Some (ToAppend (Err (append.WalFull a b)))) serves ([], is.2)) (λ flag had set. stays s t (same_running s t is.1) flag had set) same)
-  append_refused append.OpsSpent is serves same result tells = subst (λ (r : Result Outcome Fault). Call (Append client request body) s t old new before now r) (sym (tells.other (λ no. cc))) (answered (Append client request body) s t old new before now (ToAppend (Err append.OpsSpent)) (append_makes (Some (ToAppend (Err append.OpsSpent))) serves ([], is.2)) (λ flag had set. stays s t (same_running s t is.1) flag had set) same)
+  release_on : (address : ℕ) (r : Result Outcome Fault) → RunsOn (Release address) s t r
+  release_on address (Ok outcome) = stays s t same
+  release_on address (Err e) = tt
 
--- ---- reply
+release_running : (s t : Replica) (address : ℕ) (r : Result (Unit {0}) NotLive) → IsRelease address s t r → t.running ≡ s.running
+release_running s t address (Ok done) is = ap (λ (r : Replica). r.running) is.1
+release_running s t address (Err e) is = same_running s t is.1
 
-module _ (op : ℕ) (body : List ℕ) (s t : Replica) (old new : Option Told) (before now : ℕ) where
-  reply_makes : (answer : Option Answer) → Serves (Reply op body) s t old new answer → ToldBy old new → Makes (Reply op body) s t old new answer
-  reply_makes answer serves told = made (Reply op body) (supply (number_of (next_reply s body).header.checksum)) s t old new answer refl serves told
-
-  pub reply_done : (x : List ℕ) → IsReply op body s t old new (Ok x) → Serves (Reply op body) s t old new (reply_answer (Ok x)) → BlamesReply before now (Ok x) → Call (Reply op body) s t old new before now (Ok (Accepted))
-  reply_done x is serves same = answered (Reply op body) s t old new before now (ToReply (Ok (number_of x))) (reply_makes (Some (ToReply (Ok (number_of x)))) serves (reply_events s (next_reply s body), is.3)) (λ flag had set. stays s t (ap (λ (r : Replica). r.running) is.2) flag had set) same
-
-  pub reply_refused : (e : ReplyError) → IsReply op body s t old new (Err e) → Serves (Reply op body) s t old new (reply_answer (Err e)) → BlamesReply before now (Err e) → (result : Result Outcome Fault) → TellsFault reply.DiskFault e result → Call (Reply op body) s t old new before now result
-  reply_refused reply.DiskFault is serves blamed result tells = subst (λ (r : Result Outcome Fault). Call (Reply op body) s t old new before now r) (sym (tells.failed refl)) (failed (Reply op body) s t old new before now (reply_makes None serves (part_told (reply_events s (next_reply s body)) old new is.2)) blamed.1)
-  reply_refused (reply.NothingPending a) is serves same result tells = subst (λ (r : Result Outcome Fault). Call (Reply op body) s t old new before now r) (sym (tells.other (λ no. cc))) (answered (Reply op body) s t old new before now (ToReply (Err (reply.NothingPending a))) (reply_makes (Some (ToReply (Err (reply.NothingPending a)))) serves ([], is.2)) (λ flag had set. stays s t (same_running s t is.1) flag had set) same)
-  reply_refused (reply.ReplyOrder a) is serves same result tells = subst (λ (r : Result Outcome Fault). Call (Reply op body) s t old new before now r) (sym (tells.other (λ no. cc))) (answered (Reply op body) s t old new before now (ToReply (Err (reply.ReplyOrder a))) (reply_makes (Some (ToReply (Err (reply.ReplyOrder a)))) serves ([], is.2)) (λ flag had set. stays s t (same_running s t is.1) flag had set) same)
-  reply_refused (reply.BodyTooLong a) is serves same result tells = subst (λ (r : Result Outcome Fault). Call (Reply op body) s t old new before now r) (sym (tells.other (λ no. cc))) (answered (Reply op body) s t old new before now (ToReply (Err (reply.BodyTooLong a))) (reply_makes (Some (ToReply (Err (reply.BodyTooLong a)))) serves ([], is.2)) (λ flag had set. stays s t (same_running s t is.1) flag had set) same)
-
--- ---- write
-
-module _ (kind : ℕ) (body : List ℕ) (s t : Replica) (old new : Option Told) (before now : ℕ) where
-  write_makes : (answer : Option Answer) → Serves (WriteBlock kind body) s t old new answer → ToldBy old new → Makes (WriteBlock kind body) s t old new answer
-  write_makes answer serves told = made (WriteBlock kind body) (supply (number_of (next_block s kind body).header.checksum)) s t old new answer refl serves told
-
-  pub write_done : (x : Reference) → IsWriteBlock kind body s t old new (Ok x) → Serves (WriteBlock kind body) s t old new (write_block_answer (Ok x)) → BlamesWriteBlock before now (Ok x) → Call (WriteBlock kind body) s t old new before now (Ok (Wrote x.address))
-  write_done x is serves same = answered (WriteBlock kind body) s t old new before now (ToWriteBlock (Ok (x.address, number_of x.checksum))) (write_makes (Some (ToWriteBlock (Ok (x.address, number_of x.checksum)))) serves (block_events s (next_block s kind body), is.3)) (λ flag had set. stays s t (ap (λ (r : Replica). r.running) is.2) flag had set) same
-
-  pub write_refused : (e : BlockError) → IsWriteBlock kind body s t old new (Err e) → Serves (WriteBlock kind body) s t old new (write_block_answer (Err e)) → BlamesWriteBlock before now (Err e) → (result : Result Outcome Fault) → TellsFault block.DiskFault e result → Call (WriteBlock kind body) s t old new before now result
-  write_refused block.DiskFault is serves blamed result tells = subst (λ (r : Result Outcome Fault). Call (WriteBlock kind body) s t old new before now r) (sym (tells.failed refl)) (failed (WriteBlock kind body) s t old new before now (write_makes None serves (part_told (block_events s (next_block s kind body)) old new is.2)) blamed.1)
-  write_refused block.KindZero is serves same result tells = subst (λ (r : Result Outcome Fault). Call (WriteBlock kind body) s t old new before now r) (sym (tells.other (λ no. cc))) (answered (WriteBlock kind body) s t old new before now (ToWriteBlock (Err block.KindZero)) (write_makes (Some (ToWriteBlock (Err block.KindZero))) serves ([], is.2)) (λ flag had set. stays s t (same_running s t is.1) flag had set) same)
-  write_refused (block.BodyTooLong a) is serves same result tells = subst (λ (r : Result Outcome Fault). Call (WriteBlock kind body) s t old new before now r) (sym (tells.other (λ no. cc))) (answered (WriteBlock kind body) s t old new before now (ToWriteBlock (Err (block.BodyTooLong a))) (write_makes (Some (ToWriteBlock (Err (block.BodyTooLong a)))) serves ([], is.2)) (λ flag had set. stays s t (same_running s t is.1) flag had set) same)
-  write_refused (block.GridFull a) is serves same result tells = subst (λ (r : Result Outcome Fault). Call (WriteBlock kind body) s t old new before now r) (sym (tells.other (λ no. cc))) (answered (WriteBlock kind body) s t old new before now (ToWriteBlock (Err (block.GridFull a))) (write_makes (Some (ToWriteBlock (Err (block.GridFull a)))) serves ([], is.2)) (λ flag had set. stays s t (same_running s t is.1) flag had set) same)
-
--- ---- release and begin, which touch no disk
-
-module _ (s t : Replica) (told : Option Told) (faults : ℕ) where
-  release_makes : (address : ℕ) (x : Answer) → Serves (Release address) s t told told (Some x) → Makes (Release address) s t told told (Some x)
-  release_makes address x serves = made (Release address) (supply 0) s t told told (Some x) refl serves ([], refl)
-
-  pub release_done : (address : ℕ) → t ≡ released s address → Serves (Release address) s t told told (Some (ToRelease (Ok tt))) → Call (Release address) s t told told faults faults (Ok Accepted)
-  release_done address is serves =
-      answered (Release address) s t told told faults faults (ToRelease (Ok tt)) (release_makes address (ToRelease (Ok tt)) serves) (λ flag had set. stays s t (ap (λ (r : Replica). r.running) is) flag had set) refl
-
-  pub release_refused : (address : ℕ) (e : NotLive) → t ≡ s → Serves (Release address) s t told told (Some (ToRelease (Err e))) → Call (Release address) s t told told faults faults (Ok Refused)
-  release_refused address e is serves =
-      answered (Release address) s t told told faults faults (ToRelease (Err e)) (release_makes address (ToRelease (Err e)) serves) (λ flag had set. stays s t (same_running s t is) flag had set) refl
-
-  begin_makes : (root : List ℕ) (x : Answer) → Serves (Begin root) s t told told (Some x) → Makes (Begin root) s t told told (Some x)
-  begin_makes root x serves = made (Begin root) (supply 0) s t told told (Some x) refl serves ([], refl)
-
-  pub begin_done : (root : List ℕ) (blocks : ℕ) → IsBegin root s t (Ok blocks) → Serves (Begin root) s t told told (begin_answer (Ok blocks)) → Call (Begin root) s t told told faults faults (Ok Accepted)
-  begin_done root blocks is serves =
-      answered (Begin root) s t told told faults faults (ToBegin (Ok blocks)) (begin_makes root (ToBegin (Ok blocks)) serves)
-      (λ flag had set. subst (λ (r : Replica). IsRunning r) (sym is.2) tt) refl
-
-  pub begin_refused : (root : List ℕ) (e : BeginError) → IsBegin root s t (Err e) → Serves (Begin root) s t told told (begin_answer (Err e)) → Call (Begin root) s t told told faults faults (Ok Refused)
-  begin_refused root e is serves =
-      answered (Begin root) s t told told faults faults (ToBegin (Err e)) (begin_makes root (ToBegin (Err e)) serves) (λ flag had set. stays s t (same_running s t is.1) flag had set) refl
+begin_on : (s t : Replica) (root : List ℕ) (r : Result ℕ BeginError) → IsBegin root s t r → RunsOn (Begin root) s t (heard (answers.Begin r))
+begin_on s t root (Ok blocks) is = λ flag had set. subst (λ (r : Replica). IsRunning r) (sym is.2) tt
+begin_on s t root (Err e) is = stays s t (same_running s t is.1)
 
 -- ---- a step
 
@@ -166,58 +108,51 @@ none_left : (s t : Replica) (running : Option Capture) → OfRunning running (λ
 none_left s t None is = absurd is
 none_left s t (Some r) is = ap (λ (u : Replica). u.blocks.left) is
 
-pub record StepCall (s t : Replica) (old new : Option Told) (before now : ℕ) (result : Result Outcome Fault) : Type 0 where
-  pub call : Call Advance s t old new before now result
-  pub steps : StepsOn s t result
+module _ (s t : Replica) (old new : Option Told) where
+  step_on : (r : Result Progress StepError) → IsStep s t old new r → RunsOn Advance s t (heard (answers.Advance r))
+  step_on (Ok (Working left)) is = λ flag had set. runs_on s t s.running (on_running s.running (λ r i. i.2) is)
+  step_on (Ok (Done sequence)) is = λ flag had set. absurd (cc)
+  step_on (Err step.NotRunning) is = stays s t (same_running s t is.1)
+  step_on (Err (step.Damaged place class)) is = tt
+  step_on (Err step.DiskFault) is = tt
 
-module _ (s t : Replica) (old new : Option Told) (before now : ℕ) where
-  step_makes : (answer : Option Answer) → Serves Advance s t old new answer → ToldBy old new → Makes Advance s t old new answer
-  step_makes answer serves told = made Advance (supply (made_by s s.running)) s t old new answer refl serves told
+  step_steps : (r : Result Progress StepError) → IsStep s t old new r → StepsOn s t (heard (answers.Advance r))
+  step_steps (Ok (Working left)) is = fewer s t s.running (on_running s.running (λ r i. (i.0, i.2)) is)
+  step_steps (Ok (Done sequence)) is = none_left s t s.running (on_running s.running (λ r i. i.2) is)
+  step_steps (Err step.NotRunning) is = not_running s is.0
+  step_steps (Err (step.Damaged place class)) is = tt
+  step_steps (Err step.DiskFault) is = tt
 
-  step_worked : (left : ℕ) → IsStep s t old new (Ok (Working left)) → Serves Advance s t old new (step_answer (Ok (Working left))) → now ≡ before → StepCall s t old new before now (Ok Accepted)
-  step_worked left is serves same = record {
-    call =
-        answered Advance s t old new before now (ToAdvance (Ok (Working left)))
-        (step_makes (Some (ToAdvance (Ok (Working left)))) serves (told_all old new s.running (piece_events s) (on_running s.running (λ r i. i.3) is)))
-        (λ flag had set. runs_on s t s.running (on_running s.running (λ r i. i.2) is)) same;
-    steps = fewer s t s.running (on_running s.running (λ r i. (i.0, i.2)) is);
-  }
+-- ---- any call
 
-  step_finished : (sequence : ℕ) → IsStep s t old new (Ok (Done sequence)) → Serves Advance s t old new (step_answer (Ok (Done sequence))) → now ≡ before → StepCall s t old new before now (Ok Finished)
-  step_finished sequence is serves same = record {
-    call =
-        answered Advance s t old new before now (ToAdvance (Ok (Done sequence)))
-        (step_makes (Some (ToAdvance (Ok (Done sequence)))) serves (told_all old new s.running (last_events s) (on_running s.running (λ r i. i.3) is)))
-        (λ flag had set. absurd (cc)) same;
-    steps = none_left s t s.running (on_running s.running (λ r i. i.2) is);
-  }
+-- what a call comes to
+pub record Call (command : Command) (s t : Replica) (old new : Option Told) (before now : ℕ) (result : Result Outcome Fault) : Type 0 where
+  pub makes : MakesTo command s t old new result
+  pub runs : RunsOn command s t result
+  pub steps : command ≡ Advance → StepsOn s t result
+  pub disk : IsBlamed is_disk before now result
 
-  pub step_done : (progress : Progress) → IsStep s t old new (Ok progress) → Serves Advance s t old new (step_answer (Ok progress)) → now ≡ before → StepCall s t old new before now (Ok (outcome_of (ToAdvance (Ok progress))))
-  step_done (Working left) is serves same = step_worked left is serves same
-  step_done (Done sequence) is serves same = step_finished sequence is serves same
+module _ (s t : Replica) (old new : Option Told) (a : Answer) where
+  exact_on : (command : Command) → IsExact command s t old new a → RunsOn command s t (heard a)
+  exact_on (Append client request body) is = append_on s t (append_moves s t old new client request body is.0 is.2).1 client request body (heard a)
+  exact_on (Reply op body) is = reply_on s t (reply_moves s t old new op body is.0 is.2).1 op body (heard a)
+  exact_on (WriteBlock kind body) is = write_on s t (write_moves s t old new kind body is.0 is.2).1 kind body (heard a)
+  exact_on (Release address) is = release_on s t (release_running s t address is.0 is.2) address (heard a)
+  exact_on (Begin root) is = subst (λ (x : Answer). RunsOn (Begin root) s t (heard x)) (sym is.1) (begin_on s t root is.0 is.2)
+  exact_on Advance is = subst (λ (x : Answer). RunsOn Advance s t (heard x)) (sym is.1) (step_on s t old new is.0 is.2)
+  exact_on (ReadPrepare op) is = absurd is
+  exact_on (ReadReply client) is = absurd is
+  exact_on (ReadBlock address) is = absurd is
+  exact_on Scrub is = absurd is
+  exact_on (Recent place) is = absurd is
 
-  pub step_refused : (e : StepError) → IsStep s t old new (Err e) → Serves Advance s t old new (step_answer (Err e)) → BlamesStep {T = Progress} before now (Err e) → (result : Result Outcome Fault) → TellsStepFault e result → StepCall s t old new before now result
-  step_refused step.NotRunning is serves same result tells =
-      subst (λ (r : Result Outcome Fault). StepCall s t old new before now r) (sym tells) (record {
-        call =
-            answered Advance s t old new before now (ToAdvance (Err step.NotRunning)) (step_makes (Some (ToAdvance (Err step.NotRunning))) serves ([], is.2))
-            (λ flag had set. stays s t (same_running s t is.1) flag had set) same;
-        steps = not_running s is.0;
-      })
-  step_refused (step.Damaged place class) is serves same result tells =
-      subst (λ (r : Result Outcome Fault). StepCall s t old new before now r) (sym tells) (record {
-        call = record {
-          makes = (
-            step_makes None serves (told_all old new s.running (last_events s) (on_running s.running (λ r i. i.2) is)),
-            record { step = refl; place = place; class = class; is = refl; untold = untold new (never s.running (on_running s.running (λ r i. i.3) is)) },
-          );
-          runs = tt;
-          disk = same;
-        };
-        steps = tt;
-      })
-  step_refused step.DiskFault is serves blamed result tells =
-      subst (λ (r : Result Outcome Fault). StepCall s t old new before now r) (sym tells) (record {
-        call = failed Advance s t old new before now (step_makes None serves (told_part old new s.running (step_events s) (on_running s.running (λ r i. i.1) is))) blamed.1;
-        steps = tt;
-      })
+  exact_steps : (command : Command) → IsExact command s t old new a → command ≡ Advance → StepsOn s t (heard a)
+  exact_steps command exact is =
+      let step = subst (λ (c : Command). IsExact c s t old new a) is exact in
+      subst (λ (x : Answer). StepsOn s t (heard x)) (sym step.1) (step_steps s t old new step.0 step.2)
+
+  pub heard_call : (before now : ℕ) (command : Command) → IsExact command s t old new a → Makes command s t old new (machine_answer a) → Blamed (is_fault a) before now → Call command s t old new before now (heard a)
+  heard_call before now command exact makes blamed =
+      let both =
+      heard_as command s t old new before now a makes (exact_damaged s t old new a command exact) (is_fault a) (is_damaged a) refl (in_words command a (exact_lends s t old new a command exact)) blamed in
+      record { makes = both.0; runs = exact_on command exact; steps = exact_steps command exact; disk = both.1 }

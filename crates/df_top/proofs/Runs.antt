@@ -147,9 +147,13 @@ module _ (begun : Run) (s : Replica) (old : Option Told) (run : Run) (t : Replic
     ends_run (Err (Damaged place class)) f over (inr printed) = record { worked = cut f; writes = subst (λ (q : Status). Writes run t new (Some f.act) written took q) (sym printed.0) (damaged_text place class, f.holds, printed.1) }
 
 -- what is asked for is one command
-pub one_asked : (run : Run) (a b : Command) → asks run ≡ Some a → asks run ≡ Some b → a ≡ b
+one_asked : (run : Run) (a b : Command) → asks run ≡ Some a → asks run ≡ Some b → a ≡ b
 one_asked run a b one other = cc (one, other)
 
 -- it is what was matched
 pub asks_so : (run : Run) (a b : Asked) → asks run ≡ Some (command_of run a) → a ≡ b → asks run ≡ Some (command_of run b)
 asks_so run a b is same = subst (λ (x : Asked). asks run ≡ Some (command_of run x)) same is
+
+-- so what holds of the command that was made holds of the one that is asked for
+pub as_asked : (P : Command → Type 0) (run : Run) (made asked : Command) → asks run ≡ Some asked → made ≡ asked → P made → (c : Command) → asks run ≡ Some c → P c
+as_asked P run made asked is same holds c so = subst P (same ∙ one_asked run asked c is so) holds

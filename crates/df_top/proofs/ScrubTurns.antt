@@ -12,6 +12,7 @@ use Rattle.df_layout.specs.declared.damage.Finding.{Finding}
 use Rattle.df_lines.specs.Grammar as lines
 use Rattle.df_model.specs.Commands.{Answer, Command, Given, Recent, Scrub, ToRecent, ToScrub}
 use Rattle.df_model.specs.declared.answers.Scrubbed.{Scrubbed}
+use Rattle.df_model.specs.declared.commands.Answer.TheVariants as answers
 use Rattle.df_model.specs.declared.answers.Verdict.{Verdict}
 use Rattle.df_model.specs.declared.answers.Verdict.TheVariants.{Sound}
 use Rattle.df_replica.specs.Answering.{GivesVerdict, Serves, ServesScrub, scrub_answer}
@@ -19,13 +20,13 @@ use Rattle.df_replica.specs.Scrubbing.{IsCheckFound, check_found}
 use Rattle.df_replica.specs.Serving.{IsCall}
 use Rattle.df_replica.specs.Session.{Act}
 use Rattle.df_replica.specs.Below.{verdict_in, State as Replica}
-use Rattle.df_script_model.specs.Texts.{recent_text, scrubbed_text}
+use Rattle.df_script_model.specs.Texts.{recent_text}
 use Rattle.df_top.specs.Lines.{command_in, found_in, found_of}
 use Rattle.df_top.specs.Session.{AreCalls}
 use Rattle.df_top.specs.Step.{Makes, ServesLine, ShowsRing}
-use Rattle.df_top.specs.Turning.{IsPrinted, printed_turn}
+use Rattle.df_top.specs.Turning.{Tells, printed_turn}
 use Rattle.df_top.specs.declared.turns.Turn.{Turn}
-use Rattle.df_top.proofs.Answered.{Comes, comes_answered, prints_turn}
+use Rattle.df_top.proofs.Answered.{Comes, comes_answered}
 use Rattle.df_top.proofs.Progress.{calls_join}
 
 -- ---- what a check is rightly supplied with
@@ -60,11 +61,8 @@ module _ (s t : Replica) (old new : Option Told) (same : new ≡ old) where
     };
   }
 
-  pub scrub_done : (written took : Option (List ℕ)) (before now : ℕ) (turn : Turn) (x : Scrubbed) → ServesScrub s t old (Ok x) → now ≡ before
-      → {T E : Type 0} (r : Result T E) → turn ≡ printed_turn r → Prints (scrubbed_text x) written took r → Comes Scrub s t old new written took before now turn
-  scrub_done written took before now turn x serves still r turn_is prints =
-      comes_answered Scrub s t old new written took before now turn (ToScrub x) (makes (Ok x) serves) still
-      (subst (λ (u : Turn). IsPrinted (scrubbed_text x) written took u) (sym turn_is) (prints_turn (scrubbed_text x) written took r prints))
+  pub scrub_done : (written took : Option (List ℕ)) (before now : ℕ) (turn : Turn) (x : Scrubbed) → ServesScrub s t old (Ok x) → now ≡ before → Tells Scrub (answers.Scrub x) written took turn → Comes Scrub s t old new written took before now turn
+  scrub_done written took before now turn x serves still tells = comes_answered Scrub s t old new written took before now turn (ToScrub x) (makes (Ok x) serves) still tells
 
 -- ---- the ring
 

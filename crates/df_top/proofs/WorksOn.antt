@@ -1,7 +1,7 @@
 -- A file that was opened, and on which a generated run was carried out: what is answered and kept, and who is to blame.
 use Rattle.std.proofs.Common.{◌≡◌, inl, inr, ℕ, true, List, Option, Some, None, refl, sym, ◌∙◌, subst, Result, Ok, Err}
 use Rattle.std.proofs.lemmas.Option.{none-some}
-use Rattle.df_base.specs.Causes.{HasCause}
+use Rattle.df_base.specs.Causes.{HasCause, IsBlamed}
 use Rattle.df_base.specs.Image.{IsImage}
 use Rattle.df_base.specs.Log.{Sync}
 use Rattle.df_disk.specs.Told.{Told, did}
@@ -25,7 +25,7 @@ use Rattle.df_workload.specs.declared.state.State.{State as Run}
 use Rattle.df_top.specs.Acknowledging.{run_calls}
 use Rattle.df_top.specs.Outside.{Blames, HasCauses, Outside, PrintsLine}
 use Rattle.df_top.specs.Working.{WorksThrough}
-use Rattle.df_top.specs.Works.{BlamesFault, PrintsFault, PrintsRun, Writes, status_or, workload_of}
+use Rattle.df_top.specs.Works.{PrintsFault, PrintsRun, Writes, is_disk, status_or, workload_of}
 use Rattle.df_top.specs.declared.works.Fault.{Fault}
 use Rattle.df_top.specs.declared.works.Fault.TheVariants.{Disk, Damaged}
 use Rattle.df_top.specs.declared.status.Status.{Status}
@@ -61,7 +61,7 @@ prints_damaged fault place class old new r status is prints ended =
 -- ---- causes
 
 -- a run that ended so ends with no fault of another
-pub run_causes : {T : Type 0} (run : Run) (t : Replica) (r : Result T Fault) (disk disk_now source sink sink_now : ℕ) (old new : Option (List ℕ)) (status : Status) → PrintsRun run t r old new status → BlamesFault disk disk_now r
+pub run_causes : {T : Type 0} (run : Run) (t : Replica) (r : Result T Fault) (disk disk_now source sink sink_now : ℕ) (old new : Option (List ℕ)) (status : Status) → PrintsRun run t r old new status → IsBlamed is_disk disk disk_now r
     → Blames WriteFault sink sink_now status → HasCauses (record { disk = disk; source = source; sink = sink }) (record { disk = disk_now; source = source; sink = sink_now }) status
 run_causes run t (Ok x) disk disk_now source sink sink_now old new status printed same blame = record {
   disk = no_blame DiskFault disk disk_now status same (line_ends _ Done DiskFault old new status printed calm_done.disk (λ no. cc));
@@ -73,8 +73,8 @@ run_causes run t (Err (Damaged place class)) disk disk_now source sink sink_now 
   source = no_blame ReadFault source source status refl (line_ends _ Refused ReadFault old new status printed calm_refused.source (λ no. cc));
   sink = blame;
 }
-run_causes run t (Err Disk) disk disk_now source sink sink_now old new status printed rose blame = record {
-  disk = disk_blame disk disk_now status printed.0 rose;
+run_causes run t (Err Disk) disk disk_now source sink sink_now old new status printed blamed blame = record {
+  disk = disk_blame disk disk_now status printed.0 blamed.1;
   source = no_blame ReadFault source source status refl (λ no. absurd (cc (printed.0, no)));
   sink = blame;
 }

@@ -6,6 +6,7 @@ pub mod Lines
 pub mod Resulting
 pub mod Session
 pub mod Step
+pub mod Calls
 pub mod Turning
 pub mod Refusing
 pub mod Opening

@@ -1,9 +1,10 @@
 -- What the functions that serve a script say of their session.
-use Rattle.std.specs.Prelude.{◌≡◌, ◌≤◌, ◌+◌, ◌^◌, ℕ, true, List, Option, Result, Ok, Err}
+use Rattle.std.specs.Prelude.{◌≡◌, ◌≤◌, ◌+◌, ◌^◌, ℕ, Bool, true, false, List, Option, Result, Ok, Err}
 use Rattle.df_base.specs.Streams.{Appends, AppendsPart}
-use Rattle.df_model.specs.declared.errors.StepError.{StepError}
-use Rattle.df_model.specs.declared.errors.StepError.TheVariants as step
-use Rattle.df_script_model.specs.Texts.{step_refusal}
+use Rattle.df_inspect.specs.Answers.{text_of}
+use Rattle.df_model.specs.Commands.{Command}
+use Rattle.df_model.specs.declared.commands.Answer.{Answer}
+use Rattle.df_top.specs.Calls.{is_damaged, is_fault}
 use Rattle.df_top.specs.Outside.{Blames}
 use Rattle.df_top.specs.Session.{EndedIsEnd}
 use Rattle.df_top.specs.declared.session.Session.{Session}
@@ -33,11 +34,6 @@ IsPrinted text old new GoesOn = Appends old new text
 IsPrinted text old new (Ends WriteFault) = AppendsPart old new text
 IsPrinted text old new (Ends status) = ⊥
 
--- the text of an error is printed; that of a failing disk has none, and ends the session
-pub record TellsRefusal {E : Type 0} (fault : E) (text : List ℕ) (error : E) (old new : Option (List ℕ)) (turn : Turn) : Type 0 where
-  pub failed : error ≡ fault → (turn ≡ Ends DiskFault) × (new ≡ old)
-  pub other : (error ≡ fault → ⊥) → IsPrinted text old new turn
-
 -- a text is printed and ends the session, or a front of it is there where the sink failed
 abbrev pub IsLastPrinted : List ℕ → (old new : Option (List ℕ)) → Turn → Type 0
 IsLastPrinted text old new (Ends Refused) = Appends old new text
@@ -49,11 +45,14 @@ abbrev pub last_turn : {T E : Type 0} → Result T E → Turn
 last_turn (Ok x) = Ends Refused
 last_turn (Err e) = Ends WriteFault
 
--- the text of an error of a step is printed, and the session goes on only where no checkpoint runs; that of a failing disk has none
-abbrev pub TellsStepRefusal : StepError → (old new : Option (List ℕ)) → Turn → Type 0
-TellsStepRefusal step.NotRunning old new turn = IsPrinted (step_refusal step.NotRunning) old new turn
-TellsStepRefusal (step.Damaged place class) old new turn = IsLastPrinted (step_refusal (step.Damaged place class)) old new turn
-TellsStepRefusal step.DiskFault old new turn = (turn ≡ Ends DiskFault) × (new ≡ old)
+-- how an answer is told: a failing disk has no line and ends the session, a damaged superblock ends it by its line, and any other answer has its line
+abbrev pub TellsAs : (fault damaged : Bool) → List ℕ → (old new : Option (List ℕ)) → Turn → Type 0
+TellsAs true damaged text old new turn = (turn ≡ Ends DiskFault) × (new ≡ old)
+TellsAs false true text old new turn = IsLastPrinted text old new turn
+TellsAs false false text old new turn = IsPrinted text old new turn
+
+abbrev pub Tells : Command → Answer → (old new : Option (List ℕ)) → Turn → Type 0
+Tells command answer old new turn = TellsAs (is_fault answer) (is_damaged answer) (text_of command answer) old new turn
 
 -- calls may go on, and no more lines were executed than bytes were taken
 pub record IsReady (s : Session) (left : Option (List ℕ)) : Type 0 where

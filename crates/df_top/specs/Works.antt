@@ -1,12 +1,13 @@
 -- What a generated run does to a replica: its commands are the generator's, each is one call, and the run hears of each answer.
-use Rattle.std.specs.Prelude.{◌≡◌, ◌<◌, ◌+◌, ℕ, Bool, true, List, [], length, map, Option, Some, None, Result, Ok, Err}
-use Rattle.df_base.specs.Causes.{Rose}
+use Rattle.std.specs.Prelude.{◌≡◌, ◌<◌, ◌+◌, ℕ, Bool, true, false, if◌then◌else◌, List, [], length, map, Option, Some, None, Result, Ok, Err}
 use Rattle.df_base.specs.Streams.{Appends, AppendsPart}
 use Rattle.df_disk.specs.Told.{Told}
 use Rattle.df_inspect.specs.Reports.{workload_text}
 use Rattle.df_inspect.specs.declared.counts.Workload.{Workload}
-use Rattle.df_model.specs.Commands.{Answer, Command}
-use Rattle.df_model.specs.declared.errors.StepError.{StepError}
+use Rattle.df_model.specs.Commands.{Answer as Answered, Command}
+use Rattle.df_model.specs.declared.answers.Progress.TheVariants as progress
+use Rattle.df_model.specs.declared.commands.Answer.{Answer}
+use Rattle.df_model.specs.declared.commands.Answer.TheVariants as answers
 use Rattle.df_model.specs.declared.errors.StepError.TheVariants as step
 use Rattle.df_replica.specs.Session.{Act}
 use Rattle.df_replica.specs.Stepping.{OfRunning}
@@ -19,6 +20,7 @@ use Rattle.df_workload.specs.Sound.{flag}
 use Rattle.df_workload.specs.declared.outcome.Outcome.{Outcome}
 use Rattle.df_workload.specs.declared.outcome.Outcome.TheVariants.{Refused, Accepted, Wrote, Finished}
 use Rattle.df_workload.specs.declared.state.State.{State as Run}
+use Rattle.df_top.specs.Calls.{is_fault}
 use Rattle.df_top.specs.Lines.{command_in}
 use Rattle.df_top.specs.Outside.{PrintsLine}
 use Rattle.df_top.specs.Session.{AreCalls, Calls, EndsCalls, IsDamaged}
@@ -32,24 +34,30 @@ use Rattle.df_top.specs.declared.status.Status.TheVariants as ends
 
 -- the call was made and this much was heard of its answer; or the disk failed in it; or it is a step that is damaged
 abbrev pub MakesTo : Command → (s t : Replica) → (old new : Option Told) → Result Outcome Fault → Type 0
-MakesTo command s t old new (Ok outcome) = (x : Answer) × Makes command s t old new (Some x) × (outcome ≡ outcome_of x)
+MakesTo command s t old new (Ok outcome) = (x : Answered) × Makes command s t old new (Some x) × (outcome ≡ outcome_of x)
 MakesTo command s t old new (Err Disk) = Makes command s t old new None
 MakesTo command s t old new (Err (Damaged place class)) = Makes command s t old new None × IsDamaged command new (damaged_text place class)
 
--- the disk is blamed where its count rose
-abbrev pub BlamesFault : {T : Type 0} → (before now : ℕ) → Result T Fault → Type 0
-BlamesFault before now (Err Disk) = Rose before now
-BlamesFault before now result = now ≡ before
+-- the disk failed
+abbrev pub is_disk : Fault → Bool
+is_disk Disk = true
+is_disk (Damaged place class) = false
 
--- a refusal is one of the disk, or is heard as one
-pub record TellsFault {E : Type 0} (fault error : E) (result : Result Outcome Fault) : Type 0 where
-  pub failed : error ≡ fault → result ≡ Err Disk
-  pub other : (error ≡ fault → ⊥) → result ≡ Ok Refused
+-- what a run hears of an answer, where the disk didn't fail
+abbrev pub outcome_in : Answer → Result Outcome Fault
+outcome_in (answers.WriteBlock (Ok reference)) = Ok (Wrote reference.address)
+outcome_in (answers.Advance (Ok (progress.Done sequence))) = Ok Finished
+outcome_in (answers.Advance (Err (step.Damaged place class))) = Err (Damaged place class)
+outcome_in (answers.Append (Err e)) = Ok Refused
+outcome_in (answers.Reply (Err e)) = Ok Refused
+outcome_in (answers.WriteBlock (Err e)) = Ok Refused
+outcome_in (answers.Release (Err e)) = Ok Refused
+outcome_in (answers.Begin (Err e)) = Ok Refused
+outcome_in (answers.Advance (Err e)) = Ok Refused
+outcome_in answer = Ok Accepted
 
-abbrev pub TellsStepFault : StepError → Result Outcome Fault → Type 0
-TellsStepFault step.NotRunning result = result ≡ Ok Refused
-TellsStepFault (step.Damaged place class) result = result ≡ Err (Damaged place class)
-TellsStepFault step.DiskFault result = result ≡ Err Disk
+abbrev pub heard : Answer → Result Outcome Fault
+heard answer = if is_fault answer then Err Disk else outcome_in answer
 
 -- a checkpoint runs
 abbrev pub IsRunning : Replica → Type 0
@@ -73,7 +81,7 @@ StepsOn s t (Err e) = Unit {0}
 -- from one state of the run to another its commands were made, one after the other, and each was answered
 pub record Works (begun : Run) (s : Replica) (old : Option Told) (run : Run) (t : Replica) (new : Option Told) : Type 0 where
   pub acts : List Act
-  pub answers : List Answer
+  pub answers : List Answered
   pub calls : AreCalls s old acts answers t new
   pub follows : Follows begun (map command_in acts) answers run
 
@@ -102,7 +110,7 @@ asked_by (Some a) = Some a.command
 -- its commands were made, each was answered, and then the next one was not, or none is asked for
 pub record Worked (begun : Run) (s : Replica) (old : Option Told) (run : Run) (t : Replica) (new : Option Told) : Type 0 where
   pub acts : List Act
-  pub answers : List Answer
+  pub answers : List Answered
   pub failed : Option Act
   pub calls : EndsCalls s t old new acts answers failed
   pub follows : Follows begun (map command_in acts) answers run

@@ -1,13 +1,12 @@
 //! What the program does: its words, its script, its answers and its status.
 #![tactic(auto)]
 
-mod block_calls;
 mod calls;
-mod checkpoint_calls;
 mod completeness;
 mod engine;
 mod making;
 mod mode;
+mod reads;
 mod reporting;
 mod resulting;
 mod scrub_calls;
@@ -15,6 +14,7 @@ mod scrubbing;
 mod serving;
 mod session;
 mod status;
+mod telling;
 mod turns;
 mod working;
 mod works;

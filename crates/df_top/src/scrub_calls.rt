@@ -7,13 +7,14 @@ ghost use Rattle.df_top.specs.Lines.{found_of};
 ghost use Rattle.df_top.specs.Step.{Answers, ServesLine, ShowsRing};
 ghost use Rattle.df_top.specs.Turning.{BlamesIfEnds};
 
-use crate::calls::printed;
 use crate::status::Status;
+use crate::telling::{printed, tell};
 use crate::turns::Turn;
 use df_base::Sink;
 use df_disk::Disk;
-use df_inspect::{print_recent, print_scrubbed};
+use df_inspect::print_recent;
 use df_layout::{Class, Finding};
+use df_model::{Answer, Command};
 use df_replica::Replica;
 
 // How many findings the ring keeps.
@@ -33,7 +34,7 @@ pub fn scrub<D: Disk, W: Sink>(disk: &mut D, sink: &mut W, replica: &mut Replica
     ensures sink { BlamesIfEnds Status.WriteFault (W.faults sink.old) (W.faults sink.new) result }
 {
     match replica.scrub_step(disk) {
-        Ok(scrubbed) => printed(print_scrubbed(sink, scrubbed)),
+        Ok(scrubbed) => tell(sink, &Command::Scrub, &Answer::Scrub(scrubbed)),
         Err(_) => Turn::Ends(Status::DiskFault),
     }
 }

@@ -12,9 +12,9 @@ ghost use Rattle.df_top.specs.Scrubs.{PrintsTour, tour_status};
 ghost use Rattle.df_top.specs.Touring.{EndsTour, TakesStep, TellsFound, TellsStep};
 ghost use Rattle.df_top.specs.Turning.{BlamesIfEnds};
 
-use crate::calls::printed;
 use crate::serving::refuse_file;
 use crate::status::Status;
+use crate::telling::printed;
 use crate::turns::Turn;
 use df_base::Sink;
 use df_disk::Disk;

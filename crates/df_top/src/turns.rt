@@ -6,16 +6,16 @@ ghost use Rattle.df_top.specs.Session.{Ended, state};
 ghost use Rattle.df_top.specs.Step.{RefusesLine, ServesLine, Turns};
 ghost use Rattle.df_top.specs.Turning.{BlamesIfEnds, IsReady, OnGoing};
 
-use crate::block_calls::{read_block, release, write_block};
-use crate::calls::{append, lookup, prepare, reply};
-use crate::checkpoint_calls::{begin, step};
+use crate::reads::{lookup, prepare, read_block};
 use crate::scrub_calls::{recent, scrub};
 use crate::session::Session;
 use crate::status::Status;
+use crate::telling::serve;
 use df_base::{Sink, Source};
 use df_disk::Disk;
 use df_inspect::print_script;
 use df_lines::{Line, Next};
+use df_model::Command;
 
 /// What became of a session by one turn.
 #[derive(Clone, Copy, Debug, PartialEq, Eq)]
@@ -36,8 +36,8 @@ fn refuse<W: Sink>(sink: &mut W, lines: u64) -> Status
     }
 }
 
-// Makes the call that a line asks for, whose body is in the reader's buffer.
-fn call<D: Disk, W: Sink>(disk: &mut D, sink: &mut W, session: &mut Session, line: Line) -> Turn
+// Makes the call that a line asks for, whose body is in the reader's buffer, and prints what it answers.
+fn execute<D: Disk, W: Sink>(disk: &mut D, sink: &mut W, session: &mut Session, line: Line) -> Turn
     requires live { session.old.replica.live ≡ true }
     requires size { body_length line ≤ length session.old.lines.body }
     ensures answers { ServesLine (said_with session.old.lines.body line) session.old.replica session.new.replica (D.told disk.old) (D.told disk.new) (W.written sink.old) (W.written sink.new) result }
@@ -47,26 +47,39 @@ fn call<D: Disk, W: Sink>(disk: &mut D, sink: &mut W, session: &mut Session, lin
     ensures sink { BlamesIfEnds Status.WriteFault (W.faults sink.old) (W.faults sink.new) result }
 {
     let replica = &mut session.replica;
+    let lines = &session.lines;
     match line {
         Line::Append {
             client,
             request,
             length,
-        } => append(
-            disk,
-            sink,
-            replica,
-            client,
-            request,
-            session.lines.body(length),
-        ),
-        Line::Reply { op, length } => reply(disk, sink, replica, op, session.lines.body(length)),
-        Line::Block { kind, length } => {
-            write_block(disk, sink, replica, kind, session.lines.body(length))
+        } => {
+            let body = lines.body(length);
+            serve(
+                disk,
+                sink,
+                replica,
+                Command::Append {
+                    client,
+                    request,
+                    body,
+                },
+            )
         }
-        Line::Release { address } => release(sink, replica, address),
-        Line::Checkpoint { length } => begin(sink, replica, session.lines.body(length)),
-        Line::Step => step(disk, sink, replica),
+        Line::Reply { op, length } => {
+            let body = lines.body(length);
+            serve(disk, sink, replica, Command::Reply { op, body })
+        }
+        Line::Block { kind, length } => {
+            let body = lines.body(length);
+            serve(disk, sink, replica, Command::WriteBlock { kind, body })
+        }
+        Line::Release { address } => serve(disk, sink, replica, Command::Release { address }),
+        Line::Checkpoint { length } => {
+            let root = lines.body(length);
+            serve(disk, sink, replica, Command::Begin { root })
+        }
+        Line::Step => serve(disk, sink, replica, Command::Advance),
         Line::Prepare { op } => prepare(disk, sink, replica, op),
         Line::Lookup { client } => lookup(disk, sink, replica, client),
         Line::Read { address } => read_block(disk, sink, replica, address),
@@ -92,7 +105,7 @@ fn serve_line<D: Disk, W: Sink>(
     ensures disk { BlamesIfEnds Status.DiskFault (D.faults disk.old) (D.faults disk.new) result }
     ensures sink { BlamesIfEnds Status.WriteFault (W.faults sink.old) (W.faults sink.new) result }
 {
-    let turn = call(disk, sink, session, line);
+    let turn = execute(disk, sink, session, line);
     session.count += 1;
     turn
 }

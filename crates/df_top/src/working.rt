@@ -1,20 +1,21 @@
 // The word `workload`: a file is opened, a generated run is carried out on it, and what it did is printed.
 ghost use Rattle.std.specs.Prelude.{◌≡◌, ◌≤◌, ◌<◌, ℕ, List, None, Option, false, true, OnOk};
+ghost use Rattle.df_base.specs.Causes.{IsBlamed};
 ghost use Rattle.df_workload.specs.Asking.{asks};
 ghost use Rattle.df_workload.specs.Sound.{is_at_end, left};
 ghost use Rattle.df_workload.specs.declared.state.Point.{Point};
 ghost use Rattle.df_top.specs.declared.mode.Mode.{Mode};
 ghost use Rattle.df_top.specs.Outside.{Blames, HasCauses};
 ghost use Rattle.df_top.specs.Run.{ServesIn};
-ghost use Rattle.df_top.specs.Works.{BlamesFault, Comes, IsRunning, PrintsFault, PrintsRun, status_or, steps_left, workload_of};
+ghost use Rattle.df_top.specs.Works.{Comes, IsRunning, PrintsFault, PrintsRun, is_disk, status_or, steps_left, workload_of};
 
 use crate::serving::refuse_file;
 use crate::status::Status;
-use crate::works::{Fault, make, step};
+use crate::works::{Fault, carry_out, make};
 use df_base::{Failed, Sink};
 use df_disk::Disk;
-use df_inspect::{Workload, print_step_refusal, print_workload};
-use df_model::StepError;
+use df_inspect::{Workload, print_answer, print_workload};
+use df_model::{Answer, Command, StepError};
 use df_replica::{Replica, Rooms};
 use df_workload::Generator;
 
@@ -31,7 +32,7 @@ fn go_on<D: Disk>(
     ensures live { OnOk result (replica.new.live ≡ true) }
     ensures runs { OnOk result (generator.new.running ≡ true → IsRunning replica.new) }
     ensures less { OnOk result (left generator.new < left generator.old) }
-    ensures disk { BlamesFault (D.faults disk.old) (D.faults disk.new) result }
+    ensures disk { IsBlamed is_disk (D.faults disk.old) (D.faults disk.new) result }
 {
     match make(disk, replica, generator) {
         Ok(outcome) => {
@@ -54,7 +55,7 @@ fn go_through<D: Disk>(
     ensures live { OnOk result (replica.new.live ≡ true) }
     ensures runs { OnOk result (generator.new.running ≡ true → IsRunning replica.new) }
     ensures ending { OnOk result (generator.new.point ≡ Point.Ending) }
-    ensures disk { BlamesFault (D.faults disk.old) (D.faults disk.new) result }
+    ensures disk { IsBlamed is_disk (D.faults disk.old) (D.faults disk.new) result }
 {
     while !generator.is_ending() {
         match go_on(disk, replica, generator) {
@@ -80,9 +81,9 @@ fn end_step<D: Disk>(
     ensures runs { OnOk result (generator.new.running ≡ true → IsRunning replica.new) }
     ensures ending { OnOk result (generator.new.point ≡ Point.Ending) }
     ensures less { OnOk result (steps_left generator.new replica.new < steps_left generator.old replica.old) }
-    ensures disk { BlamesFault (D.faults disk.old) (D.faults disk.new) result }
+    ensures disk { IsBlamed is_disk (D.faults disk.old) (D.faults disk.new) result }
 {
-    match step(disk, replica) {
+    match carry_out(disk, replica, Command::Advance) {
         Ok(outcome) => {
             generator.hear(outcome);
             Ok(())
@@ -102,7 +103,7 @@ fn end_checkpoint<D: Disk>(
     requires runs { generator.old.running ≡ true → IsRunning replica.old }
     ensures comes { Comes generator.old replica.old (D.told disk.old) generator.new replica.new (D.told disk.new) result }
     ensures over { OnOk result (asks generator.new ≡ None) }
-    ensures disk { BlamesFault (D.faults disk.old) (D.faults disk.new) result }
+    ensures disk { IsBlamed is_disk (D.faults disk.old) (D.faults disk.new) result }
 {
     while generator.is_running() {
         match end_step(disk, replica, generator) {
@@ -123,7 +124,7 @@ fn work<D: Disk>(
     requires runs { generator.old.running ≡ true → IsRunning replica.old }
     ensures comes { Comes generator.old replica.old (D.told disk.old) generator.new replica.new (D.told disk.new) result }
     ensures over { OnOk result (asks generator.new ≡ None) }
-    ensures disk { BlamesFault (D.faults disk.old) (D.faults disk.new) result }
+    ensures disk { IsBlamed is_disk (D.faults disk.old) (D.faults disk.new) result }
 {
     match go_through(disk, replica, generator) {
         Ok(()) => end_checkpoint(disk, replica, generator),
@@ -166,10 +167,13 @@ fn tell_fault<W: Sink>(sink: &mut W, fault: Fault) -> Status
     ensures sink { Blames Status.WriteFault (W.faults sink.old) (W.faults sink.new) result }
 {
     match fault {
-        Fault::Damaged { place, class } => ended(
-            print_step_refusal(sink, StepError::Damaged { place, class }),
-            Status::Refused,
-        ),
+        Fault::Damaged { place, class } => {
+            let answer = Answer::Advance(Err(StepError::Damaged { place, class }));
+            ended(
+                print_answer(sink, &Command::Advance, &answer),
+                Status::Refused,
+            )
+        }
         Fault::Disk => Status::DiskFault,
     }
 }

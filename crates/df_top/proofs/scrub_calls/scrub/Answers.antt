@@ -5,8 +5,8 @@ use Rattle.df_top.proofs.scrub_calls.scrub.Goals as goal
 
 pub returns-in-Ok-clause-answers : goal.returns-in-Ok-clause-answers
 returns-in-Ok-clause-answers g c =
-    (scrub_done c.args.replica.now c.scrub_step.new.self (g.D.Disk.told c.args.disk.now) (g.D.Disk.told c.scrub_step.new.disk) c.in-Ok.ensures.same (g.W.Sink.written c.args.sink.now) (g.W.Sink.written c.print_scrubbed.new.sink)
-    (g.D.Disk.faults c.args.disk.now) (g.D.Disk.faults c.scrub_step.new.disk) c.printed.result c.in-Ok.scrubbed c.in-Ok.ensures.call c.in-Ok.ensures.cause.same c.print_scrubbed.result c.printed.ensures c.print_scrubbed.ensures.prints).0
+    (scrub_done c.args.replica.now c.scrub_step.new.self (g.D.Disk.told c.args.disk.now) (g.D.Disk.told c.scrub_step.new.disk) c.in-Ok.ensures.same (g.W.Sink.written c.args.sink.now) (g.W.Sink.written c.tell.new.sink)
+    (g.D.Disk.faults c.args.disk.now) (g.D.Disk.faults c.scrub_step.new.disk) c.tell.result c.in-Ok.scrubbed c.in-Ok.ensures.call c.in-Ok.ensures.cause.same c.tell.ensures.told).0
 
 pub returns-in-Err-clause-answers : goal.returns-in-Err-clause-answers
 returns-in-Err-clause-answers g c =

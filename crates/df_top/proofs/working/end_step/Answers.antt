@@ -1,5 +1,5 @@
 -- The step was taken, and the run heard of its answer.
-use Rattle.std.proofs.Common.{◌≡◌, ◌<◌, true, subst, sym}
+use Rattle.std.proofs.Common.{◌≡◌, ◌<◌, true, refl, subst, sym}
 use Rattle.df_model.specs.Commands.{Advance}
 use Rattle.df_workload.specs.declared.state.State.{State as Run}
 use Rattle.df_workload.specs.declared.state.Point.TheVariants.{Ending}
@@ -11,15 +11,15 @@ use Rattle.df_top.proofs.working.end_step.Goals as goal
 pub hear-requires : goal.hear-requires
 hear-requires g c =
     may_end c.in-Ok.outcome c.args.generator.now c.requires.ending c.requires.running
-    (not_refused c.args.replica.now c.step.new.replica c.in-Ok.outcome c.in-Ok.ensures.steps c.requires.runs)
+    (not_refused c.args.replica.now c.carry_out.new.replica c.in-Ok.outcome (c.in-Ok.ensures.steps refl) c.requires.runs)
 
 pub returns-in-Ok : goal.returns-in-Ok
 returns-in-Ok g c =
     let run = c.args.generator.now in
     let s = c.args.replica.now in
-    let t = c.step.new.replica in
+    let t = c.carry_out.new.replica in
     let old = g.D.Disk.told c.args.disk.now in
-    let new = g.D.Disk.told c.step.new.disk in
+    let new = g.D.Disk.told c.carry_out.new.disk in
     let o = c.in-Ok.outcome in
     let next = ends_by_step run c.requires.ending c.requires.running in
     let made = c.in-Ok.ensures.makes in
@@ -28,11 +28,11 @@ returns-in-Ok g c =
       live = made_live run s t old new Advance next o made;
       runs = subst (λ (r : Run). r.running ≡ true → IsRunning t) (sym c.hear.ensures.heard) (made_runs run s t old new Advance next o c.in-Ok.ensures.runs (λ set. c.requires.runs));
       ending = subst (λ (r : Run). r.point ≡ Ending) (sym c.hear.ensures.heard) (still_ending o run c.requires.ending);
-      less = subst (λ (r : Run). steps_left r t < steps_left run s) (sym c.hear.ensures.heard) (fewer_steps o run s t next c.in-Ok.ensures.steps c.requires.runs c.requires.running);
+      less = subst (λ (r : Run). steps_left r t < steps_left run s) (sym c.hear.ensures.heard) (fewer_steps o run s t next (c.in-Ok.ensures.steps refl) c.requires.runs c.requires.running);
       disk = c.in-Ok.ensures.disk;
     }
 
 pub returns-in-Err-clause-comes : goal.returns-in-Err-clause-comes
 returns-in-Err-clause-comes g c =
     let run = c.args.generator.now in
-    made_fails run c.args.replica.now c.step.new.replica (g.D.Disk.told c.args.disk.now) (g.D.Disk.told c.step.new.disk) Advance (ends_by_step run c.requires.ending c.requires.running) (Unit {0}) c.in-Err.fault c.in-Err.ensures.makes
+    made_fails run c.args.replica.now c.carry_out.new.replica (g.D.Disk.told c.args.disk.now) (g.D.Disk.told c.carry_out.new.disk) Advance (ends_by_step run c.requires.ending c.requires.running) (Unit {0}) c.in-Err.fault c.in-Err.ensures.makes

@@ -1,6 +1,7 @@
 -- The open answers of the file that the disk shows, and the run is carried out on what it found.
 use Rattle.std.proofs.Common.{◌≡◌, ℕ, inr, refl, subst, ◌∙◌, ap}
 use Rattle.std.specs.Prelude.{Ok, Option}
+use Rattle.df_base.specs.Causes.{IsBlamed}
 use Rattle.df_disk.specs.Told.{Told}
 use Rattle.df_layout.specs.declared.layout.Layout.{Layout}
 use Rattle.df_model.specs.declared.answers.Summary.{Summary}
@@ -10,7 +11,7 @@ use Rattle.df_workload.specs.Rounds.{start}
 use Rattle.df_workload.specs.declared.state.State.{State as Run}
 use Rattle.df_top.specs.Outside.{Outside}
 use Rattle.df_top.specs.Working.{WorksThrough}
-use Rattle.df_top.specs.Works.{BlamesFault, Comes}
+use Rattle.df_top.specs.Works.{Comes, is_disk}
 use Rattle.df_top.proofs.Causes.{open_causes, refused_never}
 use Rattle.df_top.proofs.Runs.{ends_run}
 use Rattle.df_top.proofs.Served.{not_opened}
@@ -41,7 +42,7 @@ returns-clause-works g c = λ left t told whole.
 pub returns-in-Ok-clause-causes : goal.returns-in-Ok-clause-causes
 returns-in-Ok-clause-causes g c = λ source.
     run_causes c.work-worked.new.generator c.work-worked.new.replica c.work-worked.result (g.D.Disk.faults c.args.disk.now) (g.D.Disk.faults c.work-worked.new.disk) source (g.W.Sink.faults c.args.sink.now) (g.W.Sink.faults c.tell.new.sink) (g.W.Sink.written c.args.sink.now) (g.W.Sink.written c.tell.new.sink)
-    c.tell.result c.tell.ensures.prints (subst (λ (n : ℕ). BlamesFault n (g.D.Disk.faults c.work-worked.new.disk) c.work-worked.result) c.in-Ok.ensures.cause c.work-worked.ensures.disk) c.tell.ensures.sink
+    c.tell.result c.tell.ensures.prints (subst (λ (n : ℕ). IsBlamed is_disk n (g.D.Disk.faults c.work-worked.new.disk) c.work-worked.result) c.in-Ok.ensures.cause c.work-worked.ensures.disk) c.tell.ensures.sink
 
 pub returns-clause-causes : goal.returns-clause-causes
 returns-clause-causes g c = λ source.

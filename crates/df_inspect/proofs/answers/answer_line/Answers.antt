@@ -1,0 +1,16 @@
+-- The line of an answer is that of what was matched.
+use Rattle.std.proofs.Common.{◌∙◌, ap, sym}
+use Rattle.df_inspect.specs.Answers.{command_of, text_of}
+use Rattle.df_inspect.proofs.answers.answer_line.Goals as goal
+
+pub returns-in-Append : goal.returns-in-Append
+returns-in-Append c = c.append_line.ensures (command_of c.args.command.now) ∙ ap (text_of (command_of c.args.command.now)) (sym c.in-Append.is)
+
+pub returns-in-WriteBlock : goal.returns-in-WriteBlock
+returns-in-WriteBlock c = c.wrote_line.ensures (command_of c.args.command.now) ∙ ap (text_of (command_of c.args.command.now)) (sym c.in-WriteBlock.is)
+
+pub returns-in-Begin : goal.returns-in-Begin
+returns-in-Begin c = c.begin_line.ensures (command_of c.args.command.now) ∙ ap (text_of (command_of c.args.command.now)) (sym c.in-Begin.is)
+
+pub returns-in-Advance : goal.returns-in-Advance
+returns-in-Advance c = c.step_line.ensures (command_of c.args.command.now) ∙ ap (text_of (command_of c.args.command.now)) (sym c.in-Advance.is)
