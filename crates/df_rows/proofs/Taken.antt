@@ -1,25 +1,24 @@
 -- What a table takes: rows in turn, the rows of bodies, and that bodies are one table.
-use Rattle.std.proofs.Common.{◌≡◌, ◌≢◌, ℕ, zero, suc, ◌+◌, ◌*◌, ◌<◌, ◌≤◌, eqb, cond, Bool, true, false, ◌&&◌, List, [], ◌∷◌, ◌++◌, length, get_or, take, drop, ◌-◌, map, Option, Some, None, is_some, inl, inr, refl, sym, ap, subst, ◌∙◌, arith, length-append, append_assoc}
+use Rattle.std.proofs.Common.{◌≡◌, ◌≢◌, ℕ, zero, suc, ◌+◌, ◌*◌, ◌<◌, ◌≤◌, eqb, cond, Bool, true, false, ◌&&◌, List, [], ◌∷◌, ◌++◌, length, take, drop, ◌-◌, map, Option, Some, None, is_some, inl, inr, refl, sym, ap, subst, ◌∙◌, arith, length-append}
 use Rattle.std.proofs.Math.Dec.{T}
-use Rattle.std.specs.List.{All, flat_map}
+use Rattle.std.specs.List.{All}
 use Rattle.std.specs.Ordering.{is_lt, nat_cmp}
 use Rattle.std.specs.Cmp.{nat_cmp_total}
 use Rattle.std.specs.FinMap as finite
-use Rattle.std.specs.FinMap.{find, get-entries, get-empty, entries_sorted, is_sorted, len-insert, len-empty, len-entries}
+use Rattle.std.specs.FinMap.{get-entries, get-empty, entries_sorted, is_sorted, len-insert, len-empty, len-entries}
 use Rattle.std.specs.FinMap.Entries.{below_all}
 use Rattle.std.proofs.lemmas.Bool.{cases_eq, eq-eqb, eqb-false, eqb-true, false≢true, ltb-true, ne_eqb}
-use Rattle.std.proofs.lemmas.Bool.Decides.{nat_tests}
-use Rattle.std.proofs.lemmas.List.{append-nil, drop-drop, take-append-drop}
-use Rattle.std.proofs.lemmas.List.Elements.{All-append, All-cons, All-head, All-nil, All-tail, All-take, All-drop}
+use Rattle.std.proofs.lemmas.List.{drop-drop, take-append-drop}
+use Rattle.std.proofs.lemmas.List.Elements.{All-cons, All-head, All-nil, All-tail}
 use Rattle.df_rows.specs.Rows.{Entry, IsEntry, row_of, rows_of}
 use Rattle.df_rows.specs.Commands.{Map}
 use Rattle.df_rows.specs.Sorted.{KeysRise, key_at}
 use Rattle.df_rows.specs.Tables.{AreNew, IsNew, Table, with_row, with_rows}
-use Rattle.df_rows.specs.Blocks.{Takes, TakesAll, bodies_of, chunks_of}
+use Rattle.df_rows.specs.Blocks.{Takes, TakesAll, chunks_of}
 use Rattle.df_rows.specs.Laws.{BlocksAreTable, OneTable}
 use Rattle.df_rows.proofs.Entries.{length-row_of, row_split}
 use Rattle.df_rows.proofs.Found.{find_looks, look, look_none}
-use Rattle.df_rows.proofs.Viewed.{get_inserted, no_entries, same_maps}
+use Rattle.df_rows.proofs.Viewed.{get_inserted, same_maps}
 use Rattle.df_rows.proofs.Chunked.{joined, joined_chunks}
 
 -- ---- the bytes of rows

@@ -1,5 +1,5 @@
 -- What stands behind the first byte is a key and a value.
-use Rattle.std.proofs.Common.{◌∷◌, ◌++◌, ℕ, List, drop, ap, sym, ◌∙◌, arith}
+use Rattle.std.proofs.Common.{◌∷◌, ◌++◌, ℕ, List, ap, sym, ◌∙◌, arith}
 use Rattle.std.proofs.lemmas.List.{take_rest}
 use Rattle.df_base.specs.Fields.{spelled}
 use Rattle.df_rows.specs.Rows.{Entry}

@@ -1,6 +1,5 @@
 -- The row at the key's place is gone; where there is none the map stays.
 use Rattle.std.proofs.Common.{refl, ap, ◌∙◌}
-use Rattle.std.specs.List.{remove}
 use Rattle.df_rows.proofs.Held.{remove_at, remove_none, same_gap, same_place, table_of}
 use Rattle.df_rows.proofs.table.ObjectTable.remove.Goals as goal
 
