@@ -1,0 +1,4 @@
+mod Blame
+mod Shows
+mod Stays
+mod Steps
