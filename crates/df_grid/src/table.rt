@@ -1,13 +1,7 @@
 // The block table with the free set and the chains of both checkpoints: what the grid knows, and how that changes.
 ghost use Rattle.std.specs.Prelude.{◌≡◌, ◌≢◌, ◌-◌, ◌*◌, ◌<◌, ◌≤◌, true, false, [], Some, None, length, map, take, replicate, slice_get, All, IfSome, IsSome, nat_lt};
 ghost use Rattle.std.specs.List.{filter, range_with_len};
-ghost use Rattle.df_model.specs.Blocks.{block_released, block_written, blocks_captured, capture_finished, entries, is_held_in, reference_in, sum_at};
-ghost use Rattle.df_model.specs.Work.{is_known};
-ghost use Rattle.df_trailer.specs.Rooms.{number_in};
-ghost use Rattle.df_trailer.specs.Spelling.{is_referenced};
-ghost use Rattle.df_trailer.specs.Text.{ones};
-ghost use Rattle.df_trailer.specs.Writing.{captured_blocks, referenced_among};
-ghost use Rattle.df_units.specs.Meaning.{number_of};
+ghost use Rattle.df_grid.specs.Below.{block_released, block_written, blocks_captured, capture_finished, entries, is_held_in, reference_in, sum_at, is_known, number_in, is_referenced, ones, captured_blocks, referenced_among, number_of};
 ghost use Rattle.df_grid.specs.Table.{IsIdle, TableState, adopted, last_of, next_written, no_blocks, pair_in, unheld};
 
 use crate::changes::{capture_all, finish_all, replace, take_least};
