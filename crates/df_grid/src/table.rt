@@ -20,6 +20,7 @@ use std::marker::Model;
 /// The table of blocks. Both parts of the running trailer and the durable one's chain are lists of addresses, the chains from the last
 /// block to the first; no layout has a trailer of more than 70 blocks. A capture also counts what it captured, for each full group of
 /// 256 addresses; no layout has more than 64 of these.
+#[derive(Drop)]
 pub struct Table {
     entries: Entries,
     free: FreeSet,
@@ -27,20 +28,6 @@ pub struct Table {
     left: ArrayVec<u64, LINKS>,
     chain: ArrayVec<u64, LINKS>,
     counts: ArrayVec<u64, 64>,
-}
-
-// Its owner lets go of it in one call, and not field by field.
-impl Drop for Table {
-    fn drop(self) {
-        let Table {
-            entries: _,
-            free: _,
-            written: _,
-            left: _,
-            chain: _,
-            counts: _,
-        } = self;
-    }
 }
 
 impl Model for Table {
