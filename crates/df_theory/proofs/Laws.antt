@@ -54,9 +54,9 @@ pub use Rattle.df_theory.proofs.Grouped.{group_from, group_holds, same_group}
 pub use Rattle.df_theory.proofs.Hurts.{pool_pools}
 pub use Rattle.df_theory.proofs.Images.{IsOpen, bears_open, chosen_same}
 pub use Rattle.df_theory.proofs.Mends.{IsUnderWay, header_steps_miss, is_mend, missed, under_way_still}
-pub use Rattle.df_theory.proofs.Once.{last_of, no_mark, one_stored, same_chains, same_links, stored_op}
+pub use Rattle.df_theory.proofs.Once.{last_of, no_mark, one_stored, stored_op}
 pub use Rattle.df_theory.proofs.OneFound.{one_view}
-pub use Rattle.df_theory.proofs.OneView.{same_parts}
+pub use Rattle.df_theory.proofs.SameView.{view_is_found}
 pub use Rattle.df_theory.proofs.Past.{HasGap, IsNew, appended_clear, next_in, no_made, same_slot}
 pub use Rattle.df_theory.proofs.Pinned.{same_named}
 pub use Rattle.df_theory.proofs.SampleFiles.{all_reserved, bare, copies_of, first_of, is_first_bare, is_first_of, layout, made_of, making_of, puts_reserved, reserved, sector, shape_of, tidy_of}
