@@ -6,10 +6,8 @@ ghost use Rattle.df_grid.specs.Table.{IsIdle, TableState, adopted, last_of, next
 
 use crate::changes::{capture_all, finish_all, replace, take_least};
 use crate::entries::Entries;
-use crate::entry::{Entry, checksum_if};
-use crate::lookups::{
-    count_captured, count_durable, count_live, count_marked, entry_in, first_marked,
-};
+use crate::entry::{Entry, Reason, checksum_if};
+use crate::lookups::{count_captured, count_held, entry_in, first_marked};
 use arrayvec::ArrayVec;
 use df_base::Check;
 use df_format::Reference;
@@ -90,7 +88,7 @@ impl Table {
     pub(crate) fn references(&self) -> u64
         ensures { result ≡ length self.now.blocks.durable }
     {
-        count_durable(&self.entries)
+        count_held(&self.entries, Reason::Durable)
     }
 
     /// How many blocks are live.
@@ -99,7 +97,7 @@ impl Table {
         ensures captured { result ≡ ones (map is_referenced (captured_blocks (λ a. sum_at a self.now.blocks.live) self.now.size)) }
         ensures most { result ≤ self.now.size }
     {
-        count_live(&self.entries)
+        count_held(&self.entries, Reason::Live)
     }
 
     /// The checksum of a live block, None where the address isn't live.
@@ -156,7 +154,7 @@ impl Table {
     pub(crate) fn referenced(&self) -> u64
         ensures { result ≡ length (entries (reference_in self.now.blocks) (range_with_len 1 self.now.size)) }
     {
-        count_marked(&self.entries)
+        count_held(&self.entries, Reason::Any)
     }
 
     /// The address of the running trailer's next block.
