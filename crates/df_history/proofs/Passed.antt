@@ -1,8 +1,9 @@
 -- A sample: a file is stopped within a group, of which the second prepare alone is left. It is opened again, and the survivor passed over.
 use Rattle.std.proofs.Common.{◌≡◌, inl, inr, List, [], ◌∷◌, Some, None, refl, ap, arith}
 use Rattle.df_theory.specs.Units.{HeaderPlace, HeaderUnit, Message, PreparePlace, PrepareUnit, Units}
+use Rattle.df_theory.specs.Trailer.{no_parts}
 use Rattle.df_theory.specs.View.{View}
-use Rattle.df_theory.specs.Next.{MayAppend, appended}
+use Rattle.df_theory.specs.Next.{appended}
 use Rattle.df_theory.specs.Holds.{Holds}
 use Rattle.df_theory.specs.UnitLog.{IsLeftBy, Stopped, Synced, UnitLog, add, loose, now, settled, wrote}
 use Rattle.df_theory.specs.Chance.{NoChance}
@@ -11,18 +12,12 @@ use Rattle.df_theory.specs.Rests.{IsGoodLog, RestsOn}
 use Rattle.df_theory.specs.Runs.{AtEach, Puts, Step, after_steps}
 use Rattle.df_theory.specs.WriterLaws.{AreSame, Flushes, flush_steps}
 use Rattle.df_theory.specs.Found.{AreOfPlaces, IsFound}
-use Rattle.df_theory.proofs.Laws.{each_weaker, flush_law, put_one_law, holds_found, without, without_shows, All, now_all, copies_are, header_put, may_append, prepare_put, quiet_updated, copies_all, left_without, no_chance, put_all, wrote_pooled}
+use Rattle.df_theory.proofs.Laws.{each_weaker, flush_law, put_one_law, holds_found, without, without_shows, All, now_all, copies_are, header_put, may_append_pair, prepare_put, quiet_updated, copies_all, left_without, no_chance, put_all, wrote_pooled}
 use Rattle.df_history.specs.Histories.{IsLived, IsLivedMoment, MayStart}
 use Rattle.df_history.specs.Sample.{PassedSampleLaw}
 use Rattle.df_history.proofs.Mendings.{each_last}
 use Rattle.df_history.proofs.Since.{found_since_law, stopped_settled, synced_settled}
 use Rattle.df_history.proofs.Samples.{IsOurs, anew, anew_last, booted1, booted1_ours, booted_of, clear1, clear_of, content, distinct, first, lost, made, made_ours, of_places, opened1, opens, quiet1, shape, starts, survivor}
-
-may_flush : MayAppend shape (first 1) (lost ∷ survivor ∷ [])
-may_flush = may_append shape (first 1) (lost ∷ survivor ∷ []) (omega arith) (refl, refl, (refl, refl, tt)) (
-  record { mark = refl; checkpoint = refl; boot = refl; group = refl; group_last = refl },
-  (record { mark = refl; checkpoint = refl; boot = refl; group = refl; group_last = refl }, tt),
-) (omega arith, omega arith, omega arith) ((refl, omega arith), (inr (λ same. omega arith, 3, refl, (refl, omega arith)), tt))
 
 abbrev puts : List Step
 puts = Puts (prepare_put lost) ∷ Puts (prepare_put survivor) ∷ []
@@ -31,7 +26,7 @@ abbrev half : UnitLog
 half = after_steps puts booted1
 
 halves : AtEach (IsGoodLog shape (first 1) (appended (first 1) (lost ∷ survivor ∷ []))) booted1 puts
-halves = (flush_law shape booted1 (first 1) (lost ∷ survivor ∷ []) (lost ∷ survivor ∷ []) (prepare_put lost ∷ prepare_put survivor ∷ []) [] opened1.0 quiet1 clear1 may_flush (λ several. omega arith) (record { there = λ p at. at; back = λ p at. at })
+halves = (flush_law shape booted1 (first 1) (lost ∷ survivor ∷ []) (lost ∷ survivor ∷ []) (prepare_put lost ∷ prepare_put survivor ∷ []) [] opened1.0 quiet1 clear1 (may_append_pair (λ op text. Some no_parts) 1 41 42 1) (λ several. omega arith) (record { there = λ p at. at; back = λ p at. at })
     (put_one_law (PreparePlace 1) (PrepareUnit lost), (put_one_law (PreparePlace 2) (PrepareUnit survivor), tt)) tt).loose
 
 abbrev image : Units
@@ -86,12 +81,6 @@ clear3 = clear_of 2 image (λ s p is own.
     let same : a.0 ≡ p = (let e = a.1 in cc) in
     absurd (omega (arith, a.2.boot, ap (λ (w : Message). w.header.boot) same, own)))
 
-may_again : MayAppend shape (first 2) (anew ∷ anew_last ∷ [])
-may_again = may_append shape (first 2) (anew ∷ anew_last ∷ []) (omega arith) (refl, refl, (refl, refl, tt)) (
-  record { mark = refl; checkpoint = refl; boot = refl; group = refl; group_last = refl },
-  (record { mark = refl; checkpoint = refl; boot = refl; group = refl; group_last = refl }, tt),
-) (omega arith, omega arith, omega arith) ((refl, omega arith), (inr (λ same. omega arith, 3, refl, (refl, omega arith)), tt))
-
 abbrev prepares : List Units
 prepares = prepare_put anew_last ∷ prepare_put anew ∷ []
 
@@ -108,7 +97,7 @@ abbrev kept3 : View
 kept3 = appended (first 2) (anew ∷ anew_last ∷ [])
 
 flushes : Flushes shape booted3 (first 2) kept3 prepares headers
-flushes = flush_law shape booted3 (first 2) (anew ∷ anew_last ∷ []) (anew_last ∷ anew ∷ []) prepares headers opened3.0 (quiet_updated (content 2) (record { start = image; events = [] })) clear3 may_again (λ several. omega arith) turned
+flushes = flush_law shape booted3 (first 2) (anew ∷ anew_last ∷ []) (anew_last ∷ anew ∷ []) prepares headers opened3.0 (quiet_updated (content 2) (record { start = image; events = [] })) clear3 (may_append_pair (λ op text. Some no_parts) 2 43 44 2) (λ several. omega arith) turned
     (put_one_law (PreparePlace 2) (PrepareUnit anew_last), (put_one_law (PreparePlace 1) (PrepareUnit anew), tt)) (
       record { each = λ place y is. let at = (put_one_law (HeaderPlace 1) (HeaderUnit anew.header)).only place y is in (1, anew.header, at.0, at.1, inr (anew, inl refl, refl, refl)) },
       (record { each = λ place y is. let at = (put_one_law (HeaderPlace 2) (HeaderUnit anew_last.header)).only place y is in (2, anew_last.header, at.0, at.1, inr (anew_last, inr (inl refl), refl, refl)) }, tt),

@@ -17,7 +17,7 @@ use Rattle.df_theory.specs.MakingLaws.{blank_log}
 use Rattle.df_theory.specs.WriterLaws.{Appends}
 use Rattle.df_theory.specs.TidyLaws.{IsTidy}
 use Rattle.df_theory.specs.Found.{AreOfPlaces, IsFound, IsInRange, IsOfPlace}
-use Rattle.df_theory.proofs.Laws.{anew_law, append_law, each_weaker, put_one_law, holds_found, low_steps, low_update, All, Shows, now_all, pools_all, all_reserved, bare, copies_of, first_of, is_first_bare, made_of, reserved, sector, shape_of, tidy_of, copies_are, header_put, may_append, may_raise, prepare_put, quiet_updated, AreTold, copies_all, distinct_of, made_all, put_all}
+use Rattle.df_theory.proofs.Laws.{anew_law, append_law, each_weaker, put_one_law, holds_found, low_steps, low_update, All, Shows, now_all, pools_all, all_reserved, bare, copies_of, first_of, is_first_bare, made_of, reserved, sector, shape_of, tidy_of, copies_are, grouped, header_put, may_append, may_raise, prepare_put, quiet_updated, AreTold, copies_all, distinct_of, made_all, put_all}
 use Rattle.df_history.specs.Histories.{InHistoryPool, InHistoryPools, IsLived, IsLivedMoment, IsSettled, MayHurtCopies, MayStart}
 use Rattle.df_history.specs.OpenLaws.{IsOpening}
 use Rattle.df_history.specs.Sample.{HistorySampleLaw}
@@ -60,9 +60,6 @@ abbrev pub renewed : Message
 renewed = record { header = record { checksum = 6; parent = 0; client = 7; op = 1; request = 1; mark = 0; checkpoint = 1; boot = 2; group = 1; group_last = 1 }; body = [] }
 
 -- a group of two in the first boot, and its ops anew in the second
-abbrev grouped : ℕ → ℕ → ℕ → ℕ → ℕ → Message
-grouped sum parent client op boot = record { header = record { checksum = sum; parent = parent; client = client; op = op; request = 1; mark = 0; checkpoint = 1; boot = boot; group = 1; group_last = 2 }; body = [] }
-
 abbrev pub lost : Message
 lost = grouped 41 0 7 1 1
 
@@ -285,22 +282,4 @@ opened2 =
     (all.1, (each_last (IsLivedMoment shape (second ∷ made ∷ [])) (update_steps (copies_of (content 2))) (record { start = shown; events = [] }) all.0).lived)
 
 pub history_sample_law : HistorySampleLaw
-history_sample_law = record {
-  shape = shape;
-  made = made;
-  second = second;
-  kept = kept;
-  shown = shown;
-  found = first 1;
-  third = third;
-  next = first 2;
-  lived = lived2;
-  rests = appends.leads.rests;
-  start = start2;
-  finds = found2;
-  lost = (omega arith, refl);
-  had = found_since_law shape second (made ∷ []) shown (first 1) lived2 start2 found2;
-  goes = opened2.1;
-  rests_next = opened2.0;
-  raised = (refl, refl);
-}
+history_sample_law = record { shape = shape; made = made; second = second; kept = kept; shown = shown; found = first 1; third = third; next = first 2; lived = lived2; rests = appends.leads.rests; start = start2; finds = found2; lost = (omega arith, refl); had = found_since_law shape second (made ∷ []) shown (first 1) lived2 start2 found2; goes = opened2.1; rests_next = opened2.0; raised = (refl, refl) }

@@ -92,16 +92,4 @@ may = record {
 }
 
 pub update_sample_law : UpdateSampleLaw
-update_sample_law = record {
-  shape = shape;
-  log = log;
-  view = view2;
-  next = view5;
-  image = image;
-  safe = good.safe;
-  left = (left, chance, holds);
-  copies = (refl, refl, refl);
-  table = table;
-  mends = mends;
-  may = may;
-}
+update_sample_law = record { shape = shape; log = log; view = view2; next = view5; image = image; safe = good.safe; left = (left, chance, holds); copies = (refl, refl, refl); table = table; mends = mends; may = may }

@@ -60,7 +60,7 @@ pub use Rattle.df_theory.proofs.SameView.{view_is_found}
 pub use Rattle.df_theory.proofs.Past.{HasGap, IsNew, appended_clear, next_in, no_made, same_slot}
 pub use Rattle.df_theory.proofs.Pinned.{same_named}
 pub use Rattle.df_theory.proofs.SampleFiles.{all_reserved, bare, copies_of, first_of, is_first_bare, is_first_of, layout, made_of, making_of, puts_reserved, reserved, sector, shape_of, tidy_of}
-pub use Rattle.df_theory.proofs.SampleSteps.{copies_are, header_put, may_append, may_raise, prepare_put, quiet_updated}
+pub use Rattle.df_theory.proofs.SampleSteps.{copies_are, grouped, header_put, may_append, may_append_pair, may_raise, prepare_put, quiet_updated}
 pub use Rattle.df_theory.proofs.SampleUnits.{AreTold, copies_all, distinct_of, left_without, made_all, no_chance, put_all, wrote_pooled}
 pub use Rattle.df_theory.proofs.Without.{without, without_else, without_shows}
 pub use Rattle.df_theory.proofs.Settled.{append_here, base_here, made_content, made_reply, reply_here}

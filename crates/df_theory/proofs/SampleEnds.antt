@@ -113,15 +113,4 @@ keep =
     (one, (two, (three, (four, (five, (six, tt))))))
 
 pub sample_law : SampleLaw
-sample_law = record {
-  shape = shape;
-  first = first;
-  format = made_steps;
-  commands = commands;
-  safe = safe_made;
-  tidy = tidy_made.0;
-  standing = tidy_made.1;
-  lead = lead;
-  keep = keep;
-  some = (omega arith, omega arith, refl, (2, 9, refl));
-}
+sample_law = record { shape = shape; first = first; format = made_steps; commands = commands; safe = safe_made; tidy = tidy_made.0; standing = tidy_made.1; lead = lead; keep = keep; some = (omega arith, omega arith, refl, (2, 9, refl)) }

@@ -16,7 +16,7 @@ use Rattle.df_theory.proofs.PutOne.{put_one_law}
 use Rattle.df_theory.proofs.Keeps.{four}
 use Rattle.df_theory.proofs.Tidy.{tidy_append_law}
 use Rattle.df_theory.proofs.Writes.{quiet_synced}
-use Rattle.df_theory.proofs.SampleFiles.{copies_of, sector, shape_of}
+use Rattle.df_theory.proofs.SampleFiles.{bare, copies_of, first_of, sector, shape_of}
 
 -- ---- an append
 
@@ -40,6 +40,19 @@ may_append sh v ps some turn are room asks = record {
   unspent = room.2;
   asks = asks;
 }
+
+-- a group of two by its checksums and its boot, the first prepares of two clients
+abbrev pub grouped : ℕ → ℕ → ℕ → ℕ → ℕ → Message
+grouped sum parent client op boot = record { header = record { checksum = sum; parent = parent; client = client; op = op; request = 1; mark = 0; checkpoint = 1; boot = boot; group = 1; group_last = 2 }; body = [] }
+
+abbrev pub pair : ℕ → ℕ → ℕ → List Message
+pair a b boot = grouped a 0 7 1 boot ∷ grouped b a 8 2 boot ∷ []
+
+pub may_append_pair : (parse : ℕ → List ℕ → Option Parts) (sum a b boot : ℕ) → MayAppend (shape_of 2 parse) (first_of (bare 2 1 sum boot)) (pair a b boot)
+may_append_pair parse sum a b boot = may_append (shape_of 2 parse) (first_of (bare 2 1 sum boot)) (pair a b boot) (omega arith) (refl, refl, (refl, refl, tt)) (
+  record { mark = refl; checkpoint = refl; boot = refl; group = refl; group_last = refl },
+  (record { mark = refl; checkpoint = refl; boot = refl; group = refl; group_last = refl }, tt),
+) (omega arith, omega arith, omega arith) ((refl, omega arith), (inr (λ same. omega arith, 3, refl, (refl, omega arith)), tt))
 
 abbrev pub prepare_put : Message → Units
 prepare_put p = put_one (PreparePlace (p.header.op % 16)) (PrepareUnit p)

@@ -51,15 +51,4 @@ after_chance : NoChance log2 (now log2)
 after_chance = record { pooled = wrote_pooled put2 log1 leads1.0.leads.rests.pooled; distinct = distinct_in log2 log2_all }
 
 pub stop_sample_law : StopSampleLaw
-stop_sample_law = record {
-  shape = shape;
-  log = log2;
-  view = view1;
-  next = view2;
-  before = now log1;
-  after = now log2;
-  safe = stepped.good.safe;
-  before_left = (before_left, before_chance, leads1.0.leads.rests.holds);
-  after_left = (λ place firm. refl, after_chance, stepped.rests.holds);
-  one_more = refl;
-}
+stop_sample_law = record { shape = shape; log = log2; view = view1; next = view2; before = now log1; after = now log2; safe = stepped.good.safe; before_left = (before_left, before_chance, leads1.0.leads.rests.holds); after_left = (λ place firm. refl, after_chance, stepped.rests.holds); one_more = refl }

@@ -22,7 +22,7 @@ use Rattle.df_theory.proofs.PutOne.{put_one_law}
 use Rattle.df_theory.proofs.AllOf.{All}
 use Rattle.df_theory.proofs.FlushLaws.{flush_law}
 use Rattle.df_theory.proofs.SampleFiles.{bare, copies_of, first_of, is_first_bare, made_of, reserved, shape_of, tidy_of}
-use Rattle.df_theory.proofs.SampleSteps.{may_append, may_raise, prepare_put}
+use Rattle.df_theory.proofs.SampleSteps.{grouped, may_append_pair, may_raise, pair, prepare_put}
 use Rattle.df_theory.proofs.SampleUnits.{AreTold, copies_all, distinct_of, left_without, made_all, no_chance, put_all, wrote_pooled}
 use Rattle.df_theory.proofs.Samples.{block}
 use Rattle.df_theory.proofs.Without.{without, without_shows}
@@ -65,23 +65,17 @@ tidy1 = (tidy_boot_law shape made (view 50 0) (content 51 1) (copies_of (content
 
 -- ---- a group of two
 
-abbrev header : ℕ → ℕ → ℕ → ℕ → ℕ → Header
-header sum parent client op boot = record { checksum = sum; parent = parent; client = client; op = op; request = 1; mark = 0; checkpoint = 1; boot = boot; group = 1; group_last = 2 }
-
 abbrev first : Message
-first = record { header = header 41 0 7 1 1; body = [] }
+first = grouped 41 0 7 1 1
 
 abbrev second : Message
-second = record { header = header 42 41 8 2 1; body = [] }
+second = grouped 42 41 8 2 1
 
 abbrev group : List Message
-group = first ∷ second ∷ []
+group = pair 41 42 1
 
 may1 : MayAppend shape (view 51 1) group
-may1 = may_append shape (view 51 1) group (omega arith) (refl, refl, (refl, refl, tt)) (
-  record { mark = refl; checkpoint = refl; boot = refl; group = refl; group_last = refl },
-  (record { mark = refl; checkpoint = refl; boot = refl; group = refl; group_last = refl }, tt),
-) (omega arith, omega arith, omega arith) ((refl, omega arith), (inr (λ same. omega arith, 3, refl, (refl, omega arith)), tt))
+may1 = may_append_pair (λ op text. Some no_parts) 51 41 42 1
 
 abbrev log2 : UnitLog
 log2 = wrote (prepare_put second) (wrote (prepare_put first) log1)
@@ -154,19 +148,13 @@ leads4 : LeadsTidily shape log3 (view 51 1) boot2
 leads4 = (tidy_boot_law shape log3 (view 51 1) (content 52 2) (copies_of (content 52 2)) (record { rests = rests3; quiet = λ place wet. absurd (let no_unit : false ≡ true = wet in cc); whole = whole3 }) (may_boot 51 52 1 (omega arith))).0
 
 abbrev third : Message
-third = record { header = header 43 0 7 1 2; body = [] }
+third = grouped 43 0 7 1 2
 
 abbrev fourth : Message
-fourth = record { header = header 44 43 8 2 2; body = [] }
+fourth = grouped 44 43 8 2 2
 
 abbrev again : List Message
-again = third ∷ fourth ∷ []
-
-may4 : MayAppend shape (view 52 2) again
-may4 = may_append shape (view 52 2) again (omega arith) (refl, refl, (refl, refl, tt)) (
-  record { mark = refl; checkpoint = refl; boot = refl; group = refl; group_last = refl },
-  (record { mark = refl; checkpoint = refl; boot = refl; group = refl; group_last = refl }, tt),
-) (omega arith, omega arith, omega arith) ((refl, omega arith), (inr (λ same. omega arith, 3, refl, (refl, omega arith)), tt))
+again = pair 43 44 2
 
 abbrev table : ℕ → Header
 table s = if s == 1 then third.header else (if s == 2 then fourth.header else reserved)
@@ -217,7 +205,7 @@ same = record {
 }
 
 leads5 : LeadsTidily shape log4 (view 52 2) flush
-leads5 = (tidy_flush_law shape log4 (view 52 2) again (fourth ∷ third ∷ []) prepares table headers leads4.tidy may4 (λ several. omega arith) same (put_one_law (PreparePlace 2) (PrepareUnit fourth), (put_one_law (PreparePlace 1) (PrepareUnit third), tt)) all_table is_table).0
+leads5 = (tidy_flush_law shape log4 (view 52 2) again (fourth ∷ third ∷ []) prepares table headers leads4.tidy (may_append_pair (λ op text. Some no_parts) 52 43 44 2) (λ several. omega arith) same (put_one_law (PreparePlace 2) (PrepareUnit fourth), (put_one_law (PreparePlace 1) (PrepareUnit third), tt)) all_table is_table).0
 
 pub survivor_sample_law : SurvivorSampleLaw
 survivor_sample_law = record {

@@ -301,21 +301,4 @@ dirty clean = elim (clean 2 content2 refl (λ e. omega arith)) [
 ]
 
 pub upgrade_sample_law : UpgradeSampleLaw
-upgrade_sample_law = record {
-  shape = shape;
-  image = image;
-  view = view2;
-  above = content2;
-  next = content3;
-  table = table;
-  mends = mends;
-  version = refl;
-  may = may;
-  shows = (refl, above);
-  unclean = unclean;
-  log = log;
-  left = left;
-  is_left = (left_by, chance);
-  found = left_found;
-  dirty = (refl, dirty);
-}
+upgrade_sample_law = record { shape = shape; image = image; view = view2; above = content2; next = content3; table = table; mends = mends; version = refl; may = may; shows = (refl, above); unclean = unclean; log = log; left = left; is_left = (left_by, chance); found = left_found; dirty = (refl, dirty) }
