@@ -1,4 +1,4 @@
--- The referenced blocks stand in order of address: which one is next above an address, and what is left behind it.
+-- Blocks listed in order of address: which one is next above an address, and what is left behind it.
 use Rattle.std.proofs.Common.{◌≡◌, ℕ, zero, suc, ◌+◌, ◌<◌, ◌≤◌, nat_lt, Bool, true, false, cond, List, [], ◌∷◌, length, Option, Some, None, refl, sym, ◌∙◌, ap, arith}
 use Rattle.std.specs.List.{filter, range_with_len}
 use Rattle.std.proofs.lemmas.Bool.Decides.{nat_tests}
@@ -22,9 +22,9 @@ entries_rise f a zero b room = tt
 entries_rise f a (suc n) b room = entry_rise a b (f a) (entries f (range_with_len (a + 1) n)) (omega arith) (entries_rise f (a + 1) n b (omega arith))
 
 -- there are no more of them than addresses
-pub few : (a b : ℕ) (xs : List (ℕ × ℕ)) → a ≤ b → Rise a b xs → length xs + a ≤ b
-few a b [] le rise = omega arith
-few a b (x ∷ xs) le rise = let rest : length xs + (x.0 + 1) ≤ b = few (x.0 + 1) b xs (omega (arith, rise.1)) rise.2 in omega (arith, rise.0, rest)
+pub rising_few : (a b : ℕ) (xs : List (ℕ × ℕ)) → a ≤ b → Rise a b xs → length xs + a ≤ b
+rising_few a b [] le rise = omega arith
+rising_few a b (x ∷ xs) le rise = let rest : length xs + (x.0 + 1) ≤ b = rising_few (x.0 + 1) b xs (omega (arith, rise.1)) rise.2 in omega (arith, rise.0, rest)
 
 -- those above an address
 abbrev pub above : ℕ → List (ℕ × ℕ) → List (ℕ × ℕ)
@@ -76,3 +76,15 @@ next_case a c b y ys x rest false rise is found more =
 pub is_next : (a c b : ℕ) (ys : List (ℕ × ℕ)) (x : ℕ × ℕ) (rest : List (ℕ × ℕ)) → Rise c b ys → above a ys ≡ x ∷ rest → IsNext a c b ys x rest
 is_next a c b [] x rest rise is = absurd (cc)
 is_next a c b (y ∷ ys) x rest rise is = next_case a c b y ys x rest (nat_lt a y.0) rise refl is (λ found. is_next a (y.0 + 1) b ys x rest rise.2 found)
+
+-- without the second bound
+abbrev pub RisePairs : ℕ → List (ℕ × ℕ) → Type 0
+RisePairs a [] = Unit {0}
+RisePairs a (x ∷ xs) = (a ≤ x.0) × RisePairs (x.0 + 1) xs
+
+rise_pairs : (a b : ℕ) (xs : List (ℕ × ℕ)) → Rise a b xs → RisePairs a xs
+rise_pairs a b [] rise = tt
+rise_pairs a b (x ∷ xs) rise = (rise.0, rise_pairs (x.0 + 1) b xs rise.2)
+
+pub entries_pairs : (f : ℕ → Option ℕ) (a n : ℕ) → RisePairs a (entries f (range_with_len a n))
+entries_pairs f a n = rise_pairs a (a + n) (entries f (range_with_len a n)) (entries_rise f a n (a + n) (omega arith))
