@@ -49,7 +49,7 @@ unit_after ((Puts put) ∷ ss) place o = unit_after ss place (or_else (put place
 unit_after (Syncs ∷ ss) place o = unit_after ss place o
 
 -- what is put is there at their end
-some_stays : (ss : List Step) (place : Place) (x : AnyUnit) → unit_after ss place (Some x) ≡ None → ⊥
+pub some_stays : (ss : List Step) (place : Place) (x : AnyUnit) → unit_after ss place (Some x) ≡ None → ⊥
 some_stays [] place x none = cc
 some_stays ((Puts put) ∷ ss) place x none = go (put place) (λ y. some_stays ss place y) none
   where
