@@ -17,7 +17,6 @@ use Rattle.df_replica.specs.Opened.{Mends, StopsOpening}
 use Rattle.df_replica.specs.Serving.{IsCall}
 use Rattle.df_replica.specs.Session.{Act}
 use Rattle.df_top.specs.Acknowledging.{CallsMade, run_calls, script_calls}
-use Rattle.df_top.specs.Opening.{RefusesFile}
 use Rattle.df_top.specs.Outside.{Outside}
 use Rattle.df_top.specs.Run.{Does, Runs, ServesScript}
 use Rattle.df_top.specs.Session.{AreCalls, EndsCalls}
