@@ -24,6 +24,17 @@ put_nothing put ss place none = by (put place) refl none
     by None is none = (is, none)
     by (Some x) is none = absurd (some_stays ss place x none)
 
+nothing_put : (ss : List Step) (place : Place) (o : Option AnyUnit) → unit_after ss place None ≡ None → unit_after ss place o ≡ o
+nothing_put [] place o none = refl
+nothing_put ((Puts put) ∷ ss) place o none =
+    let parts = put_nothing put ss place none in
+    ap (λ (p : Option AnyUnit). unit_after ss place (or_else p o)) parts.0 ∙ nothing_put ss place o parts.1
+nothing_put (Syncs ∷ ss) place o none = nothing_put ss place o none
+
+-- all of them
+pub all_front : (f : Format) (es : List Event) (ss : List Step) → AreSteps f es ss → FrontSteps f es ss
+all_front f es ss are = record { steps = ss; are = are; aside = nothing_put ss }
+
 module _ (f : Format) (es part : List Event) (rest : (ss : List Step) → AreSteps f es ss → FrontSteps f part ss) where
   -- a call more
   pub one_more : (e : Event) (ss : List Step) → AreSteps f (e ∷ es) ss → FrontSteps f (e ∷ part) ss
