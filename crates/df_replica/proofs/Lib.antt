@@ -19,6 +19,7 @@ pub mod Barriers
 pub mod Listed
 pub mod Opens
 pub mod Leaves
+pub mod Fronts
 pub mod Makes
 pub mod WritesOn
 pub mod Calls
