@@ -6,6 +6,7 @@ mod answer;
 mod blocks;
 mod bytes;
 mod command;
+mod finding;
 mod limits;
 mod line;
 mod meaning;
@@ -13,7 +14,6 @@ mod parser;
 mod printer;
 mod refusal;
 mod row;
-mod search;
 mod table;
 #[cfg(test)]
 mod tests;

@@ -8,9 +8,9 @@ ghost use Rattle.df_rows.specs.Rows.{IsEntry};
 ghost use Rattle.df_rows.specs.Tables.{CanApply, HasRoom, IsNew, with_row};
 
 use crate::command::Command;
+use crate::finding::find_key;
 use crate::limits::most_rows;
 use crate::row::Row;
-use crate::search::search;
 use df_base::OutOfMemory;
 use df_layout::Layout;
 use std::alloc::Global;
@@ -82,7 +82,7 @@ impl ObjectTable {
     pub fn get(&self, key: u128) -> Option<&[u8]>
         ensures { option_copied result ≡ map.get self.now.rows key }
     {
-        match search(&self.rows, key) {
+        match find_key(&self.rows, key) {
             Ok(at) => {
                 let row = &self.rows[at];
                 Some(row.value())
@@ -117,7 +117,7 @@ impl ObjectTable {
         requires { HasRoom self.old row.0 }
         ensures { self.new ≡ with_row row self.old }
     {
-        match search(&self.rows, row.key()) {
+        match find_key(&self.rows, row.key()) {
             Ok(at) => self.rows[at] = row,
             Err(at) => {
                 let _ = self.rows.insert(at, row);
@@ -129,7 +129,7 @@ impl ObjectTable {
     pub(crate) fn remove(&mut self, key: u128)
         ensures { self.new ≡ record self.old { rows = map.remove self.old.rows key } }
     {
-        if let Ok(at) = search(&self.rows, key) {
+        if let Ok(at) = find_key(&self.rows, key) {
             drop(self.rows.remove(at));
         }
     }

@@ -5,7 +5,7 @@ ghost use Rattle.df_rows.specs.Sorted.{IsAt, IsGap, KeysRise};
 use crate::row::Row;
 
 /// The place of the key's row, or the place where it would go.
-pub(crate) fn search(rows: &[Row], key: u128) -> Result<usize, usize>
+pub(crate) fn find_key(rows: &[Row], key: u128) -> Result<usize, usize>
     requires { KeysRise rows.now }
     ensures found { IfOk result (IsAt rows.now key) }
     ensures absent { IfErr result (IsGap rows.now key) }
