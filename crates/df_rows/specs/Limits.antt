@@ -1,5 +1,6 @@
 -- How many rows a table has at most, and how many blocks it takes.
 use Rattle.std.specs.Prelude.{ℕ, ◌+◌, ◌-◌, ◌*◌, ◌/◌, ◌≤◌, min}
+use Rattle.std.specs.Int.{div_ceil}
 use Rattle.df_layout.specs.declared.layout.Layout.{Layout}
 
 -- the rows of one block: 64 bytes each, behind the block's header
@@ -17,7 +18,7 @@ most_rows layout = min 65536 (rows_in_block layout * blocks_of_table layout)
 
 -- how many blocks of so many rows these rows take; the last may have fewer
 abbrev pub block_count : (per rows : ℕ) → ℕ
-block_count per rows = (rows + per - 1) / per
+block_count per rows = div_ceil rows per
 
 -- a table takes so many blocks at most, each of which has its rows, and three tables leave four blocks
 pub record Fits (layout : Layout) (rows : ℕ) : Type 0 where
