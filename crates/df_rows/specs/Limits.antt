@@ -7,8 +7,8 @@ use Rattle.df_layout.specs.declared.layout.Layout.{Layout}
 abbrev pub rows_in_block : Layout → ℕ
 rows_in_block layout = (layout.block_size - 256) / 64
 
--- the blocks of one table: of the blocks of a file four are kept for trailers, and a third of the others is the table's, since the next
--- table is written while two earlier ones may still be held
+-- the blocks of one table: a third of all but four, so that a table that is written stands beside the one that the durable checkpoint holds,
+-- with both trailers
 abbrev pub blocks_of_table : Layout → ℕ
 blocks_of_table layout = (layout.blocks - 4) / 3
 

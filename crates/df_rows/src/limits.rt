@@ -18,7 +18,8 @@ pub fn rows_in_block(layout: &Layout) -> u64
     u64::from(layout.block_size - HEADER as u32) / ROW as u64
 }
 
-/// How many blocks a table takes at most: a third of all but four, so that the next table can be written while two earlier ones are held.
+/// How many blocks a table takes at most: a third of all but four, so that a table that is written stands beside the one that the durable
+/// checkpoint holds, with both trailers.
 pub fn blocks_of_table(layout: &Layout) -> u64
     ensures value { result ≡ limits.blocks_of_table layout.now }
     ensures some { 1 ≤ result }
