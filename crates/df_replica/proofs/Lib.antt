@@ -56,4 +56,5 @@ pub mod LentFinds
 pub mod Lent
 pub mod LentCalls
 pub mod LentKept
+pub mod MadeUnits
 pub mod Laws
