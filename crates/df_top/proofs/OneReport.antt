@@ -32,7 +32,7 @@ use Rattle.df_model.specs.Work.{opened}
 use Rattle.df_model.specs.declared.answers.Summary.{Summary}
 use Rattle.df_top.specs.Reporting.{OneReport, report_of, status_of}
 
--- ---- the sessions' lines say what the model knows of them
+-- ---- the sessions' lines say what the theory knows of them
 
 stored_same : (r : Option (List ℕ)) → stored_text r ≡ stored_text (reply_sum r)
 stored_same None = refl

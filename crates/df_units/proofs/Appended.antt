@@ -1,4 +1,4 @@
--- An append on a disk is one of the model.
+-- An append on a disk is one of the theory.
 use Rattle.std.proofs.Common.{◌≡◌, inl, inr, ℕ, ◌/◌, ◌%◌, ◌==◌, List, [], Some, None, refl, sym, ◌∙◌, ap, subst}
 use Rattle.std.specs.Prelude.{slice_get}
 use Rattle.std.proofs.lemmas.Bool.{cond-true, eq-eqb}
