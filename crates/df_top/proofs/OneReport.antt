@@ -2,8 +2,6 @@
 use Rattle.std.proofs.Common.{◌≡◌, ℕ, ◌<◌, Bool, true, false, not, IsTrue, List, [], ◌∷◌, ◌++◌, length, Option, None, Some, refl, sym, ◌∙◌, ap, subst, arith}
 use Rattle.std.specs.Prelude.{◌+◌, zero, suc, codes, map, get_or}
 use Rattle.std.specs.List.{filter, range_with_len}
-use Rattle.std.proofs.Math.Bridge.{le_prop}
-use Rattle.std.proofs.Math.Nat.{ℕ_set}
 use Rattle.df_base.specs.Image.{Image}
 use Rattle.df_format.specs.Copies.{Content, content_at}
 use Rattle.df_format.specs.Own.{place_in}

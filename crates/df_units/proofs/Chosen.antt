@@ -11,7 +11,7 @@ use Rattle.df_format.specs.Copies.{Content, content_at, content_of as content_of
 use Rattle.df_format.proofs.Laws.{is_here, read_as}
 use Rattle.df_quorum.specs.Quorum
 use Rattle.df_theory.specs.Units
-use Rattle.df_theory.specs.Units.{AnyUnit, CopyPlace, CopyUnit}
+use Rattle.df_theory.specs.Units.{CopyUnit}
 use Rattle.df_theory.specs.Copies
 use Rattle.df_units.specs.Meaning.{content_of, offset_list}
 use Rattle.df_units.specs.Bytes.{copy_unit, unit_at}
