@@ -1,4 +1,4 @@
--- What a refusal of a trailer says of the model's checkpoint.
+-- What a refusal of a trailer says of the theory's checkpoint.
 use Rattle.std.specs.Prelude.{◌≡◌, ◌<◌, ◌≤◌, ◌^◌, ℕ, List}
 use Rattle.df_layout.specs.declared.damage.Class.{Class}
 use Rattle.df_layout.specs.declared.fields.Field.{Field}
@@ -18,7 +18,7 @@ pub record IsMissed (sh : Shape) (shown : Shown) (c : Content) (a : ℕ) : Type 
   pub reads : ReadsTo sh shown.units c a sum
   pub missed : IsShown shown.units a sum → ⊥
 
--- a block that is refused as damaged is one that the model misses
+-- a block that is refused as damaged is one that the theory misses
 abbrev pub DamageIsMissed : Type 0
 DamageIsMissed = (sh : Shape) (shown : Shown) (c : Content) (a : ℕ) (class : Class) → IsLacking sh shown c a class → IsMissed sh shown c a
 

@@ -20,7 +20,7 @@ pub record IsLeast (sessions : List Session) (replies op n : ℕ) : Type 0 where
   pub lacks : has_op n sessions ≡ false
   pub least : (m : ℕ) → replies < m → m < n → has_op m sessions ≡ true
 
--- in the model's words: a chain is whole, its text is one, and this is the least op that waits for its reply and is the op of no session
+-- in the theory's words: a chain is whole, its text is one, and this is the least op that waits for its reply and is the op of no session
 pub record IsUntracked (sh : Shape) (shown : Shown) (c : Content) (n : ℕ) : Type 0 where
   pub chain : List (ℕ × Block)
   pub whole : IsWhole sh shown c chain

@@ -1,7 +1,7 @@
-// What a refusal of a trailer says of the checkpoints of the model, as functions with an empty body.
+// What a refusal of a trailer says of the checkpoints of the theory, as functions with an empty body.
 ghost use Rattle.df_checkpoint.specs.Laws.{BadTextIsUnreadable, BrokenIsShown, BrokenIsUnreadable, DamageIsMissed, ReferencedIsUnreadable, UntrackedIsUnreadable, WholeIsShown};
 
-/// A block that is refused as damaged is one that the model misses.
+/// A block that is refused as damaged is one that the theory misses.
 pub fn damage_is_missed()
     ensures { DamageIsMissed }
 {}

@@ -30,7 +30,7 @@ in_sector sector table = take 16 (drop (16 * sector) table)
 abbrev pub sector_events : Layout → ℕ → List Header → List Event
 sector_events layout sector table = Write (first_at layout (HeaderPlace (16 * sector))) (headers_bytes (in_sector sector table)) ∷ []
 
--- what it is in the words of the model: the sixteen headers are put into their slots
+-- what it is in the words of the theory: the sixteen headers are put into their slots
 abbrev pub sector_steps : ℕ → List Header → List Step
 sector_steps sector table = Puts (put_headers sector (in_sector sector table)) ∷ []
 

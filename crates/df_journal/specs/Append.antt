@@ -1,4 +1,4 @@
--- An append: its device calls, what they are in the words of the model, and what a stop at any moment of it leaves.
+-- An append: its device calls, what they are in the words of the theory, and what a stop at any moment of it leaves.
 use Rattle.std.specs.Prelude.{◌≡◌, ◌<◌, ◌≤◌, ◌+◌, ◌/◌, ℕ, List, [], ◌∷◌, take, slice_get, slice_set, Option, Some}
 use Rattle.df_base.specs.Image.{Image}
 use Rattle.df_base.specs.Log
@@ -38,7 +38,7 @@ abbrev pub journal_events : Layout → Holding → List Header → List Event
 journal_events layout held table =
     append_events layout held.unit.header.slot (take (sectors_end held.unit.header.size) held.bytes) (held.unit.header.slot / 16) (new_sector held.unit table)
 
--- in the words of the model
+-- in the words of the theory
 abbrev pub journal_steps : Message → List Header → List Step
 journal_steps u table = Puts (put_one (PreparePlace u.header.slot) (PrepareUnit (message_of u))) ∷ Syncs ∷ Puts (put_headers (u.header.slot / 16) (new_sector u table)) ∷ Syncs ∷ []
 

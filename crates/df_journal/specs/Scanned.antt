@@ -37,7 +37,7 @@ pub record IsScanned (layout : Layout) (told : Option Told) (scan : Scan) : Type
 abbrev pub header_first : Layout → ℕ → ℕ
 header_first layout slot = (span_of layout (place_in WalHeaders slot)).first
 
--- a table that was scanned says what the image shows, in the words of the model
+-- a table that was scanned says what the image shows, in the words of the theory
 abbrev pub ScannedIsShown : Type 0
 ScannedIsShown = (layout : Layout) (t : Told) (scan : Scan) → IsScanned layout (Some t) scan → Tells layout (Bytes.unit_at layout scan.start.cluster t.shown) scan
 

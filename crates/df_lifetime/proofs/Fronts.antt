@@ -1,5 +1,5 @@
 -- However a session ends, what is written is a front of the text of its script.
-use Rattle.std.proofs.Common.{◌≡◌, ◌⊎◌, inl, inr, ℕ, ◌+◌, ◌-◌, suc, Bool, true, false, List, [], ◌∷◌, ◌++◌, append_assoc, length, length-append, map, Option, Some, None, refl, sym, ◌∙◌, ap, subst, arith}
+use Rattle.std.proofs.Common.{◌≡◌, ◌⊎◌, inl, inr, ℕ, ◌+◌, ◌-◌, Bool, true, false, List, [], ◌∷◌, ◌++◌, append_assoc, length, length-append, map, Option, Some, None, refl, sym, ◌∙◌, ap, subst, arith}
 use Rattle.std.specs.Prelude.{take}
 use Rattle.std.proofs.Math.Seq.{take-length}
 use Rattle.std.proofs.lemmas.List.{append-nil, take-append-le, map-append, length-map}
@@ -9,11 +9,11 @@ use Rattle.df_disk.specs.Adds.{after_all}
 use Rattle.df_disk.specs.Told.{Told, did}
 use Rattle.df_inspect.specs.Opening.{script_text}
 use Rattle.df_layout.specs.declared.layout.Layout.{Layout}
-use Rattle.df_lines.specs.Grammar.{Said, Says}
+use Rattle.df_lines.specs.Grammar.{Said}
 use Rattle.df_lines.specs.Room.{line_bound}
-use Rattle.df_lines.specs.Script.{Begins, IsLine, IsRefused, IsScript}
+use Rattle.df_lines.specs.Script.{Begins, IsRefused, IsScript}
 use Rattle.df_lines.specs.Text.{after_line, line_of as first_line, taken}
-use Rattle.df_lines.proofs.Laws.{nothing_said, one_said, one_script, no_line, begins_one}
+use Rattle.df_lines.proofs.Laws.{one_said, one_script, no_line, begins_one}
 use Rattle.df_theory.specs.Shape.{Shape}
 use Rattle.df_model.specs.Memory.{memory_of}
 use Rattle.df_model.specs.Supply.{Codec, Shown, next, shown_after}

@@ -1,12 +1,10 @@
 -- A word that is carried out twice, over disks that show the same, prints one text.
-use Rattle.std.proofs.Common.{◌≡◌, inl, inr, ℕ, suc, List, [], ◌∷◌, length, Option, refl, sym, ◌∙◌, ap, subst}
+use Rattle.std.proofs.Common.{◌≡◌, inl, inr, ℕ, List, length, Option, refl, sym, ◌∙◌, ap, subst}
 use Rattle.df_base.specs.Image.{Image}
 use Rattle.df_base.specs.Streams.{Appends}
 use Rattle.df_disk.specs.Told.{Told}
 use Rattle.df_inspect.specs.Reports.{summary_text}
 use Rattle.df_layout.specs.declared.layout.Layout.{Layout}
-use Rattle.df_sessions.specs.Requests.{sessions_of}
-use Rattle.df_sessions.specs.declared.session.Session.{Session}
 use Rattle.df_model.specs.Memory.{Memory}
 use Rattle.df_replica.specs.Below.{IsOpened, State as Replica, memory}
 use Rattle.df_replica.specs.Replica.{summary_of}

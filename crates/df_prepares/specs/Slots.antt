@@ -25,6 +25,6 @@ IsInOwnSlot layout u = IsUnit layout u.header.cluster (slot_place u.header.slot)
 abbrev pub write_events : Layout → Holding → List Event
 write_events layout held = unit_events layout (slot_place held.unit.header.slot) held
 
--- what they are in the words of the model: the prepare is put into its slot, and synced
+-- what they are in the words of the theory: the prepare is put into its slot, and synced
 abbrev pub write_steps : Message → List Step
 write_steps u = unit_steps (PreparePlace u.header.slot) (PrepareUnit (message_of u))

@@ -1,4 +1,4 @@
--- What was read of a file is so in the model's words.
+-- What was read of a file is so in the theory's words.
 use Rattle.std.proofs.Common.{◌≡◌, inl, inr, ℕ, zero, suc, ◌<◌, ◌≤◌, Bool, true, false, List, [], ◌∷◌, length, get_or, Option, Some, None, refl, sym, ◌∙◌, ap, subst, arith}
 use Rattle.std.specs.Prelude.{nat_lt}
 use Rattle.std.specs.List.{position, position_or_len}
@@ -57,7 +57,7 @@ member_inside (member ∷ members) (suc k) is = omega (arith, member_inside memb
 position_upto : (members : List Bool) (k : ℕ) → get_or members k false ≡ true → (n : ℕ) × (n ≤ k) × (position (λ member. member) members ≡ Some n)
 position_upto members k is = position_of members k (position (λ member. member) members) is (member_inside members k is) refl
 
--- ---- contents are told apart by what the model sees of them
+-- ---- contents are told apart by what the theory sees of them
 
 one_content : (layout : Layout) (cluster : ℕ) (named : 0 < cluster) (c d : Content) → HasChecks c → HasChecks d → AreFieldsOf layout cluster d.fields → IsSuper d.fields → content_of c ≡ content_of d → c ≡ d
 one_content layout cluster named c d one two of super same =

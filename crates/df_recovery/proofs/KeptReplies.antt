@@ -34,7 +34,7 @@ stored_now n s h reply is le =
 
 -- ---- place by place
 
--- ---- in the model
+-- ---- in the theory
 
 entry_of : (o : Option (Result Header Class)) (x : Option AnyUnit) (r : Message) (n : ℕ) (s : Session) → ((reply : Result Header Class) → o ≡ Some reply → ShowsReply x reply) → (o ≡ None → x ≡ None) → x ≡ Some (ReplyUnit r) → s.op ≤ n
     → reply_sum (reply_in n s o) ≡ Some r.header.checksum

@@ -48,7 +48,7 @@ module _ (t : Told) (read : Read) (traces : Traces) (after : List Session) (s : 
   from : IsReadFrom (shape s.file) (unit_at s.file.layout s.file.cluster t.shown) (base_of read.found.content is.checkpoint.chain is.checkpoint.parts) read
   from = file_is_read t s.file read (base_with s read.sessions) is
 
-  -- the checksums that wait are the model's
+  -- the checksums that wait are the machine's
   waits : map number_of s.waiting ≡ map (waiting_sum s image) (range_with_len (s.replies + 1) (s.head - s.replies))
   waits =
       let start : read.slots.start.op ≡ s.fields.op = is.op ∙ ap (λ (f : SuperFields). f.op) (sym kept.fields) in

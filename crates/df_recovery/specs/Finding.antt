@@ -48,7 +48,7 @@ or_first (Some number) = number
 abbrev pub lowest_of : List Bool → ℕ
 lowest_of members = or_first (position (λ member. member) members)
 
--- the refusal that names a place of the model
+-- the refusal that names a place of the theory
 abbrev pub damage : Units.Place → Class → OpenError
 damage at class = Damaged (place_of at) class
 
@@ -93,7 +93,7 @@ pub record FindsView (sh : Shape) (image : Units.Units) (b : Checkpoint) (traces
   pub replies : view.replies ≡ traces.replies
   pub found : Found.IsFound sh image view
 
--- the open ends with this refusal: of each image that was read the model blames the place, and of a disk that was scanned the class is what stands there
+-- the open ends with this refusal: of each image that was read the theory blames the place, and of a disk that was scanned the class is what stands there
 pub record IsRefused (read : Read) (e : OpenError) : Type 0 where
   pub at : Units.Place
   pub class : Class
@@ -149,7 +149,7 @@ pub record IsOfFile (t : Told) (file : DataFile) (read : Read) (base : Base) : T
   pub checkpoint : HasCheckpoint file (unit_at file.layout file.cluster t.shown) read.found.content base
   pub sessions : base.sessions ≡ read.sessions
 
--- it was read from the image in the model's words
+-- it was read from the image in the theory's words
 abbrev pub FileIsRead : Type 0
 FileIsRead =
     (t : Told) (file : DataFile) (read : Read) (base : Base) (is : IsOfFile t file read base)

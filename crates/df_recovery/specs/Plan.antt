@@ -88,7 +88,7 @@ abbrev pub header_or_none : Option Header → Units.Header
 header_or_none None = no_header
 header_or_none (Some h) = header_of h
 
--- a table of headers in the words of the model
+-- a table of headers in the words of the theory
 abbrev pub headers_in : List Header → ℕ → Units.Header
 headers_in table slot = header_or_none (slice_get table slot)
 

@@ -33,7 +33,7 @@ pub record HasFile (image : Image) (file : DataFile) (f : SuperFields) : Type 0 
   pub layout : IsLayoutOf file.layout f
   pub cluster : f.cluster ≡ file.cluster
 
--- the superblock can be used, its layout is the rooms', and the trailer that it names fails this test first; by the model the open ends with a bad field
+-- the superblock can be used, its layout is the rooms', and the trailer that it names fails this test first; by the theory the open ends with a bad field
 pub record FailsTrailer (layout : Layout) (image : Image) (field : Field) (value : ℕ) : Type 0 where
   pub file : DataFile
   pub fields : SuperFields
@@ -56,7 +56,7 @@ abbrev pub class_there : Layout → ℕ → Image → Units.Place → Class
 class_there layout cluster image (CopyPlace n) = Stale
 class_there layout cluster image place = class_at layout cluster image place
 
--- an open ends with this place, by the model, and this is what it shows
+-- an open ends with this place, by the theory, and this is what it shows
 pub record IsDamaged (layout : Layout) (image : Image) (place : Place) (class : Class) : Type 0 where
   pub file : DataFile
   pub fields : SuperFields

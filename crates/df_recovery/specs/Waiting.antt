@@ -30,6 +30,6 @@ waiting_at n scan headers op = if nat_lt scan.start.op op then known_sum headers
 abbrev pub waiting_in : ℕ → Scan → List Header → (replies head : ℕ) → List (List ℕ)
 waiting_in n scan headers replies head = map (waiting_at n scan headers) (range_with_len (replies + 1) (head - replies))
 
--- the same rule in the words of the model, of the image that was read
+-- the same rule in the words of the machine, of the image that was read
 abbrev pub waiting_sum : State → Units → ℕ → ℕ
 waiting_sum s image op = if nat_lt s.fields.op op then prepare_sum s op else checksum_of_op op (image (PreparePlace (op % s.file.layout.slots)))

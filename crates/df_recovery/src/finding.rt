@@ -140,7 +140,7 @@ pub fn state_is_opened()
     ensures { StateIsOpened }
 {}
 
-/// What was read of a file was read from the image in the words of the model.
+/// What was read of a file was read from the image in the words of the theory.
 pub fn file_is_read()
     ensures { FileIsRead }
 {}

@@ -40,7 +40,7 @@ pub fn store_replies(sessions: &mut SessionTable, stored: u64, replies: &ReplyTa
     }
 }
 
-/// Where the replies of the sessions are stored so, each is the one that counts as stored in the model.
+/// Where the replies of the sessions are stored so, each is the one that counts as stored in the theory.
 pub fn stored_is_kept()
     ensures { StoredIsKept }
 {}

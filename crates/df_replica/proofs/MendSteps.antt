@@ -1,4 +1,4 @@
--- The device calls of a mending are the model's steps, and what they leave is the model's.
+-- The device calls of a mending are the theory's steps, and what they leave is the theory's.
 use Rattle.std.proofs.Common.{◌≡◌, ◌⊎◌, inl, inr, ℕ, zero, suc, ◌+◌, ◌/◌, ◌<◌, ◌≤◌, List, [], ◌∷◌, ◌++◌, length, Bool, true, false, Option, Some, None, refl, sym, ◌∙◌, ap, subst, append_assoc, arith}
 use Rattle.std.specs.Prelude.{Result, Ok, Err, OnOk}
 use Rattle.std.proofs.lemmas.Option.{slice_get_within}
@@ -141,7 +141,7 @@ slot_ends table (put ∷ puts) f members log s all either =
 
 -- ---- moments and end
 
--- the mending as a command of the model
+-- the mending as a command of the theory
 abbrev mending_command : DataFile → List Header → List Mend → SuperFields → List Bool → View → Command
 mending_command file table mends f members v = mend_command v (sector_puts table (sectors_of file.layout mends)) (repaired f 0 members)
 

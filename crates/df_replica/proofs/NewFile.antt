@@ -1,4 +1,4 @@
--- A new file is made by writes of reserved headers and of four copies: these are the model's making, at every moment and at its end.
+-- A new file is made by writes of reserved headers and of four copies: these are the theory's making, at every moment and at its end.
 use Rattle.std.proofs.Common.{◌≡◌, inl, ℕ, zero, suc, ◌+◌, ◌*◌, ◌/◌, ◌^◌, ◌<◌, ◌≤◌, List, [], ◌∷◌, length, Option, Some, None, refl, sym, ◌∙◌, ap, subst, arith, Result, Ok, Err}
 use Rattle.std.specs.Prelude.{slice_get}
 use Rattle.std.proofs.lemmas.List.{ext_get_or}

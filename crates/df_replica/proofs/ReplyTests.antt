@@ -39,7 +39,7 @@ no_place op (x ∷ ss) none =
 
 -- ---- the session that waits
 
--- a session in the model's words
+-- a session in the theory's words
 pub session_told : (ss : List told.Session) (k : ℕ) (r : told.Session) → slice_get ss k ≡ Some r → slice_get (sessions_of ss) k ≡ Some (session_of r)
 session_told ss k r at = slice_get-map session_of ss k ∙ ap (option_map session_of) at
 

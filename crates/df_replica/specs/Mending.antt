@@ -1,4 +1,4 @@
--- The mending of a file: which sectors of the header ring are written, its device calls, what they are in the words of the model, and what they leave.
+-- The mending of a file: which sectors of the header ring are written, its device calls, what they are in the words of the theory, and what they leave.
 use Rattle.std.specs.Prelude.{◌≡◌, ◌/◌, ◌==◌, ◌&&◌, ℕ, Bool, true, false, List, [], ◌∷◌, ◌++◌, length, map}
 use Rattle.std.specs.List.{filter, list_any, range_with_len}
 use Rattle.df_base.specs.Log.{Event, IsLog, Sync, now}
@@ -82,7 +82,7 @@ header_events layout table (sector ∷ sectors) = sector_writes layout table (se
 abbrev pub mending_events : Layout → List Header → List Mend → SuperFields → List Bool → List Event
 mending_events layout table mends f members = header_events layout table (sectors_of layout mends) ++ repair_events f 0 members
 
--- ---- in the words of the model
+-- ---- in the words of the theory
 
 abbrev pub sector_put : List Header → ℕ → Units
 sector_put table sector = put_headers sector (in_sector sector table)

@@ -1,4 +1,4 @@
--- The greatest numbers of the replies, turn by turn, and what they say of the model's image.
+-- The greatest numbers of the replies, turn by turn, and what they say of the theory's image.
 use Rattle.std.proofs.Common.{◌≡◌, ◌⊎◌, ◌↔◌, inl, inr, ℕ, ◌+◌, ◌<◌, ◌≤◌, List, length, get_or, max, Option, Some, None, refl, sym, ◌∙◌, ap, subst, arith}
 use Rattle.std.specs.Prelude.{Result, Ok, Err}
 use Rattle.std.specs.List.{slice_get}
@@ -76,7 +76,7 @@ greatest_more start replies k top new d within is old =
       reached = greatest_next start replies k top r at old.reached;
     })
 
--- ---- in the model
+-- ---- in the theory
 
 -- the reply that an entry is, where the image shows one there
 entry_is : (x : Option AnyUnit) (r : Result Header Class) (m : Message) → ShowsReply x r → x ≡ Some (ReplyUnit m) → (h : Header) × (r ≡ Ok h) × (m.header ≡ header_of h)
@@ -145,7 +145,7 @@ counts_above start seen replies image c n counts shows boot = (
   λ both. (counts.reply_top n).1 (both.0, ops_of_above image replies c n shows boot both.1, marks_of_above image replies c n shows boot both.1),
 )
 
--- the greatest of the superblock's number, the mark and the ops is the model's number of replies
+-- the greatest of the superblock's number, the mark and the ops is the theory's number of replies
 pub greatest_is_replies : (superblock mark top : ℕ) (replies : List (Result Header Class)) (image : Units.Units) (c : Content) (tail : List Message) → IsGreatest (max superblock mark) replies (length replies) top → ShowsReplies image replies
     → c.boot ≡ 0 → c.replies ≡ superblock → last_mark 0 tail ≡ mark → IsReplies image c tail top
 greatest_is_replies superblock mark top replies image c tail is shows boot replies_is mark_is = record {

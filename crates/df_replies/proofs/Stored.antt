@@ -1,4 +1,4 @@
--- Which sessions are answered in the model, where those of the table are; and which replies are found stored.
+-- Which sessions are answered in the theory, where those of the table are; and which replies are found stored.
 use Rattle.std.proofs.Common.{◌≡◌, ◌↔◌, inl, inr, ℕ, ◌<◌, ◌≤◌, List, length, Option, Some, None, refl, sym, ◌∙◌, ap, subst, arith}
 use Rattle.std.specs.Prelude.{Result, Ok, Err, IfSome}
 use Rattle.std.specs.List.{slice_get}
@@ -22,7 +22,7 @@ use Rattle.df_replies.specs.Shown.{ShowsReplies, ShowsReply}
 use Rattle.df_replies.proofs.Scanned.{has_class}
 use Rattle.df_replies.specs.Answers.{AnsweredTo, AnswersIn, FoundAreStored, HasClass, IsFirstLacking, Lacks, LacksHere, NamesNone, StoredAreFound, stored_by}
 
--- ---- in the model
+-- ---- in the theory
 
 -- a content that names no reply is answered by any reply of version 1
 named : (c : Content) (k : ℕ) (h : Header) (r : Message) → NamesNone c → r.header ≡ header_of h → IsNamed c k r
@@ -50,7 +50,7 @@ answers_shown image c k s (Err class) names none = (λ no. absurd no, λ there. 
 session_at : (ss : List Session) (k : ℕ) (s : Session) → slice_get ss k ≡ Some s → slice_get (sessions_of ss) k ≡ Some (session_of s)
 session_at ss k s at = slice_get-map session_of ss k ∙ ap (option_map session_of) at
 
--- a session of the model's list is one of the table
+-- a session of the theory's list is one of the table
 session_there : (ss : List Session) (k : ℕ) (s : Units.Session) → slice_get (sessions_of ss) k ≡ Some s → (t : Session) × (slice_get ss k ≡ Some t) × (s ≡ session_of t)
 session_there ss k s at = elim (slice_get_cases ss k).1 [
   | inl there ↦

@@ -1,8 +1,8 @@
 // The printed lines of the log's commands, as the tables of printed texts and of the worked sessions give them.
-use crate::printed::{expect, header, new_sink};
+use crate::printed::{Row, expect, expect_rows, header, new_sink};
 use df_base::{Failed, MemorySink, Sink};
 use df_format::Kind;
-use df_inspect::{print_answer, print_formatted, print_prepare, print_reply, print_script};
+use df_inspect::{print_formatted, print_prepare, print_reply, print_script};
 use df_layout::{Class, Place, Zone};
 use df_model::{Answer, AppendError, Command, LookupError, PrepareError, Receipt, ReplyError};
 use std::test::Fail;
@@ -15,60 +15,37 @@ const APPEND: Command = Command::Append {
 
 const REPLY: Command = Command::Reply { op: 10, body: b"" };
 
-fn print_appended(sink: &mut MemorySink, op: u64) -> Result<(), Failed> {
-    let checksum = [1; 16];
-    print_answer(sink, &APPEND, &Answer::Append(Ok(Receipt { op, checksum })))
-}
+const READ: Command = Command::ReadPrepare { op: 3 };
 
-fn print_numbers(sink: &mut MemorySink) -> Result<(), Failed> {
-    for op in &[1, u64::MAX] {
-        print_appended(sink, *op)?;
-    }
-    print_answer(sink, &REPLY, &Answer::Reply(Ok([1; 16])))?;
-    for sectors in &[336, 2_375_808] {
-        print_formatted(sink, *sectors)?;
-    }
-    print_script(sink, 2)
-}
+const LOOKUP: Command = Command::ReadReply { client: 5 };
 
-const NUMBERS: &str = "appended 1\n\
-    appended 18446744073709551615\n\
-    replied 10\n\
-    formatted 336\n\
-    formatted 2375808\n\
-    script 2\n";
-
-#[test]
-fn answers_are_a_word_and_a_number(rt: HostRuntime) {
-    let mut sink = new_sink(rt.alloc());
-    let done = print_numbers(&mut sink);
-    expect(&rt, done, &sink, NUMBERS);
-}
-
-const APPEND_ERRORS: [AppendError; 10] = [
-    AppendError::ClientZero,
-    AppendError::BodyTooLong { max: 7936 },
-    AppendError::ClientsFull { max: 4 },
-    AppendError::Repeated { op: 1 },
-    AppendError::ReplyPending { op: 2 },
-    AppendError::RequestOrder { expected: 2 },
-    AppendError::PipelineFull { waiting: 8 },
-    AppendError::WalFull {
+const APPENDS: [Answer; 12] = [
+    Answer::Append(Ok(Receipt {
+        op: 1,
+        checksum: [1; 16],
+    })),
+    Answer::Append(Ok(Receipt {
+        op: u64::MAX,
+        checksum: [1; 16],
+    })),
+    Answer::Append(Err(AppendError::ClientZero)),
+    Answer::Append(Err(AppendError::BodyTooLong { max: 7936 })),
+    Answer::Append(Err(AppendError::ClientsFull { max: 4 })),
+    Answer::Append(Err(AppendError::Repeated { op: 1 })),
+    Answer::Append(Err(AppendError::ReplyPending { op: 2 })),
+    Answer::Append(Err(AppendError::RequestOrder { expected: 2 })),
+    Answer::Append(Err(AppendError::PipelineFull { waiting: 8 })),
+    Answer::Append(Err(AppendError::WalFull {
         op: 33,
         checkpoint_op: 0,
-    },
-    AppendError::OpsSpent,
-    AppendError::DiskFault,
+    })),
+    Answer::Append(Err(AppendError::OpsSpent)),
+    Answer::Append(Err(AppendError::DiskFault)),
 ];
 
-fn print_append_refusals(sink: &mut MemorySink, errors: &[AppendError]) -> Result<(), Failed> {
-    for error in errors {
-        print_answer(sink, &APPEND, &Answer::Append(Err(*error)))?;
-    }
-    Ok(())
-}
-
-const APPEND_REFUSALS: &str = "refused ClientZero\n\
+const APPEND_LINES: &str = "appended 1\n\
+    appended 18446744073709551615\n\
+    refused ClientZero\n\
     refused BodyTooLong max 7936\n\
     refused ClientsFull max 4\n\
     refused Repeated op 1\n\
@@ -78,59 +55,22 @@ const APPEND_REFUSALS: &str = "refused ClientZero\n\
     refused WalFull op 33 checkpoint_op 0\n\
     refused OpsSpent\n";
 
-#[test]
-fn a_refused_append_says_why(rt: HostRuntime) {
-    let mut sink = new_sink(rt.alloc());
-    let done = print_append_refusals(&mut sink, &APPEND_ERRORS);
-    expect(&rt, done, &sink, APPEND_REFUSALS);
-}
-
-const REPLY_ERRORS: [ReplyError; 4] = [
-    ReplyError::NothingPending { head: 0 },
-    ReplyError::ReplyOrder { expected: 2 },
-    ReplyError::BodyTooLong { max: 7936 },
-    ReplyError::DiskFault,
+const REPLIES: [Answer; 5] = [
+    Answer::Reply(Ok([1; 16])),
+    Answer::Reply(Err(ReplyError::NothingPending { head: 0 })),
+    Answer::Reply(Err(ReplyError::ReplyOrder { expected: 2 })),
+    Answer::Reply(Err(ReplyError::BodyTooLong { max: 7936 })),
+    Answer::Reply(Err(ReplyError::DiskFault)),
 ];
 
-fn print_reply_refusals(sink: &mut MemorySink, errors: &[ReplyError]) -> Result<(), Failed> {
-    for error in errors {
-        print_answer(sink, &REPLY, &Answer::Reply(Err(*error)))?;
-    }
-    Ok(())
-}
-
-const REPLY_REFUSALS: &str = "refused NothingPending head 0\n\
+const REPLY_LINES: &str = "replied 10\n\
+    refused NothingPending head 0\n\
     refused ReplyOrder expected 2\n\
     refused BodyTooLong max 7936\n";
 
-#[test]
-fn a_refused_reply_says_why(rt: HostRuntime) {
-    let mut sink = new_sink(rt.alloc());
-    let done = print_reply_refusals(&mut sink, &REPLY_ERRORS);
-    expect(&rt, done, &sink, REPLY_REFUSALS);
-}
-
-const READ: Command = Command::ReadPrepare { op: 3 };
-
-const LOOKUP: Command = Command::ReadReply { client: 5 };
-
-fn print_prepare_refusals(sink: &mut MemorySink, errors: &[PrepareError]) -> Result<(), Failed> {
-    for error in errors {
-        print_answer(sink, &READ, &Answer::ReadPrepare(Err(*error)))?;
-    }
-    Ok(())
-}
-
-fn print_lookup_refusals(sink: &mut MemorySink, errors: &[LookupError]) -> Result<(), Failed> {
-    for error in errors {
-        print_answer(sink, &LOOKUP, &Answer::ReadReply(Err(*error)))?;
-    }
-    Ok(())
-}
-
-const PREPARE_ERRORS: [PrepareError; 3] = [
-    PrepareError::NotKept { first: 1, last: 2 },
-    PrepareError::Damaged {
+const READS: [Answer; 3] = [
+    Answer::ReadPrepare(Err(PrepareError::NotKept { first: 1, last: 2 })),
+    Answer::ReadPrepare(Err(PrepareError::Damaged {
         place: Place {
             zone: Zone::WalPrepares,
             index: 3,
@@ -139,39 +79,56 @@ const PREPARE_ERRORS: [PrepareError; 3] = [
             zone: Zone::WalPrepares,
             index: 4,
         }),
-    },
-    PrepareError::DiskFault,
+    })),
+    Answer::ReadPrepare(Err(PrepareError::DiskFault)),
 ];
 
-const LOOKUP_ERRORS: [LookupError; 4] = [
-    LookupError::NoClient,
-    LookupError::ReplyPending { op: 2 },
-    LookupError::Damaged {
+const READ_LINES: &str = "refused NotKept first 1 last 2\n\
+    refused Damaged WalPrepares 3 Elsewhere WalPrepares 4\n";
+
+const LOOKUPS: [Answer; 4] = [
+    Answer::ReadReply(Err(LookupError::NoClient)),
+    Answer::ReadReply(Err(LookupError::ReplyPending { op: 2 })),
+    Answer::ReadReply(Err(LookupError::Damaged {
         place: Place {
             zone: Zone::ClientReplies,
             index: 0,
         },
         class: Class::Garbled,
-    },
-    LookupError::DiskFault,
+    })),
+    Answer::ReadReply(Err(LookupError::DiskFault)),
 ];
 
-fn print_reading_refusals(sink: &mut MemorySink) -> Result<(), Failed> {
-    print_prepare_refusals(sink, &PREPARE_ERRORS)?;
-    print_lookup_refusals(sink, &LOOKUP_ERRORS)
-}
-
-const READING_REFUSALS: &str = "refused NotKept first 1 last 2\n\
-    refused Damaged WalPrepares 3 Elsewhere WalPrepares 4\n\
-    refused NoClient\n\
+const LOOKUP_LINES: &str = "refused NoClient\n\
     refused ReplyPending op 2\n\
     refused Damaged ClientReplies 0 Garbled\n";
 
+const ROWS: [Row; 4] = [
+    (APPEND, &APPENDS, APPEND_LINES),
+    (REPLY, &REPLIES, REPLY_LINES),
+    (READ, &READS, READ_LINES),
+    (LOOKUP, &LOOKUPS, LOOKUP_LINES),
+];
+
 #[test]
-fn a_refused_reading_says_why(rt: HostRuntime) {
+fn an_answer_is_a_word_and_a_number_and_a_refusal_says_why(rt: HostRuntime) {
+    expect_rows(&rt, rt.alloc(), &ROWS);
+}
+
+#[test]
+fn a_file_that_is_made_and_a_bad_line_have_their_numbers(rt: HostRuntime) -> Result<(), Fail> {
     let mut sink = new_sink(rt.alloc());
-    let done = print_reading_refusals(&mut sink);
-    expect(&rt, done, &sink, READING_REFUSALS);
+    for sectors in &[336, 2_375_808] {
+        print_formatted(&mut sink, *sectors)?;
+    }
+    let done = print_script(&mut sink, 2);
+    expect(
+        &rt,
+        done,
+        &sink,
+        "formatted 336\nformatted 2375808\nscript 2\n",
+    );
+    Ok(())
 }
 
 fn print_messages(sink: &mut MemorySink) -> Result<(), Failed> {

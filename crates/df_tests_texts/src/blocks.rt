@@ -1,18 +1,13 @@
 // The printed lines of the commands on blocks and checkpoints, as the worked sessions give them.
-use crate::printed::{expect, header, new_sink};
+use crate::printed::{Row, expect, expect_rows, header, new_sink};
 use df_base::{Failed, MemorySink};
 use df_format::Kind;
-use df_inspect::{print_answer, print_block};
+use df_inspect::print_block;
 use df_layout::{Class, Place, Zone};
 use df_model::{
     Answer, BeginError, BlockError, Command, NotLive, Progress, ReadError, Reference, Scrubbed,
     StepError, Verdict,
 };
-
-const PROGRESS: [Progress; 2] = [
-    Progress::Working { left: 1 },
-    Progress::Done { sequence: 2 },
-];
 
 const WRITE: Command = Command::WriteBlock { kind: 1, body: b"" };
 
@@ -22,119 +17,100 @@ const BEGIN: Command = Command::Begin { root: b"" };
 
 const READ: Command = Command::ReadBlock { address: 4 };
 
-fn print_wrote(sink: &mut MemorySink, address: u64) -> Result<(), Failed> {
-    let checksum = [1; 16];
-    let reference = Reference { address, checksum };
-    print_answer(sink, &WRITE, &Answer::WriteBlock(Ok(reference)))
-}
-
-fn print_numbers(sink: &mut MemorySink) -> Result<(), Failed> {
-    print_wrote(sink, 1)?;
-    print_answer(sink, &RELEASE, &Answer::Release(Ok(())))?;
-    print_answer(sink, &BEGIN, &Answer::Begin(Ok(1)))?;
-    for progress in &PROGRESS {
-        print_answer(sink, &Command::Advance, &Answer::Advance(Ok(*progress)))?;
-    }
-    Ok(())
-}
-
-const NUMBERS: &str = "wrote 1\nreleased 16384\nbegun 1\nworking 1\ndone 2\n";
-
-#[test]
-fn answers_on_blocks_are_a_word_and_a_number(rt: HostRuntime) {
-    let mut sink = new_sink(rt.alloc());
-    let done = print_numbers(&mut sink);
-    expect(&rt, done, &sink, NUMBERS);
-}
-
-fn print_block_refusals(sink: &mut MemorySink, errors: &[BlockError]) -> Result<(), Failed> {
-    for error in errors {
-        print_answer(sink, &WRITE, &Answer::WriteBlock(Err(*error)))?;
-    }
-    Ok(())
-}
-
-fn print_begin_refusals(sink: &mut MemorySink, errors: &[BeginError]) -> Result<(), Failed> {
-    for error in errors {
-        print_answer(sink, &BEGIN, &Answer::Begin(Err(*error)))?;
-    }
-    Ok(())
-}
-
-fn print_step_refusals(sink: &mut MemorySink, errors: &[StepError]) -> Result<(), Failed> {
-    for error in errors {
-        print_answer(sink, &Command::Advance, &Answer::Advance(Err(*error)))?;
-    }
-    Ok(())
-}
-
-fn print_read_refusals(sink: &mut MemorySink, errors: &[ReadError]) -> Result<(), Failed> {
-    for error in errors {
-        print_answer(sink, &READ, &Answer::ReadBlock(Err(*error)))?;
-    }
-    Ok(())
-}
-
-const BLOCK_ERRORS: [BlockError; 3] = [
-    BlockError::KindZero,
-    BlockError::BodyTooLong { max: 16_128 },
-    BlockError::GridFull { blocks: 64 },
-];
-
-const BEGIN_ERRORS: [BeginError; 4] = [
-    BeginError::Running { left: 2 },
-    BeginError::RootTooLong { max: 1024 },
-    BeginError::GridFull { needed: 1, free: 0 },
-    BeginError::SequenceSpent,
-];
-
 const PLACE: Place = Place {
     zone: Zone::Superblock,
     index: 0,
 };
 
-const STEP_ERRORS: [StepError; 2] = [
-    StepError::NotRunning,
-    StepError::Damaged {
-        place: PLACE,
-        class: Class::Stale,
-    },
+const WROTE: [Answer; 4] = [
+    Answer::WriteBlock(Ok(Reference {
+        address: 1,
+        checksum: [1; 16],
+    })),
+    Answer::WriteBlock(Err(BlockError::KindZero)),
+    Answer::WriteBlock(Err(BlockError::BodyTooLong { max: 16_128 })),
+    Answer::WriteBlock(Err(BlockError::GridFull { blocks: 64 })),
 ];
 
-const READ_ERRORS: [ReadError; 2] = [
-    ReadError::NotLive,
-    ReadError::Damaged {
-        place: PLACE,
-        class: Class::Stale,
-    },
-];
-
-fn print_refusals(sink: &mut MemorySink) -> Result<(), Failed> {
-    print_block_refusals(sink, &BLOCK_ERRORS)?;
-    print_answer(sink, &RELEASE, &Answer::Release(Err(NotLive)))?;
-    print_begin_refusals(sink, &BEGIN_ERRORS)?;
-    print_step_refusals(sink, &STEP_ERRORS)?;
-    print_read_refusals(sink, &READ_ERRORS)
-}
-
-const REFUSALS: &str = "refused KindZero\n\
+const WROTE_LINES: &str = "wrote 1\n\
+    refused KindZero\n\
     refused BodyTooLong max 16128\n\
-    refused GridFull blocks 64\n\
-    refused NotLive\n\
+    refused GridFull blocks 64\n";
+
+const RELEASED: [Answer; 2] = [Answer::Release(Ok(())), Answer::Release(Err(NotLive))];
+
+const BEGUN: [Answer; 5] = [
+    Answer::Begin(Ok(1)),
+    Answer::Begin(Err(BeginError::Running { left: 2 })),
+    Answer::Begin(Err(BeginError::RootTooLong { max: 1024 })),
+    Answer::Begin(Err(BeginError::GridFull { needed: 1, free: 0 })),
+    Answer::Begin(Err(BeginError::SequenceSpent)),
+];
+
+const BEGUN_LINES: &str = "begun 1\n\
     refused Running left 2\n\
     refused RootTooLong max 1024\n\
     refused GridFull needed 1 free 0\n\
-    refused SequenceSpent\n\
+    refused SequenceSpent\n";
+
+const ADVANCED: [Answer; 4] = [
+    Answer::Advance(Ok(Progress::Working { left: 1 })),
+    Answer::Advance(Ok(Progress::Done { sequence: 2 })),
+    Answer::Advance(Err(StepError::NotRunning)),
+    Answer::Advance(Err(StepError::Damaged {
+        place: PLACE,
+        class: Class::Stale,
+    })),
+];
+
+const ADVANCED_LINES: &str = "working 1\n\
+    done 2\n\
     refused NotRunning\n\
-    refused Damaged Superblock 0 Stale\n\
-    refused NotLive\n\
     refused Damaged Superblock 0 Stale\n";
 
+const READS: [Answer; 2] = [
+    Answer::ReadBlock(Err(ReadError::NotLive)),
+    Answer::ReadBlock(Err(ReadError::Damaged {
+        place: PLACE,
+        class: Class::Stale,
+    })),
+];
+
+const SCRUBBED: [Answer; 3] = [
+    Answer::Scrub(Scrubbed::Checked {
+        address: 1,
+        verdict: Verdict::Sound,
+    }),
+    Answer::Scrub(Scrubbed::Checked {
+        address: 2,
+        verdict: Verdict::Failing(Class::Garbled),
+    }),
+    Answer::Scrub(Scrubbed::TourEnd {
+        checked: 6,
+        failing: 2,
+    }),
+];
+
+const ROWS: [Row; 6] = [
+    (WRITE, &WROTE, WROTE_LINES),
+    (RELEASE, &RELEASED, "released 16384\nrefused NotLive\n"),
+    (BEGIN, &BEGUN, BEGUN_LINES),
+    (Command::Advance, &ADVANCED, ADVANCED_LINES),
+    (
+        READ,
+        &READS,
+        "refused NotLive\nrefused Damaged Superblock 0 Stale\n",
+    ),
+    (
+        Command::Scrub,
+        &SCRUBBED,
+        "checked 1 Sound\nchecked 2 Garbled\ntour 6 2\n",
+    ),
+];
+
 #[test]
-fn a_refused_command_on_blocks_says_why(rt: HostRuntime) {
-    let mut sink = new_sink(rt.alloc());
-    let done = print_refusals(&mut sink);
-    expect(&rt, done, &sink, REFUSALS);
+fn an_answer_on_blocks_has_its_line(rt: HostRuntime) {
+    expect_rows(&rt, rt.alloc(), &ROWS);
 }
 
 // A block's address, its kind and its body.
@@ -149,42 +125,12 @@ fn print_blocks(sink: &mut MemorySink) -> Result<(), Failed> {
     Ok(())
 }
 
-const SCRUBBED: [Scrubbed; 3] = [
-    Scrubbed::Checked {
-        address: 1,
-        verdict: Verdict::Sound,
-    },
-    Scrubbed::Checked {
-        address: 2,
-        verdict: Verdict::Failing(Class::Garbled),
-    },
-    Scrubbed::TourEnd {
-        checked: 6,
-        failing: 2,
-    },
-];
-
-fn print_checks(sink: &mut MemorySink) -> Result<(), Failed> {
-    for scrubbed in &SCRUBBED {
-        print_answer(sink, &Command::Scrub, &Answer::Scrub(*scrubbed))?;
-    }
-    Ok(())
-}
-
-fn print_blocks_and_checks(sink: &mut MemorySink) -> Result<(), Failed> {
-    print_blocks(sink)?;
-    print_checks(sink)
-}
-
 const BLOCKS: &str = "block 4 kind 1 body bb\n\
-    block 18446744073709551615 kind 255 body -\n\
-    checked 1 Sound\n\
-    checked 2 Garbled\n\
-    tour 6 2\n";
+    block 18446744073709551615 kind 255 body -\n";
 
 #[test]
-fn blocks_and_checks_are_shown(rt: HostRuntime) {
+fn blocks_are_shown_with_their_bodies(rt: HostRuntime) {
     let mut sink = new_sink(rt.alloc());
-    let done = print_blocks_and_checks(&mut sink);
+    let done = print_blocks(&mut sink);
     expect(&rt, done, &sink, BLOCKS);
 }

@@ -1,7 +1,9 @@
-// What the tests of printed lines print, and into what: a header, a class and a sink whose calls all succeed.
+// What the tests of printed lines print, and into what: a header, a class, answers in rows, and a sink whose calls all succeed.
 use df_base::{Failed, MemorySink};
 use df_format::{Header, Kind};
+use df_inspect::print_answer;
 use df_layout::{Class, Place, Zone};
+use df_model::{Answer, Command};
 use std::alloc::Global;
 use std::process::Abort;
 
@@ -43,4 +45,26 @@ pub(crate) fn header(
 pub(crate) fn expect(rt: &impl Abort, done: Result<(), Failed>, sink: &MemorySink, text: &str) {
     assert_eq!(rt; done, Ok(()));
     assert_eq!(rt; sink.bytes(), text.as_bytes());
+}
+
+// A command, what is answered to it, and the lines that are printed of that.
+pub(crate) type Row = (Command<'static>, &'static [Answer], &'static str);
+
+fn print_answers(
+    sink: &mut MemorySink,
+    command: &Command,
+    answers: &[Answer],
+) -> Result<(), Failed> {
+    for answer in answers {
+        print_answer(sink, command, answer)?;
+    }
+    Ok(())
+}
+
+pub(crate) fn expect_rows(rt: &impl Abort, alloc: Global, rows: &[Row]) {
+    for (command, answers, text) in rows {
+        let mut sink = new_sink(alloc);
+        let done = print_answers(&mut sink, command, answers);
+        expect(rt, done, &sink, text);
+    }
 }

@@ -1,29 +1,8 @@
 // The definitions against values from outside: the bytes of an example, and which changed bytes are refused.
-ghost use Rattle.std.specs.Prelude.{◌≤◌, length};
-ghost use Rattle.df_format.specs.Rules.{ObeysRules};
-ghost use Rattle.df_format.specs.Making.{for_body};
-
 use crate::examples::{PREPARE, changed, spelled};
-use df_base::check;
-use df_format::{Header, Kind, decode_header, decode_unit, make_unit};
+use crate::room_examples::prepare;
+use df_format::{Header, decode_header, decode_unit, make_unit};
 use df_layout::{Class, Layout, Place, Zone};
-
-// What the maker of the example says of it; its size and its checksum are set.
-#[tactic(auto, unfolding(df_format::specs::Spelling::no_checksum))]
-fn given(body: &[u8]) -> Header
-    requires { length body.now ≤ 3840 }
-    ensures { ObeysRules (for_body result body.now) }
-{
-    Header {
-        checksum_body: check(body),
-        client: 5,
-        op: 1,
-        request: 1,
-        checkpoint: 1,
-        slot: 1,
-        ..Header::of(Kind::Prepare, 7)
-    }
-}
 
 fn example() -> [u8; 256] {
     spelled(&PREPARE)
@@ -50,7 +29,7 @@ fn shown(cluster: u128, index: u64, slot: &[u8; 8192]) -> Result<Header, Class> 
 #[test]
 fn makes_and_reads_the_example(rt: HostRuntime) {
     let mut slot = [9u8; 8192];
-    let made = make_unit(given(&[]), &[], &mut slot);
+    let made = make_unit(prepare(&[]), &[], &mut slot);
     assert!(rt; made.length == 4096);
     assert!(rt; is_example_before_nines(&slot));
     assert!(rt; decode_header(&example()) == Some(made.header));

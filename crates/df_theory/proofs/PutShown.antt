@@ -1,7 +1,6 @@
 -- A write puts what it shows at the places that it touches.
 use Rattle.std.proofs.Common.{◌≡◌, ℕ, false, List, Option, Some, None, refl, sym, ◌∙◌, ap}
-use Rattle.std.proofs.lemmas.Bool.{cond-false}
-use Rattle.df_base.specs.Image.{Image, IsImage, covers, written}
+use Rattle.df_base.specs.Image.{Image, IsImage, written}
 use Rattle.df_base.proofs.Laws.{written_else}
 use Rattle.df_theory.specs.Units.{AnyUnit, Place, is_some, or_else}
 use Rattle.df_theory.specs.Device.{Format, IsFormat}

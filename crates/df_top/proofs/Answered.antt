@@ -25,7 +25,7 @@ use Rattle.df_top.specs.Calls.{LendsNothing, is_damaged, is_fault, machine_answe
 use Rattle.df_top.specs.Lines.{commands_of, line_text}
 use Rattle.df_top.specs.Step.{Answers, EndsDamaged, IsAnswered, IsLineAnswered, IsLineDamaged, Makes, ServesLine}
 use Rattle.df_top.specs.Session.{IsDamaged}
-use Rattle.df_top.specs.Turning.{BlamesIfEnds, IsLastPrinted, IsPrinted, Tells, TellsAs, last_turn, printed_turn}
+use Rattle.df_top.specs.Turning.{BlamesIfEnds, IsLastPrinted, IsPrinted, Tells, TellsAs, printed_turn}
 use Rattle.df_top.specs.declared.turns.Turn.{Turn}
 use Rattle.df_top.specs.declared.turns.Turn.TheVariants.{GoesOn, Ends}
 use Rattle.df_top.proofs.InWords.{InWords, in_words}

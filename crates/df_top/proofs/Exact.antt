@@ -1,5 +1,5 @@
 -- What follows from a call that is exact: what the disk then tells, whether a checkpoint runs behind it, and what its answer is in the machine's words.
-use Rattle.std.proofs.Common.{◌≡◌, ℕ, Bool, List, [], Option, Some, None, refl, sym, ◌∙◌, ap, subst, Result, Ok, Err}
+use Rattle.std.proofs.Common.{◌≡◌, ℕ, Bool, List, [], Option, Some, None, refl, sym, ap, subst, Result, Ok, Err}
 use Rattle.df_base.specs.Log.{Event}
 use Rattle.df_base.specs.Causes.{Blamed, IsBlamed}
 use Rattle.df_disk.specs.Adds.{AddsPart, after_all}

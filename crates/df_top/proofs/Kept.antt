@@ -1,8 +1,8 @@
 -- What calls leave of a disk and of a file, behind an open, by each log that is told of it.
-use Rattle.std.proofs.Common.{◌≡◌, ◌⊎◌, inl, inr, ℕ, true, List, [], ◌∷◌, ◌++◌, append_assoc, Option, Some, None, refl, sym, ◌∙◌, ap, subst}
+use Rattle.std.proofs.Common.{◌≡◌, inl, ℕ, true, List, [], ◌∷◌, ◌++◌, append_assoc, Option, Some, None, refl, sym, ◌∙◌, ap, subst}
 use Rattle.std.proofs.lemmas.List.{append-nil}
-use Rattle.df_base.specs.Image.{Image, changed, written}
-use Rattle.df_base.specs.Log.{Event, Log, Stop, Sync, Write}
+use Rattle.df_base.specs.Image.{Image}
+use Rattle.df_base.specs.Log.{Event, Log, Sync}
 use Rattle.df_base.specs.Moments.{EachMoment, Extends, adds}
 use Rattle.df_base.proofs.Laws.{extends_self, weaker, adds_on, extends_on, either_same}
 use Rattle.df_disk.specs.Adds.{after_all}

@@ -2,8 +2,6 @@
 use Rattle.std.proofs.Common.{◌≡◌, ℕ, ◌<◌, Bool, true, false, not, IsTrue, List, [], ◌∷◌, ◌++◌, length, Option, None, Some, refl, sym, ◌∙◌, ap, subst, arith}
 use Rattle.std.specs.Prelude.{◌+◌, zero, suc, codes, map, get_or}
 use Rattle.std.specs.List.{filter, range_with_len}
-use Rattle.std.proofs.Math.Bridge.{le_prop}
-use Rattle.std.proofs.Math.Nat.{ℕ_set}
 use Rattle.df_base.specs.Image.{Image}
 use Rattle.df_format.specs.Copies.{Content, content_at}
 use Rattle.df_format.specs.Own.{place_in}
@@ -32,7 +30,7 @@ use Rattle.df_model.specs.Work.{opened}
 use Rattle.df_model.specs.declared.answers.Summary.{Summary}
 use Rattle.df_top.specs.Reporting.{OneReport, report_of, status_of}
 
--- ---- the sessions' lines say what the model knows of them
+-- ---- the sessions' lines say what the theory knows of them
 
 stored_same : (r : Option (List ℕ)) → stored_text r ≡ stored_text (reply_sum r)
 stored_same None = refl

@@ -2,7 +2,6 @@
 use Rattle.std.proofs.Common.{◌≡◌, ◌<◌, ℕ, Bool, true, false, List, [], ◌∷◌, length, Option, Some, None, if◌then◌else◌, refl, sym, ◌∙◌, ap, subst, Result, Ok, Err, arith}
 use Rattle.df_base.specs.Causes.{Blamed, IsBlamed}
 use Rattle.df_disk.specs.Told.{Told}
-use Rattle.df_format.specs.declared.reference.Reference.{Reference}
 use Rattle.df_layout.specs.declared.damage.Class.{Class}
 use Rattle.df_layout.specs.declared.places.Place.{Place}
 use Rattle.df_model.specs.Commands.{Advance, Answer as Answered, Append, Begin, Command, ReadBlock, ReadPrepare, ReadReply, Recent, Release, Reply, Scrub, WriteBlock}
@@ -19,9 +18,7 @@ use Rattle.df_replica.specs.Below.{Capture, State as Replica}
 use Rattle.df_replica.specs.Blocks.{IsRelease}
 use Rattle.df_replica.specs.Stepping.{IsStep, OfRunning, advanced, finished}
 use Rattle.df_script_model.specs.Texts.{damaged_text}
-use Rattle.df_workload.specs.Hearing.{outcome_of}
 use Rattle.df_workload.specs.declared.outcome.Outcome.{Outcome}
-use Rattle.df_workload.specs.declared.outcome.Outcome.TheVariants.{Refused, Accepted, Wrote, Finished}
 use Rattle.df_top.specs.Calls.{IsExact, is_damaged, is_fault, machine_answer}
 use Rattle.df_top.specs.Session.{IsDamaged}
 use Rattle.df_top.specs.Step.{Makes}

@@ -1,5 +1,5 @@
 -- Over a file that may be opened each other end of a word needs a call that failed, or a refusal that no such file has.
-use Rattle.std.proofs.Common.{◌≡◌, ◌⊎◌, inl, inr, ℕ, zero, suc, ◌-◌, Bool, true, List, [], ◌∷◌, ◌++◌, length, map, Option, None, Some, refl, sym, ◌∙◌, subst}
+use Rattle.std.proofs.Common.{◌≡◌, ◌⊎◌, inl, inr, ℕ, zero, suc, Bool, true, List, [], ◌∷◌, ◌++◌, length, map, Option, None, Some, refl, subst}
 use Rattle.df_base.specs.Image.{IsImage}
 use Rattle.df_disk.specs.Told.{Told}
 use Rattle.df_layout.specs.declared.damage.Mend.{Mend}
@@ -7,7 +7,6 @@ use Rattle.df_layout.specs.declared.layout.Layout.{Layout}
 use Rattle.df_lines.specs.Grammar.{Said}
 use Rattle.df_lines.specs.Room.{line_bound}
 use Rattle.df_lines.specs.Script.{Begins, IsRefused, IsScript}
-use Rattle.df_lines.specs.Text.{after_line, taken}
 use Rattle.df_lines.proofs.Laws.{one_script, begins_one}
 use Rattle.df_replica.specs.Below.{DataFile, IsNotRefused, State as Replica}
 use Rattle.df_theory.specs.View.{View}

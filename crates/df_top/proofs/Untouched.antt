@@ -1,14 +1,11 @@
 -- What isn't written stays out of a stop's reach: the blocks of the durable checkpoint, behind a call that answered or not.
-use Rattle.std.proofs.Common.{◌≡◌, ◌⊎◌, inl, inr, ℕ, ◌==◌, ◌||◌, Bool, true, false, List, [], ◌∷◌, ◌++◌, Some, refl, sym, ◌∙◌, ap, subst, arith, eqb-true}
-use Rattle.std.proofs.lemmas.Bool.Decides.{nat_tests}
+use Rattle.std.proofs.Common.{◌≡◌, inl, inr, ℕ, ◌||◌, Bool, true, false, List, [], ◌∷◌, Some, refl, sym, ◌∙◌, ap, subst}
 use Rattle.std.proofs.lemmas.Bool.{or_parts, or_from, or_cases}
 use Rattle.df_base.specs.Image.{covers}
 use Rattle.df_base.specs.Log.{Event, Log, Stop, Sync, Write, add, loose}
 use Rattle.df_base.specs.Moments.{adds}
 use Rattle.df_disk.specs.Adds.{after_all}
 use Rattle.df_disk.specs.Told.{Told, did}
-use Rattle.df_theory.specs.Trailer.{InChain}
-use Rattle.df_theory.specs.Units.{Block}
 use Rattle.df_model.specs.Commands.{Advance, Command}
 use Rattle.df_model.specs.Sense.{AtEachOf, IsClear}
 use Rattle.df_model.specs.Work.{Running, Work, is_captured, is_held, is_known, is_of}

@@ -1,7 +1,7 @@
 -- A file that was opened, and on which a generated run was carried out: what is answered and kept, and who is to blame.
 use Rattle.std.proofs.Common.{◌≡◌, inl, inr, ℕ, true, List, Option, Some, None, refl, sym, ◌∙◌, subst, Result, Ok, Err}
 use Rattle.std.proofs.lemmas.Option.{none-some}
-use Rattle.df_base.specs.Causes.{HasCause, IsBlamed}
+use Rattle.df_base.specs.Causes.{IsBlamed}
 use Rattle.df_base.specs.Image.{IsImage}
 use Rattle.df_base.specs.Log.{Sync}
 use Rattle.df_disk.specs.Told.{Told, did}

@@ -1,4 +1,4 @@
--- What is wanted of a place, and the class of what it shows, in the words of the model.
+-- What is wanted of a place, and the class of what it shows, in the words of the theory.
 use Rattle.std.proofs.Common.{◌≡◌, ◌≢◌, ◌↔◌, inl, inr, ℕ, ◌<◌, List, Option, Some, None, refl, sym, ◌∙◌, ap, subst, arith}
 use Rattle.std.specs.Prelude.{◌⊎◌, ⊤}
 use Rattle.std.proofs.lemmas.Option.{same_Some}
@@ -43,7 +43,7 @@ copy_told image n = (
       absurd (cc),
 )
 
--- a place that shows no unit of the model shows no message
+-- a place that shows no unit of the theory shows no message
 no_message : (place : Units.Place) (o : Option Message) → ((u : Message) → unit_of place u ≡ None → ⊥) → message_unit place o ≡ None → o ≡ None
 no_message place None some is = refl
 no_message place (Some u) some is = absurd (some u is)

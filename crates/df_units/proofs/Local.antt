@@ -14,7 +14,7 @@ use Rattle.df_format.specs.Shown
 use Rattle.df_format.specs.Copies.{content_at, content_of, copy_at, copy_in, if_here}
 use Rattle.df_format.proofs.Laws.{blank_copy_none, blank_none, has-from, is_here, none_unless, read_as, same_copy, same_shown, shown_belongs}
 use Rattle.df_theory.specs.Units
-use Rattle.df_theory.specs.Units.{AnyUnit, BlockPlace, CopyPlace, HeaderPlace, PreparePlace, ReplyPlace}
+use Rattle.df_theory.specs.Units.{BlockPlace, CopyPlace, HeaderPlace, PreparePlace, ReplyPlace}
 use Rattle.df_theory.specs.Device.{IsFormat}
 use Rattle.df_units.specs.Meaning.{place_of}
 use Rattle.df_units.specs.Bytes.{copy_unit, has, has_place, meets, message_unit, span_at, touches, unit_at}

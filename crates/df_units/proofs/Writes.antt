@@ -9,7 +9,7 @@ use Rattle.df_layout.specs.declared.places.Place.{Place}
 use Rattle.df_layout.specs.declared.places.Span.{Span}
 use Rattle.df_layout.specs.declared.places.Zone.TheVariants.{WalHeaders}
 use Rattle.df_layout.specs.Order.{AreApart, ShareHeaderSector}
-use Rattle.df_layout.specs.Spans.{HasPlace, place_sectors, sectors_before, span_of}
+use Rattle.df_layout.specs.Spans.{HasPlace, span_of}
 use Rattle.df_layout.proofs.Laws.{are_apart, lies_inside}
 use Rattle.df_format.specs.declared.header.Header.{Header}
 use Rattle.df_format.specs.Message.{Message}

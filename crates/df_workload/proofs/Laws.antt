@@ -1,5 +1,5 @@
 -- What crates above may cite: before the end a run may be told any outcome; its flag follows the commands and answers; and runs are joined.
-use Rattle.std.proofs.Common.{◌≡◌, Bool, true, false, if◌then◌else◌, List, [], ◌∷◌, ◌++◌, Option, Some, None, refl, sym, ◌∙◌, ap, subst}
+use Rattle.std.proofs.Common.{◌≡◌, Bool, true, false, if◌then◌else◌, List, [], ◌∷◌, ◌++◌, Some, None, refl, sym, ◌∙◌, ap, subst}
 use Rattle.df_model.specs.Commands.{Advance, Answer, Command}
 pub use Rattle.df_workload.proofs.Running.{runs_so, asks_end}
 use Rattle.df_workload.specs.Asking.{asks, asks_at}

@@ -1,6 +1,5 @@
 -- Each answer leaves a run sound, and brings its end nearer.
-use Rattle.std.proofs.Common.{ap, subst, sym, ◌≡◌, ◌≤◌, ◌<◌, ℕ, suc, ◌+◌, ◌-◌, ◌*◌, ◌/◌, ◌%◌, ◌^◌, Bool, true, false, List, [], ◌∷◌, ◌++◌, length, drop, length-append, length-drop, refl, arith}
-use Rattle.df_workload.specs.Draw.{body_length}
+use Rattle.std.proofs.Common.{ap, subst, sym, ◌≡◌, ◌≤◌, ◌<◌, ℕ, ◌+◌, ◌-◌, ◌*◌, ◌/◌, ◌%◌, true, false, List, [], ◌∷◌, ◌++◌, length, drop, length-append, length-drop, refl, arith}
 use Rattle.df_workload.specs.Hearing.{appended, begun, refused, released, replied, stepped, told, told_at, without_first, wrote}
 use Rattle.df_workload.specs.Rounds.{after_reply, to_begin, to_block, to_next, to_release, to_replies}
 use Rattle.df_workload.specs.Sound.{HasPoint, IsSound, IsWithin, MayBeTold, counted, flag, is_at_end, left, left_at}

@@ -1,8 +1,8 @@
 -- The flag of a running checkpoint follows the commands and their answers alone.
-use Rattle.std.proofs.Common.{◌≡◌, ℕ, ◌+◌, ◌%◌, ◌==◌, Bool, true, false, nat_lt, if◌then◌else◌, List, [], ◌∷◌, length, Option, Some, None, refl, sym, ◌∙◌, ap, subst}
-use Rattle.df_model.specs.Commands.{Advance, Append, Begin, Command, Release, Reply, WriteBlock}
+use Rattle.std.proofs.Common.{◌≡◌, ℕ, ◌+◌, ◌%◌, ◌==◌, Bool, true, false, nat_lt, if◌then◌else◌, List, length, Option, Some, None, refl, ◌∙◌, subst}
+use Rattle.df_model.specs.Commands.{Advance, Begin, Command}
 use Rattle.df_workload.specs.Asking.{asks_at, number_body}
-use Rattle.df_workload.specs.Hearing.{appended, begun, refused, released, replied, runs_after, stepped, told_at, without_first, wrote}
+use Rattle.df_workload.specs.Hearing.{appended, begun, released, replied, runs_after, stepped, told_at, wrote}
 use Rattle.df_workload.specs.Rounds.{after_reply, at, first_op, is_replied_to, to_append, to_begin, to_block, to_next, to_release, to_replies, to_step, with_draw}
 use Rattle.df_workload.specs.declared.outcome.Outcome.{Outcome}
 use Rattle.df_workload.specs.declared.outcome.Outcome.TheVariants.{Refused, Accepted, Wrote, Finished}

@@ -1,4 +1,4 @@
--- The events are steps, and their moments and their end are those of the model's append.
+-- The events are steps, and their moments and their end are those of the theory's append.
 use Rattle.std.proofs.Common.{Option, Some, subst}
 use Rattle.df_disk.specs.Told.{Told}
 use Rattle.df_disk.specs.Adds.{Adds, AddsPart}

@@ -1,4 +1,4 @@
--- Each step answers as the model's step.
+-- Each step answers as the theory's step.
 use Rattle.std.proofs.Common.{refl, sym, ap, subst}
 use Rattle.df_layout.specs.declared.damage.Class.TheVariants.{Stale}
 use Rattle.df_format.specs.SuperRules.{IsSuper}

@@ -1,4 +1,4 @@
--- The refusals are the model's, over the numbers in memory, and the address is the least that isn't held.
+-- The refusals are the machine's, over the numbers in memory, and the address is the least that isn't held.
 use Rattle.std.proofs.Common.{◌-◌, ℕ, sym, ap, ◌∙◌}
 use Rattle.std.specs.Prelude.{slice_get}
 use Rattle.df_layout.specs.declared.layout.Layout.{Layout}

@@ -1,4 +1,4 @@
--- The refusal is the model's, by the client's session.
+-- The refusal is the machine's, by the client's session.
 use Rattle.std.proofs.Common.{◌≡◌, ◌≤◌, ◌^◌, map, Option, Some, None, refl, ◌∙◌, sym, ap}
 use Rattle.std.specs.Prelude.{IfSome, option_map}
 use Rattle.std.specs.List.{position}

@@ -1,4 +1,4 @@
--- The refusal is the model's, over the numbers in memory.
+-- The refusal is the machine's, over the numbers in memory.
 use Rattle.df_state.specs.State.{memory}
 use Rattle.df_replica.proofs.replica.Replica.prepare_refusal.Goals as goal
 

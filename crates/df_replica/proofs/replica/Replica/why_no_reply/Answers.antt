@@ -1,4 +1,4 @@
--- The refusal is the model's.
+-- The refusal is the machine's.
 use Rattle.df_state.specs.State.{memory}
 use Rattle.df_replica.proofs.replica.Replica.why_no_reply.Goals as goal
 

@@ -1,4 +1,4 @@
--- What is found in the table is so in the model's image.
+-- What is found in the table is so in the theory's image.
 use Rattle.std.proofs.Common.{◌∙◌, List, subst}
 use Rattle.std.specs.Prelude.{Result}
 use Rattle.df_layout.specs.declared.damage.Class.{Class}

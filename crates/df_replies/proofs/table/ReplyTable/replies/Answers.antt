@@ -1,4 +1,4 @@
--- The greatest of the numbers is the model's number of replies.
+-- The greatest of the numbers is the theory's number of replies.
 use Rattle.std.proofs.Common.{◌∙◌, List, length, max, subst, ℕ}
 use Rattle.std.specs.Prelude.{Result}
 use Rattle.df_layout.specs.declared.damage.Class.{Class}
