@@ -1,3 +1,4 @@
 pub mod Ending
 pub mod Opening
 pub mod Keeping
+pub mod Staying

@@ -5,8 +5,10 @@ mod ended;
 mod keeping;
 mod opening;
 mod printing;
+mod staying;
 
 pub use ended::Ended;
 pub use keeping::keep;
 pub use opening::{catch_up, open_notes};
 pub use printing::print_notes;
+pub use staying::kept_notes_stay;
