@@ -1,5 +1,5 @@
 -- Kept notes are acts that were served, one append and one reply each.
-use Rattle.std.proofs.Common.{◌≡◌, ℕ, true, List, [], ◌∷◌, ◌++◌, append_assoc, append_nil, Option, refl, sym, ◌∙◌, ap, Result, Ok, Err}
+use Rattle.std.proofs.Common.{◌≡◌, ℕ, true, List, [], ◌∷◌, ◌++◌, append_assoc, append-nil, Option, refl, sym, ◌∙◌, ap, Result, Ok, Err}
 use Rattle.df_base.specs.Log.{Event}
 use Rattle.df_layout.specs.declared.damage.Class.TheVariants.{Blank}
 use Rattle.df_model.specs.Commands.{Answer, Append, Given, Reply}
@@ -40,7 +40,7 @@ served m n notes live (Kept before note mid last kept is) =
       acts = (s.acts ++ append ∷ []) ++ reply ∷ [];
       answers = (s.answers ++ as_append (Ok is.receipt) ∷ []) ++ as_reply (Ok is.replied.0) ∷ [];
       events = (s.events ++ appending.events) ++ replying.events;
-      are = notes_on (s.acts ++ append ∷ []) (reply ∷ []) ∙ ap (λ (l : List (List ℕ)). l ++ []) (notes_on s.acts (append ∷ [])) ∙ append_nil _ ∙ ap (λ (l : List (List ℕ)). l ++ note ∷ []) s.are;
+      are = notes_on (s.acts ++ append ∷ []) (reply ∷ []) ∙ append-nil (notes_in (s.acts ++ append ∷ [])) ∙ notes_on s.acts (append ∷ []) ∙ ap (λ (l : List (List ℕ)). l ++ note ∷ []) s.are;
       served = one_more_is_served m.replica is.between n.replica m.told is.mid n.told (s.acts ++ append ∷ []) (s.answers ++ as_append (Ok is.receipt) ∷ []) (s.events ++ appending.events) reply (as_reply (Ok is.replied.0))
           (one_more_is_served m.replica mid.replica is.between m.told mid.told is.mid s.acts s.answers s.events append (as_append (Ok is.receipt)) s.served appending) replying;
     }
