@@ -2,3 +2,4 @@ pub mod Ending
 pub mod Opening
 pub mod Keeping
 pub mod Staying
+pub mod Showing

@@ -1,9 +1,10 @@
 // What stands in the file: the notes that the ring keeps, read one by one and printed.
 ghost use Rattle.std.specs.Prelude.{◌≡◌, true, OnOk};
 ghost use Rattle.df_base.specs.Causes.{HasCause, IsBlamed};
-ghost use Rattle.df_script_model.specs.Texts.{line_of};
 ghost use Rattle.df_inspect.specs.Prints.{Prints};
+ghost use Rattle.df_script_model.specs.Texts.{line_of};
 ghost use Rattle.df_notes.specs.Ending.{is_disk, is_sink};
+ghost use Rattle.df_notes.specs.Showing.{IsShown, ShowsAll};
 
 use crate::ended::{Ended, ended};
 use df_base::{Failed, Sink};
@@ -27,7 +28,8 @@ fn print_note<D: Disk, W: Sink>(
     op: u64,
 ) -> Result<(), Ended>
     requires live { replica.old.live ≡ true }
-    ensures live { OnOk result (replica.new.live ≡ true) }
+    ensures shown { OnOk result (IsShown op replica.old (D.told disk.old) (W.written sink.old) (W.written sink.new)) }
+    ensures kept { OnOk result (replica.new ≡ replica.old) }
     ensures same { D.told disk.new ≡ D.told disk.old }
     ensures disk { IsBlamed is_disk (D.faults disk.old) (D.faults disk.new) result }
     ensures sink { IsBlamed is_sink (W.faults sink.old) (W.faults sink.new) result }
@@ -48,6 +50,7 @@ pub fn print_notes<D: Disk, W: Sink>(
     replica: &mut Replica,
 ) -> Result<(), Ended>
     requires live { replica.old.live ≡ true }
+    ensures shown { OnOk result (ShowsAll replica.old (D.told disk.old) (W.written sink.old) (W.written sink.new)) }
     ensures same { D.told disk.new ≡ D.told disk.old }
     ensures disk { IsBlamed is_disk (D.faults disk.old) (D.faults disk.new) result }
     ensures sink { IsBlamed is_sink (W.faults sink.old) (W.faults sink.new) result }
