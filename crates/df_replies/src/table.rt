@@ -1,13 +1,9 @@
 // The table of replies: what the slots show, place by place, for an open to look at.
 ghost use Rattle.std.specs.Prelude.{◌≡◌, ◌↔◌, ◌<◌, ◌≤◌, List, ℕ, Some, Err, length, replicate, slice_get, IfOk, IfSome, OnOk};
-ghost use Rattle.df_base.specs.Causes.{HasCause};
-ghost use Rattle.df_layout.specs.declared.damage.Class.TheVariants.{Blank};
+ghost use Rattle.df_replies.specs.Below.{HasCause, Blank, IsReplies, last_mark, Content, Message, Units};
 ghost use Rattle.df_replies.specs.Answers.{HasClass, Lacks, NamesNone};
 ghost use Rattle.df_replies.specs.Counts.{NoReplyIsAbove, NoReplyIsLater};
 ghost use Rattle.df_replies.specs.Shown.{IsScanned, ShowsReplies};
-ghost use Rattle.df_theory.specs.Found.{IsReplies};
-ghost use Rattle.df_theory.specs.Tails.{last_mark};
-ghost use Rattle.df_theory.specs.Units.{Content, Message, Units};
 
 use crate::Lacking;
 use crate::answers::{first_lacking, greatest_op};

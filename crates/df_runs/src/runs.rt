@@ -7,22 +7,12 @@ use std::alloc::Global;
 use std::test::Fail;
 
 /// What a run answered.
+#[derive(Drop)]
 pub struct Ran {
     pub status: Status,
     pub text: Vec<u8>,
     /// Growths that the sink was refused.
     pub refused: u64,
-}
-
-// Its owner lets go of it in one call, and not field by field.
-impl Drop for Ran {
-    fn drop(self) {
-        let Ran {
-            status: _,
-            text: _,
-            refused: _,
-        } = self;
-    }
 }
 
 impl Ran {

@@ -10,6 +10,7 @@ use df_layout::Layout;
 use std::alloc::Global;
 
 /// The memory that serves the grid of a file of one layout.
+#[derive(Drop)]
 pub struct GridRooms {
     pub layout: Layout,
     pub free: FreeSet,
@@ -22,20 +23,6 @@ pub struct GridRooms {
     pub ghost marks_fit: { length marks.items ≡ layout.blocks },
     pub ghost block_fits: { block.layout ≡ layout },
     pub ghost trailer_fits: { trailer.layout ≡ layout },
-}
-
-// Its owner lets go of it in one call, and not field by field.
-impl Drop for GridRooms {
-    fn drop(self) {
-        let GridRooms {
-            layout: _,
-            free: _,
-            checks: _,
-            marks: _,
-            block: _,
-            trailer: _,
-        } = self;
-    }
 }
 
 fn words(alloc: Global, count: usize) -> Result<Vec<u64>, OutOfMemory>
@@ -66,37 +53,13 @@ fn free_set(alloc: Global, layout: &Layout) -> Result<FreeSet, OutOfMemory>
     Ok(FreeSet::over(bits, summary, layout.blocks))
 }
 
-// Puts a zero in place of each word.
-fn zero_words(words: &mut [u64])
-    ensures size { length words.new ≡ length words.old }
-    ensures zero { All (λ word. word ≡ 0) words.new }
-{
-    let mut at = 0;
-    while at < words.len() {
-        words[at] = 0;
-        at += 1;
-    }
-}
-
-// Puts a zero in place of each byte of marks.
-fn zero_marks(marks: &mut [u8])
-    ensures size { length marks.new ≡ length marks.old }
-    ensures zero { All (λ mark. mark ≡ 0) marks.new }
-{
-    let mut at = 0;
-    while at < marks.len() {
-        marks[at] = 0;
-        at += 1;
-    }
-}
-
 // The words, all of them zero.
 fn cleared(words: Vec<u64>) -> Vec<u64>
     ensures size { vec_len result ≡ vec_len words }
     ensures zero { All (λ word. word ≡ 0) result.items }
 {
     let mut words = words;
-    zero_words(&mut words);
+    words.fill(0);
     words
 }
 
@@ -106,7 +69,7 @@ fn unmarked(marks: Vec<u8>) -> Vec<u8>
     ensures zero { All (λ mark. mark ≡ 0) result.items }
 {
     let mut marks = marks;
-    zero_marks(&mut marks);
+    marks.fill(0);
     marks
 }
 

@@ -8,23 +8,13 @@ use df_scrub::Scrubber;
 use std::alloc::Global;
 
 /// The memory that serves the scrubber of a file of one layout.
+#[derive(Drop)]
 pub struct ScrubRooms {
     pub layout: Layout,
     pub scrubber: Scrubber,
     // What a whole tour lists: at most each block of the grid once.
     pub report: Vec<Finding>,
     pub ghost report_fits: { layout.blocks ≤ vec_capacity report },
-}
-
-// Its owner lets go of it in one call, and not field by field.
-impl Drop for ScrubRooms {
-    fn drop(self) {
-        let ScrubRooms {
-            layout: _,
-            scrubber: _,
-            report: _,
-        } = self;
-    }
 }
 
 fn finding_list(alloc: Global, layout: &Layout) -> Result<Vec<Finding>, OutOfMemory>
