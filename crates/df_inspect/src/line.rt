@@ -10,13 +10,13 @@ use itoa::Buffer;
 
 /// Bytes that each line fits whose body isn't shown, and each report of numbers: twelve numbers of at most 40 digits with
 /// their words, or four classes with a place each.
-pub(crate) const LINE: usize = 640;
+pub const LINE: usize = 640;
 
 /// A line, or the front of one.
-pub(crate) type Line = ArrayVec<u8, LINE>;
+pub type Line = ArrayVec<u8, LINE>;
 
 /// Puts a text at the end of the line.
-pub(crate) fn put(line: &mut Line, text: &str)
+pub fn put(line: &mut Line, text: &str)
     requires { length line.old.items + length text.now ≤ 640 }
     ensures put { line.new.items ≡ line.old.items ++ text.now }
     ensures room { length line.new.items ≡ length line.old.items + length text.now }
@@ -25,7 +25,7 @@ pub(crate) fn put(line: &mut Line, text: &str)
 }
 
 /// Puts a number at the end of the line.
-pub(crate) fn put_number(line: &mut Line, number: u128)
+pub fn put_number(line: &mut Line, number: u128)
     requires { length line.old.items + 40 ≤ 640 }
     ensures put { line.new.items ≡ line.old.items ++ decimal number }
     ensures room { length line.new.items ≤ length line.old.items + 40 }
@@ -67,7 +67,7 @@ pub(crate) fn put_row(line: &mut Line, word: &str, number: u128)
 }
 
 /// A line that is said already.
-pub(crate) fn text_line(text: &str) -> Line
+pub fn text_line(text: &str) -> Line
     requires { length text.now ≤ 60 }
     ensures { result.items ≡ text.now }
 {
@@ -77,7 +77,7 @@ pub(crate) fn text_line(text: &str) -> Line
 }
 
 /// Words and a number.
-pub(crate) fn number_line(words: &str, number: u128) -> Line
+pub fn number_line(words: &str, number: u128) -> Line
     requires { length words.now ≤ 60 }
     ensures { result.items ≡ line_of (numbered words.now number) }
 {
@@ -101,7 +101,7 @@ pub(crate) fn two_numbers_line(words: &str, number: u128, word: &str, other: u12
 }
 
 /// Writes a line by one call of the sink.
-pub(crate) fn write_line<W: Sink>(sink: &mut W, line: &Line) -> Result<(), Failed>
+pub fn write_line<W: Sink>(sink: &mut W, line: &Line) -> Result<(), Failed>
     ensures prints { Prints line.now.items (W.written sink.old) (W.written sink.new) result }
     ensures cause { HasCause (W.faults sink.old) (W.faults sink.new) result }
 {

@@ -63,7 +63,7 @@ fn front_line(word: &str, header: &Header) -> Line
 }
 
 /// The body that ends a line: `-` for no bytes, else two lower hexadecimal digits for each.
-pub(crate) fn print_body<W: Sink>(sink: &mut W, body: &[u8]) -> Result<(), Failed>
+pub fn print_body<W: Sink>(sink: &mut W, body: &[u8]) -> Result<(), Failed>
     ensures prints { Prints (line_of (body_text body.now)) (W.written sink.old) (W.written sink.new) result }
     ensures cause { HasCause (W.faults sink.old) (W.faults sink.new) result }
 {

@@ -21,7 +21,7 @@ pub(crate) fn damaged_line(place: Place, class: Class) -> Line
 }
 
 /// Puts a place at the end of the line: its zone and its number in it.
-pub(crate) fn put_place(line: &mut Line, place: Place)
+pub fn put_place(line: &mut Line, place: Place)
     requires { length line.old.items + 54 ≤ 640 }
     ensures put { line.new.items ≡ line.old.items ++ place_text place }
     ensures room { length line.new.items ≤ length line.old.items + 54 }

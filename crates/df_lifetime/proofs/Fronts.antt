@@ -131,9 +131,9 @@ module _ (layout : Layout) (t : Told) (old new : Outside) (status : Status) (s :
   -- the disk tells what it shows up to the end
   untold : new.told ≡ None → ⊥
   untold none =
-      let mended = serves.barrier.1 ∙ added_is_told serves.barrier.0 (did Sync t) in
-      let told = serves.adds ∙ ap (after_all (events_made (script_calls serves.session))) mended ∙ added_is_told (events_made (script_calls serves.session)) (told_after serves.barrier.0 (did Sync t)) in
-      let no : None ≡ Some (told_after (events_made (script_calls serves.session)) (told_after serves.barrier.0 (did Sync t))) = sym none ∙ told in
+      let mended = serves.mending.told ∙ added_is_told serves.mending.events (did Sync t) in
+      let told = serves.adds ∙ ap (after_all (events_made (script_calls serves.session))) mended ∙ added_is_told (events_made (script_calls serves.session)) (told_after serves.mending.events (did Sync t)) in
+      let no : None ≡ Some (told_after (events_made (script_calls serves.session)) (told_after serves.mending.events (did Sync t))) = sym none ∙ told in
       cc
 
   -- the lines that were executed print a front of the text

@@ -97,11 +97,11 @@ module _ (file : DataFile) (chapters : List Chapter) (t : Told) (is : IsInOrder 
 
   mends_comes : (layout : Layout) → layout ≡ file.layout → (new : Option Told) (n : Told) → new ≡ Some n → MendsPartly layout t new → Comes file chapters None t n
   mends_comes layout own new n to mends =
-      let goes = goes_told (did Sync t) new mends.told in
+      let goes = goes_told (did Sync t) new (mends.mending.events, mends.mending.told) in
       let same : goes.0 ≡ n = one_told new goes.0 n goes.1 to in
       let one : mends.state.file ≡ file = one_file file layout t.shown view mends.state own found_shown mends.opened in
-      let es : List Event = mends.told.0 in
-      let ends : told_after es (did Sync t) ≡ n = one_told new (told_after es (did Sync t)) n (mends.told.1 ∙ added_is_told es (did Sync t)) to in
+      let es : List Event = mends.mending.events in
+      let ends : told_after es (did Sync t) ≡ n = one_told new (told_after es (did Sync t)) n (mends.mending.told ∙ added_is_told es (did Sync t)) to in
       let each : EachMoment (did Sync t).log n.log (IsGoodFor Whole (format file) (shape file) view view) =
       subst (λ (x : Told). EachMoment (did Sync t).log x.log (IsGoodFor Whole (format file) (shape file) view view)) ends
       ((subst
@@ -279,21 +279,21 @@ module _ (file : DataFile) (chapters : List Chapter) (t : Told) (is : IsInOrder 
     script_comes serves =
         let c : CallsMade = script_calls serves.session in
         let one : serves.replica.file ≡ file = one_file file layout t.shown view serves.replica own found_shown serves.is_opened in
-        let mending : List Event = serves.barrier.0 in
+        let mending : List Event = serves.mending.events in
         let keeps : KeepsFile file Whole start t c.acts c.answers c.failed (Some n) =
-        keeps_as serves.replica c.acts c.answers c.failed mending (events_made c) n (sym (told_over mending (events_made c) t serves.mended new.told serves.barrier.1 serves.adds) ∙ to) one serves.keeps in
+        keeps_as serves.replica c.acts c.answers c.failed mending (events_made c) n (sym (told_over mending (events_made c) t serves.mended new.told serves.mending.told serves.adds) ∙ to) one serves.keeps in
         let inputs : AreInputs (c.acts ++ list_of c.failed) = ends_inputs c.from c.to c.old c.new c.acts c.answers c.failed c.calls in
-        served_comes c n keeps inputs (answered_as serves.replica c mending (sym (told_over mending [] t serves.mended serves.mended serves.barrier.1 refl)) one serves.acknowledged) (sym serves.adds ∙ to)
+        served_comes c n keeps inputs (answered_as serves.replica c mending (sym (told_over mending [] t serves.mended serves.mended serves.mending.told refl)) one serves.acknowledged) (sym serves.adds ∙ to)
 
     works_comes : (seed count : ℕ) (works : WorksThrough seed count layout t old new status) → Comes file chapters (Some (run_calls works.worked)) t n
     works_comes seed count works =
         let c : CallsMade = run_calls works.worked in
         let one : works.replica.file ≡ file = one_file file layout t.shown view works.replica own found_shown works.is_opened in
-        let mending : List Event = works.barrier.0 in
+        let mending : List Event = works.mending.events in
         let keeps : KeepsFile file Whole start t c.acts c.answers c.failed (Some n) =
-        keeps_as works.replica c.acts c.answers c.failed mending (events_made c) n (sym (told_over mending (events_made c) t works.mended new.told works.barrier.1 works.adds) ∙ to) one works.keeps in
+        keeps_as works.replica c.acts c.answers c.failed mending (events_made c) n (sym (told_over mending (events_made c) t works.mended new.told works.mending.told works.adds) ∙ to) one works.keeps in
         let inputs : AreInputs (c.acts ++ list_of c.failed) = ends_inputs c.from c.to c.old c.new c.acts c.answers c.failed c.calls in
-        served_comes c n keeps inputs (answered_as works.replica c mending (sym (told_over mending [] t works.mended works.mended works.barrier.1 refl)) one works.acknowledged) (sym works.adds ∙ to)
+        served_comes c n keeps inputs (answered_as works.replica c mending (sym (told_over mending [] t works.mended works.mended works.mending.told refl)) one works.acknowledged) (sym works.adds ∙ to)
 
     does_comes : (mode : Mode) (does : Does mode layout t old new status) → Comes file chapters (calls_of mode layout t old new status does) t n
     does_comes (Format shape cluster) does = absurd does
@@ -304,7 +304,7 @@ module _ (file : DataFile) (chapters : List Chapter) (t : Told) (is : IsInOrder 
     does_comes Recover (inr (inl fails)) = stops_comes layout own new.told n to fails.disk
     does_comes Recover (inr (inr recovers)) =
         idle_comes n
-        (keeps_as recovers.replica [] [] None recovers.barrier.0 [] n (sym (told_over recovers.barrier.0 [] t new.told new.told recovers.barrier.1 refl) ∙ to) (one_file file layout t.shown view recovers.replica own found_shown recovers.is_opened) recovers.keeps)
+        (keeps_as recovers.replica [] [] None recovers.mending.events [] n (sym (told_over recovers.mending.events [] t new.told new.told recovers.mending.told refl) ∙ to) (one_file file layout t.shown view recovers.replica own found_shown recovers.is_opened) recovers.keeps)
     does_comes Inspect (inl refuses) = absurd (refused layout old new status own refuses)
     does_comes Inspect (inr (inl fails)) = part_comes new.told n to fails.disk
     does_comes Inspect (inr (inr inspects)) = sync_comes n (one_told new.told (did Sync t) n inspects.barrier to)
@@ -312,7 +312,7 @@ module _ (file : DataFile) (chapters : List Chapter) (t : Told) (is : IsInOrder 
     does_comes Scrub (inr (inl fails)) = stops_comes layout own new.told n to fails.disk
     does_comes Scrub (inr (inr scrubs)) =
         idle_comes n
-        (keeps_as scrubs.replica [] [] None scrubs.barrier.0 [] n (sym (told_over scrubs.barrier.0 [] t new.told new.told scrubs.barrier.1 refl) ∙ to) (one_file file layout t.shown view scrubs.replica own found_shown scrubs.is_opened) scrubs.keeps)
+        (keeps_as scrubs.replica [] [] None scrubs.mending.events [] n (sym (told_over scrubs.mending.events [] t new.told new.told scrubs.mending.told refl) ∙ to) (one_file file layout t.shown view scrubs.replica own found_shown scrubs.is_opened) scrubs.keeps)
     does_comes (Workload seed count) (inl refuses) = absurd (refused layout old new status own refuses)
     does_comes (Workload seed count) (inr (inl fails)) = stops_comes layout own new.told n to fails.disk
     does_comes (Workload seed count) (inr (inr works)) = works_comes seed count works

@@ -56,20 +56,20 @@ pub record KeepsOn (file : DataFile) (g : Grade) (w : Work) (base : Told) (mendi
 abbrev pub ScriptsKeepOn : Type 0
 ScriptsKeepOn =
     (g : Grade) (file : DataFile) (view : View) (t base : Told) (old new : Outside) (status : Status) (serves : ServesScript file.layout t old new status) → base.shown ≡ t.shown → MayOpen file view base
-    → StandsFor g (unit_at file.layout file.cluster t.shown) view → KeepsOn file g (start_of file t.shown view) base serves.barrier.0 (script_calls serves.session)
+    → StandsFor g (unit_at file.layout file.cluster t.shown) view → KeepsOn file g (start_of file t.shown view) base serves.mending.events (script_calls serves.session)
 
 abbrev pub RunsKeepOn : Type 0
 RunsKeepOn =
     (g : Grade) (file : DataFile) (view : View) (t base : Told) (old new : Outside) (status : Status) (seed count : ℕ) (works : WorksThrough seed count file.layout t old new status) → base.shown ≡ t.shown → MayOpen file view base
-    → StandsFor g (unit_at file.layout file.cluster t.shown) view → KeepsOn file g (start_of file t.shown view) base works.barrier.0 (run_calls works.worked)
+    → StandsFor g (unit_at file.layout file.cluster t.shown) view → KeepsOn file g (start_of file t.shown view) base works.mending.events (run_calls works.worked)
 
 -- A session on a hurt disk keeps it by the log that is begun anew, where its open finds the file's own checkpoint, as it does at rest while two copies stand.
 abbrev pub HurtScriptsKeep : Type 0
 HurtScriptsKeep =
     (g : Grade) (file : DataFile) (view : View) (t : Told) (old new : Outside) (status : Status) (serves : ServesScript file.layout t old new status) (had : FindsHad file view t serves.replica) → had.found.checkpoint ≡ view.checkpoint
-    → StandsFor g (unit_at file.layout file.cluster t.shown) had.found → KeepsOn file g (start_of file t.shown had.found) (begun t) serves.barrier.0 (script_calls serves.session)
+    → StandsFor g (unit_at file.layout file.cluster t.shown) had.found → KeepsOn file g (start_of file t.shown had.found) (begun t) serves.mending.events (script_calls serves.session)
 
 abbrev pub HurtRunsKeep : Type 0
 HurtRunsKeep =
     (g : Grade) (file : DataFile) (view : View) (t : Told) (old new : Outside) (status : Status) (seed count : ℕ) (works : WorksThrough seed count file.layout t old new status) (had : FindsHad file view t works.replica) → had.found.checkpoint ≡ view.checkpoint
-    → StandsFor g (unit_at file.layout file.cluster t.shown) had.found → KeepsOn file g (start_of file t.shown had.found) (begun t) works.barrier.0 (run_calls works.worked)
+    → StandsFor g (unit_at file.layout file.cluster t.shown) had.found → KeepsOn file g (start_of file t.shown had.found) (begun t) works.mending.events (run_calls works.worked)

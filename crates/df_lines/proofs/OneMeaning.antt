@@ -36,10 +36,10 @@ same_sized : (make : ℕ → List ℕ → Said) (m n : ℕ) (x y : List ℕ) →
 same_sized make m n x y number body = cc
 
 -- the number of a line that has nothing else, and the number and the body of a line
-one_word : (front : List ℕ) (m n : ℕ) (line : List ℕ) → line ≡ front ++ decimal m → line ≡ front ++ decimal n → m < 2 ^ 128 → n < 2 ^ 128 → m ≡ n
+pub one_word : (front : List ℕ) (m n : ℕ) (line : List ℕ) → line ≡ front ++ decimal m → line ≡ front ++ decimal n → m < 2 ^ 128 → n < 2 ^ 128 → m ≡ n
 one_word front m n line one other fits fits' = one_number m n fits fits' (same_rest front (decimal m) (decimal n) (sym one ∙ other))
 
-two_words : (front : List ℕ) (m n : ℕ) (line a b x y : List ℕ) → line ≡ front ++ (decimal m ++ (32 ∷ a)) → line ≡ front ++ (decimal n ++ (32 ∷ b)) → m < 2 ^ 128 → n < 2 ^ 128 → IsBody a x → IsBody b y → (m ≡ n) × (x ≡ y)
+pub two_words : (front : List ℕ) (m n : ℕ) (line a b x y : List ℕ) → line ≡ front ++ (decimal m ++ (32 ∷ a)) → line ≡ front ++ (decimal n ++ (32 ∷ b)) → m < 2 ^ 128 → n < 2 ^ 128 → IsBody a x → IsBody b y → (m ≡ n) × (x ≡ y)
 two_words front m n line a b x y one other fits fits' body body' =
     let parts = number_split m n a b fits fits' (same_rest front (decimal m ++ (32 ∷ a)) (decimal n ++ (32 ∷ b)) (sym one ∙ other)) in
     (parts.0, body_split a b x y parts.1 body body')

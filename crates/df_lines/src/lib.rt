@@ -14,5 +14,6 @@ pub use line::Line;
 pub use meaning::one_meaning;
 pub use next::Next;
 pub use number::{u32_of, u64_of, u128_of};
-pub use parser::parse;
+pub use parser::{decode, parse};
 pub use reader::LineRoom;
+pub use words::cut;

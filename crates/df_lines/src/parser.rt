@@ -180,8 +180,9 @@ fn read(word: &[u8]) -> Option<Line>
     Some(Line::Read { address })
 }
 
-/// Puts the bytes that a body's word stands for at the front of `body`, and says how many they are.
-fn decode(word: &[u8], body: &mut [u8]) -> Option<u64>
+/// Puts the bytes that a body's word stands for at the front of `body`, and says how many they are: `-` stands for none, else two
+/// hexadecimal digits of either case for each. None where the word stands for no bytes; `body` then holds any.
+pub fn decode(word: &[u8], body: &mut [u8]) -> Option<u64>
     requires { length word.now ≤ 2 * length body.old }
     ensures found { IfSome result (λ n. IsBody word.now (take n body.new)) }
     ensures none { IfNone result ((bytes : List ℕ) → IsBody word.now bytes → ⊥) }

@@ -19,6 +19,7 @@ pub mod Barriers
 pub mod Listed
 pub mod Opens
 pub mod Leaves
+pub mod Fronts
 pub mod Makes
 pub mod WritesOn
 pub mod Calls
@@ -55,4 +56,5 @@ pub mod LentFinds
 pub mod Lent
 pub mod LentCalls
 pub mod LentKept
+pub mod MadeUnits
 pub mod Laws

@@ -1,6 +1,7 @@
 -- A mending puts headers and copies of the superblock, and so leaves each place that a call reads as it was.
 use Rattle.std.proofs.Common.{◌≡◌, ℕ, ◌+◌, List, [], ◌∷◌, ◌++◌, Bool, true, false, Option, None, refl, ◌∙◌, ap}
 use Rattle.df_base.specs.Image.{Image, IsImage}
+use Rattle.df_base.specs.Log.{Event}
 use Rattle.df_layout.specs.declared.damage.Mend.{Mend}
 use Rattle.df_layout.specs.declared.layout.Layout.{Layout}
 use Rattle.df_format.specs.declared.header.Header.{Header}
@@ -16,6 +17,7 @@ use Rattle.df_state.specs.declared.file.DataFile.{DataFile}
 use Rattle.df_replica.specs.Leaving.{SparesReads, image_after}
 use Rattle.df_replica.specs.Mending.{mending_events, mending_steps, sector_put, sector_puts, sectors_of}
 use Rattle.df_replica.specs.Serving.{format}
+use Rattle.df_replica.proofs.Fronts.{FrontSteps, all_front}
 use Rattle.df_replica.proofs.Leaves.{spared_by, unit_after}
 
 module _ (place : Place) where
@@ -45,10 +47,16 @@ module _ (place : Place) where
       after_both (header_steps (sector_puts table ks)) (copy_steps (repaired f 0 members)) o
       ∙ ap (unit_after (copy_steps (repaired f 0 members)) place) (headers_aside table header ks o) ∙ copies_aside f copy members 0 o
 
+-- each front of it leaves them so
+pub front_spares : (file : DataFile) (table : List Header) (mends : List Mend) (f : SuperFields) (members : List Bool) (part : List Event) → FrontSteps (format file) part (mending_steps file.layout table mends f members)
+    → (image : Image) → IsImage image → SparesReads file image (image_after part image)
+front_spares file table mends f members part front image whole =
+    spared_by file part front.steps front.are
+    (λ k o. front.aside (PreparePlace k) o (mending_aside (PreparePlace k) file.layout table mends f members (λ n. refl) (λ n. refl) None))
+    (λ k o. front.aside (ReplyPlace k) o (mending_aside (ReplyPlace k) file.layout table mends f members (λ n. refl) (λ n. refl) None))
+    (λ k o. front.aside (BlockPlace k) o (mending_aside (BlockPlace k) file.layout table mends f members (λ n. refl) (λ n. refl) None)) image whole
+
 pub mending_spares : (file : DataFile) (table : List Header) (mends : List Mend) (f : SuperFields) (members : List Bool) → AreSteps (format file) (mending_events file.layout table mends f members) (mending_steps file.layout table mends f members)
     → (image : Image) → IsImage image → SparesReads file image (image_after (mending_events file.layout table mends f members) image)
-mending_spares file table mends f members are image whole =
-    spared_by file (mending_events file.layout table mends f members) (mending_steps file.layout table mends f members) are
-    (λ k o. mending_aside (PreparePlace k) file.layout table mends f members (λ n. refl) (λ n. refl) o)
-    (λ k o. mending_aside (ReplyPlace k) file.layout table mends f members (λ n. refl) (λ n. refl) o)
-    (λ k o. mending_aside (BlockPlace k) file.layout table mends f members (λ n. refl) (λ n. refl) o) image whole
+mending_spares file table mends f members are =
+    front_spares file table mends f members (mending_events file.layout table mends f members) (all_front (format file) (mending_events file.layout table mends f members) (mending_steps file.layout table mends f members) are)

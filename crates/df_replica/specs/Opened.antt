@@ -9,7 +9,9 @@ use Rattle.df_layout.specs.declared.layout.Layout.{Layout}
 use Rattle.df_damage.specs.Anew.{told_after}
 use Rattle.df_theory.specs.View.{View}
 use Rattle.df_units.specs.Bytes.{unit_at}
+use Rattle.df_units.specs.Within.{AreWithin}
 use Rattle.df_model.specs.Work.{opened as first_work}
+use Rattle.df_state.specs.declared.file.DataFile.{DataFile}
 use Rattle.df_state.specs.State.{State, shape}
 use Rattle.df_recovery.specs.Surveys.{IsOpened}
 use Rattle.df_replica.specs.Following.{MayOpen}
@@ -29,22 +31,27 @@ pub record OpensOver (g : Grade) (view : View) (s : State) (base n : Told) : Typ
   pub kept_for : IsKept g s (first_work (shape s.file) (unit_at s.file.layout s.file.cluster base.shown) view) n.log
   pub settled : AreSettled s.file n.log (first_work (shape s.file) (unit_at s.file.layout s.file.cluster base.shown) view)
 
+-- A mending of a file, or as much of it as was done: what is told changed by these events alone, whose writes lie within the zones of the file, and which leave each place
+-- that a call reads as it was, whatever is shown.
+pub record Mends (file : DataFile) (old new : Option Told) : Type 0 where
+  pub events : List Event
+  pub told : new ≡ after_all events old
+  pub within : AreWithin file.layout events
+  pub spares : (image : Image) → IsImage image → SparesReads file image (image_after events image)
+
 -- The file was found and mended: so it is by each log that shows what the disk showed, and by which the file may be opened, the told one or one that is begun anew there.
--- Whatever the disk shows, the mending leaves each place that a call reads as it was.
 pub record MendsAll (t : Told) (s : State) (later : Option Told) : Type 0 where
-  pub mending : List Event
-  pub told : later ≡ after_all mending (Some (did Sync t))
-  pub spares : (image : Image) → IsImage image → SparesReads s.file image (image_after mending image)
+  pub mending : Mends s.file (Some (did Sync t)) later
   pub over : (g : Grade) (view : View) (base : Told) → base.shown ≡ t.shown → MayOpen s.file view base → StandsFor g (unit_at s.file.layout s.file.cluster t.shown) view
-      → OpensOver g view s base (told_after mending (did Sync base))
+      → OpensOver g view s base (told_after mending.events (did Sync base))
 
 -- the file was found, and the disk failed within its mending: at each moment whatever a stop leaves has the view that was found, by each of these logs
 pub record MendsPartly (layout : Layout) (t : Told) (later : Option Told) : Type 0 where
   pub state : State
   pub opened : IsOpened layout t.shown state
-  pub told : ToldBy (Some (did Sync t)) later
+  pub mending : Mends state.file (Some (did Sync t)) later
   pub moments : (g : Grade) (view : View) (base : Told) → base.shown ≡ t.shown → MayOpen state.file view base → StandsFor g (unit_at state.file.layout state.file.cluster t.shown) view
-      → EachMoment (did Sync base).log (told_after told.0 (did Sync base)).log (IsGoodFor g (format state.file) (shape state.file) view view)
+      → EachMoment (did Sync base).log (told_after mending.events (did Sync base)).log (IsGoodFor g (format state.file) (shape state.file) view view)
 
 -- it failed in the barrier, which added a sync or nothing, or in a read behind it; or within the mending
 abbrev pub StopsOpening : Layout → Told → Option Told → Type 0

@@ -28,7 +28,6 @@ use df_disk::Disk;
 use df_format::{Header, Kind};
 use df_journal::append;
 use df_model::{AppendError, Receipt};
-use df_places::Shelf;
 use df_state::LogRooms;
 
 // Makes a prepare in its room, and makes it durable, with its header.
@@ -37,44 +36,28 @@ fn append_in<D: Disk>(
     file: &DataFile,
     header: Header,
     body: &[u8],
-    rooms: LogRooms,
-) -> (LogRooms, Result<Header, Failed>)
-    requires rooms { AreRoomsOf file.now.layout header.cluster rooms }
+    rooms: &mut LogRooms,
+) -> Result<Header, Failed>
+    requires rooms { AreRoomsOf file.now.layout header.cluster rooms.old }
     requires may { MayBeMade file.now.layout WalPrepares AsPrepare header body.now }
-    ensures events { Adds (unit_events file.now.layout (unit_of header body.now) rooms.headers) (D.told disk.old) (D.told disk.new) result.1 }
-    ensures made { IsMadeUnit file.now.layout (place_in WalPrepares (unit_of header body.now).header.slot) (unit_of header body.now) result.1 }
-    ensures table { OnOk result.1 (result.0.headers ≡ table_with (unit_of header body.now) rooms.headers) }
-    ensures rooms { AreRoomsOf file.now.layout header.cluster result.0 }
-    ensures cause { HasCause (D.faults disk.old) (D.faults disk.new) result.1 }
+    ensures events { Adds (unit_events file.now.layout (unit_of header body.now) rooms.old.headers) (D.told disk.old) (D.told disk.new) result }
+    ensures made { IsMadeUnit file.now.layout (place_in WalPrepares (unit_of header body.now).header.slot) (unit_of header body.now) result }
+    ensures table { OnOk result (rooms.new.headers ≡ table_with (unit_of header body.now) rooms.old.headers) }
+    ensures rooms { AreRoomsOf file.now.layout header.cluster rooms.new }
+    ensures cause { HasCause (D.faults disk.old) (D.faults disk.new) result }
 {
-    let LogRooms {
-        layout,
-        superblock,
-        mut sector,
-        prepare,
-        reply,
-        mut headers,
-        slots,
-        replies,
-        mends,
-    } = rooms;
-    let unit = prepare.into_room().make(header, body);
+    rooms.prepare.make(header, body);
+    let unit = rooms.prepare.unit();
     let made = *unit.header();
-    let done = append(disk, &layout, &unit, &mut headers, &mut sector);
-    let rooms = LogRooms {
-        layout,
-        superblock,
-        sector,
-        prepare: Shelf::over(layout, unit.loosen()),
-        reply,
-        headers,
-        slots,
-        replies,
-        mends,
-    };
-    match done {
-        Ok(()) => (rooms, Ok(made)),
-        Err(failed) => (rooms, Err(failed)),
+    match append(
+        disk,
+        &file.layout,
+        unit,
+        &mut rooms.headers,
+        &mut rooms.sector,
+    ) {
+        Ok(()) => Ok(made),
+        Err(failed) => Err(failed),
     }
 }
 
@@ -143,12 +126,7 @@ impl Replica {
         ensures cause { HasCause (D.faults disk.old) (D.faults disk.new) result }
     {
         let header = self.header_given(client, request, body);
-        let Some(rooms) = self.rooms.take() else {
-            unreachable!()
-        };
-        let (rooms, result) = append_in(disk, &self.file, header, body, rooms);
-        self.rooms = Some(rooms);
-        result
+        append_in(disk, &self.file, header, body, &mut self.rooms)
     }
 
     // Notes a prepare that is durable.

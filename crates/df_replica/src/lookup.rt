@@ -14,7 +14,6 @@ ghost use Rattle.df_model.specs.Memory.{reply_sum};
 ghost use Rattle.df_model.specs.Refusals.{first_refusal, lookup_refusals};
 ghost use Rattle.df_state.specs.State.{memory, reply_sum as known_sum};
 ghost use Rattle.df_replica.specs.Answering.{ServesRead, answer_of};
-ghost use Rattle.df_replica.specs.Held.{AreAsBefore, HoldsReply, LendsReply};
 ghost use Rattle.df_replica.specs.Lending.{LendsWrittenReply};
 ghost use Rattle.df_replica.specs.Lookups.{HoldsKnown, IsReadReply, IsStoredFor, Tells, place_for, reply_found, reply_shown};
 ghost use Rattle.df_replica.specs.Reading.{IsKnownUnit, in_words};
@@ -30,7 +29,6 @@ use df_disk::Disk;
 use df_layout::{Class, Place, Zone};
 use df_model::LookupError;
 use df_places::Shelf;
-use df_state::LogRooms;
 
 // The place of a client's session whose reply is stored, and the reply's checksum.
 #[derive(Clone, Copy)]
@@ -100,37 +98,22 @@ fn load_reply<D: Disk>(
     disk: &mut D,
     file: &DataFile,
     stored: &Stored,
-    rooms: LogRooms,
-) -> (LogRooms, Result<Option<Class>, Failed>)
-    requires layout { rooms.layout ≡ file.now.layout }
+    room: &mut Shelf<Reply>,
+) -> Result<Option<Class>, Failed>
+    requires layout { room.old.layout ≡ file.now.layout }
     requires place { stored.now.place < file.now.layout.clients }
-    ensures rooms { AreAsBefore rooms result.0 }
-    ensures known { IfOk result.1 (λ wrong. HoldsKnown AsReply file.now (place_in ClientReplies stored.now.place) (known_sum stored.now.reply) wrong result.0.reply.held) }
-    ensures tells { IfOk result.1 (λ wrong. Tells (D.told disk.old) (reply_shown file.now stored.now.place stored.now.reply) wrong result.0.reply.held) }
+    ensures layout { room.new.layout ≡ room.old.layout }
+    ensures known { IfOk result (λ wrong. HoldsKnown AsReply file.now (place_in ClientReplies stored.now.place) (known_sum stored.now.reply) wrong room.new.held) }
+    ensures tells { IfOk result (λ wrong. Tells (D.told disk.old) (reply_shown file.now stored.now.place stored.now.reply) wrong room.new.held) }
     ensures same { D.told disk.new ≡ D.told disk.old }
-    ensures cause { HasCause (D.faults disk.old) (D.faults disk.new) result.1 }
+    ensures cause { HasCause (D.faults disk.old) (D.faults disk.new) result }
 {
-    let mut rooms = rooms;
     match stored.reply {
-        Some(check) => {
-            let loaded = load_known(disk, file, stored.place, check, &mut rooms.reply);
-            (rooms, loaded)
-        }
-        None => match load_unknown(disk, file, stored.place, &mut rooms.reply) {
-            Ok(class) => (rooms, Ok(Some(class))),
-            Err(failed) => (rooms, Err(failed)),
+        Some(check) => load_known(disk, file, stored.place, check, room),
+        None => match load_unknown(disk, file, stored.place, room) {
+            Ok(class) => Ok(Some(class)),
+            Err(failed) => Err(failed),
         },
-    }
-}
-
-// The reply that the room holds.
-fn reply_in(rooms: &Option<LogRooms>) -> &Sound<Reply>
-    requires { HoldsReply rooms.now }
-    ensures { LendsReply rooms.now result.now }
-{
-    match rooms {
-        Some(rooms) => rooms.reply.unit(),
-        None => unreachable!(),
     }
 }
 
@@ -176,12 +159,7 @@ impl Replica {
             Ok(stored) => stored,
             Err(error) => return Err(error),
         };
-        let Some(rooms) = self.rooms.take() else {
-            unreachable!()
-        };
-        let (rooms, loaded) = load_reply(disk, &self.file, &stored, rooms);
-        self.rooms = Some(rooms);
-        let wrong = match loaded {
+        let wrong = match load_reply(disk, &self.file, &stored, &mut self.rooms.reply) {
             Ok(wrong) => wrong,
             Err(_) => {
                 end_calls(&mut self.live);
@@ -193,7 +171,7 @@ impl Replica {
                 place: reply_place(stored.place),
                 class,
             }),
-            None => Ok(reply_in(&self.rooms)),
+            None => Ok(self.rooms.reply.unit()),
         }
     }
 }

@@ -21,51 +21,28 @@ pub(crate) fn mend_rooms<D: Disk>(
     file: &DataFile,
     content: &Super,
     members: [bool; 4],
-    rooms: LogRooms,
-) -> (LogRooms, Result<(), Failed>)
-    requires rooms { AreRoomsOf file.now.layout file.now.cluster rooms }
-    ensures events { Adds (mending_events file.now.layout rooms.headers rooms.mends.items content.now members) (D.told disk.old) (D.told disk.new) result.1 }
-    ensures steps { AreSteps (format file.now) (mending_events file.now.layout rooms.headers rooms.mends.items content.now members) (mending_steps file.now.layout rooms.headers rooms.mends.items content.now members) }
+    rooms: &mut LogRooms,
+) -> Result<(), Failed>
+    requires rooms { AreRoomsOf file.now.layout file.now.cluster rooms.old }
+    ensures events { Adds (mending_events file.now.layout rooms.old.headers rooms.old.mends.items content.now members) (D.told disk.old) (D.told disk.new) result }
+    ensures steps { AreSteps (format file.now) (mending_events file.now.layout rooms.old.headers rooms.old.mends.items content.now members) (mending_steps file.now.layout rooms.old.headers rooms.old.mends.items content.now members) }
     ensures size { length members ≡ 4 }
-    ensures rooms { AreAsBefore rooms result.0 }
-    ensures cause { HasCause (D.faults disk.old) (D.faults disk.new) result.1 }
+    ensures rooms { AreAsBefore rooms.old rooms.new }
+    ensures cause { HasCause (D.faults disk.old) (D.faults disk.new) result }
 {
-    let LogRooms {
-        layout,
-        mut superblock,
-        mut sector,
-        prepare,
-        reply,
-        headers,
-        slots,
-        replies,
-        mends,
-    } = rooms;
     are_four(&members);
     let chosen = Chosen {
         content: *content.fields(),
         members,
     };
-    let done = write_mends(
+    write_mends(
         disk,
         file,
-        &headers,
-        &mends,
-        &mut sector,
-        &mut superblock,
+        &rooms.headers,
+        &rooms.mends,
+        &mut rooms.sector,
+        &mut rooms.superblock,
         &chosen,
         content,
-    );
-    let rooms = LogRooms {
-        layout,
-        superblock,
-        sector,
-        prepare,
-        reply,
-        headers,
-        slots,
-        replies,
-        mends,
-    };
-    (rooms, done)
+    )
 }

@@ -7,13 +7,14 @@ ghost use Rattle.df_layout.specs.declared.places.Zone.TheVariants.{WalPrepares};
 ghost use Rattle.df_format.specs.declared.kind.Kind.TheVariants.{Prepare as AsPrepare};
 ghost use Rattle.df_format.specs.Own.{place_in};
 ghost use Rattle.df_format.specs.Spelling.{IsCheck};
+ghost use Rattle.df_headers.specs.Ring.{IsTable};
 ghost use Rattle.df_model.specs.Commands.{ReadPrepare, ToReadPrepare};
 ghost use Rattle.df_model.specs.Faults.{is_prepare_fault};
 ghost use Rattle.df_model.specs.Memory.{prepare_sum};
 ghost use Rattle.df_model.specs.Refusals.{first_refusal, prepare_refusals};
 ghost use Rattle.df_state.specs.State.{IsState, memory};
 ghost use Rattle.df_replica.specs.Answering.{ServesRead, answer_of};
-ghost use Rattle.df_replica.specs.Held.{AreAsBefore, AreRoomsOf, HoldsPrepare, LendsPrepare};
+ghost use Rattle.df_replica.specs.Held.{AreAsBefore, AreRoomsOf};
 ghost use Rattle.df_replica.specs.Lending.{LendsWrittenPrepare};
 ghost use Rattle.df_replica.specs.Reading.{IsKnownUnit, IsLoaded, IsReadPrepare, check_in, in_words, prepare_found, prepare_wanted};
 ghost use Rattle.df_replica.specs.contracts.replica.Replica.{the_row};
@@ -25,6 +26,7 @@ use crate::{DataFile, Replica};
 use df_base::Failed;
 use df_buffers::{Identity, Prepare, Sound, Wanted};
 use df_disk::Disk;
+use df_headers::HeaderTable;
 use df_layout::{Class, Layout, Place, Zone};
 use df_model::PrepareError;
 use df_state::LogRooms;
@@ -40,13 +42,13 @@ fn prepare_place(layout: &Layout, op: u64) -> Place
 }
 
 // The prepare of an op that is kept, with the checksum of the header in its slot.
-fn prepare_wanted(file: &DataFile, rooms: &LogRooms, op: u64) -> Identity
-    requires rooms { AreRoomsOf file.now.layout file.now.cluster rooms.now }
-    ensures identity { result ≡ prepare_wanted file.now rooms.now.headers op }
-    ensures check { IsCheck (check_in (slice_get rooms.now.headers (op % file.now.layout.slots))) }
+fn prepare_wanted(file: &DataFile, headers: &HeaderTable, op: u64) -> Identity
+    requires table { IsTable file.now.layout file.now.cluster headers.now }
+    ensures identity { result ≡ prepare_wanted file.now headers.now op }
+    ensures check { IsCheck (check_in (slice_get headers.now (op % file.now.layout.slots))) }
 {
     let place = prepare_place(&file.layout, op);
-    let header = rooms.headers.get(place.index as u32);
+    let header = headers.get(place.index as u32);
     Identity {
         layout: file.layout,
         cluster: file.cluster,
@@ -60,30 +62,17 @@ fn load_prepare<D: Disk>(
     disk: &mut D,
     file: &DataFile,
     op: u64,
-    rooms: LogRooms,
-) -> (LogRooms, Result<Option<Class>, Failed>)
-    requires rooms { AreRoomsOf file.now.layout file.now.cluster rooms }
-    ensures rooms { AreAsBefore rooms result.0 }
-    ensures check { IsCheck (check_in (slice_get rooms.headers (op % file.now.layout.slots))) }
-    ensures loaded { IfOk result.1 (λ wrong. IsLoaded AsPrepare (prepare_wanted file.now rooms.headers op) (D.told disk.old) wrong result.0.prepare.held) }
+    rooms: &mut LogRooms,
+) -> Result<Option<Class>, Failed>
+    requires rooms { AreRoomsOf file.now.layout file.now.cluster rooms.old }
+    ensures rooms { AreAsBefore rooms.old rooms.new }
+    ensures check { IsCheck (check_in (slice_get rooms.old.headers (op % file.now.layout.slots))) }
+    ensures loaded { IfOk result (λ wrong. IsLoaded AsPrepare (prepare_wanted file.now rooms.old.headers op) (D.told disk.old) wrong rooms.new.prepare.held) }
     ensures same { D.told disk.new ≡ D.told disk.old }
-    ensures cause { HasCause (D.faults disk.old) (D.faults disk.new) result.1 }
+    ensures cause { HasCause (D.faults disk.old) (D.faults disk.new) result }
 {
-    let identity = prepare_wanted(file, &rooms, op);
-    let mut rooms = rooms;
-    let loaded = rooms.prepare.load(disk, &identity);
-    (rooms, loaded)
-}
-
-// The prepare that the room holds.
-fn prepare_in(rooms: &Option<LogRooms>) -> &Sound<Prepare>
-    requires { HoldsPrepare rooms.now }
-    ensures { LendsPrepare rooms.now result.now }
-{
-    match rooms {
-        Some(rooms) => rooms.prepare.unit(),
-        None => unreachable!(),
-    }
+    let identity = prepare_wanted(file, &rooms.headers, op);
+    rooms.prepare.load(disk, &identity)
 }
 
 impl Replica {
@@ -118,12 +107,7 @@ impl Replica {
         if let Some(error) = self.prepare_refusal(op) {
             return Err(error);
         }
-        let Some(rooms) = self.rooms.take() else {
-            unreachable!()
-        };
-        let (rooms, loaded) = load_prepare(disk, &self.file, op, rooms);
-        self.rooms = Some(rooms);
-        let wrong = match loaded {
+        let wrong = match load_prepare(disk, &self.file, op, &mut self.rooms) {
             Ok(wrong) => wrong,
             Err(_) => {
                 end_calls(&mut self.live);
@@ -135,7 +119,7 @@ impl Replica {
                 place: prepare_place(&self.file.layout, op),
                 class,
             }),
-            None => Ok(prepare_in(&self.rooms)),
+            None => Ok(self.rooms.prepare.unit()),
         }
     }
 }

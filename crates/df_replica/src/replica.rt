@@ -26,8 +26,7 @@ pub struct Replica {
     // The checksums of the prepares that wait for their replies, in order of op.
     pub(crate) waiting: ArrayVec<Check, 8>,
     pub(crate) live: bool,
-    // A call takes the rooms out while it works in them.
-    pub(crate) rooms: Option<LogRooms>,
+    pub(crate) rooms: LogRooms,
     pub(crate) grid: Grid,
     pub(crate) running: Option<Captured>,
     pub(crate) trailer: TrailerRooms,
@@ -60,7 +59,6 @@ impl Model for Replica {
     ghost use Rattle.std.specs.Prelude.{◌≡◌};
     ghost use Rattle.df_state.specs.Captures.{running_of};
     ghost use Rattle.df_state.specs.State.{State, IsState};
-    ghost use Rattle.df_replica.specs.Held.{AreFor, headers_of};
 
     ghost Value = { State };
 
@@ -73,7 +71,7 @@ impl Model for Replica {
       replies = r.replies;
       table = r.sessions;
       waiting = r.waiting.items;
-      headers = headers_of r.rooms;
+      headers = r.rooms.headers;
       blocks = r.grid.blocks;
       running = running_of r.running;
       tour = r.scrub.scrubber.tour;
@@ -90,13 +88,13 @@ impl Model for Replica {
       replies = r.replies;
       table = r.sessions;
       waiting = r.waiting.items;
-      headers = headers_of r.rooms;
+      headers = r.rooms.headers;
       blocks = r.grid.blocks;
       running = running_of r.running;
       tour = r.scrub.scrubber.tour;
       findings = r.scrub.scrubber.findings;
       live = r.live;
-    }) × AreFor r.file r.rooms × (r.grid.layout ≡ r.file.layout) × (r.grid.cluster ≡ r.file.cluster) × (r.trailer.layout ≡ r.file.layout) × (r.scrub.layout ≡ r.file.layout) };
+    }) × (r.rooms.layout ≡ r.file.layout) × (r.grid.layout ≡ r.file.layout) × (r.grid.cluster ≡ r.file.cluster) × (r.trailer.layout ≡ r.file.layout) × (r.scrub.layout ≡ r.file.layout) };
 }
 
 // All the rooms of a file that is done with.
@@ -195,7 +193,6 @@ impl Replica {
             trailer,
             scrub,
         } = self;
-        let Some(log) = rooms else { unreachable!() };
-        rooms_of(file.layout, log, grid, trailer, scrub)
+        rooms_of(file.layout, rooms, grid, trailer, scrub)
     }
 }

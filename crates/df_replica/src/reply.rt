@@ -18,20 +18,19 @@ ghost use Rattle.df_model.specs.Making.{place_of_op};
 ghost use Rattle.df_model.specs.Refusals.{first_refusal, reply_refusals};
 ghost use Rattle.df_replica.specs.Answering.{Serves, answer_of, as_reply};
 ghost use Rattle.df_replica.specs.Appending.{IsMadeUnit, MayBeMade, unit_of};
-ghost use Rattle.df_replica.specs.Held.{AreAsBefore};
 ghost use Rattle.df_replica.specs.Replying.{IsReply, MayReplyNext, first_check, next_reply, replied, reply_calls, reply_events, reply_given};
 ghost use Rattle.df_state.specs.State.{IsState, memory};
 
-use crate::Replica;
 use crate::refusing::reply_refusal;
+use crate::{DataFile, Replica};
 use df_base::{Check, Failed};
+use df_buffers::Reply;
 use df_disk::Disk;
 use df_format::{Header, Kind};
 use df_model::ReplyError;
 use df_places::Shelf;
 use df_replies::write_reply;
 use df_sessions::{Session, SessionTable};
-use df_state::LogRooms;
 
 // The session at a place.
 pub(crate) fn session_in(table: &SessionTable, place: u64) -> Session
@@ -80,44 +79,24 @@ fn client_of(session: &Session) -> u128
 // Makes a reply in its room, and makes it durable.
 fn reply_in<D: Disk>(
     disk: &mut D,
+    file: &DataFile,
     header: Header,
     body: &[u8],
-    rooms: LogRooms,
-) -> (LogRooms, Result<Header, Failed>)
-    requires may { MayBeMade rooms.layout ClientReplies AsReply header body.now }
-    ensures events { Adds (reply_calls rooms.layout (unit_of header body.now)) (D.told disk.old) (D.told disk.new) result.1 }
-    ensures made { IsMadeUnit rooms.layout (place_in ClientReplies (unit_of header body.now).header.slot) (unit_of header body.now) result.1 }
-    ensures rooms { AreAsBefore rooms result.0 }
-    ensures cause { HasCause (D.faults disk.old) (D.faults disk.new) result.1 }
+    room: &mut Shelf<Reply>,
+) -> Result<Header, Failed>
+    requires room { room.old.layout ≡ file.now.layout }
+    requires may { MayBeMade file.now.layout ClientReplies AsReply header body.now }
+    ensures room { room.new.layout ≡ room.old.layout }
+    ensures events { Adds (reply_calls file.now.layout (unit_of header body.now)) (D.told disk.old) (D.told disk.new) result }
+    ensures made { IsMadeUnit file.now.layout (place_in ClientReplies (unit_of header body.now).header.slot) (unit_of header body.now) result }
+    ensures cause { HasCause (D.faults disk.old) (D.faults disk.new) result }
 {
-    let LogRooms {
-        layout,
-        superblock,
-        sector,
-        prepare,
-        reply,
-        headers,
-        slots,
-        replies,
-        mends,
-    } = rooms;
-    let unit = reply.into_room().make(header, body);
+    room.make(header, body);
+    let unit = room.unit();
     let made = *unit.header();
-    let done = write_reply(disk, &layout, &unit);
-    let rooms = LogRooms {
-        layout,
-        superblock,
-        sector,
-        prepare,
-        reply: Shelf::over(layout, unit.loosen()),
-        headers,
-        slots,
-        replies,
-        mends,
-    };
-    match done {
-        Ok(()) => (rooms, Ok(made)),
-        Err(failed) => (rooms, Err(failed)),
+    match write_reply(disk, &file.layout, unit) {
+        Ok(()) => Ok(made),
+        Err(failed) => Err(failed),
     }
 }
 
@@ -175,12 +154,7 @@ impl Replica {
         ensures cause { HasCause (D.faults disk.old) (D.faults disk.new) result }
     {
         let header = self.reply_given(body);
-        let Some(rooms) = self.rooms.take() else {
-            unreachable!()
-        };
-        let (rooms, result) = reply_in(disk, header, body, rooms);
-        self.rooms = Some(rooms);
-        result
+        reply_in(disk, &self.file, header, body, &mut self.rooms.reply)
     }
 
     // Notes a reply that is durable.

@@ -179,12 +179,7 @@ impl Replica {
         ensures kept { self.new ≡ self.old }
         ensures cause { IsBlamed is_step_fault (D.faults disk.old) (D.faults disk.new) result }
     {
-        let Some(mut rooms) = self.rooms.take() else {
-            unreachable!()
-        };
-        let done = make_durable(disk, &mut rooms.superblock, content);
-        self.rooms = Some(rooms);
-        done
+        make_durable(disk, &mut self.rooms.superblock, content)
     }
 
     // The checkpoint is the durable one.

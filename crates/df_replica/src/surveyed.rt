@@ -212,13 +212,12 @@ impl Surveyed {
             replies,
             sessions,
             waiting,
-            rooms,
+            mut rooms,
             grid,
             trailer,
             scrub,
         } = self;
-        let (log, done) = mend_rooms(disk, &file, &content, chosen.members, rooms);
-        match done {
+        match mend_rooms(disk, &file, &content, chosen.members, &mut rooms) {
             Ok(()) => Ok(Replica {
                 file,
                 content,
@@ -229,13 +228,13 @@ impl Surveyed {
                 sessions,
                 waiting,
                 live: true,
-                rooms: Some(log),
+                rooms,
                 grid,
                 running: None,
                 trailer,
                 scrub,
             }),
-            Err(failed) => Err((rooms_of(file.layout, log, grid, trailer, scrub), failed)),
+            Err(failed) => Err((rooms_of(file.layout, rooms, grid, trailer, scrub), failed)),
         }
     }
 }

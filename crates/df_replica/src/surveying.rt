@@ -25,46 +25,25 @@ use df_recovery::{
 use df_state::LogRooms;
 
 // Plans the mending in the rooms: the header that each slot is to have, and the list.
-fn plan_rooms(file: &DataFile, copies: &Copies, rooms: LogRooms) -> LogRooms
-    requires layout { rooms.layout ≡ file.now.layout }
-    requires cluster { rooms.slots.start.cluster ≡ file.now.cluster }
-    requires slots { AreSlots file.now.layout file.now.cluster rooms.slots.slots }
-    ensures planned { ArePlannedFrom file.now.layout file.now.cluster rooms.slots copies.now.slots copies.now.found.chosen.members result.headers result.mends.items }
-    ensures layout { result.layout ≡ file.now.layout }
-    ensures slots { result.slots ≡ rooms.slots }
+fn plan_rooms(file: &DataFile, copies: &Copies, rooms: &mut LogRooms)
+    requires layout { rooms.old.layout ≡ file.now.layout }
+    requires cluster { rooms.old.slots.start.cluster ≡ file.now.cluster }
+    requires slots { AreSlots file.now.layout file.now.cluster rooms.old.slots.slots }
+    ensures planned { ArePlannedFrom file.now.layout file.now.cluster rooms.old.slots copies.now.slots copies.now.found.chosen.members rooms.new.headers rooms.new.mends.items }
+    ensures layout { rooms.new.layout ≡ file.now.layout }
+    ensures slots { rooms.new.slots ≡ rooms.old.slots }
 {
-    let LogRooms {
-        layout,
-        superblock,
-        sector,
-        prepare,
-        reply,
-        mut headers,
-        slots,
-        replies,
-        mut mends,
-    } = rooms;
+    let layout = rooms.layout;
     let members = copies.found.chosen.members;
     plan(
         &layout,
         file.cluster,
-        &slots,
+        &rooms.slots,
         &copies.slots,
         &members,
-        &mut headers,
-        &mut mends,
+        &mut rooms.headers,
+        &mut rooms.mends,
     );
-    LogRooms {
-        layout,
-        superblock,
-        sector,
-        prepare,
-        reply,
-        headers,
-        slots,
-        replies,
-        mends,
-    }
 }
 
 // The checksums of the prepares that wait, by the tables of the rooms.
@@ -109,14 +88,14 @@ fn surveyed(traces: &Traces, scanned: Scanned) -> Surveyed
     let Scanned {
         file,
         copies,
-        log,
+        log: mut rooms,
         grid,
         trailer,
         scrub,
         root,
         sessions,
     } = scanned;
-    let rooms = plan_rooms(&file, &copies, log);
+    plan_rooms(&file, &copies, &mut rooms);
     let scrub = scrub.cleared();
     let content = copies.found.content;
     let chosen = copies.found.chosen;

@@ -74,7 +74,7 @@ module _ (file : DataFile) (view : View) (t : Told) (may : MayBeHurt file view t
     served : (serves : ServesScript file.layout t old new status) → ReadsOwn file view t file.layout old new status serves
     served serves =
         let finds : FindsHad file view t serves.replica = answer_is_of_hurt file view t (Ok serves.replica) may serves.is_opened in
-        (finds, ends_give _ _ _ _ _ _ _ _ (stands serves.replica serves.is_opened finds) (written serves.replica finds serves.mended serves.barrier) serves.session.calls)
+        (finds, ends_give _ _ _ _ _ _ _ _ (stands serves.replica serves.is_opened finds) (written serves.replica finds serves.mended (serves.mending.events, serves.mending.told)) serves.session.calls)
 
     of_hurt : (mode : Mode) → (does : Does mode file.layout t old new status) → IsOfHurt file view t file.layout mode old new status does
     of_hurt (Format layout cluster) does = does

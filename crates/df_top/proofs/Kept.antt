@@ -111,10 +111,10 @@ pub record OpenedOver (g : Grade) (s : Replica) (w : Work) (base n : Told) : Typ
 
 -- what an open leaves by each base that shows what the disk showed
 pub opened_over : (t : Told) (s : Replica) (mended : Option Told) (over : MendsAll t s mended) (g : Grade) (view : View) (base : Told) → base.shown ≡ t.shown → MayOpen s.file view base
-    → StandsFor g (unit_at s.file.layout s.file.cluster t.shown) view → OpenedOver g s (opened (shape s.file) (unit_at s.file.layout s.file.cluster t.shown) view) base (told_after over.mending (did Sync base))
+    → StandsFor g (unit_at s.file.layout s.file.cluster t.shown) view → OpenedOver g s (opened (shape s.file) (unit_at s.file.layout s.file.cluster t.shown) view) base (told_after over.mending.events (did Sync base))
 opened_over t s mended over g view base same may stands =
-    let n : Told = told_after over.mending (did Sync base) in
-    let goes = goes_over over.mending (did Sync base) in
+    let n : Told = told_after over.mending.events (did Sync base) in
+    let goes = goes_over over.mending.events (did Sync base) in
     let is = over.over g view base same may stands in
     record {
       honest = goes.honest (record { shows = may.honest.shows });

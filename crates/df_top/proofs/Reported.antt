@@ -20,7 +20,7 @@ use Rattle.df_replica.specs.Below.{Syncs, IsOpened, State as Replica, shape, tol
 use Rattle.df_sessions.specs.declared.session.Session.{Session}
 use Rattle.df_replica.specs.Following.{MayOpen}
 use Rattle.df_replica.specs.Leaving.{SparesReads}
-use Rattle.df_replica.specs.Opened.{MendsAll, ToldBy}
+use Rattle.df_replica.specs.Opened.{MendsAll}
 use Rattle.df_replica.specs.Reading.{shown_of}
 use Rattle.df_replica.specs.Replica.{Survey, summary_of}
 use Rattle.df_replica.specs.Scrubbing.{IsMachineTour, at_start}
@@ -103,17 +103,14 @@ machine_tour s image codec w work rep =
 
 module _ (layout : Layout) (t : Told) (old new : Outside) (status : Status) (s : Replica) (told : old.told ≡ Some t) (unread : new.left ≡ old.left) (live : s.live ≡ true) (is_opened : IsOpened layout t.shown s)
     (over : MendsAll t s new.told) where
-  abbrev synced : ToldBy (Some (did Sync t)) new.told
-  synced = (over.mending, over.told)
-
   keeps : (g : Grade) (view : View) (base : Told) → base.shown ≡ t.shown → MayOpen s.file view base → StandsFor g (unit_at s.file.layout s.file.cluster t.shown) view
-      → KeepsFile s.file g (opened (shape s.file) (unit_at s.file.layout s.file.cluster t.shown) view) base [] [] None (Some (told_after over.mending (did Sync base)))
+      → KeepsFile s.file g (opened (shape s.file) (unit_at s.file.layout s.file.cluster t.shown) view) base [] [] None (Some (told_after over.mending.events (did Sync base)))
   keeps g view base same may stands =
-      let n : Told = told_after over.mending (did Sync base) in
+      let n : Told = told_after over.mending.events (did Sync base) in
       keeps_over g s (opened (shape s.file) (unit_at s.file.layout s.file.cluster t.shown) view) base n live (opened_over t s new.told over g view base same may stands) s (Some n) (Some n) [] [] None (refl, refl)
 
   pub recovers : PrintsLine (summary_text (summary_of s)) Done old.written new.written status → Recovers layout t old new status
-  recovers prints = record { replica = s; is_opened = is_opened; prints = prints; unread = unread; barrier = synced; keeps = keeps; mending = over.spares }
+  recovers prints = record { replica = s; is_opened = is_opened; prints = prints; unread = unread; mending = over.mending; keeps = keeps }
 
   -- its tour is at the start
   first : s.tour ≡ first_tour
@@ -121,13 +118,13 @@ module _ (layout : Layout) (t : Told) (old new : Outside) (status : Status) (s :
 
   -- what is told then, and that it shows what the mending left
   abbrev after_mending : Told
-  after_mending = told_after over.mending (did Sync t)
+  after_mending = told_after over.mending.events (did Sync t)
 
   told_then : new.told ≡ Some after_mending
-  told_then = over.told ∙ added_is_told over.mending (did Sync t)
+  told_then = over.mending.told ∙ added_is_told over.mending.events (did Sync t)
 
   spared : IsImage t.shown → SparesReads s.file t.shown after_mending.shown
-  spared whole = subst (SparesReads s.file t.shown) (sym (shown_after over.mending (did Sync t))) (over.spares t.shown whole)
+  spared whole = subst (SparesReads s.file t.shown) (sym (shown_after over.mending.events (did Sync t))) (over.mending.spares t.shown whole)
 
   pub scrubs : IsImage t.shown → ((n : Told) → new.told ≡ Some n → s.tour ≡ first_tour → PrintsTour s n.shown old.written new.written status) → ScrubsFile layout t old new status
   scrubs whole tours = record {
@@ -138,8 +135,7 @@ module _ (layout : Layout) (t : Told) (old new : Outside) (status : Status) (s :
     prints = tours after_mending told_then first;
     machine = machine_tour s after_mending.shown;
     unread = unread;
-    barrier = synced;
+    mending = over.mending;
     keeps = keeps;
-    mending = over.spares;
     spares = spared whole;
   }

@@ -236,13 +236,13 @@ calls_answered s t old new acts answers (Some a) calls = (calls.0, calls.1, call
 module _ (s : Replica) (t : Told) (mended : Option Told) (over : MendsAll t s mended) (whole : IsImage t.shown) (w : Work) (k : Keeps Firm s w None) (last : Replica) (new : Option Told) (failed : Option Act) (shown : Shown)
     (agree : AgreeShown s.file.layout (shown_of s.file t.shown) shown) where
   abbrev first : Told
-  first = told_after over.mending (did Sync t)
+  first = told_after over.mending.events (did Sync t)
 
   told_first : mended ≡ Some first
-  told_first = over.told ∙ added_is_told over.mending (did Sync t)
+  told_first = over.mending.told ∙ added_is_told over.mending.events (did Sync t)
 
   spared : SparesReads s.file t.shown first.shown
-  spared = subst (SparesReads s.file t.shown) (sym (shown_then over.mending (did Sync t))) (over.spares t.shown whole)
+  spared = subst (SparesReads s.file t.shown) (sym (shown_then over.mending.events (did Sync t))) (over.mending.spares t.shown whole)
 
   -- its calls answer the result over what the disk showed before the mending
   pub opened_answers : (acts : List Act) (answers : List Answer) → EndsCalls s last mended new acts answers failed → AnswersResult s.file shown w acts answers

@@ -70,7 +70,7 @@ module _ (layout : Layout) (t : Told) (old new : Outside) (status : Status) (s :
   last_told = ap (λ (o : Outside). o.told) last_is
 
   abbrev synced : ToldBy (Some (did Sync t)) mended
-  synced = (over.mending, over.told)
+  synced = (over.mending.events, over.mending.told)
 
   opened_here : IsOpened s.file.layout t.shown s
   opened_here = subst (λ (l : Layout). IsOpened l t.shown s) (sym of) is_opened
@@ -94,8 +94,7 @@ module _ (layout : Layout) (t : Told) (old new : Outside) (status : Status) (s :
     replica = s;
     is_opened = is_opened;
     mended = mended;
-    barrier = synced;
-    mending = over.spares;
+    mending = over.mending;
     last = last;
     last_is = last_is;
     session = ended;
@@ -108,10 +107,10 @@ module _ (layout : Layout) (t : Told) (old new : Outside) (status : Status) (s :
     adds = sym last_told ∙ ends_add s last.replica mended last.outside.told (all_acts ended.turns) (all_answers ended.turns) (act_of ended.failing) ended.calls;
     kept = λ g view base same may stands. (opened_over t s mended over g view base same may stands).kept_for;
     keeps = λ g view base same may stands.
-        keeps_over g s (opened (shape s.file) (unit_at s.file.layout s.file.cluster t.shown) view) base (told_after over.mending (did Sync base)) live (opened_over t s mended over g view base same may stands)
+        keeps_over g s (opened (shape s.file) (unit_at s.file.layout s.file.cluster t.shown) view) base (told_after over.mending.events (did Sync base)) live (opened_over t s mended over g view base same may stands)
         last.replica mended last.outside.told (all_acts ended.turns) (all_answers ended.turns) (act_of ended.failing) ended.calls;
     acknowledged = λ g view base same may stands.
-        keeps_answered s.file g (opened (shape s.file) (unit_at s.file.layout s.file.cluster t.shown) view) (Some (told_after over.mending (did Sync base))) (script_calls ended) refl live
+        keeps_answered s.file g (opened (shape s.file) (unit_at s.file.layout s.file.cluster t.shown) view) (Some (told_after over.mending.events (did Sync base))) (script_calls ended) refl live
         (opened_over t s mended over g view base same may stands).kept_for;
     spares = λ view found. spares_blocks (opened (shape s.file) (unit_at s.file.layout s.file.cluster t.shown) view) (script_calls ended) live (found_keeps s t.shown view whole opened_here found);
     undamaged = undamaged;

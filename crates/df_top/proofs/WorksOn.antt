@@ -97,7 +97,7 @@ module _ (seed count : ℕ) (layout : Layout) (t : Told) (old new : Outside) (st
     (of : s.file.layout ≡ layout) (is_opened : IsOpened layout t.shown s) (over : MendsAll t s mended)
     (run : Run) (last : Replica) (ended : EndsRun (start seed count layout.clients) s mended run last new.told old.written new.written status) where
   abbrev synced : ToldBy (Some (did Sync t)) mended
-  synced = (over.mending, over.told)
+  synced = (over.mending.events, over.mending.told)
 
   opened_here : IsOpened s.file.layout t.shown s
   opened_here = subst (λ (l : Layout). IsOpened l t.shown s) (sym of) is_opened
@@ -128,18 +128,17 @@ module _ (seed count : ℕ) (layout : Layout) (t : Told) (old new : Outside) (st
     answered = λ view found.
         answers_alone Firm (opened (shape s.file) (unit_at s.file.layout s.file.cluster t.shown) view) s last mended new.told ended.worked.acts ended.worked.answers ended.worked.failed live
         (found_keeps s t.shown view image opened_here found) ended.worked.calls;
-    barrier = synced;
-    mending = over.spares;
+    mending = over.mending;
     result = λ view shown found agree.
         opened_answers s t mended over image (opened (shape s.file) (unit_at s.file.layout s.file.cluster t.shown) view) (found_keeps s t.shown view image opened_here found) last new.told ended.worked.failed shown agree ended.worked.acts
         ended.worked.answers ended.worked.calls;
     adds = ends_add s last mended new.told ended.worked.acts ended.worked.answers ended.worked.failed ended.worked.calls;
     kept = λ g view base same may stands. (opened_over t s mended over g view base same may stands).kept_for;
     keeps = λ g view base same may stands.
-        keeps_over g s (opened (shape s.file) (unit_at s.file.layout s.file.cluster t.shown) view) base (told_after over.mending (did Sync base)) live (opened_over t s mended over g view base same may stands)
+        keeps_over g s (opened (shape s.file) (unit_at s.file.layout s.file.cluster t.shown) view) base (told_after over.mending.events (did Sync base)) live (opened_over t s mended over g view base same may stands)
         last mended new.told ended.worked.acts ended.worked.answers ended.worked.failed ended.worked.calls;
     acknowledged = λ g view base same may stands.
-        keeps_answered s.file g (opened (shape s.file) (unit_at s.file.layout s.file.cluster t.shown) view) (Some (told_after over.mending (did Sync base))) (run_calls ended.worked) refl live
+        keeps_answered s.file g (opened (shape s.file) (unit_at s.file.layout s.file.cluster t.shown) view) (Some (told_after over.mending.events (did Sync base))) (run_calls ended.worked) refl live
         (opened_over t s mended over g view base same may stands).kept_for;
     spares = λ view found. spares_blocks (opened (shape s.file) (unit_at s.file.layout s.file.cluster t.shown) view) (run_calls ended.worked) live (found_keeps s t.shown view image opened_here found);
     undamaged = undamaged;

@@ -1,6 +1,6 @@
 -- What the words that print a report promise of a file.
 use Rattle.std.specs.Prelude.{◌≡◌, ℕ, List, [], ◌∷◌, None, Some}
-use Rattle.df_base.specs.Image.{Image, IsImage}
+use Rattle.df_base.specs.Image.{Image}
 use Rattle.df_base.specs.Log.{Sync}
 use Rattle.df_disk.specs.Adds.{AddsPart}
 use Rattle.df_disk.specs.Told.{Told, did}
@@ -12,8 +12,7 @@ use Rattle.df_units.specs.Bytes.{unit_at}
 use Rattle.df_model.specs.Work.{opened}
 use Rattle.df_replica.specs.Below.{IsOpened, State as Replica, shape}
 use Rattle.df_replica.specs.Following.{MayOpen}
-use Rattle.df_replica.specs.Leaving.{SparesReads, image_after}
-use Rattle.df_replica.specs.Opened.{ToldBy}
+use Rattle.df_replica.specs.Opened.{Mends}
 use Rattle.df_replica.specs.Replica.{Survey, summary_of}
 use Rattle.df_replica.specs.Serving.{Grade, StandsFor}
 use Rattle.df_replica.specs.Surveying.{IsMendable}
@@ -58,13 +57,12 @@ pub record FailsToSurvey (t : Told) (old new : Outside) (status : Status) : Type
 -- ---- recover
 
 -- The file that the disk shows is opened, and its summary is printed; by each log that shows what the disk showed, and by which the file may be opened, the view that was found is kept.
--- Whatever a disk shows, the open leaves each place that a call reads as it was: no block is written.
+-- Whatever a disk shows, the mending leaves each place that a call reads as it was: no block is written.
 pub record Recovers (layout : Layout) (t : Told) (old new : Outside) (status : Status) : Type 0 where
   pub replica : Replica
   pub is_opened : IsOpened layout t.shown replica
   pub prints : PrintsLine (summary_text (summary_of replica)) Done old.written new.written status
   pub unread : new.left ≡ old.left
-  pub barrier : ToldBy (Some (did Sync t)) new.told
+  pub mending : Mends replica.file (Some (did Sync t)) new.told
   pub keeps : (g : Grade) (view : View) (base : Told) → base.shown ≡ t.shown → MayOpen replica.file view base → StandsFor g (unit_at replica.file.layout replica.file.cluster t.shown) view
-      → KeepsFile replica.file g (opened (shape replica.file) (unit_at replica.file.layout replica.file.cluster t.shown) view) base [] [] None (over barrier.0 [] base)
-  pub mending : (image : Image) → IsImage image → SparesReads replica.file image (image_after barrier.0 image)
+      → KeepsFile replica.file g (opened (shape replica.file) (unit_at replica.file.layout replica.file.cluster t.shown) view) base [] [] None (over mending.events [] base)

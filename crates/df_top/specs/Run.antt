@@ -1,6 +1,6 @@
 -- What the program promises of words that work on a file.
 use Rattle.std.specs.Prelude.{◌≡◌, ◌⊎◌, ◌^◌, ℕ, List, [], Option, Some}
-use Rattle.df_base.specs.Image.{Image, IsImage}
+use Rattle.df_base.specs.Image.{IsImage}
 use Rattle.df_base.specs.Log.{Sync}
 use Rattle.df_base.specs.Streams.{Appends, AppendsPart}
 use Rattle.df_disk.specs.Adds.{after_all}
@@ -15,8 +15,7 @@ use Rattle.df_model.specs.Work.{opened}
 use Rattle.df_model.specs.declared.errors.OpenError.{OpenError}
 use Rattle.df_replica.specs.Below.{IsLayoutShown, Refuses, IsOpened, State as Replica, shape, told_after}
 use Rattle.df_replica.specs.Following.{MayOpen}
-use Rattle.df_replica.specs.Leaving.{SparesReads, image_after}
-use Rattle.df_replica.specs.Opened.{ToldBy}
+use Rattle.df_replica.specs.Opened.{Mends}
 use Rattle.df_replica.specs.Reading.{shown_of}
 use Rattle.df_replica.specs.Serving.{Grade, IsKept, StandsFor}
 use Rattle.df_replica.specs.Session.{answers_of}
@@ -55,14 +54,13 @@ start told old replica = record { outside = record { told = told; left = old.lef
 -- the file that the disk shows is opened, and the script is served: what is answered is what the machine answers from the state that is found, on whatever
 -- image, and what is answered and printed is a function of what the disk shows at first, and of the lines; and by each log that shows what the disk showed, and by which the file may be opened, the told one or one that is begun anew there, all that was
 -- answered is kept, at the end and at each moment from its answer on. On whatever image, no call writes a sector of a block that is held, but a step those of the
--- running trailer's next. No step finds the superblock damaged that it wrote, since the disk tells what it shows. Between the barrier and the first call what the
--- disk tells changed by events alone, and whatever is shown these leave each place that a call reads as it was.
+-- running trailer's next. No step finds the superblock damaged that it wrote, since the disk tells what it shows. Between the barrier and the first call is the mending
+-- alone, which leaves each place that a call reads as it was, whatever is shown.
 pub record ServesScript (layout : Layout) (t : Told) (old new : Outside) (status : Status) : Type 0 where
   pub replica : Replica
   pub is_opened : IsOpened layout t.shown replica
   pub mended : Option Told
-  pub barrier : ToldBy (Some (did Sync t)) mended
-  pub mending : (image : Image) → IsImage image → SparesReads replica.file image (image_after barrier.0 image)
+  pub mending : Mends replica.file (Some (did Sync t)) mended
   pub last : State
   pub last_is : last.outside ≡ new
   pub session : Ended (line_bound layout) (start mended old replica) last status
@@ -72,11 +70,11 @@ pub record ServesScript (layout : Layout) (t : Told) (old new : Outside) (status
       → IsResultOf replica.file shown (opened (shape replica.file) (unit_at replica.file.layout replica.file.cluster t.shown) view) session.turns
   pub adds : new.told ≡ after_all (events_made (script_calls session)) mended
   pub kept : (g : Grade) (view : View) (base : Told) → base.shown ≡ t.shown → MayOpen replica.file view base → StandsFor g (unit_at replica.file.layout replica.file.cluster t.shown) view
-      → IsKept g replica (opened (shape replica.file) (unit_at replica.file.layout replica.file.cluster t.shown) view) (told_after barrier.0 (did Sync base)).log
+      → IsKept g replica (opened (shape replica.file) (unit_at replica.file.layout replica.file.cluster t.shown) view) (told_after mending.events (did Sync base)).log
   pub keeps : (g : Grade) (view : View) (base : Told) → base.shown ≡ t.shown → MayOpen replica.file view base → StandsFor g (unit_at replica.file.layout replica.file.cluster t.shown) view
-      → KeepsFile replica.file g (opened (shape replica.file) (unit_at replica.file.layout replica.file.cluster t.shown) view) base (all_acts session.turns) (all_answers session.turns) (act_of session.failing) (over barrier.0 (events_made (script_calls session)) base)
+      → KeepsFile replica.file g (opened (shape replica.file) (unit_at replica.file.layout replica.file.cluster t.shown) view) base (all_acts session.turns) (all_answers session.turns) (act_of session.failing) (over mending.events (events_made (script_calls session)) base)
   pub acknowledged : (g : Grade) (view : View) (base : Told) → base.shown ≡ t.shown → MayOpen replica.file view base → StandsFor g (unit_at replica.file.layout replica.file.cluster t.shown) view
-      → KeepsAnswered replica.file g (opened (shape replica.file) (unit_at replica.file.layout replica.file.cluster t.shown) view) (over barrier.0 [] base) (script_calls session)
+      → KeepsAnswered replica.file g (opened (shape replica.file) (unit_at replica.file.layout replica.file.cluster t.shown) view) (over mending.events [] base) (script_calls session)
   pub spares : (view : View) → IsFound (shape replica.file) (unit_at replica.file.layout replica.file.cluster t.shown) view
       → SparesBlocks replica.file (opened (shape replica.file) (unit_at replica.file.layout replica.file.cluster t.shown) view) (script_calls session)
   pub undamaged : status ≡ Refused → ⊥

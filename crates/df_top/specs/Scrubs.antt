@@ -1,6 +1,6 @@
 -- What the word `scrub` promises of a file.
 use Rattle.std.specs.Prelude.{◌≡◌, ◌⊎◌, ℕ, zero, suc, List, [], ◌++◌, length, None, Option, Some}
-use Rattle.df_base.specs.Image.{Image, IsImage}
+use Rattle.df_base.specs.Image.{Image}
 use Rattle.df_base.specs.Log.{Sync}
 use Rattle.df_base.specs.Streams.{Appends}
 use Rattle.df_disk.specs.Told.{Told, did}
@@ -15,8 +15,8 @@ use Rattle.df_model.specs.declared.answers.Scrubbed.TheVariants.{TourEnd}
 use Rattle.df_replica.specs.Below.{IsOpened, failing_in, State as Replica, grid_with, memory, shape}
 use Rattle.df_script_model.specs.Texts.{scrubbed_text}
 use Rattle.df_replica.specs.Following.{MayOpen}
-use Rattle.df_replica.specs.Leaving.{SparesReads, image_after}
-use Rattle.df_replica.specs.Opened.{ToldBy}
+use Rattle.df_replica.specs.Leaving.{SparesReads}
+use Rattle.df_replica.specs.Opened.{Mends}
 use Rattle.df_replica.specs.Scrubbing.{IsMachineTour}
 use Rattle.df_replica.specs.Serving.{Grade, StandsFor}
 use Rattle.df_top.specs.Keeping.{KeepsFile, over}
@@ -64,8 +64,7 @@ pub record ScrubsFile (layout : Layout) (t : Told) (old new : Outside) (status :
   pub prints : PrintsTour replica after.shown old.written new.written status
   pub machine : IsMachineTour replica after.shown
   pub unread : new.left ≡ old.left
-  pub barrier : ToldBy (Some (did Sync t)) new.told
+  pub mending : Mends replica.file (Some (did Sync t)) new.told
   pub keeps : (g : Grade) (view : View) (base : Told) → base.shown ≡ t.shown → MayOpen replica.file view base → StandsFor g (unit_at replica.file.layout replica.file.cluster t.shown) view
-      → KeepsFile replica.file g (opened (shape replica.file) (unit_at replica.file.layout replica.file.cluster t.shown) view) base [] [] None (over barrier.0 [] base)
-  pub mending : (image : Image) → IsImage image → SparesReads replica.file image (image_after barrier.0 image)
+      → KeepsFile replica.file g (opened (shape replica.file) (unit_at replica.file.layout replica.file.cluster t.shown) view) base [] [] None (over mending.events [] base)
   pub spares : SparesReads replica.file t.shown after.shown

@@ -1,6 +1,5 @@
 -- What the word `workload` promises of a file.
 use Rattle.std.specs.Prelude.{◌≡◌, ℕ, [], Option, Some}
-use Rattle.df_base.specs.Image.{Image, IsImage}
 use Rattle.df_base.specs.Log.{Sync}
 use Rattle.df_disk.specs.Adds.{after_all}
 use Rattle.df_disk.specs.Told.{Told, did}
@@ -12,8 +11,7 @@ use Rattle.df_model.specs.Supply.{Shown}
 use Rattle.df_model.specs.Work.{opened}
 use Rattle.df_replica.specs.Below.{IsOpened, State as Replica, shape, told_after}
 use Rattle.df_replica.specs.Following.{MayOpen}
-use Rattle.df_replica.specs.Leaving.{SparesReads, image_after}
-use Rattle.df_replica.specs.Opened.{ToldBy}
+use Rattle.df_replica.specs.Opened.{Mends}
 use Rattle.df_replica.specs.Reading.{shown_of}
 use Rattle.df_replica.specs.Serving.{Grade, IsKept, StandsFor}
 use Rattle.df_replica.specs.Session.{answers_of}
@@ -39,8 +37,7 @@ pub record WorksThrough (seed count : ℕ) (layout : Layout) (t : Told) (old new
   pub is_opened : IsOpened layout t.shown replica
   pub unread : new.left ≡ old.left
   pub mended : Option Told
-  pub barrier : ToldBy (Some (did Sync t)) mended
-  pub mending : (image : Image) → IsImage image → SparesReads replica.file image (image_after barrier.0 image)
+  pub mending : Mends replica.file (Some (did Sync t)) mended
   pub run : Run
   pub last : Replica
   pub worked : Worked (start seed count layout.clients) replica mended run last new.told
@@ -51,11 +48,11 @@ pub record WorksThrough (seed count : ℕ) (layout : Layout) (t : Told) (old new
       → AnswersResult replica.file shown (opened (shape replica.file) (unit_at replica.file.layout replica.file.cluster t.shown) view) worked.acts worked.answers
   pub adds : new.told ≡ after_all (events_made (run_calls worked)) mended
   pub kept : (g : Grade) (view : View) (base : Told) → base.shown ≡ t.shown → MayOpen replica.file view base → StandsFor g (unit_at replica.file.layout replica.file.cluster t.shown) view
-      → IsKept g replica (opened (shape replica.file) (unit_at replica.file.layout replica.file.cluster t.shown) view) (told_after barrier.0 (did Sync base)).log
+      → IsKept g replica (opened (shape replica.file) (unit_at replica.file.layout replica.file.cluster t.shown) view) (told_after mending.events (did Sync base)).log
   pub keeps : (g : Grade) (view : View) (base : Told) → base.shown ≡ t.shown → MayOpen replica.file view base → StandsFor g (unit_at replica.file.layout replica.file.cluster t.shown) view
-      → KeepsFile replica.file g (opened (shape replica.file) (unit_at replica.file.layout replica.file.cluster t.shown) view) base worked.acts worked.answers worked.failed (over barrier.0 (events_made (run_calls worked)) base)
+      → KeepsFile replica.file g (opened (shape replica.file) (unit_at replica.file.layout replica.file.cluster t.shown) view) base worked.acts worked.answers worked.failed (over mending.events (events_made (run_calls worked)) base)
   pub acknowledged : (g : Grade) (view : View) (base : Told) → base.shown ≡ t.shown → MayOpen replica.file view base → StandsFor g (unit_at replica.file.layout replica.file.cluster t.shown) view
-      → KeepsAnswered replica.file g (opened (shape replica.file) (unit_at replica.file.layout replica.file.cluster t.shown) view) (over barrier.0 [] base) (run_calls worked)
+      → KeepsAnswered replica.file g (opened (shape replica.file) (unit_at replica.file.layout replica.file.cluster t.shown) view) (over mending.events [] base) (run_calls worked)
   pub spares : (view : View) → IsFound (shape replica.file) (unit_at replica.file.layout replica.file.cluster t.shown) view
       → SparesBlocks replica.file (opened (shape replica.file) (unit_at replica.file.layout replica.file.cluster t.shown) view) (run_calls worked)
   pub undamaged : status ≡ Refused → ⊥

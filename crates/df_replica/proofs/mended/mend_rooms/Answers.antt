@@ -8,4 +8,4 @@ use Rattle.df_replica.proofs.mended.mend_rooms.Goals as goal
 
 pub returns-clause-steps : goal.returns-clause-steps
 returns-clause-steps g c =
-    subst (λ (list : List Mend). AreSteps (format c.args.file.now) (mending_events c.args.file.now.layout c.args.rooms.headers list c.args.content.now c.args.members) (mending_steps c.args.file.now.layout c.args.rooms.headers list c.args.content.now c.args.members)) c.deref.ensures.value c.write_mends-done.ensures.steps
+    subst (λ (list : List Mend). AreSteps (format c.args.file.now) (mending_events c.args.file.now.layout c.args.rooms.now.headers list c.args.content.now c.args.members) (mending_steps c.args.file.now.layout c.args.rooms.now.headers list c.args.content.now c.args.members)) c.deref.ensures.value c.write_mends.ensures.steps

@@ -20,6 +20,6 @@ if_loaded kind identity told held (Err failed) holds read = tt
 pub returns-clause-loaded : goal.returns-clause-loaded
 returns-clause-loaded g c =
     let told = g.D.Disk.told c.args.disk.now in
-    let held = c.load-loaded.new.self.held in
-    subst (λ (identity : Identity). IfOk c.load-loaded.result (λ wrong. IsLoaded Prepare identity told wrong held)) c.prepare_wanted-identity.ensures.identity
-    (if_loaded Prepare c.prepare_wanted-identity.result told held c.load-loaded.result c.load-loaded.ensures.holds c.load-loaded.ensures.read)
+    let held = c.load.new.self.held in
+    subst (λ (identity : Identity). IfOk c.load.result (λ wrong. IsLoaded Prepare identity told wrong held)) c.prepare_wanted-identity.ensures.identity
+    (if_loaded Prepare c.prepare_wanted-identity.result told held c.load.result c.load.ensures.holds c.load.ensures.read)

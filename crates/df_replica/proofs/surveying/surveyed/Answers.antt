@@ -9,7 +9,7 @@ invariant_of-result c =
     let usable : IsUsable c.args.scanned.copies.found.content = c.fields.ensures.usable in
     let cluster = subst (λ (n : ℕ). n < 2 ^ 128) (sym c.requires.scanned.named) usable.fits.cluster in
     let count : length c.waiting_in-waiting.result.items ≡ c.args.traces.now.tail.op - c.args.traces.now.replies =
-    ap length c.waiting_in-waiting.ensures ∙ waiting_count c.args.scanned.file.layout.slots c.plan_rooms-rooms.result.slots c.plan_rooms-rooms.result.headers c.args.traces.now.replies c.args.traces.now.tail.op in (
+    ap length c.waiting_in-waiting.ensures ∙ waiting_count c.args.scanned.file.layout.slots c.plan_rooms.new.rooms.slots c.plan_rooms.new.rooms.headers c.args.traces.now.replies c.args.traces.now.tail.op in (
       record {
         cluster = cluster;
         parent = c.requires.tail.checksum;
@@ -25,10 +25,10 @@ invariant_of-result c =
         requests = c.requires.sessions.numbered;
         asked = c.requires.sessions.asked;
         tracks = c.requires.sessions.tracks;
-        ring = c.plan_rooms-rooms.ensures.planned.is_table;
+        ring = c.plan_rooms.ensures.planned.is_table;
         course = c.requires.scanned.idle;
       },
-      c.plan_rooms-rooms.ensures.layout,
+      c.plan_rooms.ensures.layout,
       c.args.scanned.grid_fits,
       c.args.scanned.grid_named,
       c.args.scanned.trailer_fits,

@@ -7,16 +7,17 @@ use Rattle.df_disk.specs.Adds.{after_all}
 use Rattle.df_disk.specs.Told.{Told, after, did}
 use Rattle.df_damage.specs.Anew.{told_after}
 use Rattle.df_damage.proofs.Laws.{added_is_told}
+use Rattle.df_units.proofs.Laws.{steps_within}
 use Rattle.df_units.specs.Bytes.{unit_at}
 use Rattle.df_model.specs.Work.{opened}
 use Rattle.df_state.specs.State.{State, shape}
-use Rattle.df_replica.specs.Mending.{live_state, mending_events}
+use Rattle.df_replica.specs.Mending.{live_state, mending_events, mending_steps}
 use Rattle.df_replica.specs.Opened.{MendsAll}
 use Rattle.df_replica.specs.Serving.{IsGoodFor, StandsFor, format}
 use Rattle.df_replica.specs.Surveying.{TellsSurvey}
 use Rattle.df_replica.proofs.Barriers.{barrier_rests}
 use Rattle.df_replica.proofs.Hurts.{tells_hurt}
-use Rattle.df_replica.proofs.MendShows.{mending_spares}
+use Rattle.df_replica.proofs.MendShows.{front_spares, mending_spares}
 use Rattle.df_replica.proofs.Opens.{front_moments, live_kept, mend_stops, open_keeps, open_settles, planned_same, survey_opened}
 use Rattle.df_replica.proofs.SurveyPlans.{live_answers}
 use Rattle.df_replica.proofs.replica.Replica.open.Goals as goal
@@ -38,9 +39,12 @@ returns-in-Ok-mend-clause-opened g c = λ t is.
     let answer : TellsSurvey c.args.rooms.layout (Some t) (Ok s.state) = subst (λ (o : Option Told). TellsSurvey c.args.rooms.layout o (Ok s.state)) is c.in-Ok.ensures.answer in
     let plan = c.in-Ok.ensures.planned (did Sync t) synced in
     let all : MendsAll t (live_state s.state) (g.D.Disk.told c.mend.new.disk) = record {
-      mending = es;
-      told = c.in-Ok-mend.ensures.events ∙ ap (after_all es) synced;
-      spares = mending_spares s.state.file s.state.headers s.mends s.state.fields s.chosen.members c.in-Ok-mend.ensures.steps;
+      mending = record {
+        events = es;
+        told = c.in-Ok-mend.ensures.events ∙ ap (after_all es) synced;
+        within = steps_within s.state.file.layout s.state.file.cluster es (mending_steps s.state.file.layout s.state.headers s.mends s.state.fields s.chosen.members) c.in-Ok-mend.ensures.steps;
+        spares = mending_spares s.state.file s.state.headers s.mends s.state.fields s.chosen.members c.in-Ok-mend.ensures.steps;
+      };
       over = λ grade view base same may stands.
           let n : Told = told_after es (did Sync base) in
           let planned = planned_same s.state.file s.state.headers s.mends s.state.fields s.chosen.members (did Sync t) (did Sync base) same plan in
@@ -64,10 +68,16 @@ returns-in-Err-mend-clause-stopped g c = λ t is whole fault.
     let s = c.in-Ok.surveyed in
     let synced : g.D.Disk.told c.survey.new.disk ≡ Some (did Sync t) = c.in-Ok.ensures.barrier ∙ ap (after Sync) is in
     let part = mend_stops (mending_events s.state.file.layout s.state.headers s.mends s.state.fields s.chosen.members) (g.D.Disk.told c.survey.new.disk) (g.D.Disk.told c.mend.new.disk) (did Sync t) synced c.in-Err-mend.ensures.events in
+    let done = part.steps (format s.state.file) (mending_steps s.state.file.layout s.state.headers s.mends s.state.fields s.chosen.members) c.in-Err-mend.ensures.steps in
     inr (inr (record {
       state = s.state;
       opened = (subst (λ (o : Option Told). TellsSurvey c.args.rooms.layout o (Ok s.state)) is c.in-Ok.ensures.answer) whole;
-      told = (part.part, part.is);
+      mending = record {
+        events = part.part;
+        told = part.is;
+        within = steps_within s.state.file.layout s.state.file.cluster part.part done.steps done.are;
+        spares = front_spares s.state.file s.state.headers s.mends s.state.fields s.chosen.members part.part done;
+      };
       moments = λ grade view base same may stands.
           let es : List Event = mending_events s.state.file.layout s.state.headers s.mends s.state.fields s.chosen.members in
           let planned = planned_same s.state.file s.state.headers s.mends s.state.fields s.chosen.members (did Sync t) (did Sync base) same (c.in-Ok.ensures.planned (did Sync t) synced) in

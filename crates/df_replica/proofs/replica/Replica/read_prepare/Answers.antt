@@ -1,18 +1,11 @@
 -- What the room holds is what the machine reads.
-use Rattle.std.proofs.Common.{◌≡◌, Bool, List, Option, Some, None, true, refl, sym, ap, subst, ◌∙◌}
-use Rattle.std.specs.Prelude.{Result, IfOk}
-use Rattle.df_base.specs.Causes.{HasCause}
-use Rattle.df_base.specs.declared.Failed.{Failed}
-use Rattle.df_layout.specs.declared.damage.Class.{Class}
+use Rattle.std.proofs.Common.{◌≡◌, Bool, List, Some, None, true, refl, sym, ap, subst, ◌∙◌}
 use Rattle.df_format.specs.declared.header.Header.{Header}
-use Rattle.df_format.specs.declared.kind.Kind.TheVariants.{Prepare}
 use Rattle.df_buffers.specs.Sounds.{Holding}
 use denote.Ref.{Bor}
 use Rattle.df_model.specs.Faults.{is_prepare_fault}
 use Rattle.df_model.specs.Refusals.{first_refusal, prepare_refusals}
 use Rattle.df_state.specs.State.{State, memory}
-use Rattle.df_replica.specs.Held.{headers_of}
-use Rattle.df_replica.specs.Reading.{IsLoaded, prepare_wanted}
 use Rattle.df_replica.specs.Stopping.{stopped}
 use Rattle.df_replica.specs.contracts.replica.Replica.{the_view}
 use Rattle.df_replica.proofs.Lent.{lends_written_prepare}
@@ -42,44 +35,46 @@ returns-in-Some g c =
 pub returns-in-Err : goal.returns-in-Err
 returns-in-Err g c =
     let told = g.D.Disk.told c.args.disk.now in
-    let headers = c.load_prepare-rooms.ensures.rooms.headers ∙ ap headers_of (sym c.in-Some-take.is ∙ c.take.ensures.value) in
-    let none = subst (λ (s : State). first_refusal (prepare_refusals (memory s) c.args.op) ≡ None) c.self.view_is (sym c.prepare_refusal.ensures.why ∙ c.in_default.is) in
-    let cause : HasCause (g.D.Disk.faults c.args.disk.now) (g.D.Disk.faults c.load_prepare-rooms.new.disk) c.load_prepare-rooms.result.1 = c.load_prepare-rooms.ensures.cause in
-    let blames = subst (λ (r : Result (Option Class) Failed). HasCause (g.D.Disk.faults c.args.disk.now) (g.D.Disk.faults c.load_prepare-rooms.new.disk) r) c.in-Err.is cause in (
-      (refl, (λ _. tt), ap (λ (b : Bool). record (the_view c.self.inside) { headers = c.load_prepare-rooms.result.0.headers; live = b }) c.end_calls.ensures ∙ ap stopped (ap (λ (hs : List Header). record (the_view c.self.inside) { headers = hs }) headers ∙ c.self.view_is)),
-      record { after = tt; exact = none; lent = tt; written = tt; call = prepare_stopped c.args.self.now c.args.op c.requires.live told (stopped c.args.self.now) refl; same = c.load_prepare-rooms.ensures.same; cause = (blames.later, blames.failed) },
+    let rooms = c.load_prepare.ensures.rooms in
+    let none = subst (λ (s : State). first_refusal (prepare_refusals (memory s) c.args.op) ≡ None) c.self.view_is (sym c.prepare_refusal.ensures.why ∙ c.in_default.is) in (
+      (refl, (λ _. tt), ap (λ (b : Bool). record (the_view c.self.inside) { headers = c.load_prepare.new.rooms.headers; live = b }) c.end_calls.ensures ∙ ap stopped (ap (λ (hs : List Header). record (the_view c.self.inside) { headers = hs }) rooms.headers ∙ c.self.view_is)),
+      record {
+        after = tt;
+        exact = none;
+        lent = tt;
+        written = tt;
+        call = prepare_stopped c.args.self.now c.args.op c.requires.live told (stopped c.args.self.now) refl;
+        same = c.load_prepare.ensures.same;
+        cause = (c.in-Err.ensures.cause.later, c.in-Err.ensures.cause.failed);
+      },
     )
 
 pub returns-in-Some-wrong : goal.returns-in-Some-wrong
 returns-in-Some-wrong g c =
     let told = g.D.Disk.told c.args.disk.now in
     let op = c.args.op in
-    let v : State = record (the_view c.self.inside) { headers = c.in-Some-take.rooms.headers } in
-    let e : v ≡ c.args.self.now = ap (λ (hs : List Header). record (the_view c.self.inside) { headers = hs }) (ap headers_of (sym c.in-Some-take.is ∙ c.take.ensures.value)) ∙ c.self.view_is in
-    let none = subst (λ (s : State). first_refusal (prepare_refusals (memory s) op) ≡ None) (c.self.view_is ∙ sym e) (sym c.prepare_refusal.ensures.why ∙ c.in_default.is) in
-    let live = subst (λ (s : State). s.live ≡ true) (sym e) c.requires.live in
-    let loaded = c.load_prepare-rooms.ensures in
-    let held = c.load_prepare-rooms.result.0.prepare.held in
-    let found = subst (λ (r : Result (Option Class) Failed). IfOk r (λ wrong. IsLoaded Prepare (prepare_wanted v.file v.headers op) told wrong held)) c.in-Ok.is loaded.loaded in
-    let tells = subst (λ (s : State). TellsOf s op told c.prepare_place.result c.in-Some-wrong.class) e (tells_of v op live told none loaded.check c.in-Ok.wrong held found.holds found.read c.in-Some-wrong.class c.prepare_place.result c.in-Some-wrong.is c.prepare_place.ensures) in
-    let blames = subst (λ (r : Result (Option Class) Failed). HasCause (g.D.Disk.faults c.args.disk.now) (g.D.Disk.faults c.load_prepare-rooms.new.disk) r) c.in-Ok.is loaded.cause in (
-      (refl, (λ _. tt), ap (λ (hs : List Header). record (the_view c.self.inside) { headers = hs }) loaded.rooms.headers ∙ e),
-      record { after = tt; exact = tells.exact; lent = tt; written = tt; call = tells.call; same = loaded.same; cause = blames.same },
+    let v : State = the_view c.self.inside in
+    let none : first_refusal (prepare_refusals (memory v) op) ≡ None = sym c.prepare_refusal.ensures.why ∙ c.in_default.is in
+    let live = subst (λ (s : State). s.live ≡ true) (sym c.self.view_is) c.requires.live in
+    let rooms = c.load_prepare.ensures.rooms in
+    let held = c.load_prepare.new.rooms.prepare.held in
+    let found = c.in-Ok.ensures.loaded in
+    let tells = subst (λ (s : State). TellsOf s op told c.prepare_place.result c.in-Some-wrong.class) c.self.view_is (tells_of v op live told none c.load_prepare.ensures.check c.in-Ok.wrong held found.holds found.read c.in-Some-wrong.class c.prepare_place.result c.in-Some-wrong.is c.prepare_place.ensures) in (
+      (refl, (λ _. tt), ap (λ (hs : List Header). record v { headers = hs }) rooms.headers ∙ c.self.view_is),
+      record { after = tt; exact = tells.exact; lent = tt; written = tt; call = tells.call; same = c.load_prepare.ensures.same; cause = c.in-Ok.ensures.cause.same },
     )
 
 pub returns-in-None : goal.returns-in-None
 returns-in-None g c =
     let told = g.D.Disk.told c.args.disk.now in
     let op = c.args.op in
-    let v : State = record (the_view c.self.inside) { headers = c.in-Some-take.rooms.headers } in
-    let e : v ≡ c.args.self.now = ap (λ (hs : List Header). record (the_view c.self.inside) { headers = hs }) (ap headers_of (sym c.in-Some-take.is ∙ c.take.ensures.value)) ∙ c.self.view_is in
-    let none = subst (λ (s : State). first_refusal (prepare_refusals (memory s) op) ≡ None) (c.self.view_is ∙ sym e) (sym c.prepare_refusal.ensures.why ∙ c.in_default.is) in
-    let live = subst (λ (s : State). s.live ≡ true) (sym e) c.requires.live in
-    let loaded = c.load_prepare-rooms.ensures in
-    let held = c.load_prepare-rooms.result.0.prepare.held in
-    let found = subst (λ (r : Result (Option Class) Failed). IfOk r (λ wrong. IsLoaded Prepare (prepare_wanted v.file v.headers op) told wrong held)) c.in-Ok.is loaded.loaded in
-    let lends = subst (λ (s : State). LendsAs s op told c.prepare_in.result.now.unit) e (lends_as v op live told none loaded.check c.in-Ok.wrong held found.holds found.read c.prepare_in.result.now c.in-None.is c.prepare_in.ensures) in
-    let blames = subst (λ (r : Result (Option Class) Failed). HasCause (g.D.Disk.faults c.args.disk.now) (g.D.Disk.faults c.load_prepare-rooms.new.disk) r) c.in-Ok.is loaded.cause in (
-      (refl, (λ _. tt), ap (λ (hs : List Header). record (the_view c.self.inside) { headers = hs }) loaded.rooms.headers ∙ e),
-      record { after = tt; exact = lends.exact; lent = lends.known; written = lends_written_prepare op c.args.self.now _ told lends.exact; call = lends.call; same = loaded.same; cause = blames.same },
+    let v : State = the_view c.self.inside in
+    let none : first_refusal (prepare_refusals (memory v) op) ≡ None = sym c.prepare_refusal.ensures.why ∙ c.in_default.is in
+    let live = subst (λ (s : State). s.live ≡ true) (sym c.self.view_is) c.requires.live in
+    let rooms = c.load_prepare.ensures.rooms in
+    let held = c.load_prepare.new.rooms.prepare.held in
+    let found = c.in-Ok.ensures.loaded in
+    let lends = subst (λ (s : State). LendsAs s op told c.unit.result.now.unit) c.self.view_is (lends_as v op live told none c.load_prepare.ensures.check c.in-Ok.wrong held found.holds found.read c.unit.result.now c.in-None.is c.unit.ensures) in (
+      (refl, (λ _. tt), ap (λ (hs : List Header). record v { headers = hs }) rooms.headers ∙ c.self.view_is),
+      record { after = tt; exact = lends.exact; lent = lends.known; written = lends_written_prepare op c.args.self.now _ told lends.exact; call = lends.call; same = c.load_prepare.ensures.same; cause = c.in-Ok.ensures.cause.same },
     )

@@ -8,7 +8,6 @@ use Rattle.df_model.specs.Work.{is_known}
 use Rattle.df_state.specs.State.{IsState, State}
 use Rattle.df_replica.specs.Answering.{Serves}
 use Rattle.df_replica.specs.Blocks.{released}
-use Rattle.df_replica.specs.Held.{AreFor}
 use Rattle.df_replica.specs.contracts.replica.Replica.{the_view}
 use Rattle.df_replica.proofs.BlockStates.{live_state, not_live_stays}
 use Rattle.df_replica.proofs.ReleaseAnswers.{none_is, refused_is, refused_release, released_serves}
@@ -18,14 +17,14 @@ pub invariant_of-self : goal.invariant_of-self
 invariant_of-self c =
     let s = c.self.inside in
     let old = c.self.invariant in
-    subst (λ (x : GridState). IsState (record (the_view s) { blocks = x.blocks }) × AreFor s.file s.rooms × (x.layout ≡ s.file.layout) × (x.cluster ≡ s.file.cluster) × (s.trailer.layout ≡ s.file.layout) × (s.scrub.layout ≡ s.file.layout))
+    subst (λ (x : GridState). IsState (record (the_view s) { blocks = x.blocks }) × (s.rooms.layout ≡ s.file.layout) × (x.layout ≡ s.file.layout) × (x.cluster ≡ s.file.cluster) × (s.trailer.layout ≡ s.file.layout) × (s.scrub.layout ≡ s.file.layout))
     (sym c.release.ensures.released) (live_state (the_view s) (without_entry c.args.address s.grid.blocks.live) old.0, old.1, old.2, old.3, old.4, old.5)
 
 pub invariant_of-self-2 : goal.invariant_of-self-2
 invariant_of-self-2 c =
     let s = c.self.inside in
     let old = c.self.invariant in
-    subst (λ (x : GridState). IsState (record (the_view s) { blocks = x.blocks }) × AreFor s.file s.rooms × (x.layout ≡ s.file.layout) × (x.cluster ≡ s.file.cluster) × (s.trailer.layout ≡ s.file.layout) × (s.scrub.layout ≡ s.file.layout))
+    subst (λ (x : GridState). IsState (record (the_view s) { blocks = x.blocks }) × (s.rooms.layout ≡ s.file.layout) × (x.layout ≡ s.file.layout) × (x.cluster ≡ s.file.cluster) × (s.trailer.layout ≡ s.file.layout) × (s.scrub.layout ≡ s.file.layout))
     (sym c.release.ensures.released) (live_state (the_view s) (without_entry c.args.address s.grid.blocks.live) old.0, old.1, old.2, old.3, old.4, old.5)
 
 pub returns-then-not-release-clause-exact : goal.returns-then-not-release-clause-exact

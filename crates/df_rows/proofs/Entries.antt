@@ -1,0 +1,124 @@
+-- The bytes of a row: what stands where in them, and that they are one row.
+use Rattle.std.proofs.Common.{◌≡◌, ℕ, zero, suc, ◌+◌, ◌-◌, ◌*◌, ◌^◌, ◌<◌, ◌≤◌, ◌==◌, Bool, true, List, [], ◌∷◌, ◌++◌, length, get_or, take, drop, replicate, refl, sym, ap, subst, ◌∙◌, arith, length-append, append_assoc, length-drop}
+use Rattle.std.specs.List.{list_all}
+use Rattle.std.proofs.lemmas.Bool.{and_parts, and_from, eqb-true, eq-eqb}
+use Rattle.std.proofs.lemmas.List.{append-nil, take_at, drop_at, take-append-drop, take_rest, length-replicate, length-take-le, drop-drop, drop_more, get_or_at}
+use Rattle.df_base.specs.Fields.{AreBytes, field_at, spelled}
+use Rattle.df_base.proofs.Laws.{length-spelled, field_spelled, spelled-field_at}
+use Rattle.df_rows.specs.Rows.{Entry, IsEntry, row_of, rows_of}
+
+-- ---- two texts of fronts that are as long
+
+pub same_front : (a b x y : List ℕ) → length a ≡ length b → a ++ x ≡ b ++ y → (a ≡ b) × (x ≡ y)
+same_front a b x y size same = (
+  sym (take_at a x (length b) size) ∙ ap (λ (l : List ℕ). take (length b) l) same ∙ take_at b y (length b) refl,
+  sym (drop_at a x (length b) size) ∙ ap (λ (l : List ℕ). drop (length b) l) same ∙ drop_at b y (length b) refl,
+)
+
+pub same_entry : (e f : Entry) → e.0 ≡ f.0 → e.1 ≡ f.1 → e ≡ f
+same_entry e f keys values = λ i. (keys i, values i)
+
+-- ---- keys
+
+read_key : (k : ℕ) → k < 2 ^ 128 → field_at 16 0 (spelled 16 k) ≡ k
+read_key k fits = field_spelled 16 0 k (spelled 16 k) [] (sym (append-nil (spelled 16 k))) fits
+
+pub one_key : (m n : ℕ) → m < 2 ^ 128 → n < 2 ^ 128 → spelled 16 m ≡ spelled 16 n → m ≡ n
+one_key m n fits fits' same = sym (read_key m fits) ∙ ap (λ (l : List ℕ). field_at 16 0 l) same ∙ read_key n fits'
+
+same_length : (m n : ℕ) → length (spelled 16 m) ≡ length (spelled 16 n)
+same_length m n = length-spelled 16 m ∙ sym (length-spelled 16 n)
+
+-- a key with something behind it
+pub key_split : (m n : ℕ) (x y : List ℕ) → m < 2 ^ 128 → n < 2 ^ 128 → spelled 16 m ++ x ≡ spelled 16 n ++ y → (m ≡ n) × (x ≡ y)
+key_split m n x y fits fits' same =
+    let parts = same_front (spelled 16 m) (spelled 16 n) x y (same_length m n) same in
+    (one_key m n fits fits' parts.0, parts.1)
+
+-- ---- what stands in a row
+
+-- the value and the zeros behind it
+abbrev pub padded : List ℕ → List ℕ
+padded value = value ++ replicate (47 - length value) 0
+
+pub length-padded : (value : List ℕ) → length value ≤ 47 → length (padded value) ≡ 47
+length-padded value fits = omega (arith, length-append value (replicate (47 - length value) 0), length-replicate {A = ℕ} (47 - length value) 0)
+
+pub length-row_of : (e : Entry) → IsEntry e → length (row_of e) ≡ 64
+length-row_of e is = omega (arith, length-append (spelled 16 e.0) (length e.1 ∷ padded e.1), length-spelled 16 e.0, length-padded e.1 is.value)
+
+-- the byte that says how long the value is
+pub length_byte : (e : Entry) → get_or (row_of e) 16 0 ≡ length e.1
+length_byte e = get_or_at (spelled 16 e.0) (length e.1) (padded e.1) 0 16 (length-spelled 16 e.0)
+
+-- what stands behind that byte
+pub behind_length : (e : Entry) → drop 17 (row_of e) ≡ padded e.1
+behind_length e = sym (drop-drop 1 16 (row_of e)) ∙ ap (λ (l : List ℕ). drop 1 l) (drop_at (spelled 16 e.0) (length e.1 ∷ padded e.1) 16 (length-spelled 16 e.0))
+
+-- ---- one row
+
+-- rows with something behind them
+pub row_split : (e f : Entry) (x y : List ℕ) → IsEntry e → IsEntry f → row_of e ++ x ≡ row_of f ++ y → (e ≡ f) × (x ≡ y)
+row_split e f x y is other same =
+    let rows = same_front (row_of e) (row_of f) x y (length-row_of e is ∙ sym (length-row_of f other)) same in
+    let parts = key_split e.0 f.0 (length e.1 ∷ padded e.1) (length f.1 ∷ padded f.1) is.key other.key rows.0 in
+    let sizes : length e.1 ≡ length f.1 = cc (parts.1) in
+    let paddings : padded e.1 ≡ padded f.1 = cc (parts.1) in
+    let values = same_front e.1 f.1 (replicate (47 - length e.1) 0) (replicate (47 - length f.1) 0) sizes paddings in
+    (same_entry e f parts.0 values.0, rows.1)
+
+pub one_row : (e f : Entry) → IsEntry e → IsEntry f → row_of e ≡ row_of f → e ≡ f
+one_row e f is other same = (row_split e f [] [] is other (ap (λ (l : List ℕ). l ++ []) same)).0
+
+-- ---- zeros
+
+pub zeros_pass : (n : ℕ) → list_all (λ b. b == 0) (replicate n 0) ≡ true
+zeros_pass zero = refl
+zeros_pass (suc n) = zeros_pass n
+
+pub zeros_from : (xs : List ℕ) → list_all (λ b. b == 0) xs ≡ true → xs ≡ replicate (length xs) 0
+zeros_from [] all = refl
+zeros_from (x ∷ xs) all =
+    let parts = and_parts (x == 0) (list_all (λ b. b == 0) xs) all in
+    let first = eqb-true x 0 parts.0 in
+    let rest = zeros_from xs parts.1 in
+    λ i. first i ∷ rest i
+
+pub all_zeros : (xs : List ℕ) → xs ≡ replicate (length xs) 0 → list_all (λ b. b == 0) xs ≡ true
+all_zeros xs is = ap (λ (l : List ℕ). list_all (λ b. b == 0) l) is ∙ zeros_pass (length xs)
+
+-- ---- a row that is read
+
+module _ (bytes tail value rest : List ℕ) (n : ℕ) (whole : length bytes ≡ 64) (tail_is : tail ≡ take (length bytes - 17) (drop 17 bytes)) (value_is : value ≡ take n tail) (rest_is : rest ≡ drop n tail) where
+  tail_from : tail ≡ drop 17 bytes
+  tail_from = tail_is ∙ take_rest bytes 17
+
+  length_tail : length tail ≡ 47
+  length_tail = ap length tail_from ∙ omega (arith, length-drop {A = ℕ} 17 bytes)
+
+  tail_parts : tail ≡ value ++ rest
+  tail_parts = sym (take-append-drop n tail) ∙ (λ i. sym value_is i ++ sym rest_is i)
+
+  -- bytes whose value is short enough, with zeros behind it, are a row
+  pub row_read : AreBytes bytes → n ≡ get_or bytes 16 0 → n ≤ 47 → rest ≡ replicate (length rest) 0 → bytes ≡ row_of (field_at 16 0 bytes, value)
+  row_read are said fits zeros =
+      let key : spelled 16 (field_at 16 0 bytes) ≡ take 16 bytes = spelled-field_at 16 0 bytes are (omega arith) in
+      let size : length value ≡ n = ap length value_is ∙ length-take-le n tail (omega (arith, length_tail)) in
+      let left : length rest ≡ 47 - length value = omega (arith, length_tail, ap length tail_parts, length-append value rest, size) in
+      let padding : rest ≡ replicate (47 - length value) 0 = zeros ∙ ap (λ (m : ℕ). replicate m 0) left in
+      let behind : drop 16 bytes ≡ length value ∷ padded value =
+      drop_more bytes 16 0 (omega arith) ∙ (λ i. (sym said ∙ sym size) i ∷ (sym tail_from ∙ tail_parts ∙ ap (λ (l : List ℕ). value ++ l) padding) i) in
+      sym (take-append-drop 16 bytes) ∙ (λ i. sym key i ++ behind i)
+
+  -- and those of a row have zeros there
+  pub row_ends : (e : Entry) → IsEntry e → bytes ≡ row_of e → n ≡ get_or bytes 16 0 → rest ≡ replicate (length rest) 0
+  row_ends e is same said =
+      let size : n ≡ length e.1 = said ∙ ap (λ (l : List ℕ). get_or l 16 0) same ∙ length_byte e in
+      let tail_padded : tail ≡ padded e.1 = tail_from ∙ ap (λ (l : List ℕ). drop 17 l) same ∙ behind_length e in
+      let zeros : rest ≡ replicate (47 - length e.1) 0 = rest_is ∙ ap (λ (l : List ℕ). drop n l) tail_padded ∙ drop_at e.1 (replicate (47 - length e.1) 0) n (sym size) in
+      let count : length rest ≡ 47 - length e.1 = ap length zeros ∙ length-replicate {A = ℕ} (47 - length e.1) 0 in
+      zeros ∙ ap (λ (m : ℕ). replicate m 0) (sym count)
+
+-- a value that is too long is none of a row
+pub row_too_long : (bytes : List ℕ) (n : ℕ) (e : Entry) → IsEntry e → bytes ≡ row_of e → n ≡ get_or bytes 16 0 → 47 < n → ⊥
+row_too_long bytes n e is same said long = omega (arith, said ∙ ap (λ (l : List ℕ). get_or l 16 0) same ∙ length_byte e, is.value)

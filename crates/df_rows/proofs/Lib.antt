@@ -1,0 +1,10 @@
+pub mod Entries
+pub mod Bodies
+pub mod Found
+pub mod Edited
+pub mod Viewed
+pub mod Held
+pub mod Counts
+pub mod Chunked
+pub mod Taken
+pub mod Words

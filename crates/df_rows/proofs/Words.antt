@@ -1,0 +1,134 @@
+-- What a line of a table's script says, from its words.
+use Rattle.std.proofs.Common.{◌≡◌, ◌⊎◌, inl, inr, ℕ, ◌<◌, ◌^◌, if◌then◌else◌, List, [], ◌∷◌, ◌++◌, length, take, refl, sym, ap, subst, ◌∙◌, arith, length-append}
+use Rattle.std.specs.Prelude.{codes, decimal, Option, None, Some, IfNone}
+use Rattle.std.specs.Str.{bytes_eq}
+use Rattle.std.proofs.lemmas.List.{take_all}
+use Rattle.df_lines.specs.Words.{HasNoSpace, Cuts}
+use Rattle.df_lines.proofs.Laws.{NumberFirst, no_cut, one_cut, one_split, one_word, same_rest, two_words}
+use Rattle.df_rows.specs.Grammar.{Said, Put, Drop, Get, Count, Says}
+use Rattle.df_rows.specs.Laws.{OneMeaning}
+
+-- ---- the first word
+
+abbrev pub name_of : Said → List ℕ
+name_of (Put key value) = codes "put"
+name_of (Drop key) = codes "drop"
+name_of (Get key) = codes "get"
+name_of Count = codes "count"
+
+abbrev pub key_of : Said → ℕ
+key_of (Put key value) = key
+key_of (Drop key) = key
+key_of (Get key) = key
+key_of Count = 0
+
+abbrev pub value_of : Said → List ℕ
+value_of (Put key value) = value
+value_of said = []
+
+-- the line of this name with this key and this value
+abbrev pub line_named : List ℕ → ℕ → List ℕ → Said
+line_named name key value =
+    if bytes_eq name (codes "put") then Put key value
+    else if bytes_eq name (codes "drop") then Drop key
+    else if bytes_eq name (codes "get") then Get key
+    else Count
+
+as_named : (said : Said) → line_named (name_of said) (key_of said) (value_of said) ≡ said
+as_named (Put key value) = refl
+as_named (Drop key) = refl
+as_named (Get key) = refl
+as_named Count = refl
+
+pub is_named : (said : Said) (name : List ℕ) → name ≡ name_of said → said ≡ line_named name (key_of said) (value_of said)
+is_named said name is = sym (as_named said) ∙ ap (λ (n : List ℕ). line_named n (key_of said) (value_of said)) (sym is)
+
+-- the line is its name, or begins with it and a space
+pub record Begun (line : List ℕ) (said : Said) : Type 0 where
+  pub rest : List ℕ
+  pub is : (line ≡ name_of said) ⊎ (line ≡ name_of said ++ (32 ∷ rest))
+  pub name : HasNoSpace (name_of said)
+
+begun : (line : List ℕ) (said : Said) → Says line said → Begun line said
+begun line (Put key value) says = record { rest = _; is = inr says.is; name = refl }
+begun line (Drop key) says = record { rest = _; is = inr says.is; name = refl }
+begun line (Get key) says = record { rest = _; is = inr says.is; name = refl }
+begun line Count says = record { rest = []; is = inl says.is; name = refl }
+
+-- a line of one word is its name
+alone_as : (line : List ℕ) → HasNoSpace line → (said : Said) → Says line said → line ≡ name_of said
+alone_as line none said says =
+    let b = begun line said says in
+    elim b.is [ inl bare ↦ bare | inr worded ↦ absurd (no_cut line (name_of said) b.rest none worded b.name) ]
+
+-- a line that has a space isn't one without
+cut_has_space : (line name words : List ℕ) → Cuts line name words → HasNoSpace line → ⊥
+cut_has_space line name words cuts none =
+    let all : name ≡ line = cuts.front ∙ ap (λ (n : ℕ). take n line) none ∙ take_all (length line) line (omega arith) in
+    omega (arith, ap length cuts.whole, length-append name (32 ∷ words), ap length all)
+
+named_as : (line name words : List ℕ) → Cuts line name words → (said : Said) → Says line said → name ≡ name_of said
+named_as line name words cuts said says =
+    let b = begun line said says in
+    elim b.is [
+      | inl bare ↦ absurd (cut_has_space line name words cuts (subst HasNoSpace (sym bare) b.name))
+      | inr worded ↦ (one_cut line name words (name_of said) b.rest cuts worded b.name).0
+    ]
+
+same_name : (line : List ℕ) (a b : Said) → Says line a → Says line b → name_of a ≡ name_of b
+same_name line a b one other =
+    let x = begun line a one in
+    let y = begun line b other in
+    elim x.is [
+      | inl bare ↦ sym bare ∙ alone_as line (subst HasNoSpace (sym bare) x.name) b other
+      | inr worded ↦ elim y.is [
+        | inl bare ↦ absurd (no_cut line (name_of a) x.rest (subst HasNoSpace (sym bare) y.name) worded x.name)
+        | inr words ↦ (one_split (name_of a) x.rest (name_of b) y.rest x.name y.name (sym worded ∙ words)).0
+      ]
+    ]
+
+-- a line of this name is the one that the name stands for
+pub only : (line name words known : List ℕ) → Cuts line name words → name ≡ known → ((key : ℕ) (value : List ℕ) → Says (known ++ (32 ∷ words)) (line_named known key value) → ⊥) → (said : Said) → Says line said → ⊥
+only line name words known cuts is none said says =
+    let same = is_named said known (sym is ∙ named_as line name words cuts said says) in
+    let whole : line ≡ known ++ (32 ∷ words) = cuts.whole ∙ ap (λ (l : List ℕ). l ++ (32 ∷ words)) is in
+    none (key_of said) (value_of said) (subst (λ (s : Said). Says (known ++ (32 ∷ words)) s) same (subst (λ (l : List ℕ). Says l said) whole says))
+
+pub other_name : (line name words : List ℕ) → Cuts line name words → (name ≡ codes "put" → ⊥) → (name ≡ codes "drop" → ⊥) → (name ≡ codes "get" → ⊥) → (said : Said) → Says line said → ⊥
+other_name line name words cuts p d g (Put key value) says = p (named_as line name words cuts _ says)
+other_name line name words cuts p d g (Drop key) says = d (named_as line name words cuts _ says)
+other_name line name words cuts p d g (Get key) says = g (named_as line name words cuts _ says)
+other_name line name words cuts p d g Count says = cut_has_space line name words cuts (subst HasNoSpace (sym says.is) refl)
+
+-- the other lines have a space
+pub other_alone : (line : List ℕ) → HasNoSpace line → (line ≡ codes "count" → ⊥) → (said : Said) → Says line said → ⊥
+other_alone line none c Count says = c says.is
+other_alone line none c said says = no_cut line (name_of said) _ none says.is refl
+
+-- what stands behind a call that found nothing
+pub if_none : {A : Type 0} (found : Option A) (P Q : Type 0) → IfNone found P → (P → Q) → IfNone found Q
+if_none None P Q none more = more none
+if_none (Some x) P Q none more = tt
+
+-- ---- the key of a put
+
+pub key_first : (words : List ℕ) (key : ℕ) (value : List ℕ) → (says : Says (codes "put " ++ words) (Put key value)) → NumberFirst words (2 ^ 128) key says.word
+key_first words key value says = record { is = same_rest (codes "put ") words _ says.is; fits = says.fits.0; wide = says.fits.0 }
+
+-- ---- a line says one thing
+
+same_put : (k l : ℕ) (x y : List ℕ) → k ≡ l → x ≡ y → Put k x ≡ Put l y
+same_put k l x y keys values = cc
+
+one_of_name : (line : List ℕ) (one : Said) (key : ℕ) (value : List ℕ) → Says line one → Says line (line_named (name_of one) key value) → one ≡ line_named (name_of one) key value
+one_of_name line (Put k x) l y one other =
+    let parts = two_words (codes "put ") k l line one.word other.word x y one.is other.is one.fits.0 other.fits.0 one.fits.1 other.fits.1 in
+    same_put k l x y parts.0 parts.1
+one_of_name line (Drop k) l y one other = ap Drop (one_word (codes "drop ") k l line one.is other.is one.fits other.fits)
+one_of_name line (Get k) l y one other = ap Get (one_word (codes "get ") k l line one.is other.is one.fits other.fits)
+one_of_name line Count l y one other = refl
+
+pub one_said : OneMeaning
+one_said line one other says says' =
+    let named = is_named other (name_of one) (same_name line one other says says') in
+    one_of_name line one (key_of other) (value_of other) says (subst (Says line) named says') ∙ sym named

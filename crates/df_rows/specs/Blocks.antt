@@ -1,0 +1,26 @@
+-- The blocks of a table, and the table of blocks.
+use Rattle.std.specs.Prelude.{◌≡◌, ℕ, List, [], ◌∷◌, length, map, All}
+use Rattle.std.specs.Fork.{slice_chunk}
+use Rattle.std.specs.List.{range_with_len}
+use Rattle.df_rows.specs.Rows.{Entry, IsEntry, rows_of}
+use Rattle.df_rows.specs.Limits.{block_count}
+use Rattle.df_rows.specs.Tables.{Table, AreNew, with_rows}
+
+-- rows in chunks of so many; the last may have fewer
+abbrev pub chunks_of : (per : ℕ) → List Entry → List (List Entry)
+chunks_of per entries = map (λ k. slice_chunk entries per k) (range_with_len 0 (block_count per (length entries)))
+
+-- the bodies of the blocks of these rows
+abbrev pub bodies_of : (per : ℕ) → List Entry → List (List ℕ)
+bodies_of per entries = map rows_of (chunks_of per entries)
+
+-- the body is these rows, whole, and the table takes them
+pub record Takes (t : Table) (body : List ℕ) (entries : List Entry) : Type 0 where
+  pub body : body ≡ rows_of entries
+  pub fit : All IsEntry entries
+  pub new : AreNew entries t
+
+-- the table after the bodies of blocks, each of which it takes
+abbrev pub TakesAll : Table → List (List ℕ) → Table → Type 0
+TakesAll t [] new = new ≡ t
+TakesAll t (body ∷ bodies) new = (entries : List Entry) × Takes t body entries × TakesAll (with_rows entries t) bodies new

@@ -1,0 +1,39 @@
+-- What holds of rows, commands, lines and blocks.
+use Rattle.std.specs.Prelude.{◌≡◌, ℕ, ◌<◌, ◌≤◌, List, [], ◌++◌, All}
+use Rattle.std.specs.FinMap as map
+use Rattle.df_layout.specs.declared.layout.Layout.{Layout}
+use Rattle.df_rows.specs.declared.command.Command.{Command}
+use Rattle.df_rows.specs.Rows.{Entry, IsEntry, row_of}
+use Rattle.df_rows.specs.Commands.{IsCommand, Map, body_of, all_applied}
+use Rattle.df_rows.specs.Tables.{Table}
+use Rattle.df_rows.specs.Limits.{Fits, most_rows}
+use Rattle.df_rows.specs.Blocks.{TakesAll, bodies_of}
+use Rattle.df_rows.specs.Grammar.{Said, Says}
+
+-- 64 bytes are one row, and a body is one command
+abbrev pub OneRow : Type 0
+OneRow = (one other : Entry) → IsEntry one → IsEntry other → row_of one ≡ row_of other → one ≡ other
+
+abbrev pub OneCommand : Type 0
+OneCommand = (one other : Command) → IsCommand one → IsCommand other → body_of one ≡ body_of other → one ≡ other
+
+-- a line says one thing
+abbrev pub OneMeaning : Type 0
+OneMeaning = (line : List ℕ) (one other : Said) → Says line one → Says line other → one ≡ other
+
+-- commands, and then others
+abbrev pub InTurn : Type 0
+InTurn = (some more : List Command) (rows : Map) → all_applied (some ++ more) rows ≡ all_applied more (all_applied some rows)
+
+-- the blocks of a table, read into an empty one, are the table
+abbrev pub BlocksAreTable : Type 0
+BlocksAreTable = (per : ℕ) (t : Table) → 0 < per → All IsEntry (map.entries t.rows) → map.len t.rows ≤ t.max
+    → TakesAll (record { max = t.max; rows = map.empty }) (bodies_of per (map.entries t.rows)) t
+
+-- blocks are one table
+abbrev pub OneTable : Type 0
+OneTable = (t one other : Table) (bodies : List (List ℕ)) → TakesAll t bodies one → TakesAll t bodies other → one ≡ other
+
+-- a table of as many rows as a layout allows fits its blocks
+abbrev pub TablesFit : Type 0
+TablesFit = (layout : Layout) (rows : ℕ) → rows ≤ most_rows layout → Fits layout rows
