@@ -32,13 +32,13 @@ use Rattle.df_theory.proofs.Laws.{clear_law, now_units, steps_join_law, tidy_men
 use Rattle.df_units.specs.Format.{format_of}
 use Rattle.df_units.specs.Calls.{IsCall}
 use Rattle.df_units.proofs.Laws.{call_ends, call_good, call_whole, copy_put, headers_put, is_format}
-use Rattle.df_headers.specs.Ring.{IsTable, in_sector}
+use Rattle.df_headers.specs.Ring.{IsTable, in_sector, sector_writes}
 use Rattle.df_headers.proofs.Laws.{table_written}
 use Rattle.df_superblock.specs.Events.{repair_events}
 use Rattle.df_superblock.specs.Steps.{repaired}
 use Rattle.df_state.specs.declared.file.DataFile.{DataFile}
 use Rattle.df_recovery.specs.Plan.{header_or_none, headers_in, if_wanted}
-use Rattle.df_replica.specs.Mending.{IsMended, MayMendOn, header_events, mending_events, mending_steps, needs_sector, sector_puts, sector_writes, sectors_of, sectors_to}
+use Rattle.df_replica.specs.Mending.{IsMended, MayMendOn, header_events, mending_events, mending_steps, needs_sector, sector_puts, sectors_of, sectors_to}
 use Rattle.df_replica.specs.Serving.{Firm, Grade, IsGoodFor, StandingFor, Whole, format}
 use Rattle.df_state.specs.State.{shape}
 use Rattle.df_superblock.proofs.Laws.{repair_from}

@@ -22,7 +22,7 @@ use Rattle.df_theory.specs.Runs.{Step}
 use Rattle.df_theory.specs.TidyLaws.{IsTidy}
 use Rattle.df_units.specs.Bytes.{unit_at}
 use Rattle.df_units.specs.Puts.{put_headers}
-use Rattle.df_headers.specs.Ring.{IsTable, in_sector, sector_events}
+use Rattle.df_headers.specs.Ring.{IsTable, in_sector, sector_writes}
 use Rattle.df_journal.specs.Scan.{Scan}
 use Rattle.df_journal.specs.Shows.{Tells}
 use Rattle.df_journal.specs.Append.{ShowsRing}
@@ -59,11 +59,6 @@ abbrev pub sectors_of : Layout → List Mend → List ℕ
 sectors_of layout mends = sectors_to (layout.slots / 16) mends
 
 -- ---- device calls
-
--- the writes of sectors of the table
-abbrev pub sector_writes : Layout → List Header → List ℕ → List Event
-sector_writes layout table [] = []
-sector_writes layout table (sector ∷ sectors) = sector_events layout sector table ++ sector_writes layout table sectors
 
 -- the write of a sector, if the list has a slot of it
 abbrev pub wanted_writes : Layout → List Header → List Mend → ℕ → List Event
