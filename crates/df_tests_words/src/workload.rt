@@ -3,57 +3,45 @@
 use df_runs::{Status, made_file, printed, run_failing, run_words, small_file, words};
 use std::test::Fail;
 
-const FIRST: &str =
-    "appended 3\nreplied 3\nwrote 0\nreleased 0\ncheckpoints 0\nrefused 0\nbytes 2231\nhead 3\nreplies 3\nsequence 1\n";
+// A layout, a seed and a count, and what is printed.
+type Row = (&'static str, &'static str, &'static str, &'static str);
 
-const LONG: &str =
-    "appended 2000\nreplied 2000\nwrote 500\nreleased 492\ncheckpoints 125\nrefused 0\nbytes 2024968\nhead 2000\nreplies 2000\nsequence 126\n";
+const ROWS: [Row; 5] = [
+    (
+        "small",
+        "42",
+        "3",
+        "appended 3\nreplied 3\nwrote 0\nreleased 0\ncheckpoints 0\nrefused 0\nbytes 2231\nhead 3\nreplies 3\nsequence 1\n",
+    ),
+    (
+        "small",
+        "42",
+        "2000",
+        "appended 2000\nreplied 2000\nwrote 500\nreleased 492\ncheckpoints 125\nrefused 0\nbytes 2024968\nhead 2000\nreplies 2000\nsequence 126\n",
+    ),
+    ("small", "7", "64", SEVEN),
+    // A seed prints the same each time.
+    ("small", "7", "64", SEVEN),
+    // Two clients take turns over a file for two.
+    (
+        "32,8192,2,16384,64",
+        "18446744073709551615",
+        "40",
+        "appended 40\nreplied 40\nwrote 10\nreleased 2\ncheckpoints 2\nrefused 0\nbytes 40857\nhead 40\nreplies 40\nsequence 3\n",
+    ),
+];
 
 const SEVEN: &str =
     "appended 64\nreplied 64\nwrote 16\nreleased 8\ncheckpoints 4\nrefused 0\nbytes 62150\nhead 64\nreplies 64\nsequence 5\n";
 
-const TWO: &str =
-    "appended 40\nreplied 40\nwrote 10\nreleased 2\ncheckpoints 2\nrefused 0\nbytes 40857\nhead 40\nreplies 40\nsequence 3\n";
-
 #[test]
-fn three_rounds_of_seed_42_print_their_counts(rt: HostRuntime) -> Result<(), Fail> {
-    let mut disk = small_file(rt.alloc(), &[])?;
-    let ran = run_words(rt.alloc(), &mut disk, &["workload", "42", "3"])?;
-    assert_eq!(rt; ran.status, Status::Done);
-    assert!(rt; printed(&ran, FIRST));
-    Ok(())
-}
-
-#[test]
-fn two_thousand_rounds_of_seed_42_print_their_counts(rt: HostRuntime) -> Result<(), Fail> {
-    let mut disk = small_file(rt.alloc(), &[])?;
-    let ran = run_words(rt.alloc(), &mut disk, &["workload", "42", "2000"])?;
-    assert_eq!(rt; ran.status, Status::Done);
-    assert!(rt; printed(&ran, LONG));
-    Ok(())
-}
-
-#[test]
-fn a_seed_prints_the_same_each_time(rt: HostRuntime) -> Result<(), Fail> {
-    for _ in 0..2 {
-        let mut disk = small_file(rt.alloc(), &[])?;
-        let ran = run_words(rt.alloc(), &mut disk, &["workload", "7", "64"])?;
-        assert_eq!(rt; ran.status, Status::Done);
-        assert!(rt; printed(&ran, SEVEN));
+fn generated_runs_print_their_counts(rt: HostRuntime) -> Result<(), Fail> {
+    for (layout, seed, count, text) in ROWS {
+        let mut disk = made_file(rt.alloc(), layout, &[])?;
+        let ran = run_words(rt.alloc(), &mut disk, &["workload", seed, count])?;
+        assert_eq!(rt; ran.status, Status::Done, "{seed} {count}");
+        assert!(rt; printed(&ran, text), "{seed} {count}");
     }
-    Ok(())
-}
-
-#[test]
-fn two_clients_take_turns_over_a_file_for_two(rt: HostRuntime) -> Result<(), Fail> {
-    let mut disk = made_file(rt.alloc(), "32,8192,2,16384,64", &[])?;
-    let ran = run_words(
-        rt.alloc(),
-        &mut disk,
-        &["workload", "18446744073709551615", "40"],
-    )?;
-    assert_eq!(rt; ran.status, Status::Done);
-    assert!(rt; printed(&ran, TWO));
     Ok(())
 }
 

@@ -1,5 +1,5 @@
 -- Device calls that are steps lie within the zones of the file, and so do a part of such calls, and some of them behind others.
-use Rattle.std.proofs.Common.{◌≡◌, ◌+◌, ◌<◌, ◌≤◌, inl, inr, List, [], ◌∷◌, ◌++◌, Option, sym, ◌∙◌, ap, arith}
+use Rattle.std.proofs.Common.{◌≡◌, ◌≤◌, ◌<◌, ◌+◌, inl, inr, ℕ, List, [], ◌∷◌, ◌++◌, Option, sym, ◌∙◌, ap, subst, arith}
 use Rattle.std.proofs.lemmas.Bool.{and_parts, leb-true, ltb-true}
 use Rattle.df_base.specs.Log.{Event, Stop, Sync, Write}
 use Rattle.df_disk.proofs.Laws.{after_append}
@@ -8,7 +8,7 @@ use Rattle.df_disk.specs.Told.{Told, after}
 use Rattle.df_format.proofs.Laws.{has-true}
 use Rattle.df_layout.proofs.Laws.{lies_inside}
 use Rattle.df_layout.specs.declared.layout.Layout.{Layout}
-use Rattle.df_theory.specs.Runs.{Puts, Syncs}
+use Rattle.df_theory.specs.Runs.{Puts, Step, Syncs}
 use Rattle.df_units.specs.Bytes.{span_at}
 use Rattle.df_units.specs.Meaning.{place_of}
 use Rattle.df_units.specs.Within.{AddsWithin, AreWithin, PlacesLieInZones, StepsLieWithin}
@@ -28,10 +28,9 @@ pub places_in_zones : PlacesLieInZones
 places_in_zones layout place sector here =
     let parts = and_parts _ _ here in
     let run = and_parts _ _ parts.1 in
-    let span = span_at layout place in
     let inside = lies_inside layout (place_of place) (has-true layout (place_of place).zone (place_of place).index parts.0) in
-    let from : span.first ≤ sector = leb-true _ _ run.0 in
-    let upto : sector < span.first + span.count = ltb-true _ _ run.1 in
+    let from : (span_at layout place).first ≤ sector = leb-true _ _ run.0 in
+    let upto : sector < (span_at layout place).first + (span_at layout place).count = ltb-true _ _ run.1 in
     (omega (arith, inside.begins, from), omega (arith, inside.ends, upto))
 
 module _ (layout : Layout) where
