@@ -1,10 +1,10 @@
 -- What is shown of a trailer fails one test first: it has one chain and one text, and a test is made once those before it passed.
-use Rattle.std.proofs.Common.{◌≡◌, ℕ, ◌+◌, ◌-◌, ◌^◌, ◌<◌, ◌≤◌, Bool, false, Option, Some, None, List, [], ◌∷◌, length, refl, sym, ap, ◌∙◌, subst, arith, inl, inr}
+use Rattle.std.proofs.Common.{◌≡◌, ℕ, ◌+◌, ◌-◌, ◌^◌, ◌<◌, ◌≤◌, false, Some, None, List, [], ◌∷◌, length, refl, sym, ap, ◌∙◌, subst, arith, inl, inr}
 use Rattle.std.specs.Prelude.{Ok}
 use Rattle.std.proofs.lemmas.Bool.{cases_order}
 use Rattle.std.proofs.lemmas.Option.{same_Some}
 use Rattle.df_layout.specs.declared.fields.Field.{Field}
-use Rattle.df_theory.specs.Units.{Block, BlockPlace, Content, Parts}
+use Rattle.df_theory.specs.Units.{Block, Content, Parts}
 use Rattle.df_theory.specs.Sessions.{Has}
 use Rattle.df_theory.specs.Shape.{Shape}
 use Rattle.df_theory.specs.Trailer.{InChain, text_of}
@@ -22,6 +22,10 @@ use Rattle.df_checkpoint.specs.Laws.{OneTestFails}
 use Rattle.df_checkpoint.proofs.OneLink.{asked_is}
 use Rattle.df_checkpoint.proofs.Missed.{not_passed, one_block}
 use Rattle.df_checkpoint.proofs.Unreadable.{link_there, same_chain, unparsed}
+
+-- two faults that are told as one are one
+one_fault : (f g : Fault) → Some f ≡ Some g → (f.field ≡ g.field) × (f.value ≡ g.value)
+one_fault f g is = let same = same_Some f g is in (ap (λ (x : Fault). x.field) same, ap (λ (x : Fault). x.value) same)
 
 -- ---- a link
 
@@ -63,8 +67,7 @@ module _ (sh : Shape) (shown : Shown) (c : Content) where
   text_fails_once : (field other : Field) (value number : ℕ) → IsBadText sh shown c field value → IsBadText sh shown c other number → (field ≡ other) × (value ≡ number)
   text_fails_once field other value number one two =
       let chains = one_chain one.chain two.chain one.whole two.whole in
-      let same : record { field = field; value = value } ≡ record { field = other; value = number } = same_Some (record { field = field; value = value }) (record { field = other; value = number }) (sym one.fails ∙ ap (λ (l : List (ℕ × Block)). fault sh.layout c.op (text_of l)) chains ∙ two.fails) in
-      (ap (λ (f : Fault). f.field) same, ap (λ (f : Fault). f.value) same)
+      one_fault (record { field = field; value = value }) (record { field = other; value = number }) (sym one.fails ∙ ap (λ (l : List (ℕ × Block)). fault sh.layout c.op (text_of l)) chains ∙ two.fails)
 
   -- two texts that are parsed are one
   one_text : (xs ys : List (ℕ × Block)) (p q : Parts) → IsWhole sh shown c xs → IsWhole sh shown c ys → sh.parse c.op (text_of xs) ≡ Some p → sh.parse c.op (text_of ys) ≡ Some q → (xs ≡ ys) × (p ≡ q)

@@ -50,14 +50,14 @@ module _ (layout : Layout) (image : Image) where
       one_test (shape one.file) (shown_of layout one.file.cluster image) (content_in one.fields) field other value number refl usable.op one.fails
       (subst (λ (g : SuperFields). FailsTest (shape one.file) (shown_of layout one.file.cluster image) (content_in g) other number) (sym same.1) of_file)
 
-  one_answer : (a b : DataFile) (f g : SuperFields) (x y : Answer) → HasFile image a f → HasFile image b g → a.layout ≡ layout → b.layout ≡ layout → Opens (shape a) (unit_at layout a.cluster image) x → Opens (shape b) (unit_at layout b.cluster image) y → x ≡ y
-  one_answer a b f g x y one two first second opens other =
+  same_answer : (a b : DataFile) (f g : SuperFields) (x y : Answer) → HasFile image a f → HasFile image b g → a.layout ≡ layout → b.layout ≡ layout → Opens (shape a) (unit_at layout a.cluster image) x → Opens (shape b) (unit_at layout b.cluster image) y → x ≡ y
+  same_answer a b f g x y one two first second opens other =
       one_answer_law (shape a) (unit_at layout a.cluster image) x y opens (subst (λ (z : DataFile). Opens (shape z) (unit_at layout z.cluster image) y) (sym (one_file a b f g one two first second).0) other)
 
   one_place : (place other : Place) (class kind : Class) → IsDamaged layout image place class → IsDamaged layout image other kind → (place ≡ other) × (class ≡ kind)
   one_place place other class kind one two =
       let same = one_file one.file two.file one.fields two.fields one.has two.has one.of two.of in
-      let both : Refused (Damages one.at) ≡ Refused (Damages two.at) = one_answer one.file two.file one.fields two.fields (Refused (Damages one.at)) (Refused (Damages two.at)) one.has two.has one.of two.of one.opens two.opens in
+      let both : Refused (Damages one.at) ≡ Refused (Damages two.at) = same_answer one.file two.file one.fields two.fields (Refused (Damages one.at)) (Refused (Damages two.at)) one.has two.has one.of two.of one.opens two.opens in
       let at : one.at ≡ two.at = cc in (
         sym one.at_is ∙ ap place_of at ∙ two.at_is,
         one.class_is ∙ ap (λ (p : Units.Place). class_there layout one.file.cluster image p) at ∙ ap (λ (x : DataFile). class_there layout x.cluster image two.at) same.0 ∙ sym two.class_is,
@@ -71,7 +71,7 @@ module _ (layout : Layout) (image : Image) where
 
   not_both : (field : Field) (value : ℕ) (place : Place) (class : Class) → FailsTrailer layout image field value → IsDamaged layout image place class → ⊥
   not_both field value place class one two =
-      let both : Refused BadTest ≡ Refused (Damages two.at) = one_answer one.file two.file one.fields two.fields (Refused BadTest) (Refused (Damages two.at)) one.has two.has one.of two.of one.opens two.opens in
+      let both : Refused BadTest ≡ Refused (Damages two.at) = same_answer one.file two.file one.fields two.fields (Refused BadTest) (Refused (Damages two.at)) one.has two.has one.of two.of one.opens two.opens in
       cc
 
   -- ---- which refusal it is
