@@ -6,6 +6,7 @@ mod long;
 mod runs;
 mod scripts;
 mod served;
+mod summaries;
 
 pub use copies::{FRONT, copy};
 pub use df_top::{Status, words_have_one_meaning};
@@ -16,3 +17,4 @@ pub use runs::{
 };
 pub use scripts::{lines, ops_of_one};
 pub use served::serve_failing;
+pub use summaries::small_summary;
