@@ -4,6 +4,6 @@ pub mod Decisions
 pub mod Moments
 pub mod Ops
 pub mod Scans
-pub mod Settling
+pub mod RingWrites
 pub mod Walks
 pub mod Laws

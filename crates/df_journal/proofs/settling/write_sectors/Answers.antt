@@ -4,7 +4,7 @@ use Rattle.df_disk.specs.Adds.{AddsPart, after_all}
 use Rattle.df_layout.specs.declared.layout.Layout.{Layout}
 use Rattle.df_headers.specs.Ring.{sector_events, sector_writes}
 use Rattle.df_headers.proofs.Laws.{table_written}
-use Rattle.df_journal.proofs.Settling.{in_ring, in_table, leads_end, leads_first, may_write, turn_fails, turn_leads}
+use Rattle.df_journal.proofs.RingWrites.{in_ring, in_table, leads_end, leads_first, may_write, turn_fails, turn_leads}
 use Rattle.df_journal.proofs.settling.write_sectors.Goals as goal
 
 pub loop-i-enters : goal.loop-i-enters
