@@ -1,3 +1,4 @@
 mod Blame
+mod Shows
 mod Stays
 mod Steps

@@ -25,7 +25,7 @@ record AreServed (notes : List (List ℕ)) (m n : Moment) : Type 0 where
   are : notes_in acts ≡ notes
   served : IsServed m.replica n.replica m.told n.told acts answers events
 
-supply : ℕ → Given
+abbrev supply : ℕ → Given
 supply checksum = record { checksum = checksum; message = Err Blank; block = Err Blank; verdict = Sound }
 
 served : (m n : Moment) (notes : List (List ℕ)) → m.replica.live ≡ true → AreKept m notes n → AreServed notes m n

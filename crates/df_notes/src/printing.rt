@@ -1,7 +1,7 @@
 // What stands in the file: the notes that the ring keeps, read one by one and printed.
 ghost use Rattle.std.specs.Prelude.{◌≡◌, true, OnOk};
 ghost use Rattle.df_base.specs.Causes.{HasCause, IsBlamed};
-ghost use Rattle.df_inspect.specs.Prints.{Prints};
+ghost use Rattle.df_base.specs.Streams.{Appends};
 ghost use Rattle.df_script_model.specs.Texts.{line_of};
 ghost use Rattle.df_notes.specs.Ending.{is_disk, is_sink};
 ghost use Rattle.df_notes.specs.Showing.{IsShown, ShowsAll};
@@ -13,11 +13,12 @@ use df_replica::Replica;
 
 // Prints a note as a line.
 fn print_line<W: Sink>(sink: &mut W, note: &[u8]) -> Result<(), Failed>
-    ensures prints { Prints (line_of note.now) (W.written sink.old) (W.written sink.new) result }
+    ensures whole { OnOk result (Appends (W.written sink.old) (W.written sink.new) (line_of note.now)) }
     ensures cause { HasCause (W.faults sink.old) (W.faults sink.new) result }
 {
     sink.write(note)?;
-    sink.write(b"\n")
+    sink.write(b"\n")?;
+    Ok(())
 }
 
 // Reads a note, and prints it as a line.

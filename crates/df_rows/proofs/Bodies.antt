@@ -1,12 +1,11 @@
 -- The bodies of commands.
-use Rattle.std.proofs.Common.{◌≡◌, ℕ, ◌+◌, ◌-◌, ◌^◌, ◌<◌, ◌≤◌, List, [], ◌∷◌, ◌++◌, length, take, drop, refl, sym, ap, ◌∙◌, arith, length-append}
-use Rattle.std.proofs.lemmas.List.{append-nil, take_all, take-append-drop, take_rest}
+use Rattle.std.proofs.Common.{◌≡◌, ℕ, ◌+◌, ◌≤◌, List, [], ◌∷◌, ◌++◌, length, drop, refl, ap, ◌∙◌, arith, length-append}
+use Rattle.std.proofs.lemmas.List.{take_all, take-append-drop}
 use Rattle.df_base.specs.Fields.{AreBytes, field_at, spelled}
 use Rattle.df_base.proofs.Laws.{length-spelled, spelled-field_at}
-use Rattle.df_rows.specs.declared.command.Command.{Command}
 use Rattle.df_rows.specs.declared.command.Command.TheVariants.{Put, Drop}
 use Rattle.df_rows.specs.Rows.{Entry, IsEntry}
-use Rattle.df_rows.specs.Commands.{IsCommand, Map, all_applied, applied, body_of}
+use Rattle.df_rows.specs.Commands.{applied}
 use Rattle.df_rows.specs.Laws.{InTurn, OneCommand}
 use Rattle.df_rows.proofs.Entries.{key_split, one_key, same_entry}
 

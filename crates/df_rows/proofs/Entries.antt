@@ -1,11 +1,11 @@
 -- The bytes of a row: what stands where in them, and that they are one row.
-use Rattle.std.proofs.Common.{◌≡◌, ℕ, zero, suc, ◌+◌, ◌-◌, ◌*◌, ◌^◌, ◌<◌, ◌≤◌, ◌==◌, Bool, true, List, [], ◌∷◌, ◌++◌, length, get_or, take, drop, replicate, refl, sym, ap, subst, ◌∙◌, arith, length-append, append_assoc, length-drop}
+use Rattle.std.proofs.Common.{◌≡◌, ℕ, zero, suc, ◌-◌, ◌^◌, ◌<◌, ◌≤◌, ◌==◌, true, List, [], ◌∷◌, ◌++◌, length, get_or, take, drop, replicate, refl, sym, ap, ◌∙◌, arith, length-append, length-drop}
 use Rattle.std.specs.List.{list_all}
-use Rattle.std.proofs.lemmas.Bool.{and_parts, and_from, eqb-true, eq-eqb}
+use Rattle.std.proofs.lemmas.Bool.{and_parts, eqb-true}
 use Rattle.std.proofs.lemmas.List.{append-nil, take_at, drop_at, take-append-drop, take_rest, length-replicate, length-take-le, drop-drop, drop_more, get_or_at}
 use Rattle.df_base.specs.Fields.{AreBytes, field_at, spelled}
 use Rattle.df_base.proofs.Laws.{length-spelled, field_spelled, spelled-field_at}
-use Rattle.df_rows.specs.Rows.{Entry, IsEntry, row_of, rows_of}
+use Rattle.df_rows.specs.Rows.{Entry, IsEntry, row_of}
 
 -- ---- two texts of fronts that are as long
 

@@ -1,13 +1,13 @@
 -- The rows of a vector and the table that they are.
-use Rattle.std.proofs.Common.{◌≡◌, ℕ, ◌+◌, ◌<◌, ◌≤◌, ◌⊎◌, inl, inr, eqb, cond, Bool, true, false, List, [], ◌∷◌, length, get_or, set, Option, Some, None, is_some, refl, sym, ap, subst, ◌∙◌, arith}
+use Rattle.std.proofs.Common.{◌≡◌, ℕ, ◌<◌, ◌⊎◌, inl, inr, true, List, [], length, get_or, set, Option, Some, None, is_some, refl, sym, ap, subst, ◌∙◌, arith}
 use Rattle.std.specs.Prelude.{IsTrue}
 use Rattle.std.specs.List.{insert, remove}
 use Rattle.std.specs.FinMap as map
 use Rattle.std.proofs.lemmas.Bool.{false≢true}
-use Rattle.df_rows.specs.Rows.{Entry, IsEntry}
+use Rattle.df_rows.specs.Rows.{Entry}
 use Rattle.df_rows.specs.Commands.{Map}
-use Rattle.df_rows.specs.Sorted.{AreRows, IsAt, IsGap, KeysRise}
-use Rattle.df_rows.specs.Tables.{HasKey, HasRoom, IsNew, Table, with_row}
+use Rattle.df_rows.specs.Sorted.{AreRows, IsAt, IsGap}
+use Rattle.df_rows.specs.Tables.{HasRoom, Table, with_row}
 use Rattle.df_rows.proofs.Found.{found_at, look, missed_in_gap, none_in_gap}
 use Rattle.df_rows.proofs.Edited.{look_insert, look_remove, look_set, only_at}
 use Rattle.df_rows.proofs.Viewed.{entries_of, get_looks, inserted, len_of, map_of, none_removed, removed}
@@ -33,6 +33,13 @@ key_cases m k = by_option (map.get m k)
     by_option : (o : Option (List ℕ)) → (is_some o ≡ true) ⊎ (o ≡ None)
     by_option None = inr refl
     by_option (Some v) = inl refl
+
+-- a place in a list that is another one's, under the same key
+pub same_place : (ds es : List Entry) (j k i : ℕ) → ds ≡ es → j ≡ k → IsAt ds j i → IsAt es k i
+same_place ds es j k i list key at = subst (λ (l : List Entry). IsAt l k i) list (subst (λ (n : ℕ). IsAt ds n i) key at)
+
+pub same_gap : (ds es : List Entry) (j k i : ℕ) → ds ≡ es → j ≡ k → IsGap ds j i → IsGap es k i
+same_gap ds es j k i list key gap = subst (λ (l : List Entry). IsGap l k i) list (subst (λ (n : ℕ). IsGap ds n i) key gap)
 
 module _ (max room : ℕ) (es : List Entry) (t : Table) (is : table_of max es ≡ t) (are : AreRows max room es) where
   pub max_is : t.max ≡ max

@@ -1,25 +1,24 @@
 -- What a table takes: rows in turn, the rows of bodies, and that bodies are one table.
-use Rattle.std.proofs.Common.{◌≡◌, ◌≢◌, ℕ, zero, suc, ◌+◌, ◌*◌, ◌<◌, ◌≤◌, eqb, cond, Bool, true, false, ◌&&◌, List, [], ◌∷◌, ◌++◌, length, get_or, take, drop, ◌-◌, map, Option, Some, None, is_some, refl, sym, ap, subst, ◌∙◌, arith, length-append, append_assoc}
+use Rattle.std.proofs.Common.{◌≡◌, ◌≢◌, ℕ, zero, suc, ◌+◌, ◌*◌, ◌<◌, ◌≤◌, eqb, cond, Bool, true, false, ◌&&◌, List, [], ◌∷◌, ◌++◌, length, take, drop, ◌-◌, map, Option, Some, None, is_some, inl, inr, refl, sym, ap, subst, ◌∙◌, arith, length-append}
 use Rattle.std.proofs.Math.Dec.{T}
-use Rattle.std.specs.List.{All, flat_map}
+use Rattle.std.specs.List.{All}
 use Rattle.std.specs.Ordering.{is_lt, nat_cmp}
 use Rattle.std.specs.Cmp.{nat_cmp_total}
 use Rattle.std.specs.FinMap as finite
-use Rattle.std.specs.FinMap.{find, get-entries, get-empty, entries_sorted, is_sorted, len-insert, len-empty, len-entries}
+use Rattle.std.specs.FinMap.{get-entries, get-empty, entries_sorted, is_sorted, len-insert, len-empty, len-entries}
 use Rattle.std.specs.FinMap.Entries.{below_all}
 use Rattle.std.proofs.lemmas.Bool.{cases_eq, eq-eqb, eqb-false, eqb-true, false≢true, ltb-true, ne_eqb}
-use Rattle.std.proofs.lemmas.Bool.Decides.{nat_tests}
-use Rattle.std.proofs.lemmas.List.{append-nil, drop-drop, take-append-drop}
-use Rattle.std.proofs.lemmas.List.Elements.{All-append, All-cons, All-head, All-nil, All-tail, All-take, All-drop}
+use Rattle.std.proofs.lemmas.List.{drop-drop, take-append-drop}
+use Rattle.std.proofs.lemmas.List.Elements.{All-cons, All-head, All-nil, All-tail}
 use Rattle.df_rows.specs.Rows.{Entry, IsEntry, row_of, rows_of}
 use Rattle.df_rows.specs.Commands.{Map}
 use Rattle.df_rows.specs.Sorted.{KeysRise, key_at}
 use Rattle.df_rows.specs.Tables.{AreNew, IsNew, Table, with_row, with_rows}
-use Rattle.df_rows.specs.Blocks.{Takes, TakesAll, bodies_of, chunks_of}
+use Rattle.df_rows.specs.Blocks.{Takes, TakesAll, chunks_of}
 use Rattle.df_rows.specs.Laws.{BlocksAreTable, OneTable}
 use Rattle.df_rows.proofs.Entries.{length-row_of, row_split}
 use Rattle.df_rows.proofs.Found.{find_looks, look, look_none}
-use Rattle.df_rows.proofs.Viewed.{get_inserted, no_entries, same_maps}
+use Rattle.df_rows.proofs.Viewed.{get_inserted, same_maps}
 use Rattle.df_rows.proofs.Chunked.{joined, joined_chunks}
 
 -- ---- the bytes of rows
@@ -42,7 +41,7 @@ one_list (e ∷ es) (f ∷ fs) are other same =
 -- ---- bodies are one table
 
 pub one_body : (t : Table) (body : List ℕ) (es fs : List Entry) → Takes t body es → Takes t body fs → es ≡ fs
-one_body t body es fs one other = one_list es fs one.fit other.fit (sym one.body ∙ other.body)
+one_body t body es fs one other = one_list es fs one.fit other.fit (sym one.whole ∙ other.whole)
 
 pub one_table : OneTable
 one_table t one other [] first second = first ∙ sym second
@@ -77,7 +76,7 @@ chunks_taken : (chunks : List (List Entry)) (t new : Table) → All IsEntry (joi
 chunks_taken [] t new are fresh is = is
 chunks_taken (c ∷ chunks) t new are fresh is = (
   c,
-  record { body = refl; fit = all_front c (joined chunks) are; new = new_front c (joined chunks) t fresh },
+  record { whole = refl; fit = all_front c (joined chunks) are; new = new_front c (joined chunks) t fresh },
   chunks_taken chunks (with_rows c t) new (all_behind c (joined chunks) are) (new_behind c (joined chunks) t fresh) (is ∙ with_append c (joined chunks) t),
 )
 
@@ -199,34 +198,34 @@ blocks_are_table per t some fit few =
 -- what is left of a body is another row and the rest
 pub taken_more : (t : Table) (e : Entry) (bytes rest : List ℕ) (more : List Entry) → IsEntry e → bytes ≡ row_of e → IsNew t e.0 → Takes (with_row e t) rest more → Takes t (bytes ++ rest) (e ∷ more)
 taken_more t e bytes rest more is same fresh takes = record {
-  body = λ i. same i ++ takes.body i;
+  whole = λ i. same i ++ takes.whole i;
   fit = All-cons IsEntry e more is takes.fit;
   new = (fresh, takes.new);
 }
 
 -- no rows are left where none are
 pub taken_none : (t : Table) → Takes t [] []
-taken_none t = record { body = refl; fit = All-nil IsEntry; new = tt }
+taken_none t = record { whole = refl; fit = All-nil IsEntry; new = tt }
 
 -- where the first row can't be taken, or the rest can't, nothing can
 pub refused_first : (t : Table) (bytes rest : List ℕ) (es : List Entry) → length bytes ≡ 64 → ((e : Entry) → IsEntry e → bytes ≡ row_of e → IsNew t e.0 → ⊥) → Takes t (bytes ++ rest) es → ⊥
-refused_first t bytes rest [] size refused takes = omega (arith, ap length takes.body, length-append bytes rest)
+refused_first t bytes rest [] size refused takes = omega (arith, ap length takes.whole, length-append bytes rest)
 refused_first t bytes rest (e ∷ es) size refused takes =
     let is = All-head IsEntry e es takes.fit in
-    let parts = Rattle.df_rows.proofs.Entries.same_front bytes (row_of e) rest (rows_of es) (size ∙ sym (length-row_of e is)) takes.body in
+    let parts = Rattle.df_rows.proofs.Entries.same_front bytes (row_of e) rest (rows_of es) (size ∙ sym (length-row_of e is)) takes.whole in
     refused e is parts.0 takes.new.0
 
 pub refused_rest : (t : Table) (e : Entry) (bytes rest : List ℕ) (es : List Entry) → IsEntry e → bytes ≡ row_of e → ((more : List Entry) → Takes (with_row e t) rest more → ⊥) → Takes t (bytes ++ rest) es → ⊥
-refused_rest t e bytes rest [] is same refused takes = omega (arith, ap length takes.body, length-append bytes rest, ap length same, length-row_of e is)
+refused_rest t e bytes rest [] is same refused takes = omega (arith, ap length takes.whole, length-append bytes rest, ap length same, length-row_of e is)
 refused_rest t e bytes rest (f ∷ es) is same refused takes =
     let first = All-head IsEntry f es takes.fit in
-    let parts = row_split e f rest (rows_of es) is first (ap (λ (l : List ℕ). l ++ rest) (sym same) ∙ takes.body) in
+    let parts = row_split e f rest (rows_of es) is first (ap (λ (l : List ℕ). l ++ rest) (sym same) ∙ takes.whole) in
     let key : f ≡ e = sym parts.0 in
-    refused es (record { body = parts.1; fit = All-tail IsEntry f es takes.fit; new = subst (λ (x : Entry). AreNew es (with_row x t)) key takes.new.1 })
+    refused es (record { whole = parts.1; fit = All-tail IsEntry f es takes.fit; new = subst (λ (x : Entry). AreNew es (with_row x t)) key takes.new.1 })
 
 -- a body of whole rows has a multiple of 64 bytes
 pub whole_rows : (t : Table) (body : List ℕ) (es : List Entry) → Takes t body es → length body ≡ 64 * length es
-whole_rows t body es takes = ap length takes.body ∙ length-rows_of es takes.fit
+whole_rows t body es takes = ap length takes.whole ∙ length-rows_of es takes.fit
 
 -- what the rest of a body gives a table, the whole body gives the first one
 pub record Carries (first t : Table) (body rest : List ℕ) : Type 0 where

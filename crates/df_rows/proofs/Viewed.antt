@@ -1,9 +1,9 @@
 -- A list of rows as a map.
-use Rattle.std.proofs.Common.{◌≡◌, ℕ, zero, suc, ◌+◌, ◌<◌, ◌≤◌, eqb, cond, Bool, true, false, List, [], ◌∷◌, length, Option, Some, None, is_some, refl, sym, ap, ◌∙◌, arith}
-use Rattle.std.specs.Ordering.{eq_by_cmp, nat_cmp}
+use Rattle.std.proofs.Common.{◌≡◌, ℕ, suc, ◌<◌, eqb, cond, Bool, true, false, List, [], ◌∷◌, length, Option, Some, None, refl, sym, ap, ◌∙◌, arith}
+use Rattle.std.specs.Ordering.{nat_cmp}
 use Rattle.std.specs.Cmp.{nat_cmp_total}
 use Rattle.std.specs.FinMap as map
-use Rattle.std.specs.FinMap.{find, put, nat_cmp-IsAntisymmetric, same_map, get-from_entries, get-insert, get-remove, entries-insert, len-entries, len-empty}
+use Rattle.std.specs.FinMap.{put, nat_cmp-IsAntisymmetric, same_map, get-from_entries, get-insert, get-remove, entries-insert, len-entries, len-empty}
 use Rattle.std.proofs.lemmas.Bool.{lt-ltb}
 use Rattle.std.proofs.lemmas.List.{nil_from_length}
 use Rattle.df_rows.specs.Rows.{Entry}

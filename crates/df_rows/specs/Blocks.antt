@@ -16,7 +16,7 @@ bodies_of per entries = map rows_of (chunks_of per entries)
 
 -- the body is these rows, whole, and the table takes them
 pub record Takes (t : Table) (body : List ℕ) (entries : List Entry) : Type 0 where
-  pub body : body ≡ rows_of entries
+  pub whole : body ≡ rows_of entries
   pub fit : All IsEntry entries
   pub new : AreNew entries t
 

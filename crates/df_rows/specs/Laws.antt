@@ -1,5 +1,5 @@
 -- What holds of rows, commands, lines and blocks.
-use Rattle.std.specs.Prelude.{◌≡◌, ℕ, ◌<◌, ◌≤◌, List, [], ◌++◌, All}
+use Rattle.std.specs.Prelude.{◌≡◌, ℕ, ◌<◌, ◌≤◌, List, ◌++◌, All}
 use Rattle.std.specs.FinMap as map
 use Rattle.df_layout.specs.declared.layout.Layout.{Layout}
 use Rattle.df_rows.specs.declared.command.Command.{Command}

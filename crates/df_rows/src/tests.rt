@@ -228,6 +228,21 @@ fn the_blocks_of_a_table_are_the_table(rt: HostRuntime) -> Result<(), Fail> {
 }
 
 #[test]
+fn a_block_is_taken_once_and_whole(rt: HostRuntime) -> Result<(), Fail> {
+    let layout = least();
+    let table = filled(rt.alloc(), &layout, 3)?;
+    let mut body = [0u8; 3840];
+    let size = table.put_block(&layout, 0, &mut body);
+    assert_eq!(rt; size, 192);
+    assert!(rt; table.with_block(&body[..size]).is_none());
+    let short = ObjectTable::reserve(rt.alloc(), &layout)?;
+    assert!(rt; short.with_block(&body[..191]).is_none());
+    let empty = ObjectTable::reserve(rt.alloc(), &layout)?;
+    assert!(rt; empty.with_block(&[]).is_some_and(|t| t.len() == 0));
+    Ok(())
+}
+
+#[test]
 fn bytes_that_are_no_rows_are_refused(rt: HostRuntime) -> Result<(), Fail> {
     let row = Row::new(0x0102, b"\xaa").encode();
     let mut bytes = [0u8; 64];

@@ -6,7 +6,7 @@ use Rattle.df_replica.proofs.MadeUnits.{is_made}
 use Rattle.df_replica.proofs.reply.reply_in.Goals as goal
 
 pub write_reply-requires : goal.write_reply-requires
-write_reply-requires g c = (is_made c.args.room.now.layout c.args.header c.args.body.now _ c.unit-unit.result.now c.unit-unit.ensures c.make.ensures.made).layout_is ∙ c.requires.room
+write_reply-requires g c = record { layout = (is_made c.args.room.now.layout c.args.header c.args.body.now _ c.unit-unit.result.now c.unit-unit.ensures c.make.ensures.made).layout_is ∙ c.requires.room }
 
 pub returns-in-Ok-clause-made : goal.returns-in-Ok-clause-made
 returns-in-Ok-clause-made g c =
