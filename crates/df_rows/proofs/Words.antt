@@ -1,10 +1,9 @@
 -- What a line of a table's script says, from its words.
-use Rattle.std.proofs.Common.{◌≡◌, ◌⊎◌, inl, inr, ℕ, ◌<◌, ◌^◌, if◌then◌else◌, List, [], ◌∷◌, ◌++◌, length, take, refl, sym, ap, subst, ◌∙◌, arith, length-append}
-use Rattle.std.specs.Prelude.{codes, decimal, Option, None, Some, IfNone}
+use Rattle.std.proofs.Common.{◌≡◌, inl, inr, ℕ, ◌^◌, if◌then◌else◌, List, [], ◌∷◌, ◌++◌, refl, sym, ap, subst, ◌∙◌}
+use Rattle.std.specs.Prelude.{codes}
 use Rattle.std.specs.Str.{bytes_eq}
-use Rattle.std.proofs.lemmas.List.{take_all}
 use Rattle.df_lines.specs.Words.{HasNoSpace, Cuts}
-use Rattle.df_lines.proofs.Laws.{NumberFirst, no_cut, one_cut, one_split, one_word, same_rest, two_words}
+use Rattle.df_lines.proofs.Laws.{Begun, NumberFirst, bare_name, cut_has_space, cut_name, no_cut, one_name, one_word, same_rest, two_words}
 use Rattle.df_rows.specs.Grammar.{Said, Put, Drop, Get, Count, Says}
 use Rattle.df_rows.specs.Laws.{OneMeaning}
 
@@ -43,49 +42,21 @@ as_named Count = refl
 pub is_named : (said : Said) (name : List ℕ) → name ≡ name_of said → said ≡ line_named name (key_of said) (value_of said)
 is_named said name is = sym (as_named said) ∙ ap (λ (n : List ℕ). line_named n (key_of said) (value_of said)) (sym is)
 
--- the line is its name, or begins with it and a space
-pub record Begun (line : List ℕ) (said : Said) : Type 0 where
-  pub rest : List ℕ
-  pub is : (line ≡ name_of said) ⊎ (line ≡ name_of said ++ (32 ∷ rest))
-  pub name : HasNoSpace (name_of said)
-
-begun : (line : List ℕ) (said : Said) → Says line said → Begun line said
-begun line (Put key value) says = record { rest = _; is = inr says.is; name = refl }
-begun line (Drop key) says = record { rest = _; is = inr says.is; name = refl }
-begun line (Get key) says = record { rest = _; is = inr says.is; name = refl }
-begun line Count says = record { rest = []; is = inl says.is; name = refl }
+begun : (line : List ℕ) (said : Said) → Says line said → Begun line (name_of said)
+begun line (Put key value) says = record { rest = _; is = inr says.is; word = refl }
+begun line (Drop key) says = record { rest = _; is = inr says.is; word = refl }
+begun line (Get key) says = record { rest = _; is = inr says.is; word = refl }
+begun line Count says = record { rest = []; is = inl says.is; word = refl }
 
 -- a line of one word is its name
 alone_as : (line : List ℕ) → HasNoSpace line → (said : Said) → Says line said → line ≡ name_of said
-alone_as line none said says =
-    let b = begun line said says in
-    elim b.is [ inl bare ↦ bare | inr worded ↦ absurd (no_cut line (name_of said) b.rest none worded b.name) ]
-
--- a line that has a space isn't one without
-cut_has_space : (line name words : List ℕ) → Cuts line name words → HasNoSpace line → ⊥
-cut_has_space line name words cuts none =
-    let all : name ≡ line = cuts.front ∙ ap (λ (n : ℕ). take n line) none ∙ take_all (length line) line (omega arith) in
-    omega (arith, ap length cuts.whole, length-append name (32 ∷ words), ap length all)
+alone_as line none said says = bare_name line (name_of said) none (begun line said says)
 
 named_as : (line name words : List ℕ) → Cuts line name words → (said : Said) → Says line said → name ≡ name_of said
-named_as line name words cuts said says =
-    let b = begun line said says in
-    elim b.is [
-      | inl bare ↦ absurd (cut_has_space line name words cuts (subst HasNoSpace (sym bare) b.name))
-      | inr worded ↦ (one_cut line name words (name_of said) b.rest cuts worded b.name).0
-    ]
+named_as line name words cuts said says = cut_name line name words (name_of said) cuts (begun line said says)
 
 same_name : (line : List ℕ) (a b : Said) → Says line a → Says line b → name_of a ≡ name_of b
-same_name line a b one other =
-    let x = begun line a one in
-    let y = begun line b other in
-    elim x.is [
-      | inl bare ↦ sym bare ∙ alone_as line (subst HasNoSpace (sym bare) x.name) b other
-      | inr worded ↦ elim y.is [
-        | inl bare ↦ absurd (no_cut line (name_of a) x.rest (subst HasNoSpace (sym bare) y.name) worded x.name)
-        | inr words ↦ (one_split (name_of a) x.rest (name_of b) y.rest x.name y.name (sym worded ∙ words)).0
-      ]
-    ]
+same_name line a b one other = one_name line (name_of a) (name_of b) (begun line a one) (begun line b other)
 
 -- a line of this name is the one that the name stands for
 pub only : (line name words known : List ℕ) → Cuts line name words → name ≡ known → ((key : ℕ) (value : List ℕ) → Says (known ++ (32 ∷ words)) (line_named known key value) → ⊥) → (said : Said) → Says line said → ⊥
@@ -104,11 +75,6 @@ other_name line name words cuts p d g Count says = cut_has_space line name words
 pub other_alone : (line : List ℕ) → HasNoSpace line → (line ≡ codes "count" → ⊥) → (said : Said) → Says line said → ⊥
 other_alone line none c Count says = c says.is
 other_alone line none c said says = no_cut line (name_of said) _ none says.is refl
-
--- what stands behind a call that found nothing
-pub if_none : {A : Type 0} (found : Option A) (P Q : Type 0) → IfNone found P → (P → Q) → IfNone found Q
-if_none None P Q none more = more none
-if_none (Some x) P Q none more = tt
 
 -- ---- the key of a put
 
