@@ -9,8 +9,8 @@ use Rattle.df_grid.specs.Table.{picked}
 
 -- an entry at another address is passed over
 other_at : (a s n : ℕ) (passes : Bool) (l : List (ℕ × ℕ)) → (s == a) ≡ false → sum_at a (cond passes ((s, n) ∷ l) l) ≡ sum_at a l
-other_at a s n true l no = cond-false (s == a) (Some n) (sum_at a l) no
-other_at a s n false l no = refl
+other_at a s n true l other = cond-false (s == a) (Some n) (sum_at a l) other
+other_at a s n false l other = refl
 
 module _ (test : Entry → Bool) where
   -- nothing is picked below the first address

@@ -5,7 +5,7 @@ use std::process::Abort;
 // A line, what it is read as, and its body.
 type Row = (&'static [u8], Line, &'static [u8]);
 
-fn append(client: u128, request: u64, length: usize) -> Line {
+fn append(client: u128, request: u64, length: u64) -> Line {
     Line::Append {
         client,
         request,
@@ -53,7 +53,7 @@ fn lines_on_messages_are_read_with_their_bodies(rt: HostRuntime) {
     expect_lines(&rt, &rows);
 }
 
-fn block(kind: u8, length: usize) -> Line {
+fn block(kind: u8, length: u64) -> Line {
     Line::Block { kind, length }
 }
 

@@ -19,7 +19,7 @@ put_unit-requires-clause-own g c =
 
 pub returns-in_err-put_unit-clause-steps : goal.returns-in_err-put_unit-clause-steps
 returns-in_err-put_unit-clause-steps g c =
-    own_steps _ c.args.self.now c.grid_place.result c.header-header.result c.args.unit.now c.args.self.now.cluster c.self.view_is c.grid_place.ensures c.header-header.ensures.header c.requires.cluster c.put_unit.ensures.steps
+    own_steps _ c.args.self.now c.grid_place.result c.header-header.result.now c.args.unit.now c.args.self.now.cluster c.self.view_is c.grid_place.ensures c.header-header.ensures.header c.requires.cluster c.put_unit.ensures.steps
 
 pub returns-in_err-put_unit-clause-address : goal.returns-in_err-put_unit-clause-address
 returns-in_err-put_unit-clause-address g c = own_address c.args.self.now.layout Block c.args.unit.now c.header-header.ensures.sound c.requires.room
@@ -32,7 +32,7 @@ put_live-requires-clause-inside g c =
 
 pub returns-clause-steps : goal.returns-clause-steps
 returns-clause-steps g c =
-    own_steps _ c.args.self.now c.grid_place.result c.header-header.result c.args.unit.now c.args.self.now.cluster c.self.view_is c.grid_place.ensures c.header-header.ensures.header c.requires.cluster c.put_unit.ensures.steps
+    own_steps _ c.args.self.now c.grid_place.result c.header-header.result.now c.args.unit.now c.args.self.now.cluster c.self.view_is c.grid_place.ensures c.header-header.ensures.header c.requires.cluster c.put_unit.ensures.steps
 
 pub returns-clause-address : goal.returns-clause-address
 returns-clause-address g c = own_address c.args.self.now.layout Block c.args.unit.now c.header-header.ensures.sound c.requires.room
