@@ -23,10 +23,10 @@ use Rattle.df_units.proofs.Laws.{is_format}
 use Rattle.df_model.specs.Commands.{Answer}
 use Rattle.df_model.specs.Work.{Work, kept}
 use Rattle.df_model.specs.declared.errors.OpenError.TheVariants.{NotFormatted}
-use Rattle.df_replica.specs.Below.{State as Replica, shape, DataFile, IsNotRefused, told_after}
+use Rattle.df_replica.specs.Below.{IsOpened, State as Replica, shape, DataFile, IsNotRefused, told_after}
 use Rattle.df_replica.specs.Following.{MayOpen}
 use Rattle.df_replica.specs.HeldBlocks.{AreInputs}
-use Rattle.df_replica.specs.Opened.{MendsPartly, StopsOpening}
+use Rattle.df_replica.specs.Opened.{Mends, MendsPartly, StopsOpening}
 use Rattle.df_replica.specs.Serving.{Grade, IsGoodFor, StandsFor, Whole, format}
 use Rattle.df_replica.specs.Session.{Act, HasView, IsMidway, work_after}
 use Rattle.df_replica.proofs.Laws.{added_is_told, good_left, good_safe, safe_is_not_refused}
@@ -275,25 +275,21 @@ module _ (file : DataFile) (chapters : List Chapter) (t : Told) (is : IsInOrder 
   -- ---- a word
 
   module _ (layout : Layout) (own : layout ≡ file.layout) (old new : Outside) (status : Status) (n : Told) (to : new.told ≡ Some n) where
-    script_comes : (serves : ServesScript layout t old new status) → Comes file chapters (Some (script_calls serves.session)) t n
-    script_comes serves =
-        let c : CallsMade = script_calls serves.session in
-        let one : serves.replica.file ≡ file = one_file file layout t.shown view serves.replica own found_shown serves.is_opened in
-        let mending : List Event = serves.mending.events in
-        let keeps : KeepsFile file Whole start t c.acts c.answers c.failed (Some n) =
-        keeps_as serves.replica c.acts c.answers c.failed mending (events_made c) n (sym (told_over mending (events_made c) t serves.mended new.told serves.mending.told serves.adds) ∙ to) one serves.keeps in
+    -- calls behind an open and what it mended
+    calls_come : (replica : Replica) (c : CallsMade) (mending : Mends replica.file (Some (did Sync t)) c.old) → IsOpened layout t.shown replica → new.told ≡ after_all (events_made c) c.old
+        → KeepsOver replica.file t c.acts c.answers c.failed mending.events (events_made c) → AnsweredOver replica.file t mending.events c → Comes file chapters (Some c) t n
+    calls_come replica c mending opened adds keeps acknowledged =
+        let one : replica.file ≡ file = one_file file layout t.shown view replica own found_shown opened in
+        let whole : KeepsFile file Whole start t c.acts c.answers c.failed (Some n) =
+        keeps_as replica c.acts c.answers c.failed mending.events (events_made c) n (sym (told_over mending.events (events_made c) t c.old new.told mending.told adds) ∙ to) one keeps in
         let inputs : AreInputs (c.acts ++ list_of c.failed) = ends_inputs c.from c.to c.old c.new c.acts c.answers c.failed c.calls in
-        served_comes c n keeps inputs (answered_as serves.replica c mending (sym (told_over mending [] t serves.mended serves.mended serves.mending.told refl)) one serves.acknowledged) (sym serves.adds ∙ to)
+        served_comes c n whole inputs (answered_as replica c mending.events (sym (told_over mending.events [] t c.old c.old mending.told refl)) one acknowledged) (sym adds ∙ to)
+
+    script_comes : (serves : ServesScript layout t old new status) → Comes file chapters (Some (script_calls serves.session)) t n
+    script_comes serves = calls_come serves.replica (script_calls serves.session) serves.mending serves.is_opened serves.adds serves.keeps serves.acknowledged
 
     works_comes : (seed count : ℕ) (works : WorksThrough seed count layout t old new status) → Comes file chapters (Some (run_calls works.worked)) t n
-    works_comes seed count works =
-        let c : CallsMade = run_calls works.worked in
-        let one : works.replica.file ≡ file = one_file file layout t.shown view works.replica own found_shown works.is_opened in
-        let mending : List Event = works.mending.events in
-        let keeps : KeepsFile file Whole start t c.acts c.answers c.failed (Some n) =
-        keeps_as works.replica c.acts c.answers c.failed mending (events_made c) n (sym (told_over mending (events_made c) t works.mended new.told works.mending.told works.adds) ∙ to) one works.keeps in
-        let inputs : AreInputs (c.acts ++ list_of c.failed) = ends_inputs c.from c.to c.old c.new c.acts c.answers c.failed c.calls in
-        served_comes c n keeps inputs (answered_as works.replica c mending (sym (told_over mending [] t works.mended works.mended works.mending.told refl)) one works.acknowledged) (sym works.adds ∙ to)
+    works_comes seed count works = calls_come works.replica (run_calls works.worked) works.mending works.is_opened works.adds works.keeps works.acknowledged
 
     does_comes : (mode : Mode) (does : Does mode layout t old new status) → Comes file chapters (calls_of mode layout t old new status does) t n
     does_comes (Format shape cluster) does = absurd does

@@ -91,10 +91,8 @@ fn a_checkpoint_is_written_and_read(rt: HostRuntime) -> Result<(), Fail> {
         free: 1023,
         last: None,
     };
-    assert_eq!(rt;
-        read(rt.alloc(), &mut disk, layout, last, 169, 9),
-        Some(Ok(held))
-    );
+    let answer = read(rt.alloc(), &mut disk, layout, last, 169, 9);
+    assert_eq!(rt; answer, Some(Ok(held)));
     Ok(())
 }
 

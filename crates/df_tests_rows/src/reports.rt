@@ -61,25 +61,20 @@ fn recover_opens_a_stopped_file_and_prints_its_summary(rt: HostRuntime) -> Resul
     Ok(())
 }
 
-// What `inspect` prints of a file with findings.
+// What `inspect` prints of a file with findings: its summary, and this behind it.
 fn expect_found(
     rt: &impl Abort,
     alloc: Global,
     disk: &mut MemoryDisk,
-    text: &str,
+    numbers: [u64; 4],
+    behind: &str,
 ) -> Result<(), Fail> {
-    expect_words(rt, alloc, disk, &["inspect"], text, Status::Found)
+    let summary = small_summary(alloc, numbers)?;
+    let text = format!(in alloc; "{summary}{behind}")?;
+    expect_words(rt, alloc, disk, &["inspect"], &text, Status::Found)
 }
 
-const GARBLED: &str = "cluster 7
-layout 32 8192 4 16384 64
-sequence 1
-checkpoint 0
-head 17
-replies 16
-sessions 1
-references 0
-root -
+const GARBLED: &str = "root -
 session 0 client 1 request 17 op 17 pending
 mend WalHeaders 16 Garbled
 mend WalHeaders 17 Garbled
@@ -105,21 +100,13 @@ fn inspect_lists_what_is_to_be_mended_and_mends_nothing(rt: HostRuntime) -> Resu
     let mut disk = left_by(rt.alloc(), &STOPS[0])?;
     let events = disk.events();
     for again in 1..3u64 {
-        expect_found(&rt, rt.alloc(), &mut disk, GARBLED)?;
+        expect_found(&rt, rt.alloc(), &mut disk, STOPS[0].4, GARBLED)?;
         assert_eq!(rt; disk.events(), events + again);
     }
     Ok(())
 }
 
-const STALE: &str = "cluster 7
-layout 32 8192 4 16384 64
-sequence 2
-checkpoint 1
-head 1
-replies 0
-sessions 1
-references 0
-root 02
+const STALE: &str = "root 02
 session 0 client 1 request 1 op 1 pending
 mend Superblock 0 Stale
 findings 1
@@ -134,7 +121,7 @@ fn a_copy_of_another_checkpoint_is_stale(rt: HostRuntime) -> Result<(), Fail> {
     let text = "begun 1\nworking 1\ndone 2\n";
     expect_script(&rt, rt.alloc(), &mut disk, script, text, Status::Done)?;
     disk.strike(0, Strike::Earlier { events })?;
-    expect_found(&rt, rt.alloc(), &mut disk, STALE)
+    expect_found(&rt, rt.alloc(), &mut disk, [2, 1, 1, 0], STALE)
 }
 
 #[test]

@@ -99,6 +99,7 @@ fn tests_what_all_kinds_have(rt: HostRuntime) {
 
 // For a kind: the offsets at which only zero stands, and those at which another byte than zero does; further bytes with
 // which it is a header still, and others with which it is none.
+#[derive(Clone, Copy)]
 struct Rules {
     zero: &'static [usize],
     nonzero: &'static [usize],

@@ -62,14 +62,19 @@ fn begun(alloc: Global, room: &mut ProbeRoom) -> Result<MemoryDisk, Fail> {
     }
 }
 
+// The content that all four copies have.
+fn all_of(content: SuperFields) -> Chosen {
+    let members = [true; 4];
+    Chosen { content, members }
+}
+
 #[test]
 fn an_update_leads_from_four_equal_copies_to_four(rt: HostRuntime) -> Result<(), Fail> {
     let mut room = ProbeRoom::reserve(rt.alloc())?;
     let mut disk = begun(rt.alloc(), &mut room)?;
     for fields in [FIRST, SECOND] {
         assert_eq!(rt; update(&mut disk, &mut room, &usable(&fields)?), Ok(()));
-        let found = chosen(&mut disk, &mut room)?;
-        assert_eq!(rt; (found.content, found.members), (fields, [true; 4]));
+        assert_eq!(rt; chosen(&mut disk, &mut room)?, all_of(fields));
     }
     // Four writes and four syncs each, and reads add nothing.
     assert_eq!(rt; disk.events(), 24);
@@ -119,8 +124,7 @@ fn a_repair_writes_the_copies_that_are_no_members(rt: HostRuntime) -> Result<(),
         repair(&mut disk, &mut room, &hurt, &usable(&hurt.content)?),
         Ok(())
     );
-    let whole = chosen(&mut disk, &mut room)?;
-    assert_eq!(rt; (whole.content, whole.members), (FIRST, [true; 4]));
+    assert_eq!(rt; chosen(&mut disk, &mut room)?, all_of(FIRST));
     // Two writes and two syncs.
     assert_eq!(rt; disk.events(), 14);
     Ok(())

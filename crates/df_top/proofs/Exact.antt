@@ -5,6 +5,7 @@ use Rattle.df_base.specs.Causes.{Blamed, IsBlamed}
 use Rattle.df_disk.specs.Adds.{AddsPart, after_all}
 use Rattle.df_disk.specs.Told.{Told}
 use Rattle.df_format.specs.declared.reference.Reference.{Reference}
+use Rattle.df_inspect.specs.Answers.{command_of}
 use Rattle.df_layout.specs.declared.damage.Class.{Class}
 use Rattle.df_layout.specs.declared.damage.Class.TheVariants.{Blank}
 use Rattle.df_layout.specs.declared.places.Place.{Place}
@@ -15,6 +16,7 @@ use Rattle.df_model.specs.declared.answers.Receipt.{Receipt}
 use Rattle.df_model.specs.declared.answers.Verdict.TheVariants.{Sound}
 use Rattle.df_model.specs.declared.commands.Answer.{Answer}
 use Rattle.df_model.specs.declared.commands.Answer.TheVariants as answers
+use Rattle.df_model.specs.declared.commands.Command.{Command as Asked}
 use Rattle.df_model.specs.declared.errors.AppendError.{AppendError}
 use Rattle.df_model.specs.declared.errors.AppendError.TheVariants as append
 use Rattle.df_model.specs.declared.errors.BeginError.{BeginError}
@@ -113,6 +115,10 @@ pub record Called (command : Command) (s t : Replica) (old new : Option Told) (b
   pub exact : IsExact command s t old new answer
   pub makes : Makes command s t old new (machine_answer answer)
   pub cause : Blamed (is_fault answer) before now
+
+-- of a command that was asked in other words
+pub for_command : {x y : Asked} {s t : Replica} {old new : Option Told} {before now : ℕ} {answer : Answer} → x ≡ y → Called (command_of y) s t old new before now answer → Called (command_of x) s t old new before now answer
+for_command {x} {y} {s} {t} {old} {new} {before} {now} {answer} is called = subst (λ (c : Asked). Called (command_of c) s t old new before now answer) (sym is) called
 
 -- what a call is rightly supplied with
 abbrev supply : (checksum : ℕ) → Given

@@ -12,7 +12,7 @@ use Rattle.df_model.specs.Commands.{Answer}
 use Rattle.df_replica.specs.Below.{State as Replica}
 use Rattle.df_replica.specs.Session.{Act}
 use Rattle.df_top.specs.Lines.{Turned, all_acts, all_answers, all_text, command_in, commands_of, line_text, said_in}
-use Rattle.df_top.specs.Session.{AreCalls, Ended, EndsText, Executed, State}
+use Rattle.df_top.specs.Session.{AreCalls, Ended, EndsText, EndsWith, Executed, State}
 use Rattle.df_top.specs.Step.{EndsIn, GoesOn, IsLineAnswered, IsLineDamaged, IsLineFailed, Takes}
 use Rattle.df_top.specs.declared.status.Status.{Status}
 use Rattle.df_top.specs.declared.status.Status.TheVariants.{Done, Script, Refused, DiskFault, ReadFault, WriteFault}
@@ -169,33 +169,30 @@ module _ (bound : ℕ) (old new : State) (same_told : new.outside.told ≡ old.o
         let before = so_far.text text is in
         (old.budget, before.0, said_all origin turns text before.0 before.2, record { refused = λ yes. refused before.0 before.1; finished = λ done. absurd (unfinished done) })
 
-    pub ends_script : Appends old.outside.written new.outside.written (script_text (old.lines + 1)) → EndsIn bound old new Script
-    ends_script wrote origin turns so_far = record {
+    ends_cut : (status : Status) → (status ≡ Done → ⊥) → (origin : State) (turns : List Turned) → Executed bound origin old turns → EndsWith origin.lines origin.outside new.outside turns None true status → Ended bound origin new status
+    ends_cut status unfinished origin turns so_far written = record {
       turns = turns;
       failing = None;
       cut = true;
-      text = cut_text origin turns Script (λ no. cc) so_far;
+      text = cut_text origin turns status unfinished so_far;
       are = so_far.are;
-      written = (
-        refl,
-        appends_more origin.outside.written old.outside.written new.outside.written (all_text turns) _ so_far.written
-            (subst (λ (n : ℕ). Appends old.outside.written new.outside.written (script_text (n + 1))) so_far.lines wrote),
-      );
+      written = written;
       calls = stays origin turns so_far;
     }
 
+    pub ends_script : Appends old.outside.written new.outside.written (script_text (old.lines + 1)) → EndsIn bound old new Script
+    ends_script wrote origin turns so_far =
+        ends_cut Script (λ no. cc) origin turns so_far (
+          refl,
+          appends_more origin.outside.written old.outside.written new.outside.written (all_text turns) _ so_far.written
+              (subst (λ (n : ℕ). Appends old.outside.written new.outside.written (script_text (n + 1))) so_far.lines wrote),
+        )
+
     pub ends_script_fault : AppendsPart old.outside.written new.outside.written (script_text (old.lines + 1)) → EndsIn bound old new WriteFault
-    ends_script_fault wrote origin turns so_far = record {
-      turns = turns;
-      failing = None;
-      cut = true;
-      text = cut_text origin turns WriteFault (λ no. cc) so_far;
-      are = so_far.are;
-      written =
-          appends_part origin.outside.written old.outside.written new.outside.written (all_text turns) _ so_far.written
-          (subst (λ (n : ℕ). AppendsPart old.outside.written new.outside.written (script_text (n + 1))) so_far.lines wrote);
-      calls = stays origin turns so_far;
-    }
+    ends_script_fault wrote origin turns so_far =
+        ends_cut WriteFault (λ no. cc) origin turns so_far
+        (appends_part origin.outside.written old.outside.written new.outside.written (all_text turns) _ so_far.written
+        (subst (λ (n : ℕ). AppendsPart old.outside.written new.outside.written (script_text (n + 1))) so_far.lines wrote))
 
 -- the session ends within a call, or with its answer
 module _ (bound : ℕ) (old new : State) (said : Said) (takes : Takes bound old said new.text new.budget) where
@@ -205,17 +202,23 @@ module _ (bound : ℕ) (old new : State) (said : Said) (takes : Takes bound old 
       let more = text_on bound origin old turns said new.text new.budget so_far takes text is in
       (new.budget, more.0, more.2, record { refused = λ no. absurd (cc); finished = λ done. absurd (unfinished done) })
 
-  -- the disk failed
-  pub ends_disk : IsLineFailed said old.replica new.replica old.outside.told new.outside.told (λ a. new.outside.written ≡ old.outside.written) → EndsIn bound old new DiskFault
-  ends_disk failed origin turns so_far = record {
+  -- its call wasn't answered
+  ends_failing : {P : Act → Type 0} (status : Status) → (status ≡ Done → ⊥) → (failed : IsLineFailed said old.replica new.replica old.outside.told new.outside.told P) (origin : State) (turns : List Turned) → Executed bound origin old turns
+      → EndsWith origin.lines origin.outside new.outside turns (Some failed.0) false status → Ended bound origin new status
+  ends_failing status unfinished failed origin turns so_far written = record {
     turns = turns;
     failing = Some (record { said = said; act = failed.0; asks = failed.1 });
     cut = false;
-    text = last_text origin turns DiskFault (λ no. cc) so_far;
+    text = last_text origin turns status unfinished so_far;
     are = so_far.are;
-    written = (refl, subst (λ (o : Option (List ℕ)). Appends origin.outside.written o (all_text turns)) (sym failed.3) so_far.written);
+    written = written;
     calls = (old.replica, old.outside.told, so_far.calls, failed.2);
   }
+
+  -- the disk failed
+  pub ends_disk : IsLineFailed said old.replica new.replica old.outside.told new.outside.told (λ a. new.outside.written ≡ old.outside.written) → EndsIn bound old new DiskFault
+  ends_disk failed origin turns so_far =
+      ends_failing DiskFault (λ no. cc) failed origin turns so_far (refl, subst (λ (o : Option (List ℕ)). Appends origin.outside.written o (all_text turns)) (sym failed.3) so_far.written)
 
   -- the sink failed
   pub ends_answer : IsLineAnswered said old.replica new.replica old.outside.told new.outside.told (λ line. AppendsPart old.outside.written new.outside.written line) → EndsIn bound old new WriteFault
@@ -223,23 +226,9 @@ module _ (bound : ℕ) (old new : State) (said : Said) (takes : Takes bound old 
 
   -- the step is damaged, and the line that says so is written, or a front of it
   pub ends_damaged : IsLineDamaged said old.replica new.replica old.outside.told new.outside.told (λ line. Appends old.outside.written new.outside.written line) → EndsIn bound old new Refused
-  ends_damaged failed origin turns so_far = record {
-    turns = turns;
-    failing = Some (record { said = said; act = failed.0; asks = failed.1 });
-    cut = false;
-    text = last_text origin turns Refused (λ no. cc) so_far;
-    are = so_far.are;
-    written = (refl, failed.3.0, failed.3.1, appends_more origin.outside.written old.outside.written new.outside.written (all_text turns) failed.3.0 so_far.written failed.3.2);
-    calls = (old.replica, old.outside.told, so_far.calls, failed.2);
-  }
+  ends_damaged failed origin turns so_far =
+      ends_failing Refused (λ no. cc) failed origin turns so_far (refl, failed.3.0, failed.3.1, appends_more origin.outside.written old.outside.written new.outside.written (all_text turns) failed.3.0 so_far.written failed.3.2)
 
   pub ends_damaged_fault : IsLineDamaged said old.replica new.replica old.outside.told new.outside.told (λ line. AppendsPart old.outside.written new.outside.written line) → EndsIn bound old new WriteFault
-  ends_damaged_fault failed origin turns so_far = record {
-    turns = turns;
-    failing = Some (record { said = said; act = failed.0; asks = failed.1 });
-    cut = false;
-    text = last_text origin turns WriteFault (λ no. cc) so_far;
-    are = so_far.are;
-    written = (refl, failed.3.0, failed.3.1, appends_part origin.outside.written old.outside.written new.outside.written (all_text turns) failed.3.0 so_far.written failed.3.2);
-    calls = (old.replica, old.outside.told, so_far.calls, failed.2);
-  }
+  ends_damaged_fault failed origin turns so_far =
+      ends_failing WriteFault (λ no. cc) failed origin turns so_far (refl, failed.3.0, failed.3.1, appends_part origin.outside.written old.outside.written new.outside.written (all_text turns) failed.3.0 so_far.written failed.3.2)

@@ -1,5 +1,5 @@
 -- A read of a prepare or of a reply, and what is printed of it.
-use Rattle.std.proofs.Common.{◌≡◌, ℕ, List, [], Option, Some, None, refl, sym, ◌∙◌, ap, subst, Result, Ok, Err}
+use Rattle.std.proofs.Common.{◌≡◌, ℕ, Bool, List, [], Option, Some, None, refl, sym, ◌∙◌, ap, subst, Result, Ok, Err}
 use Rattle.std.specs.Prelude.{codes}
 use Rattle.df_base.specs.Causes.{Blamed, IsBlamed}
 use Rattle.df_disk.specs.Told.{Told}
@@ -113,16 +113,19 @@ module _ (s t : Replica) (old new : Option Told) (same : new ≡ old) where
 
 -- ---- a read that lends nothing, where the result says what it leaves
 
+pub ends_as : {A E : Type 0} (command : Command) (is_fault : E → Bool) (s t : Replica) (r : Result A E) (e : E) (old new : Option Told) (written took : Option (List ℕ)) (turn : Turn) → t ≡ left_by is_fault s r → r ≡ Err e
+    → Answers command s (left_by {T = A} is_fault s (Err e)) old new written took turn → Answers command s t old new written took turn
+ends_as {A} {E} command is_fault s t r e old new written took turn leaves is answers =
+    subst (λ (u : Replica). Answers command s u old new written took turn) (sym (leaves ∙ ap (λ (x : Result A E). left_by is_fault s x) is)) answers
+
 pub prepare_ends : {A : Type 0} (s t : Replica) (r : Result A PrepareError) (e : PrepareError) (old new : Option Told) (same : new ≡ old) (written took : Option (List ℕ)) (before now : ℕ) (turn : Turn) (op : ℕ) → t ≡ left_by is_prepare_fault s r → r ≡ Err e
     → ServesRead (ReadPrepare op) s (left_by {T = A} is_prepare_fault s (Err e)) old (prepare_found (Err e)) (answer_of is_prepare_fault ToReadPrepare (Err e)) → IsBlamed {T = Message} is_prepare_fault before now (Err e) → Tells (ReadPrepare op) (answers.ReadPrepare (Err e)) written took turn
     → Answers (ReadPrepare op) s t old new written took turn
 prepare_ends {A} s t r e old new same written took before now turn op leaves is serves blamed tells =
-    subst (λ (u : Replica). Answers (ReadPrepare op) s u old new written took turn) (sym (leaves ∙ ap (λ (x : Result A PrepareError). left_by is_prepare_fault s x) is))
-    (prepare_refused s (left_by {T = A} is_prepare_fault s (Err e)) old new same written took before now turn op e serves blamed tells).0
+    ends_as (ReadPrepare op) is_prepare_fault s t r e old new written took turn leaves is (prepare_refused s (left_by {T = A} is_prepare_fault s (Err e)) old new same written took before now turn op e serves blamed tells).0
 
 pub reply_ends : {A : Type 0} (s t : Replica) (r : Result A LookupError) (e : LookupError) (old new : Option Told) (same : new ≡ old) (written took : Option (List ℕ)) (before now : ℕ) (turn : Turn) (client : ℕ) → t ≡ left_by is_lookup_fault s r → r ≡ Err e
     → ServesRead (ReadReply client) s (left_by {T = A} is_lookup_fault s (Err e)) old (reply_found (Err e)) (answer_of is_lookup_fault ToReadReply (Err e)) → IsBlamed {T = Message} is_lookup_fault before now (Err e) → Tells (ReadReply client) (answers.ReadReply (Err e)) written took turn
     → Answers (ReadReply client) s t old new written took turn
 reply_ends {A} s t r e old new same written took before now turn client leaves is serves blamed tells =
-    subst (λ (u : Replica). Answers (ReadReply client) s u old new written took turn) (sym (leaves ∙ ap (λ (x : Result A LookupError). left_by is_lookup_fault s x) is))
-    (reply_refused s (left_by {T = A} is_lookup_fault s (Err e)) old new same written took before now turn client e serves blamed tells).0
+    ends_as (ReadReply client) is_lookup_fault s t r e old new written took turn leaves is (reply_refused s (left_by {T = A} is_lookup_fault s (Err e)) old new same written took before now turn client e serves blamed tells).0
