@@ -33,7 +33,7 @@ ends_before : (sh : Shape) (shown : Shown) (c : Content) (n index : ℕ) (xs ys 
 ends_before sh shown c n index [] [] address sum a k e d block arrives other count links is broken =
     let there = asked_is shown a k block is in
     is_shown shown.units block a k e d (other.0 ∙ sym arrives.0) (other.1 ∙ sym arrives.1) there.shows there.sum there.kind
-ends_before sh shown c n index [] (y ∷ ys) address sum a k e d block arrives other count links is broken = absurd (not_passed sh shown c n index y ys address sum a k e d block arrives.0 other count links is broken)
+ends_before sh shown c n index [] (y ∷ ys) address sum a k e d block arrives other count links is broken = absurd (not_passed sh shown c n index y ys address sum a k e d block arrives.0 other (omega (arith, count)) links is broken)
 ends_before sh shown c n index (x ∷ xs) [] address sum a k e d block arrives other count links is broken = is_shown shown.units x.1 address sum e d other.0 other.1 arrives.3 arrives.2 arrives.4
 ends_before sh shown c n index (x ∷ xs) (y ∷ ys) address sum a k e d block arrives other count links is broken =
     let same : y.1 ≡ x.1 = one_block shown.units address address y.1 x.1 refl other.3 arrives.3 in

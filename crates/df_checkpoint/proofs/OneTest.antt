@@ -33,8 +33,8 @@ one_fault f g is = let same = same_Some f g is in (ap (λ (x : Fault). x.field) 
 one_break : (sh : Shape) (shown : Shown) (c : Content) (n i j : ℕ) (vs ws : List (ℕ × Block)) (address sum a k e d : ℕ) (x y : Block) → Arrives shown.units vs address sum a k → Arrives shown.units ws address sum e d → n ≡ length vs + (i + 1) → n ≡ length ws + (j + 1)
     → AreLinks sh c n vs → AreLinks sh c n ws → asked shown a k ≡ Ok x → asked shown e d ≡ Ok y → (IsLink sh c i x → ⊥) → (IsLink sh c j y → ⊥) → a ≡ e
 one_break sh shown c n i j [] [] address sum a k e d x y one two first second left right is there broken unlinked = one.0 ∙ sym two.0
-one_break sh shown c n i j [] (w ∷ ws) address sum a k e d x y one two first second left right is there broken unlinked = absurd (not_passed sh shown c n i w ws address sum a k e d x one.0 two first right is broken)
-one_break sh shown c n i j (v ∷ vs) [] address sum a k e d x y one two first second left right is there broken unlinked = absurd (not_passed sh shown c n j v vs address sum e d a k y two.0 one second left there unlinked)
+one_break sh shown c n i j [] (w ∷ ws) address sum a k e d x y one two first second left right is there broken unlinked = absurd (not_passed sh shown c n i w ws address sum a k e d x one.0 two (omega (arith, first)) right is broken)
+one_break sh shown c n i j (v ∷ vs) [] address sum a k e d x y one two first second left right is there broken unlinked = absurd (not_passed sh shown c n j v vs address sum e d a k y two.0 one (omega (arith, second)) left there unlinked)
 one_break sh shown c n i j (v ∷ vs) (w ∷ ws) address sum a k e d x y one two first second left right is there broken unlinked =
     let same : w.1 ≡ v.1 = one_block shown.units address address w.1 v.1 refl two.3 one.3 in
     let count : right.0 ≡ left.0 = omega (arith, left.1, right.1) in
