@@ -17,7 +17,7 @@ use Rattle.df_theory.specs.Runs.{Syncs}
 use Rattle.df_theory.proofs.Laws.{steps_join_law}
 use Rattle.df_units.specs.Format.{format_of}
 use Rattle.df_headers.specs.Ring.{AreOfRing, IsTable, sector_events, sector_writes, write_steps}
-use Rattle.df_headers.proofs.Laws.{table_written, writes_are_steps}
+use Rattle.df_headers.proofs.Laws.{writes_are_steps}
 use Rattle.df_prepares.specs.Slots.{put_events}
 use Rattle.df_journal.specs.Append.{journal_events, settle_events, settle_steps, with_header}
 

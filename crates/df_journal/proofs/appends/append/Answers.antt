@@ -1,6 +1,5 @@
 -- The events are steps, and their moments and their end are those of the theory's append.
-use Rattle.std.proofs.Common.{◌≡◌, ◌/◌, ◌∷◌, [], ℕ, List, ap, refl, subst, sym}
-use Rattle.std.specs.Prelude.{Err}
+use Rattle.std.proofs.Common.{◌/◌, ◌∷◌, [], ap, subst, sym}
 use Rattle.df_layout.specs.declared.layout.Layout.{Layout}
 use Rattle.df_disk.proofs.Laws.{adds_part}
 use Rattle.df_format.specs.declared.header.Header.{Header}
