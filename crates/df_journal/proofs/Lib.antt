@@ -1,9 +1,9 @@
 pub mod Asks
-pub mod Calls
 pub mod Counted
 pub mod Decisions
 pub mod Moments
 pub mod Ops
+pub mod RingWrites
 pub mod Scans
 pub mod Walks
 pub mod Laws
