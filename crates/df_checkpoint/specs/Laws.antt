@@ -10,6 +10,7 @@ use Rattle.df_model.specs.Supply.{Shown}
 use Rattle.df_trailer.specs.Text.{parse_of}
 use Rattle.df_checkpoint.specs.Chain.{IsBroken, IsLacking}
 use Rattle.df_checkpoint.specs.Reads.{IsBadText, IsReferenced, IsWhole}
+use Rattle.df_checkpoint.specs.Tests.{FailsTest}
 use Rattle.df_checkpoint.specs.Waiting.{IsUntracked}
 
 -- a block that is wanted and not shown
@@ -35,6 +36,10 @@ BrokenIsUnreadable = (sh : Shape) (shown : Shown) (c : Content) (at : ℕ) → I
 
 abbrev pub UntrackedIsUnreadable : Type 0
 UntrackedIsUnreadable = (sh : Shape) (shown : Shown) (c : Content) (n : ℕ) → 0 < c.trailer → IsUntracked sh shown c n → (b : Checkpoint) → b.content ≡ c → IsReadable sh shown.units b → ⊥
+
+-- what is shown of a trailer fails one test first, which tells one value
+abbrev pub OneTestFails : Type 0
+OneTestFails = (sh : Shape) (shown : Shown) (c : Content) (field other : Field) (value number : ℕ) → sh.parse ≡ parse_of sh.layout → c.op ≤ 2 ^ 62 → FailsTest sh shown c field value → FailsTest sh shown c other number → (field ≡ other) × (value ≡ number)
 
 -- each block that is wanted is shown
 abbrev pub AllShown : Shape → Shown → Content → Type 0

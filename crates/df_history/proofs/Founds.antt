@@ -9,7 +9,7 @@ use Rattle.df_theory.specs.View.{View, boot_of, head, sessions}
 use Rattle.df_theory.specs.Holds.{IsNamed, Sound}
 use Rattle.df_theory.specs.HistoryLaws.{AreDistinct, ShowsSettled}
 use Rattle.df_theory.specs.Found.{IsFound}
-use Rattle.df_theory.proofs.Laws.{chain_at, chain_ops, take_boot, rank_low, view_is_found, last_of, no_mark, same_named, HasGap, group_from, group_holds, same_group, chain_last}
+use Rattle.df_theory.proofs.Laws.{take_boot, rank_low, view_is_found, no_gap, last_of, no_mark, same_named, group_holds}
 use Rattle.df_theory.specs.Chance.{InImages}
 use Rattle.df_history.specs.Lives.{Awake, Lived, Lives, Turn, first_of}
 use Rattle.df_history.specs.Laws.{FoundLivedLaw, OneContentLaw, OnePrepareLaw, OneReplyLaw}
@@ -39,28 +39,6 @@ module _ (sh : Shape) (images : List Units) (v : View) (t : Turn) (lives : Lives
   settled_at : (p : Message) → In p w.tail → InImages images (PreparePlace (p.header.op % sh.layout.slots)) (PrepareUnit p)
   settled_at p at = of (PreparePlace (p.header.op % sh.layout.slots)) (PrepareUnit p) (f.tail.takes p at).shown
 
-  -- whole groups are found: of the group of a prepare above the pin none lacks
-  no_gap : (p : Message) → In p w.tail → p.header.group ≤ p.header.op → w.checkpoint.content.pin < p.header.op → HasGap images p → ⊥
-  no_gap p at holds_op above gap =
-      let ops = chain_ops sh.layout.clients (w.checkpoint.content.op + 1) w.checkpoint.content.op_checksum 0 w.checkpoint.parts.sessions w.tail p f.tail.chain at in
-      let last = f.tail.groups p at in
-      let begins : w.checkpoint.content.op < p.header.group = elim (cases_lt w.checkpoint.content.op p.header.group) [
-        | inl yes_above ↦ yes_above
-        | inr not ↦ absurd (omega (arith, ops.0, (group_from sh.layout.clients 0 w.checkpoint.content.op (w.checkpoint.content.op + 1) w.checkpoint.content.op_checksum 0 w.checkpoint.parts.sessions w.tail p f.tail.chain f.tail.grouped at (omega arith)).2))
-      ] in
-      let q = chain_at sh.layout.clients (w.checkpoint.content.op + 1) w.checkpoint.content.op_checksum 0 w.checkpoint.parts.sessions w.tail gap.missing f.tail.chain (omega (arith, gap.from)) (omega (arith, gap.to)) in
-      let group = same_group sh.layout.clients 0 w.checkpoint.content.op (w.checkpoint.content.op + 1) w.checkpoint.content.op_checksum 0 w.checkpoint.parts.sessions w.tail p q.0 f.tail.chain f.tail.grouped at q.1 (omega (arith, q.2, gap.from)) (omega (arith, q.2, gap.to)) in
-      let q_above : w.checkpoint.content.pin < q.0.header.op = elim (cases_lt w.checkpoint.content.pin q.0.header.op) [
-        | inl yes_above ↦ yes_above
-        | inr not ↦ absurd (let q_last = f.tail.pin_ends q.0 q.1 (omega arith) in let p_last = last_op p at in omega (arith, q_last, group.1, p_last, above))
-      ] in
-      let own_p = take_boot sh.layout.slots shown w.checkpoint.content p (f.tail.takes p at) above in
-      let own_q = take_boot sh.layout.slots shown w.checkpoint.content q.0 (f.tail.takes q.0 q.1) q_above in
-      gap.lacks (q.0.header.op % sh.layout.slots) q.0 (settled_at q.0 q.1) q.2 (own_q ∙ sym own_p) group.0
-    where
-      last_op : (p : Message) → In p w.tail → p.header.op ≤ p.header.group_last
-      last_op p at = chain_last sh.layout.clients (w.checkpoint.content.op + 1) w.checkpoint.content.op_checksum 0 w.checkpoint.parts.sessions w.tail p f.tail.chain at
-
   -- a prepare of this boot that is found was appended by an awake log
   appended_here : (q : Message) → In q w.tail → w.checkpoint.content.pin < q.header.op → Appended sh images v t lives q × (q.header.boot ≡ boot_of w)
   appended_here q at above =
@@ -69,7 +47,7 @@ module _ (sh : Shape) (images : List Units) (v : View) (t : Turn) (lives : Lives
       elim (born_prepare sh images v t lives (q.header.op % sh.layout.slots) q (settled_at q at) holds_op) [
         | inl older ↦ absurd (omega (arith, first_boot))
         | inr (inl b) ↦ (b, boot)
-        | inr (inr gap) ↦ absurd (no_gap q at holds_op above gap)
+        | inr (inr gap) ↦ absurd (no_gap sh images shown of w f q at holds_op above gap)
       ]
 
   stored_here : (k : ℕ) (r : Message) → shown (ReplyPlace k) ≡ Some (ReplyUnit r) → r.header.boot ≡ boot_of w → Stored sh images v t lives k r

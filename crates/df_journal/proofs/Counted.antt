@@ -15,7 +15,7 @@ use Rattle.df_theory.specs.Found.{NotBehind, NotLost}
 use Rattle.df_units.specs.Meaning.{header_of}
 use Rattle.df_buffers.specs.declared.slots.SlotSeen.{SlotSeen}
 use Rattle.df_journal.specs.Shows.{ShowsHeader, ShowsPrepare, ShowsTable}
-use Rattle.df_journal.specs.Counts.{CountsAll, CountsRings, RepliesWithin, RingsWithin, checkpoint_in, op_in, with_unit}
+use Rattle.df_journal.specs.Counts.{CountsAll, CountsRings, RingsWithin, checkpoint_in, op_in, with_unit}
 
 -- ---- the rings
 

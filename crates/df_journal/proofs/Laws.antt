@@ -5,4 +5,4 @@ pub use Rattle.df_journal.proofs.Moments.{append_moments, append_steps, ends_app
 pub use Rattle.df_journal.proofs.Ops.{one_op, op_of_slot}
 pub use Rattle.df_journal.proofs.Moments.{in_header_ring}
 -- ---- a sync behind what was told
-pub use Rattle.df_journal.proofs.Settling.{sync_adds}
+pub use Rattle.df_journal.proofs.RingWrites.{sync_adds}

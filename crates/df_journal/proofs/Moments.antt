@@ -203,13 +203,9 @@ module _ (layout : Layout) (u : Message) (table : List Header) (t : Told) (may :
 
 -- the sector of a prepare's header is one of the ring
 pub sector_of_ring : (layout room : Layout) (u : Message) (h : Header) → room ≡ layout → h ≡ u.header → IsInOwnSlot layout u → AreOfRing room (h.slot / 16 ∷ [])
-sector_of_ring layout room u h here same own i sector at =
-    let inside : h.slot / 16 < room.slots / 16 = omega (arith, sector_inside layout u own, ap (λ (x : Header). x.slot) same, ap (λ (l : Layout). l.slots) here) in
-    by i at
-  where
-    by : (i : ℕ) → slice_get (h.slot / 16 ∷ []) i ≡ Some sector → sector < room.slots / 16
-    by zero at = subst (λ (n : ℕ). n < room.slots / 16) (same_Some _ _ at) inside
-    by (suc i) at = absurd (cc)
+sector_of_ring layout room u h here same own zero sector at =
+    subst (λ (n : ℕ). n < room.slots / 16) (same_Some _ _ at) (omega (arith, sector_inside layout u own, ap (λ (x : Header). x.slot) same, ap (λ (l : Layout). l.slots) here))
+sector_of_ring layout room u h here same own (suc i) sector at = absurd (cc)
 
 module _ (layout : Layout) (held : Holding) (table : List Header) (own : IsInOwnSlot layout held.unit) (is : IsTable layout held.unit.header.cluster table) (brings : Brings layout held.unit.header.cluster (slot_place held.unit.header.slot) held.unit (take (sectors_end held.unit.header.size) held.bytes)) (old new : Option Told) where
   pub moments_of : AddsPart (journal_events layout held table) old new → (before after : Told) → old ≡ Some before → new ≡ Some after → (may : MayAppendOn layout held.unit table before) → EachMoment before.log after.log (Leaves layout held.unit table before may)

@@ -1,1 +1,3 @@
+mod Blame
 mod Stays
+mod Steps

@@ -35,7 +35,7 @@ impl Ended {
 }
 
 /// By an error of the replica: the disk is to blame, or the call is refused.
-pub(crate) fn ended<E: BlamesDisk>(error: &E) -> Ended
+pub(crate) fn why_ended<E: BlamesDisk>(error: &E) -> Ended
     ensures { result ≡ ended_by (E.is_fault error.now) }
 {
     if error.is_fault() {

@@ -5,7 +5,7 @@ ghost use Rattle.df_inspect.specs.Prints.{Prints};
 ghost use Rattle.df_notes.specs.Ending.{is_disk, is_sink};
 ghost use Rattle.df_notes.specs.Keeping.{AppendsNote, KeepsNote, KeepsNotes, StoresReply, op_line};
 
-use crate::ended::{Ended, ended};
+use crate::ended::{Ended, why_ended};
 use df_base::{Failed, Sink};
 use df_disk::Disk;
 use df_inspect::print_answer;
@@ -33,7 +33,7 @@ fn append_note<D: Disk>(disk: &mut D, replica: &mut Replica, note: &[u8]) -> Res
     let request = next_request(replica);
     match replica.append(disk, CLIENT, request, note) {
         Ok(receipt) => Ok(receipt),
-        Err(error) => Err(ended(&error)),
+        Err(error) => Err(why_ended(&error)),
     }
 }
 
@@ -46,7 +46,7 @@ pub(crate) fn reply_to<D: Disk>(disk: &mut D, replica: &mut Replica, op: u64) ->
 {
     match replica.reply(disk, op, &[]) {
         Ok(_) => Ok(()),
-        Err(error) => Err(ended(&error)),
+        Err(error) => Err(why_ended(&error)),
     }
 }
 

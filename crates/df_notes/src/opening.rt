@@ -4,7 +4,7 @@ ghost use Rattle.df_base.specs.Causes.{IsBlamed};
 ghost use Rattle.df_notes.specs.Ending.{is_disk};
 ghost use Rattle.df_notes.specs.Opening.{IsOpen};
 
-use crate::ended::{Ended, ended};
+use crate::ended::{Ended, why_ended};
 use crate::keeping::reply_to;
 use df_disk::Disk;
 use df_layout::Layout;
@@ -22,11 +22,11 @@ fn make_notes<D: Disk>(disk: &mut D, rooms: Rooms) -> Result<Replica, Ended>
 {
     let mut rooms = rooms;
     if let Err(error) = format(disk, &mut rooms, CLUSTER) {
-        return Err(ended(&error));
+        return Err(why_ended(&error));
     }
     match Replica::open(disk, rooms) {
         Ok(replica) => Ok(replica),
-        Err((_, error)) => Err(ended(&error)),
+        Err((_, error)) => Err(why_ended(&error)),
     }
 }
 
@@ -42,7 +42,7 @@ pub fn open_notes<D: Disk>(alloc: Global, disk: &mut D) -> Result<Replica, Ended
     match Replica::open(disk, rooms) {
         Ok(replica) => Ok(replica),
         Err((rooms, OpenError::NotFormatted)) => make_notes(disk, rooms),
-        Err((_, error)) => Err(ended(&error)),
+        Err((_, error)) => Err(why_ended(&error)),
     }
 }
 

@@ -6,7 +6,7 @@ ghost use Rattle.df_script_model.specs.Texts.{line_of};
 ghost use Rattle.df_notes.specs.Ending.{is_disk, is_sink};
 ghost use Rattle.df_notes.specs.Showing.{IsShown, ShowsAll};
 
-use crate::ended::{Ended, ended};
+use crate::ended::{Ended, why_ended};
 use df_base::{Failed, Sink};
 use df_disk::Disk;
 use df_replica::Replica;
@@ -39,7 +39,7 @@ fn print_note<D: Disk, W: Sink>(
             Ok(()) => Ok(()),
             Err(_) => Err(Ended::WriteFault),
         },
-        Err(error) => Err(ended(&error)),
+        Err(error) => Err(why_ended(&error)),
     }
 }
 

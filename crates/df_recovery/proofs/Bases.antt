@@ -147,6 +147,7 @@ text_untracked file shown f base n text named lacking = record {
     shows = text.shown;
   };
   parts = text.parts;
+  spare = text.trailer.spare;
   says = its_text (shape file) f.op text.chain text.parts (some_chain (file.layout.block_size - 256) (content_in f) text.chain named text.trailer.links) text.trailer.says;
   above = lacking.above;
   reached = lacking.reached;

@@ -15,6 +15,7 @@ pub mod Tracked
 pub mod Bases
 pub mod Refusals
 pub mod Starts
+pub mod OneSurvey
 pub mod Waits
 pub mod Scans
 pub mod Laws

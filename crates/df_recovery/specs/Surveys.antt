@@ -22,7 +22,7 @@ use Rattle.df_units.specs.Meaning.{place_of}
 use Rattle.df_units.specs.Wanted.{class_at}
 use Rattle.df_grid.specs.Reads.{shown_of}
 use Rattle.df_checkpoint.specs.Chain.{content_in}
-use Rattle.df_recovery.specs.Checkpoints.{FailsTest}
+use Rattle.df_checkpoint.specs.Tests.{FailsTest}
 use Rattle.df_state.specs.declared.file.DataFile.{DataFile}
 use Rattle.df_recovery.specs.Opening.{HasFault, HasNoQuorum, HasSuper, IsLayoutOf, IsUnformatted, Refuses}
 use Rattle.df_state.specs.State.{Represents, State, shape}

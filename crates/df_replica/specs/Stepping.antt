@@ -4,13 +4,17 @@ use Rattle.df_base.specs.Fields.{spelled}
 use Rattle.df_base.specs.Log.{Event, Sync}
 use Rattle.df_disk.specs.Told.{Told}
 use Rattle.df_disk.specs.Adds.{AddsPart, after_all}
+use Rattle.df_layout.specs.declared.damage.Class.{Class}
+use Rattle.df_layout.specs.declared.places.Place.{Place}
 use Rattle.df_format.specs.declared.superblock.SuperFields.{SuperFields}
 use Rattle.df_format.specs.Copies.{content_with}
 use Rattle.df_format.specs.First.{blank_super}
 use Rattle.df_format.specs.Message.{Message}
 use Rattle.df_theory.specs.Units
 use Rattle.df_units.specs.Meaning.{number_of}
+use Rattle.df_superblock.specs.Calls.{ReadsBack}
 use Rattle.df_superblock.specs.Events.{update_events}
+use Rattle.df_superblock.specs.declared.updates.UpdateError.TheVariants as update
 use Rattle.df_trailer.specs.Writing.{piece_of}
 use Rattle.df_grid.specs.Table.{next_written}
 use Rattle.df_grid.specs.Writes.{first_address, first_sum, made_events, next_block, next_unit}
@@ -99,12 +103,16 @@ abbrev pub Tells : Option Told → Type 0
 Tells None = ⊥
 Tells (Some t) = Unit {0}
 
+-- two of the four copies or more weren't read back as they were written: the place is that of the first of them, with the class of what was seen there
+abbrev pub IsReadWrong : Option Told → SuperFields → Place → Class → Type 0
+IsReadWrong told f place class = ReadsBack {T = Unit {0}} told f (Err (update.Damaged place class))
+
 -- what a step answers, with the state after it and what the disk then tells: exact for each answer; after a fault, or where copies of the new superblock were not read back, the replica isn't live, and nothing else in memory moved
 abbrev pub IsStep : (s t : State) → (old new : Option Told) → Result Progress StepError → Type 0
 IsStep s t old new (Ok (Working left)) = OfRunning s.running (λ r. (s.blocks.left ≢ []) × (left ≡ length s.blocks.left) × (t ≡ advanced s r) × (new ≡ after_all (block_events s r) old))
 IsStep s t old new (Ok (Done sequence)) = OfRunning s.running (λ r. (s.blocks.left ≡ []) × (sequence ≡ r.sequence) × (t ≡ finished s r) × (new ≡ after_all (last_events s r) old))
 IsStep s t old new (Err step.NotRunning) = (s.running ≡ None) × (t ≡ s) × (new ≡ old)
-IsStep s t old new (Err (step.Damaged place kind)) = OfRunning s.running (λ r. (s.blocks.left ≡ []) × (t ≡ stopped s) × (new ≡ after_all (last_events s r) old) × (Tells new → ⊥))
+IsStep s t old new (Err (step.Damaged place class)) = OfRunning s.running (λ r. (s.blocks.left ≡ []) × (t ≡ stopped s) × (new ≡ after_all (last_events s r) old) × (Tells new → ⊥) × IsReadWrong new (next_fields s r) place class)
 IsStep s t old new (Err step.DiskFault) = OfRunning s.running (λ r. (t ≡ stopped s) × AddsPart (step_events s r) old new)
 
 -- ---- its parts
@@ -128,5 +136,5 @@ pub record MayFinish (s : State) : Type 0 where
 abbrev pub IsMade : {T : Type 0} → SuperFields → (old new : Option Told) → Result T StepError → Type 0
 IsMade f old new (Ok x) = new ≡ after_all (Sync ∷ update_events f) old
 IsMade f old new (Err step.NotRunning) = ⊥
-IsMade f old new (Err (step.Damaged place kind)) = (new ≡ after_all (Sync ∷ update_events f) old) × (Tells new → ⊥)
+IsMade f old new (Err (step.Damaged place class)) = (new ≡ after_all (Sync ∷ update_events f) old) × (Tells new → ⊥) × IsReadWrong new f place class
 IsMade f old new (Err step.DiskFault) = AddsPart (Sync ∷ update_events f) old new

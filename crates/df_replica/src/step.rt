@@ -225,7 +225,8 @@ impl Replica {
     /// Does the next step of the running checkpoint. While blocks of its trailer are to come, it writes the next one, without a
     /// sync, and answers how many steps are left. The last step syncs once, writes the superblock's four copies, each durable
     /// before the next, and answers the new sequence: the checkpoint is durable then. Without a running checkpoint nothing is
-    /// done. After a fault, and where fewer than three copies were read back as they were written, no call may follow.
+    /// done. Where fewer than three copies were read back as they were written it is refused with the first that wasn't, and the class
+    /// of what was seen there. After that, and after a fault, no call may follow.
     pub fn checkpoint_step<D: Disk>(&mut self, disk: &mut D) -> Result<Progress, StepError>
         requires live { self.old.live ≡ true }
         ensures exact { IsStep self.old self.new (D.told disk.old) (D.told disk.new) result }

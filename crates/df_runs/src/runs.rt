@@ -99,6 +99,16 @@ pub fn run_script<D: Disk>(alloc: Global, disk: &mut D, script: &[u8]) -> Result
     run_failing(alloc, disk, &words, script, &[], &[])
 }
 
+/// The disk behind a script that ends as done.
+pub fn disk_behind(alloc: Global, disk: MemoryDisk, script: &[u8]) -> Result<MemoryDisk, Fail> {
+    let mut disk = disk;
+    let ran = run_script(alloc, &mut disk, script)?;
+    if ran.status != Status::Done {
+        return Err("the script isn't served".into());
+    }
+    Ok(disk)
+}
+
 /// Runs words that read no script.
 pub fn run_words<D: Disk>(alloc: Global, disk: &mut D, texts: &[&str]) -> Result<Ran, Fail> {
     let words = words(alloc, texts)?;

@@ -62,15 +62,17 @@ fn sectors_show_what_was_written_last_and_zeros_before(rt: HostRuntime) {
     assert!(rt; disk.events() == 3);
 }
 
+// The disk behind two calls with a sync between them.
+fn filled(rt: &impl Abort, alloc: Global, firm: Call, loose: Call) -> MemoryDisk {
+    let mut disk = blank(alloc);
+    let rows = [(firm, Ok(())), (Call::Sync, Ok(())), (loose, Ok(()))];
+    assert_answers(rt, &mut disk, &rows);
+    disk
+}
+
 #[test]
 fn a_stop_tears_loose_sectors_alone(rt: HostRuntime) -> Result<(), Fail> {
-    let mut disk = blank(rt.alloc());
-    let rows = [
-        (Call::Fill(5, 5), Ok(())),
-        (Call::Sync, Ok(())),
-        (Call::Fill(6, 6), Ok(())),
-    ];
-    assert_answers(&rt, &mut disk, &rows);
+    let disk = filled(&rt, rt.alloc(), Call::Fill(5, 5), Call::Fill(6, 6));
     let disk = refused(&rt, rt.alloc(), disk, 5)?;
     assert!(rt; disk.events() == 3);
     let mut disk = stopped(rt.alloc(), disk, 6, &[0xa5, 0x5a])?;
@@ -101,13 +103,7 @@ fn listed_calls_fail_and_a_listed_write_is_in_the_log(rt: HostRuntime) -> Result
 
 #[test]
 fn a_strike_shows_its_bytes_in_one_sector_and_adds_no_event(rt: HostRuntime) {
-    let mut disk = blank(rt.alloc());
-    let rows = [
-        (Call::Fill(3, 1), Ok(())),
-        (Call::Sync, Ok(())),
-        (Call::Fill(3, 2), Ok(())),
-    ];
-    assert_answers(&rt, &mut disk, &rows);
+    let mut disk = filled(&rt, rt.alloc(), Call::Fill(3, 1), Call::Fill(3, 2));
     let table: [(u16, Strike, u8); 8] = [
         (3, Strike::Fill { byte: 0xa5 }, 0xa5),
         (3, Strike::Earlier { events: 0 }, 0),

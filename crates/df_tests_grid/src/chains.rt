@@ -80,6 +80,7 @@ fn write_captured(
 
 #[test]
 fn a_checkpoint_is_written_and_read(rt: HostRuntime) -> Result<(), Fail> {
+    let layout = layout_of(1024);
     let mut disk = MemoryDisk::new(rt.alloc(), Vec::new(rt.alloc()));
     let mut room = [0; 3840];
     let Some(last) = write_captured(rt.alloc(), &mut disk, &mut room)? else {
@@ -91,7 +92,7 @@ fn a_checkpoint_is_written_and_read(rt: HostRuntime) -> Result<(), Fail> {
         last: None,
     };
     assert_eq!(rt;
-        read(rt.alloc(), &mut disk, layout_of(1024), last, 169, 9),
+        read(rt.alloc(), &mut disk, layout, last, 169, 9),
         Some(Ok(held))
     );
     Ok(())
@@ -99,12 +100,13 @@ fn a_checkpoint_is_written_and_read(rt: HostRuntime) -> Result<(), Fail> {
 
 #[test]
 fn a_chain_of_two_blocks_is_read(rt: HostRuntime) -> Result<(), Fail> {
+    let layout = layout_of(1024);
     let mut disk = MemoryDisk::new(rt.alloc(), Vec::new(rt.alloc()));
     let mut front = [0; 3840];
-    let _whole = piece(&layout_of(1024), &[], &[], &Highest, 0, &mut front);
+    let _whole = piece(&layout, &[], &[], &Highest, 0, &mut front);
     let mut back = [0; 3840];
-    let _rest = piece(&layout_of(1024), &[], &[], &Highest, 1, &mut back);
-    let Some(last) = write_two(rt.alloc(), &mut disk, layout_of(1024), &front, &back[..8])? else {
+    let _rest = piece(&layout, &[], &[], &Highest, 1, &mut back);
+    let Some(last) = write_two(rt.alloc(), &mut disk, layout, &front, &back[..8])? else {
         panic!(rt; "the last block is written");
     };
     let held = Held {
@@ -113,11 +115,11 @@ fn a_chain_of_two_blocks_is_read(rt: HostRuntime) -> Result<(), Fail> {
         last: Some([0; 16]),
     };
     assert_eq!(rt;
-        read(rt.alloc(), &mut disk, layout_of(1024), last, 3848, 0),
+        read(rt.alloc(), &mut disk, layout, last, 3848, 0),
         Some(Ok(held))
     );
     assert_eq!(rt;
-        read(rt.alloc(), &mut disk, layout_of(1024), last, 3847, 0),
+        read(rt.alloc(), &mut disk, layout, last, 3847, 0),
         broken(2)
     );
     disk.strike(22, Strike::Fill { byte: 0xa5 })?;
@@ -126,7 +128,7 @@ fn a_chain_of_two_blocks_is_read(rt: HostRuntime) -> Result<(), Fail> {
         class: Class::Garbled,
     };
     assert_eq!(rt;
-        read(rt.alloc(), &mut disk, layout_of(1024), last, 3848, 0),
+        read(rt.alloc(), &mut disk, layout, last, 3848, 0),
         Some(Err(damaged))
     );
     Ok(())

@@ -131,31 +131,30 @@ fn a_file_that_is_made_and_a_bad_line_have_their_numbers(rt: HostRuntime) -> Res
     Ok(())
 }
 
-fn print_messages(sink: &mut MemorySink) -> Result<(), Failed> {
-    print_reply(sink, &header(Kind::Reply, 1, 5, 1, 1, 1), b"\xaa")?;
-    let prepares = [
-        (header(Kind::Prepare, 2, 5, 2, 1, 1), b"\x01\x02".as_slice()),
-        (
-            header(Kind::Prepare, u64::MAX, u128::MAX, u64::MAX, 0, u64::MAX),
-            b"",
-        ),
-    ];
-    for (header, body) in &prepares {
-        print_prepare(sink, header, body)?;
-    }
-    Ok(())
-}
-
-const MESSAGES: &str = "reply 1 client 5 request 1 mark 1 checkpoint 1 body aa\n\
-    prepare 2 client 5 request 2 mark 1 checkpoint 1 body 0102\n\
-    prepare 18446744073709551615 client 340282366920938463463374607431768211455 \
-    request 18446744073709551615 mark 0 checkpoint 18446744073709551615 body -\n";
-
 #[test]
 fn messages_are_shown_with_their_bodies(rt: HostRuntime) {
     let mut sink = new_sink(rt.alloc());
-    let done = print_messages(&mut sink);
-    expect(&rt, done, &sink, MESSAGES);
+    let done = print_reply(&mut sink, &header(Kind::Reply, 1, 5, 1, 1, 1), b"\xaa");
+    let reply = "reply 1 client 5 request 1 mark 1 checkpoint 1 body aa\n";
+    expect(&rt, done, &sink, reply);
+    let rows = [
+        (
+            header(Kind::Prepare, 2, 5, 2, 1, 1),
+            b"\x01\x02".as_slice(),
+            "prepare 2 client 5 request 2 mark 1 checkpoint 1 body 0102\n",
+        ),
+        (
+            header(Kind::Prepare, u64::MAX, u128::MAX, u64::MAX, 0, u64::MAX),
+            b"",
+            "prepare 18446744073709551615 client 340282366920938463463374607431768211455 \
+            request 18446744073709551615 mark 0 checkpoint 18446744073709551615 body -\n",
+        ),
+    ];
+    for (header, body, line) in &rows {
+        let mut sink = new_sink(rt.alloc());
+        let done = print_prepare(&mut sink, header, body);
+        expect(&rt, done, &sink, line);
+    }
 }
 
 #[test]

@@ -5,110 +5,87 @@ use std::process::Abort;
 // A line, what it is read as, and its body.
 type Row = (&'static [u8], Line, &'static [u8]);
 
-const MESSAGES: [Row; 11] = [
-    (
-        b"append 5 1 -",
-        Line::Append {
-            client: 5,
-            request: 1,
-            length: 0,
-        },
-        b"",
-    ),
-    (
-        b"append 0 0 00",
-        Line::Append {
-            client: 0,
-            request: 0,
-            length: 1,
-        },
-        b"\x00",
-    ),
-    (
-        b"append 10 90 aBcDeF",
-        Line::Append {
-            client: 10,
-            request: 90,
-            length: 3,
-        },
-        b"\xab\xcd\xef",
-    ),
-    (
-        b"append 340282366920938463463374607431768211455 18446744073709551615 7f",
-        Line::Append {
-            client: u128::MAX,
-            request: u64::MAX,
-            length: 1,
-        },
-        b"\x7f",
-    ),
-    (b"reply 1 aa", Line::Reply { op: 1, length: 1 }, b"\xaa"),
-    (b"reply 0 -", Line::Reply { op: 0, length: 0 }, b""),
-    (
-        b"reply 18446744073709551615 0102",
-        Line::Reply {
-            op: u64::MAX,
-            length: 2,
-        },
-        b"\x01\x02",
-    ),
-    (b"prepare 2", Line::Prepare { op: 2 }, b""),
-    (
-        b"prepare 18446744073709551615",
-        Line::Prepare { op: u64::MAX },
-        b"",
-    ),
-    (b"lookup 5", Line::Lookup { client: 5 }, b""),
-    (
-        b"lookup 340282366920938463463374607431768211455",
-        Line::Lookup { client: u128::MAX },
-        b"",
-    ),
-];
+fn append(client: u128, request: u64, length: usize) -> Line {
+    Line::Append {
+        client,
+        request,
+        length,
+    }
+}
+
+const MOST: u64 = u64::MAX;
 
 #[test]
 fn lines_on_messages_are_read_with_their_bodies(rt: HostRuntime) {
     one_meaning();
-    expect_lines(&rt, &MESSAGES);
+    let rows: [Row; 11] = [
+        (b"append 5 1 -", append(5, 1, 0), b""),
+        (b"append 0 0 00", append(0, 0, 1), b"\x00"),
+        (b"append 10 90 aBcDeF", append(10, 90, 3), b"\xab\xcd\xef"),
+        (
+            b"append 340282366920938463463374607431768211455 18446744073709551615 7f",
+            append(u128::MAX, MOST, 1),
+            b"\x7f",
+        ),
+        (b"reply 1 aa", Line::Reply { op: 1, length: 1 }, b"\xaa"),
+        (b"reply 0 -", Line::Reply { op: 0, length: 0 }, b""),
+        (
+            b"reply 18446744073709551615 0102",
+            Line::Reply {
+                op: MOST,
+                length: 2,
+            },
+            b"\x01\x02",
+        ),
+        (b"prepare 2", Line::Prepare { op: 2 }, b""),
+        (
+            b"prepare 18446744073709551615",
+            Line::Prepare { op: MOST },
+            b"",
+        ),
+        (b"lookup 5", Line::Lookup { client: 5 }, b""),
+        (
+            b"lookup 340282366920938463463374607431768211455",
+            Line::Lookup { client: u128::MAX },
+            b"",
+        ),
+    ];
+    expect_lines(&rt, &rows);
 }
 
-const GRID: [Row; 12] = [
-    (b"block 1 aa", Line::Block { kind: 1, length: 1 }, b"\xaa"),
-    (b"block 0 -", Line::Block { kind: 0, length: 0 }, b""),
-    (
-        b"block 255 0aF0",
-        Line::Block {
-            kind: 255,
-            length: 2,
-        },
-        b"\x0a\xf0",
-    ),
-    (b"release 1", Line::Release { address: 1 }, b""),
-    (
-        b"release 18446744073709551615",
-        Line::Release { address: u64::MAX },
-        b"",
-    ),
-    (b"checkpoint -", Line::Checkpoint { length: 0 }, b""),
-    (
-        b"checkpoint 00fF10",
-        Line::Checkpoint { length: 3 },
-        b"\x00\xff\x10",
-    ),
-    (b"step", Line::Step, b""),
-    (b"read 0", Line::Read { address: 0 }, b""),
-    (
-        b"read 18446744073709551615",
-        Line::Read { address: u64::MAX },
-        b"",
-    ),
-    (b"scrub", Line::Scrub, b""),
-    (b"recent", Line::Recent, b""),
-];
+fn block(kind: u8, length: usize) -> Line {
+    Line::Block { kind, length }
+}
 
 #[test]
 fn lines_on_blocks_and_checkpoints_are_read_with_their_bodies(rt: HostRuntime) {
-    expect_lines(&rt, &GRID);
+    let rows: [Row; 12] = [
+        (b"block 1 aa", block(1, 1), b"\xaa"),
+        (b"block 0 -", block(0, 0), b""),
+        (b"block 255 0aF0", block(255, 2), b"\x0a\xf0"),
+        (b"release 1", Line::Release { address: 1 }, b""),
+        (
+            b"release 18446744073709551615",
+            Line::Release { address: MOST },
+            b"",
+        ),
+        (b"checkpoint -", Line::Checkpoint { length: 0 }, b""),
+        (
+            b"checkpoint 00fF10",
+            Line::Checkpoint { length: 3 },
+            b"\x00\xff\x10",
+        ),
+        (b"step", Line::Step, b""),
+        (b"read 0", Line::Read { address: 0 }, b""),
+        (
+            b"read 18446744073709551615",
+            Line::Read { address: MOST },
+            b"",
+        ),
+        (b"scrub", Line::Scrub, b""),
+        (b"recent", Line::Recent, b""),
+    ];
+    expect_lines(&rt, &rows);
 }
 
 fn expect_lines(rt: &impl Abort, rows: &[Row]) {
@@ -166,23 +143,16 @@ fn numbers_are_read_up_to_their_width(rt: HostRuntime) {
     }
 }
 
-const BYTES: [(&[u8], Option<Line>); 5] = [
-    (b"block 0 -", Some(Line::Block { kind: 0, length: 0 })),
-    (
-        b"block 255 -",
-        Some(Line::Block {
-            kind: 255,
-            length: 0,
-        }),
-    ),
-    (b"block 256 -", None),
-    (b"block 18446744073709551617 -", None),
-    (b"block 01 -", None),
-];
-
 #[test]
 fn a_byte_is_read_up_to_its_width(rt: HostRuntime) {
-    for (line, want) in &BYTES {
+    let rows: [(&[u8], Option<Line>); 5] = [
+        (b"block 0 -", Some(block(0, 0))),
+        (b"block 255 -", Some(block(255, 0))),
+        (b"block 256 -", None),
+        (b"block 18446744073709551617 -", None),
+        (b"block 01 -", None),
+    ];
+    for (line, want) in &rows {
         let mut body = [0u8; 40];
         assert!(rt; line.len() <= 80);
         assert_eq!(rt; parse(line, &mut body), *want);

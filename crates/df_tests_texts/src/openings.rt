@@ -1,140 +1,110 @@
 // The printed lines on files that aren't made or opened, as the tables of printed texts and of the worked sessions give them.
 use crate::printed::{elsewhere, expect, new_sink};
-use df_base::{Failed, MemorySink};
 use df_inspect::{print_format_refusal, print_open_refusal};
 use df_layout::{Class, Field, Layout, Place, Zone};
 use df_model::{FormatError, OpenError};
+use std::alloc::Global;
+use std::process::Abort;
 
-const FORMAT_ERRORS: [FormatError; 3] = [
-    FormatError::ClusterZero,
-    FormatError::NotBlank { copy: 0 },
-    FormatError::NotBlank { copy: 3 },
+const MAKING: [(FormatError, &str); 3] = [
+    (FormatError::ClusterZero, "refused ClusterZero\n"),
+    (
+        FormatError::NotBlank { copy: 0 },
+        "refused NotBlank copy 0\n",
+    ),
+    (
+        FormatError::NotBlank { copy: 3 },
+        "refused NotBlank copy 3\n",
+    ),
 ];
-
-fn print_making_refusals(sink: &mut MemorySink) -> Result<(), Failed> {
-    for error in &FORMAT_ERRORS {
-        print_format_refusal(sink, *error)?;
-    }
-    Ok(())
-}
-
-const MAKING_REFUSALS: &str = "refused ClusterZero\n\
-    refused NotBlank copy 0\n\
-    refused NotBlank copy 3\n";
 
 #[test]
 fn a_file_that_is_not_made_has_its_line(rt: HostRuntime) {
-    let mut sink = new_sink(rt.alloc());
-    let done = print_making_refusals(&mut sink);
-    expect(&rt, done, &sink, MAKING_REFUSALS);
-}
-
-fn print_opening_refusals(sink: &mut MemorySink) -> Result<(), Failed> {
-    let far = elsewhere(Zone::ClientReplies, u64::MAX);
-    let (garbled, stale) = (Class::Garbled, Class::Stale);
-    let rows = [
-        OpenError::NotFormatted,
-        OpenError::NoQuorum {
-            classes: [garbled, garbled, garbled, stale],
-        },
-        OpenError::NoQuorum {
-            classes: [Class::Blank, stale, far, garbled],
-        },
-        OpenError::Version { found: 2 },
-        OpenError::BadField {
-            field: Field::Op,
-            value: 4_611_686_018_427_387_905,
-        },
-        OpenError::LayoutDiffers {
-            reserved: Layout::large(),
-            found: Layout::small(),
-        },
-        OpenError::Damaged {
-            place: Place {
-                zone: Zone::Superblock,
-                index: 0,
-            },
-            class: stale,
-        },
-    ];
-    for error in &rows {
-        print_open_refusal(sink, error)?;
+    for (error, line) in &MAKING {
+        let mut sink = new_sink(rt.alloc());
+        let done = print_format_refusal(&mut sink, *error);
+        expect(&rt, done, &sink, line);
     }
-    Ok(())
 }
 
-const OPENING_REFUSALS: &str = "refused NotFormatted\n\
-    refused NoQuorum Garbled Garbled Garbled Stale\n\
-    refused NoQuorum Blank Stale Elsewhere ClientReplies 18446744073709551615 Garbled\n\
-    refused Version found 2\n\
-    refused BadField Op 4611686018427387905\n\
-    refused LayoutDiffers 1024 1048576 64 524288 16384 32 8192 4 16384 64\n\
-    refused Damaged Superblock 0 Stale\n";
+// Each refusal with its line.
+fn expect_refused(rt: &impl Abort, alloc: Global, rows: &[(OpenError, &str)]) {
+    for (error, line) in rows {
+        let mut sink = new_sink(alloc);
+        let done = print_open_refusal(&mut sink, error);
+        expect(rt, done, &sink, line);
+    }
+}
+
+fn no_quorum(classes: [Class; 4]) -> OpenError {
+    OpenError::NoQuorum { classes }
+}
+
+fn bad_field(field: Field, value: u128) -> OpenError {
+    OpenError::BadField { field, value }
+}
+
+fn damaged(zone: Zone, index: u64, class: Class) -> OpenError {
+    let place = Place { zone, index };
+    OpenError::Damaged { place, class }
+}
 
 #[test]
 fn a_file_that_is_not_opened_has_its_line(rt: HostRuntime) {
-    let mut sink = new_sink(rt.alloc());
-    let done = print_opening_refusals(&mut sink);
-    expect(&rt, done, &sink, OPENING_REFUSALS);
+    let far = elsewhere(Zone::ClientReplies, u64::MAX);
+    let (garbled, stale) = (Class::Garbled, Class::Stale);
+    let differs = OpenError::LayoutDiffers {
+        reserved: Layout::large(),
+        found: Layout::small(),
+    };
+    let rows = [
+        (OpenError::NotFormatted, "refused NotFormatted\n"),
+        (
+            no_quorum([garbled, garbled, garbled, stale]),
+            "refused NoQuorum Garbled Garbled Garbled Stale\n",
+        ),
+        (
+            no_quorum([Class::Blank, stale, far, garbled]),
+            "refused NoQuorum Blank Stale Elsewhere ClientReplies 18446744073709551615 Garbled\n",
+        ),
+        (OpenError::Version { found: 2 }, "refused Version found 2\n"),
+        (
+            bad_field(Field::Op, 4_611_686_018_427_387_905),
+            "refused BadField Op 4611686018427387905\n",
+        ),
+        (
+            differs,
+            "refused LayoutDiffers 1024 1048576 64 524288 16384 32 8192 4 16384 64\n",
+        ),
+    ];
+    expect_refused(&rt, rt.alloc(), &rows);
 }
-
-const ZONES: [Zone; 5] = [
-    Zone::Superblock,
-    Zone::WalHeaders,
-    Zone::WalPrepares,
-    Zone::ClientReplies,
-    Zone::Grid,
-];
-
-fn print_zones(sink: &mut MemorySink) -> Result<(), Failed> {
-    let class = Class::Garbled;
-    for zone in &ZONES {
-        let place = Place {
-            zone: *zone,
-            index: 1,
-        };
-        print_open_refusal(sink, &OpenError::Damaged { place, class })?;
-    }
-    Ok(())
-}
-
-const FIELDS: [Field; 6] = [
-    Field::TrailerChain,
-    Field::TrailerRoot,
-    Field::TrailerSessions,
-    Field::TrailerBits,
-    Field::TrailerEnd,
-    Field::Pending,
-];
-
-fn print_fields(sink: &mut MemorySink) -> Result<(), Failed> {
-    for field in &FIELDS {
-        let field = *field;
-        print_open_refusal(sink, &OpenError::BadField { field, value: 3 })?;
-    }
-    Ok(())
-}
-
-fn print_names(sink: &mut MemorySink) -> Result<(), Failed> {
-    print_zones(sink)?;
-    print_fields(sink)
-}
-
-const NAMES: &str = "refused Damaged Superblock 1 Garbled\n\
-    refused Damaged WalHeaders 1 Garbled\n\
-    refused Damaged WalPrepares 1 Garbled\n\
-    refused Damaged ClientReplies 1 Garbled\n\
-    refused Damaged Grid 1 Garbled\n\
-    refused BadField TrailerChain 3\n\
-    refused BadField TrailerRoot 3\n\
-    refused BadField TrailerSessions 3\n\
-    refused BadField TrailerBits 3\n\
-    refused BadField TrailerEnd 3\n\
-    refused BadField Pending 3\n";
 
 #[test]
 fn zones_and_fields_have_their_names(rt: HostRuntime) {
-    let mut sink = new_sink(rt.alloc());
-    let done = print_names(&mut sink);
-    expect(&rt, done, &sink, NAMES);
+    for (zone, line) in [
+        (Zone::Superblock, "refused Damaged Superblock 1 Stale\n"),
+        (Zone::WalHeaders, "refused Damaged WalHeaders 1 Stale\n"),
+        (Zone::WalPrepares, "refused Damaged WalPrepares 1 Stale\n"),
+        (
+            Zone::ClientReplies,
+            "refused Damaged ClientReplies 1 Stale\n",
+        ),
+        (Zone::Grid, "refused Damaged Grid 1 Stale\n"),
+    ] {
+        expect_refused(&rt, rt.alloc(), &[(damaged(zone, 1, Class::Stale), line)]);
+    }
+    for (field, line) in [
+        (Field::TrailerChain, "refused BadField TrailerChain 3\n"),
+        (Field::TrailerRoot, "refused BadField TrailerRoot 3\n"),
+        (
+            Field::TrailerSessions,
+            "refused BadField TrailerSessions 3\n",
+        ),
+        (Field::TrailerBits, "refused BadField TrailerBits 3\n"),
+        (Field::TrailerEnd, "refused BadField TrailerEnd 3\n"),
+        (Field::Pending, "refused BadField Pending 3\n"),
+    ] {
+        expect_refused(&rt, rt.alloc(), &[(bad_field(field, 3), line)]);
+    }
 }

@@ -2,127 +2,53 @@
 use df_lines::parse;
 use std::process::Abort;
 
-fn expect_no_line(rt: &impl Abort, lines: &[&[u8]]) {
-    for line in lines {
+// None of these is a line. A stroke stands between two of them.
+fn expect_no_line(rt: &impl Abort, lines: &str) {
+    for line in lines.split('|') {
         let mut body = [0u8; 40];
-        assert!(rt; line.len() <= 80);
-        assert_eq!(rt; parse(line, &mut body), None);
+        let bytes = line.as_bytes();
+        assert!(rt; bytes.len() <= 80);
+        assert_eq!(rt; parse(bytes, &mut body), None, "{line}");
     }
 }
 
-const NO_APPENDS: [&[u8]; 23] = [
-    b"",
-    b"append",
-    b"append ",
-    b"append 5 1",
-    b"append 5 1 ",
-    b"append 5  -",
-    b"append 5 01 -",
-    b"append 00 1 -",
-    b"append 340282366920938463463374607431768211456 1 -",
-    b"append 5 18446744073709551616 -",
-    b"append 5 1 abc",
-    b"append 5 1 ag",
-    b"append 5 1 --",
-    b"append  5 1 -",
-    b"append 5 1  -",
-    b"append 5 1 - ",
-    b"append 5 1 - -",
-    b" append 5 1 -",
-    b"Append 5 1 -",
-    b"append +5 1 -",
-    b"append 5 -1 -",
-    b"append\t5 1 -",
-    b"append 5 1 -\r",
-];
+const NO_APPENDS: &str =
+    "|append|append |append 5 1|append 5 1 |append 5  -|append 5 01 -|append 00 1 -|\
+    append 340282366920938463463374607431768211456 1 -|append 5 18446744073709551616 -|append 5 1 abc|\
+    append 5 1 ag|append 5 1 --|append  5 1 -|append 5 1  -|append 5 1 - |append 5 1 - -| append 5 1 -|\
+    Append 5 1 -|append +5 1 -|append 5 -1 -|append\t5 1 -|append 5 1 -\r";
 
 #[test]
 fn other_lines_than_appends_are_refused(rt: HostRuntime) {
-    expect_no_line(&rt, &NO_APPENDS);
+    expect_no_line(&rt, NO_APPENDS);
 }
 
-const NO_READINGS: [&[u8]; 18] = [
-    b"reply",
-    b"reply 1",
-    b"reply 1 ",
-    b"reply  -",
-    b"reply 01 -",
-    b"reply 18446744073709551616 -",
-    b"reply 1 a",
-    b"reply 1 - -",
-    b"prepare",
-    b"prepare ",
-    b"prepare 02",
-    b"prepare 18446744073709551616",
-    b"prepare 2 -",
-    b"prepare  2",
-    b"lookup ",
-    b"lookup 340282366920938463463374607431768211456",
-    b"lookup 5 ",
-    b"lookup -",
-];
+const NO_READINGS: &str =
+    "reply|reply 1|reply 1 |reply  -|reply 01 -|reply 18446744073709551616 -|reply 1 a|reply 1 - -|\
+    prepare|prepare |prepare 02|prepare 18446744073709551616|prepare 2 -|prepare  2|lookup |\
+    lookup 340282366920938463463374607431768211456|lookup 5 |lookup -";
 
 #[test]
 fn other_lines_than_replies_and_readings_are_refused(rt: HostRuntime) {
-    expect_no_line(&rt, &NO_READINGS);
+    expect_no_line(&rt, NO_READINGS);
 }
 
-const NO_BLOCKS: [&[u8]; 29] = [
-    b"block",
-    b"block 1",
-    b"block 1 ",
-    b"block - 1",
-    b"block 256 -",
-    b"block 01 -",
-    b"block 1  -",
-    b"block 1 abc",
-    b"block 1 aa ",
-    b"block 1 aa bb",
-    b"release",
-    b"release ",
-    b"release 00",
-    b"release 1 ",
-    b"release 1 2",
-    b"release 18446744073709551616",
-    b"read",
-    b"read -",
-    b"read 01",
-    b"read  1",
-    b"read 1 ",
-    b"read 18446744073709551616",
-    b"scrub ",
-    b"scrub 1",
-    b"scrubs",
-    b"Scrub",
-    b"recent ",
-    b"recent 0",
-    b"recen",
-];
+const NO_BLOCKS: &str =
+    "block|block 1|block 1 |block - 1|block 256 -|block 01 -|block 1  -|block 1 abc|block 1 aa |\
+    block 1 aa bb|release|release |release 00|release 1 |release 1 2|release 18446744073709551616|read|\
+    read -|read 01|read  1|read 1 |read 18446744073709551616|scrub |scrub 1|scrubs|Scrub|recent |\
+    recent 0|recen";
 
 #[test]
 fn other_lines_than_those_of_the_grid_are_refused(rt: HostRuntime) {
-    expect_no_line(&rt, &NO_BLOCKS);
+    expect_no_line(&rt, NO_BLOCKS);
 }
 
-const NO_CHECKPOINTS: [&[u8]; 15] = [
-    b"checkpoint",
-    b"checkpoint ",
-    b"checkpoint  -",
-    b"checkpoint a",
-    b"checkpoint 0g",
-    b"checkpoint - ",
-    b"checkpoint aa bb",
-    b"Checkpoint -",
-    b"step ",
-    b"step x",
-    b"step -",
-    b" step",
-    b"steps",
-    b"Step",
-    b"ste",
-];
+const NO_CHECKPOINTS: &str =
+    "checkpoint|checkpoint |checkpoint  -|checkpoint a|checkpoint 0g|checkpoint - |checkpoint aa bb|\
+    Checkpoint -|step |step x|step -| step|steps|Step|ste";
 
 #[test]
 fn other_lines_than_those_of_checkpoints_are_refused(rt: HostRuntime) {
-    expect_no_line(&rt, &NO_CHECKPOINTS);
+    expect_no_line(&rt, NO_CHECKPOINTS);
 }

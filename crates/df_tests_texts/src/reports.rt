@@ -40,20 +40,11 @@ fn mend(zone: Zone, index: u64, class: Class) -> Mend {
     }
 }
 
-const LONG_SESSION: &str = "cluster 7\n\
-    layout 32 8192 4 16384 64\n\
-    sequence 11\n\
-    checkpoint 200\n\
-    head 200\n\
-    replies 200\n\
-    sessions 4\n\
-    references 0\n\
-    root -\n\
-    session 0 client 1 request 50 op 197 stored\n\
-    session 1 client 2 request 50 op 198 stored\n\
-    session 2 client 3 request 50 op 199 stored\n\
-    session 3 client 4 request 50 op 200 stored\n\
-    findings 0\n";
+const LONG_SESSION: &str =
+    "cluster 7\nlayout 32 8192 4 16384 64\nsequence 11\ncheckpoint 200\nhead 200\nreplies 200\n\
+    sessions 4\nreferences 0\nroot -\nsession 0 client 1 request 50 op 197 stored\n\
+    session 1 client 2 request 50 op 198 stored\nsession 2 client 3 request 50 op 199 stored\n\
+    session 3 client 4 request 50 op 200 stored\nfindings 0\n";
 
 #[test]
 fn a_long_session_is_inspected(rt: HostRuntime) {
@@ -78,19 +69,11 @@ fn print_hurt_file(sink: &mut MemorySink) -> Result<(), Failed> {
     print_inspection(sink, &summary(2, 1, 1), b"\x02", &sessions, &mends)
 }
 
-const HURT_FILE: &str = "cluster 7\n\
-    layout 32 8192 4 16384 64\n\
-    sequence 2\n\
-    checkpoint 1\n\
-    head 1\n\
-    replies 1\n\
-    sessions 1\n\
-    references 0\n\
-    root 02\n\
+const HURT_FILE: &str =
+    "cluster 7\nlayout 32 8192 4 16384 64\nsequence 2\ncheckpoint 1\nhead 1\nreplies 1\nsessions 1\n\
+    references 0\nroot 02\n\
     session 0 client 340282366920938463463374607431768211455 request 1 op 1 pending\n\
-    mend Superblock 0 Stale\n\
-    mend WalHeaders 16 Garbled\n\
-    findings 2\n";
+    mend Superblock 0 Stale\nmend WalHeaders 16 Garbled\nfindings 2\n";
 
 #[test]
 fn what_is_to_be_mended_is_listed(rt: HostRuntime) {
@@ -140,11 +123,8 @@ fn print_ring_and_tours(sink: &mut MemorySink) -> Result<(), Failed> {
     print_tours(sink)
 }
 
-const RING_AND_TOUR: &str = "recent 0\n\
-    recent 2 2 Garbled 4 Garbled\n\
-    failing 2 Garbled\n\
-    failing 4 Garbled\n\
-    tour 6 2\n\
+const RING_AND_TOUR: &str =
+    "recent 0\nrecent 2 2 Garbled 4 Garbled\nfailing 2 Garbled\nfailing 4 Garbled\ntour 6 2\n\
     tour 6 0\n";
 
 #[test]
@@ -154,16 +134,9 @@ fn the_ring_and_a_tour_are_shown(rt: HostRuntime) {
     expect(&rt, done, &sink, RING_AND_TOUR);
 }
 
-const GENERATED_RUN: &str = "appended 3\n\
-    replied 3\n\
-    wrote 0\n\
-    released 0\n\
-    checkpoints 0\n\
-    refused 0\n\
-    bytes 2231\n\
-    head 3\n\
-    replies 3\n\
-    sequence 1\n";
+const GENERATED_RUN: &str =
+    "appended 3\nreplied 3\nwrote 0\nreleased 0\ncheckpoints 0\nrefused 0\nbytes 2231\nhead 3\n\
+    replies 3\nsequence 1\n";
 
 #[test]
 fn a_generated_run_is_counted(rt: HostRuntime) {
@@ -184,14 +157,10 @@ fn a_generated_run_is_counted(rt: HostRuntime) {
     expect(&rt, done, &sink, GENERATED_RUN);
 }
 
-const GREATEST: &str = "cluster 340282366920938463463374607431768211455\n\
-    layout 32 8192 4 16384 64\n\
-    sequence 18446744073709551615\n\
-    checkpoint 18446744073709551615\n\
-    head 18446744073709551615\n\
-    replies 18446744073709551615\n\
-    sessions 18446744073709551615\n\
-    references 18446744073709551615\n";
+const GREATEST: &str =
+    "cluster 340282366920938463463374607431768211455\nlayout 32 8192 4 16384 64\n\
+    sequence 18446744073709551615\ncheckpoint 18446744073709551615\nhead 18446744073709551615\n\
+    replies 18446744073709551615\nsessions 18446744073709551615\nreferences 18446744073709551615\n";
 
 #[test]
 fn the_greatest_numbers_fit(rt: HostRuntime) {

@@ -2,25 +2,26 @@
 ghost use Rattle.std.specs.Prelude.{◌≡◌, length};
 
 use crate::examples::{BLOCK, FIRST_TRAILER, PREPARE, REPLY, RESERVED, TRAILER, changed, spelled};
+use crate::room_examples::{block, prepare, reply, trailer};
 use df_base::{Check, check};
 use df_format::{
     Header, Kind, decode_header, encode_header, headers_have_one_spelling, seal_header,
 };
 
-// A header of cluster 7 without a body, all other fields zero.
-fn plain(kind: Kind, front: &[u8; 124]) -> Header {
+fn checksum_of(front: &[u8; 124]) -> Check {
     let mut checksum = [0; 16];
     checksum.copy_from_slice(&front[..16]);
-    Header {
-        checksum,
-        checksum_body: check(&[]),
-        size: 256,
-        ..Header::of(kind, 7)
-    }
+    checksum
 }
 
-fn checksum_of(front: &[u8; 124]) -> Check {
-    plain(Kind::Reserved, front).checksum
+// The header without a body as its maker gives it, and what is sealed into it.
+fn whole(header: Header, front: &[u8; 124]) -> Header {
+    Header {
+        checksum: checksum_of(front),
+        checksum_body: check(&[]),
+        size: 256,
+        ..header
+    }
 }
 
 // What is read from the bytes, sealed again and written.
@@ -34,67 +35,34 @@ fn rewritten(bytes: &[u8]) -> Option<[u8; 256]>
     Some(into)
 }
 
-fn reserved() -> Header {
-    Header {
-        slot: 3,
-        ..plain(Kind::Reserved, &RESERVED)
-    }
-}
-
-fn prepare() -> Header {
-    Header {
-        client: 5,
-        op: 1,
-        request: 1,
-        checkpoint: 1,
-        slot: 1,
-        ..plain(Kind::Prepare, &PREPARE)
-    }
-}
-
-fn reply() -> Header {
-    Header {
-        parent: checksum_of(&PREPARE),
-        client: 5,
-        op: 1,
-        request: 1,
-        mark: 1,
-        checkpoint: 1,
-        slot: 2,
-        ..plain(Kind::Reply, &REPLY)
-    }
-}
-
-fn block() -> Header {
-    Header {
-        op: 9,
-        block_kind: 1,
-        ..plain(Kind::Block, &BLOCK)
-    }
-}
-
-fn trailer() -> Header {
-    Header {
-        parent: checksum_of(&FIRST_TRAILER),
-        op: 9,
-        request: 8,
-        mark: 1,
-        checkpoint: 2,
-        ..plain(Kind::Trailer, &TRAILER)
-    }
-}
-
 #[test]
 fn reads_the_fields_of_each_kind(rt: HostRuntime) {
+    let reserved = Header {
+        slot: 3,
+        ..Header::of(Kind::Reserved, 7)
+    };
+    let answer = Header {
+        parent: checksum_of(&PREPARE),
+        ..reply(&[])
+    };
+    let last = Header {
+        parent: checksum_of(&FIRST_TRAILER),
+        request: 8,
+        mark: 1,
+        ..trailer(&[])
+    };
     let cases = [
-        (RESERVED, reserved()),
-        (PREPARE, prepare()),
-        (REPLY, reply()),
-        (BLOCK, block()),
-        (TRAILER, trailer()),
+        (RESERVED, reserved),
+        (PREPARE, prepare(&[])),
+        (REPLY, answer),
+        (BLOCK, block(&[])),
+        (TRAILER, last),
     ];
     for (i, (front, header)) in cases.iter().enumerate() {
-        assert!(rt; decode_header(&spelled(front)) == Some(*header), "case {i}");
+        assert!(rt;
+            decode_header(&spelled(front)) == Some(whole(*header, front)),
+            "case {i}"
+        );
     }
 }
 
@@ -129,70 +97,71 @@ fn tests_what_all_kinds_have(rt: HostRuntime) {
     }
 }
 
-// For each kind: an offset, the byte that is put there, and whether that is still a header.
-const OF_RESERVED: [(usize, u8, bool); 10] = [
-    (16, 0, false),
-    (48, 1, false),
-    (64, 1, false),
-    (80, 1, false),
-    (88, 1, false),
-    (96, 1, false),
-    (104, 1, false),
-    (112, 1, false),
-    (116, 9, true),
-    (121, 1, false),
-];
+// For a kind: the offsets at which only zero stands, and those at which another byte than zero does; further bytes with
+// which it is a header still, and others with which it is none.
+struct Rules {
+    zero: &'static [usize],
+    nonzero: &'static [usize],
+    taken: &'static [(usize, u8)],
+    refused: &'static [(usize, u8)],
+}
 
-const OF_REPLIES: [(usize, u8, bool); 15] = [
-    (16, 0, true),
-    (48, 9, true),
-    (64, 0, false),
-    (80, 0, false),
-    (80, 2, false),
-    (88, 0, false),
-    (95, 0x40, false),
-    (96, 0, false),
-    (103, 0x3f, true),
-    (103, 0x40, false),
-    (104, 0, false),
-    (111, 0x40, false),
-    (112, 1, true),
-    (116, 9, true),
-    (121, 1, false),
-];
+const OF_RESERVED: Rules = Rules {
+    zero: &[48, 64, 80, 88, 96, 104, 112, 121],
+    nonzero: &[16],
+    taken: &[(116, 9)],
+    refused: &[],
+};
 
-const OF_BLOCKS: [(usize, u8, bool); 11] = [
-    (48, 1, false),
-    (64, 1, false),
-    (80, 0, false),
-    (87, 0xff, true),
-    (88, 1, false),
-    (96, 1, false),
-    (104, 1, false),
-    (112, 1, true),
-    (116, 1, false),
-    (121, 0, false),
-    (121, 255, true),
-];
+const OF_PREPARES: Rules = Rules {
+    zero: &[48, 96, 121],
+    nonzero: &[64, 80, 88, 104],
+    taken: &[(80, 2), (87, 0x3f), (112, 1), (116, 9)],
+    refused: &[(87, 0x40), (95, 0x40), (111, 0x40), (120, 1)],
+};
 
-const OF_FIRST_TRAILERS: [(usize, u8, bool); 3] = [(48, 1, false), (88, 1, false), (96, 1, false)];
+const OF_REPLIES: Rules = Rules {
+    zero: &[121],
+    nonzero: &[64, 80, 88, 96, 104],
+    taken: &[(16, 0), (48, 9), (103, 0x3f), (112, 1), (116, 9)],
+    refused: &[(80, 2), (95, 0x40), (103, 0x40), (111, 0x40)],
+};
 
-const OF_TRAILERS: [(usize, u8, bool); 9] = [
-    (48, 9, true),
-    (64, 1, false),
-    (80, 0, false),
-    (88, 0, false),
-    (96, 0, false),
-    (104, 1, false),
-    (111, 0x40, false),
-    (116, 1, false),
-    (121, 1, false),
-];
+const OF_BLOCKS: Rules = Rules {
+    zero: &[48, 64, 88, 96, 104, 116],
+    nonzero: &[80, 121],
+    taken: &[(87, 0xff), (112, 1), (121, 255)],
+    refused: &[],
+};
 
-// The first offset whose changed byte is judged wrongly.
-fn first_wrong(front: &[u8; 124], changes: &[(usize, u8, bool)]) -> Option<usize> {
-    for (at, byte, is) in changes.iter().copied() {
+const OF_FIRST_TRAILERS: Rules = Rules {
+    zero: &[48, 88, 96],
+    nonzero: &[],
+    taken: &[],
+    refused: &[],
+};
+
+const OF_TRAILERS: Rules = Rules {
+    zero: &[64, 116, 121],
+    nonzero: &[80, 88, 96],
+    taken: &[(48, 9)],
+    refused: &[(104, 1), (111, 0x40)],
+};
+
+// The first offset at which a byte of these isn't judged so.
+fn first_not(front: &[u8; 124], changes: &[(usize, u8)], is: bool) -> Option<usize> {
+    for (at, byte) in changes.iter().copied() {
         if decode_header(&changed(front, at, byte)).is_some() != is {
+            return Some(at);
+        }
+    }
+    None
+}
+
+// The first of these offsets at which this byte is still taken.
+fn first_taken(front: &[u8; 124], places: &[usize], byte: u8) -> Option<usize> {
+    for at in places.iter().copied() {
+        if decode_header(&changed(front, at, byte)).is_some() {
             return Some(at);
         }
     }
@@ -201,15 +170,18 @@ fn first_wrong(front: &[u8; 124], changes: &[(usize, u8, bool)]) -> Option<usize
 
 #[test]
 fn tests_the_rules_of_each_kind(rt: HostRuntime) {
-    let tables: [(&[u8; 124], &[(usize, u8, bool)]); 5] = [
-        (&RESERVED, &OF_RESERVED),
-        (&REPLY, &OF_REPLIES),
-        (&BLOCK, &OF_BLOCKS),
-        (&FIRST_TRAILER, &OF_FIRST_TRAILERS),
-        (&TRAILER, &OF_TRAILERS),
+    let tables: [(&[u8; 124], Rules); 6] = [
+        (&RESERVED, OF_RESERVED),
+        (&PREPARE, OF_PREPARES),
+        (&REPLY, OF_REPLIES),
+        (&BLOCK, OF_BLOCKS),
+        (&FIRST_TRAILER, OF_FIRST_TRAILERS),
+        (&TRAILER, OF_TRAILERS),
     ];
-    for (i, (front, changes)) in tables.iter().enumerate() {
-        let wrong = first_wrong(front, changes);
-        assert!(rt; wrong.is_none(), "table {i}: {wrong:?}");
+    for (i, (front, rules)) in tables.iter().enumerate() {
+        assert!(rt; first_taken(front, rules.zero, 1) == None, "table {i}");
+        assert!(rt; first_taken(front, rules.nonzero, 0) == None, "table {i}");
+        assert!(rt; first_not(front, rules.taken, true) == None, "table {i}");
+        assert!(rt; first_not(front, rules.refused, false) == None, "table {i}");
     }
 }

@@ -10,6 +10,9 @@ use df_format::{Header, decode_header};
 use df_layout::{Class, Layout, Place, Zone};
 use std::alloc::Global;
 
+// The header of the unit that is there, or the class of what is; None where memory was refused.
+type Shown = Option<Result<Header, Class>>;
+
 // Bytes that a caller puts into a room are the room's.
 fn fill<K: RoomKind>(room: &mut Raw<K>, from: &[u8])
     requires { length from.now ≡ length room.old.bytes }
@@ -39,13 +42,8 @@ fn room_with<K: RoomKind>(
     Ok(room)
 }
 
-// What a room of the kind answers at a place of its zone; None where memory was refused.
-fn proved<K: UnitKind>(
-    alloc: Global,
-    index: u64,
-    wanted: Wanted,
-    front: &[u8; 256],
-) -> Option<Result<Header, Class>> {
+// What a room of the kind answers at a place of its zone.
+fn proved<K: UnitKind>(alloc: Global, index: u64, wanted: Wanted, front: &[u8; 256]) -> Shown {
     let layout = Layout::small();
     let Ok(room) = room_with::<K>(alloc, &layout, front) else {
         return None;
@@ -57,17 +55,17 @@ fn proved<K: UnitKind>(
     }
 }
 
-fn elsewhere(zone: Zone, index: u64) -> Option<Result<Header, Class>> {
+fn elsewhere(zone: Zone, index: u64) -> Shown {
     Some(Err(Class::Elsewhere(Place { zone, index })))
 }
 
-fn read(fields: Fields) -> Option<Result<Header, Class>> {
+fn read(fields: Fields) -> Shown {
     decode_header(&spelled(fields)).map(|header| Ok(header))
 }
 
-const STALE: Option<Result<Header, Class>> = Some(Err(Class::Stale));
+const STALE: Shown = Some(Err(Class::Stale));
 
-const GARBLED: Option<Result<Header, Class>> = Some(Err(Class::Garbled));
+const GARBLED: Shown = Some(Err(Class::Garbled));
 
 #[test]
 fn proves_a_unit_of_each_kind(rt: HostRuntime) {
@@ -163,12 +161,7 @@ fn wants_what_it_was_asked_for(rt: HostRuntime) {
 }
 
 // What a header sector answers that begins with this header, for a place of the header ring.
-fn first_header(
-    alloc: Global,
-    index: u64,
-    wanted: Wanted,
-    front: &[u8; 256],
-) -> Option<Result<Header, Class>> {
+fn first_header(alloc: Global, index: u64, wanted: Wanted, front: &[u8; 256]) -> Shown {
     let layout = Layout::small();
     let Ok(room) = room_with::<HeaderSector>(alloc, &layout, front) else {
         return None;

@@ -35,29 +35,24 @@ fn bad(field: Field, value: u64) -> SuperFault {
 
 #[test]
 fn tests_each_field_without_a_checkpoint(rt: HostRuntime) {
-    let cases = [
-        (36, 4, 0, Field::Slots),
-        (36, 4, 24, Field::Slots),
-        (36, 4, 1040, Field::Slots),
-        (40, 4, 8191, Field::MessageSize),
-        (40, 4, 1_052_672, Field::MessageSize),
-        (44, 4, 0, Field::Clients),
-        (44, 4, 65, Field::Clients),
-        (64, 4, 0, Field::BlockSize),
-        (64, 4, 528_384, Field::BlockSize),
-        (68, 4, 7, Field::Blocks),
-        (68, 4, 16_385, Field::Blocks),
-        (48, 8, 0, Field::Cluster),
-        (72, 8, 0, Field::Sequence),
-        (72, 8, (1 << 62) + 1, Field::Sequence),
-        (112, 2, 256, Field::OpChecksum),
-        (128, 8, u64::MAX, Field::TrailerChecksum),
-        (144, 8, 1, Field::TrailerSize),
-        (152, 8, 1, Field::Boot),
+    let cases: [(usize, usize, &[u64], Field); 11] = [
+        (36, 4, &[0, 24, 1040], Field::Slots),
+        (40, 4, &[8191, 1_052_672], Field::MessageSize),
+        (44, 4, &[0, 65], Field::Clients),
+        (64, 4, &[0, 528_384], Field::BlockSize),
+        (68, 4, &[7, 16_385], Field::Blocks),
+        (48, 8, &[0], Field::Cluster),
+        (72, 8, &[0, (1 << 62) + 1], Field::Sequence),
+        (112, 2, &[256], Field::OpChecksum),
+        (128, 8, &[u64::MAX], Field::TrailerChecksum),
+        (144, 8, &[1], Field::TrailerSize),
+        (152, 8, &[1], Field::Boot),
     ];
-    for (at, width, value, field) in cases {
-        let answer = tested(&FIRST, &[(at, width, value)]);
-        assert!(rt; answer == Some(Err(bad(field, value))), "{value} at {at}");
+    for (at, width, values, field) in cases {
+        for value in values.iter().copied() {
+            let answer = tested(&FIRST, &[(at, width, value)]);
+            assert!(rt; answer == Some(Err(bad(field, value))), "{value} at {at}");
+        }
     }
     for at in [160, 4095] {
         let answer = tested(&FIRST, &[(at, 1, 1)]);
@@ -68,22 +63,18 @@ fn tests_each_field_without_a_checkpoint(rt: HostRuntime) {
 
 #[test]
 fn tests_each_field_with_a_checkpoint(rt: HostRuntime) {
-    let cases = [
-        (80, (1 << 62) + 1, Field::Op),
-        (80, u64::MAX, Field::Op),
-        (88, 99, Field::Head),
-        (88, 133, Field::Head),
-        (96, 111, Field::Replies),
-        (96, 101, Field::Replies),
-        (96, u64::MAX, Field::Replies),
-        (104, 0, Field::TrailerAddress),
-        (104, 65, Field::TrailerAddress),
-        (144, 0, Field::TrailerSize),
-        (144, 2193, Field::TrailerSize),
+    let cases: [(usize, &[u64], Field); 5] = [
+        (80, &[(1 << 62) + 1, u64::MAX], Field::Op),
+        (88, &[99, 133], Field::Head),
+        (96, &[111, 101, u64::MAX], Field::Replies),
+        (104, &[0, 65], Field::TrailerAddress),
+        (144, &[0, 2193], Field::TrailerSize),
     ];
-    for (at, value, field) in cases {
-        let answer = tested(&LATER, &[(at, 8, value)]);
-        assert!(rt; answer == Some(Err(bad(field, value))), "{value} at {at}");
+    for (at, values, field) in cases {
+        for value in values.iter().copied() {
+            let answer = tested(&LATER, &[(at, 8, value)]);
+            assert!(rt; answer == Some(Err(bad(field, value))), "{value} at {at}");
+        }
     }
     let usable = [
         [(88, 8, 132), (96, 8, 124), (48, 8, 7)],

@@ -1,5 +1,5 @@
-// The definitions against values from outside: the bytes of an example, and which changed bytes are refused.
-use crate::examples::{PREPARE, changed, spelled};
+// The definitions against values from outside: the bytes of an example, and which of them are refused when changed.
+use crate::examples::{PREPARE, spelled};
 use crate::room_examples::prepare;
 use df_format::{Header, decode_header, decode_unit, make_unit};
 use df_layout::{Class, Layout, Place, Zone};
@@ -37,34 +37,7 @@ fn makes_and_reads_the_example(rt: HostRuntime) {
 }
 
 #[test]
-fn tests_each_field_that_needs_no_layout(rt: HostRuntime) {
-    let cases = [
-        (80, 2, true),
-        (87, 0x3f, true),
-        (87, 0x40, false),
-        (80, 0, false),
-        (48, 1, false),
-        (32, 0, false),
-        (64, 0, false),
-        (88, 0, false),
-        (95, 0x40, false),
-        (96, 1, false),
-        (104, 0, false),
-        (111, 0x40, false),
-        (112, 1, true),
-        (113, 0, false),
-        (116, 9, true),
-        (120, 1, false),
-        (121, 1, false),
-        (122, 2, false),
-        (124, 1, false),
-        (132, 1, false),
-        (255, 1, false),
-    ];
-    for (at, byte, is) in cases {
-        let decoded = decode_header(&changed(&PREPARE, at, byte));
-        assert!(rt; decoded.is_some() == is, "{byte} at {at}");
-    }
+fn a_changed_byte_needs_another_checksum(rt: HostRuntime) {
     let mut bytes = example();
     bytes[80] = 2;
     assert!(rt; decode_header(&bytes).is_none());
@@ -73,7 +46,7 @@ fn tests_each_field_that_needs_no_layout(rt: HostRuntime) {
 #[test]
 fn tests_the_body_and_not_what_follows_it(rt: HostRuntime) {
     let mut slot = [0u8; 8192];
-    let made = make_unit(given(b"abc"), b"abc", &mut slot);
+    let made = make_unit(prepare(b"abc"), b"abc", &mut slot);
     slot[259] = 1;
     assert!(rt; shown(7, 1, &slot) == Ok(made.header));
     slot[258] = b'd';

@@ -14,12 +14,13 @@ use Rattle.df_theory.specs.Past.{FromEmpty, Was}
 use Rattle.df_theory.specs.HistoryLaws.{FoundWasLaw, OneContentLaw, OneReplyLaw}
 use Rattle.df_theory.proofs.Choices.{rank_low}
 use Rattle.df_theory.proofs.SameView.{view_is_found}
+use Rattle.df_theory.proofs.WholeGroups.{no_gap}
 use Rattle.df_theory.proofs.Past.{WasIn, settled_one, settled_was, was_prepare, stamp_law}
-use Rattle.df_theory.proofs.Grouped.{group_from, group_holds, same_group}
+use Rattle.df_theory.proofs.Grouped.{group_holds}
 use Rattle.df_theory.proofs.Founds.{chain_at}
 use Rattle.df_theory.proofs.Agreeing.{take_boot}
 use Rattle.df_theory.proofs.Pinned.{same_named}
-use Rattle.df_theory.proofs.Tails.{chain_last, chain_ops}
+use Rattle.df_theory.proofs.Tails.{chain_ops}
 use Rattle.df_theory.proofs.Settled.{settled_content, settled_reply, after_append, after_reply, after_base}
 use Rattle.df_theory.proofs.Once.{was_base, was_sound, was_reply, was_chain, last_of, no_mark}
 
@@ -70,25 +71,8 @@ module _ (sh : Shape) (images : List Units) (v : View) (grows : Grows sh images 
       above_case : (p : Message) → In p w.tail → (w.checkpoint.content.op + 1 ≤ p.header.op) × (p.header.op < w.checkpoint.content.op + 1 + length w.tail) → p.header.group ≤ p.header.op → w.checkpoint.content.pin < p.header.op → WasIn sh images v grows p
       above_case p at ops holds_op above = elim (settled_was sh images v grows empty (p.header.op % sh.layout.slots) p (settled_at p at) holds_op) [
         | inl was ↦ was
-        | inr gap ↦
-            let last = f.tail.groups p at in
-            let begins : w.checkpoint.content.op < p.header.group = elim (cases_lt w.checkpoint.content.op p.header.group) [
-              | inl yes_above ↦ yes_above
-              | inr not ↦ absurd (omega (arith, (group_from sh.layout.clients 0 w.checkpoint.content.op (w.checkpoint.content.op + 1) w.checkpoint.content.op_checksum 0 w.checkpoint.parts.sessions w.tail p f.tail.chain f.tail.grouped at (omega arith)).2))
-            ] in
-            let q = chain_at sh.layout.clients (w.checkpoint.content.op + 1) w.checkpoint.content.op_checksum 0 w.checkpoint.parts.sessions w.tail gap.missing f.tail.chain (omega (arith, gap.from)) (omega (arith, gap.to)) in
-            let group = same_group sh.layout.clients 0 w.checkpoint.content.op (w.checkpoint.content.op + 1) w.checkpoint.content.op_checksum 0 w.checkpoint.parts.sessions w.tail p q.0 f.tail.chain f.tail.grouped at q.1 (omega (arith, q.2, gap.from)) (omega (arith, q.2, gap.to)) in
-            let q_above : w.checkpoint.content.pin < q.0.header.op = elim (cases_lt w.checkpoint.content.pin q.0.header.op) [
-              | inl yes_above ↦ yes_above
-              | inr not ↦ absurd (let q_last = f.tail.pin_ends q.0 q.1 (omega arith) in let p_last = last_op p at in omega (arith, q_last, group.1, p_last, above))
-            ] in
-            let own_p = take_boot sh.layout.slots shown w.checkpoint.content p (f.tail.takes p at) above in
-            let own_q = take_boot sh.layout.slots shown w.checkpoint.content q.0 (f.tail.takes q.0 q.1) q_above in
-            absurd (gap.lacks (q.0.header.op % sh.layout.slots) q.0 (settled_at q.0 q.1) q.2 (own_q ∙ sym own_p) group.0)
+        | inr gap ↦ absurd (no_gap sh images shown of w f p at holds_op above gap)
       ]
-        where
-          last_op : (p : Message) → In p w.tail → p.header.op ≤ p.header.group_last
-          last_op p at = chain_last sh.layout.clients (w.checkpoint.content.op + 1) w.checkpoint.content.op_checksum 0 w.checkpoint.parts.sessions w.tail p f.tail.chain at
 
   append_event : 0 < length w.tail → (b : View) × Was sh images v grows b × (rank_of b.checkpoint.content ≤ rank_of w.checkpoint.content) × (head b ≡ head w) × (b.replies ≡ last_mark 0 w.tail)
   append_event some =

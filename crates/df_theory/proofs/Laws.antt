@@ -53,11 +53,12 @@ pub use Rattle.df_theory.proofs.Grew.{next_grew}
 pub use Rattle.df_theory.proofs.Grouped.{group_from, group_holds, same_group}
 pub use Rattle.df_theory.proofs.Hurts.{pool_pools}
 pub use Rattle.df_theory.proofs.Images.{IsOpen, bears_open, chosen_same}
-pub use Rattle.df_theory.proofs.Mends.{IsUnderWay, header_steps_miss, is_mend, missed, under_way_still}
+pub use Rattle.df_theory.proofs.Mends.{IsUnderWay, half_way, header_steps_miss, is_mend, missed, under_way_still}
 pub use Rattle.df_theory.proofs.Once.{last_of, no_mark, one_stored, stored_op}
 pub use Rattle.df_theory.proofs.OneFound.{one_view}
+pub use Rattle.df_theory.proofs.WholeGroups.{no_gap}
 pub use Rattle.df_theory.proofs.SameView.{view_is_found}
-pub use Rattle.df_theory.proofs.Past.{HasGap, IsNew, appended_clear, next_in, no_made, same_slot}
+pub use Rattle.df_theory.proofs.Past.{HasGap, IsNew, gap_left, appended_clear, next_in, no_made, same_slot}
 pub use Rattle.df_theory.proofs.Pinned.{same_named}
 pub use Rattle.df_theory.proofs.SampleFiles.{all_reserved, bare, copies_of, first_of, is_first_bare, is_first_of, layout, made_of, making_of, puts_reserved, reserved, sector, shape_of, tidy_of}
 pub use Rattle.df_theory.proofs.SampleSteps.{copies_are, grouped, header_put, may_append, may_append_pair, may_raise, prepare_put, quiet_updated}

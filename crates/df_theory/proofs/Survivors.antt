@@ -71,6 +71,13 @@ first = grouped 41 0 7 1 1
 abbrev second : Message
 second = grouped 42 41 8 2 1
 
+-- and as they are written anew
+abbrev third : Message
+third = grouped 43 0 7 1 2
+
+abbrev fourth : Message
+fourth = grouped 44 43 8 2 2
+
 abbrev group : List Message
 group = pair 41 42 1
 
@@ -146,12 +153,6 @@ log4 = after_steps boot2.steps log3
 
 leads4 : LeadsTidily shape log3 (view 51 1) boot2
 leads4 = (tidy_boot_law shape log3 (view 51 1) (content 52 2) (copies_of (content 52 2)) (record { rests = rests3; quiet = λ place wet. absurd (let no_unit : false ≡ true = wet in cc); whole = whole3 }) (may_boot 51 52 1 (omega arith))).0
-
-abbrev third : Message
-third = grouped 43 0 7 1 2
-
-abbrev fourth : Message
-fourth = grouped 44 43 8 2 2
 
 abbrev again : List Message
 again = pair 43 44 2

@@ -65,14 +65,7 @@ module _ (command : Command) (s t : Replica) (old new : Option Told) (written to
   pub printed_is : (x : Answer) → Makes command s t old new (Some x) → (turn : Turn) → IsPrinted (answer_text command x) written took turn → Answers command s t old new written took turn
   printed_is x makes GoesOn printed = (x, makes, printed)
   printed_is x makes (Ends WriteFault) printed = inl (x, makes, printed)
-  printed_is x makes (Ends Done) printed = absurd printed
-  printed_is x makes (Ends Found) printed = absurd printed
-  printed_is x makes (Ends Words) printed = absurd printed
-  printed_is x makes (Ends Script) printed = absurd printed
-  printed_is x makes (Ends Refused) printed = absurd printed
-  printed_is x makes (Ends DiskFault) printed = absurd printed
-  printed_is x makes (Ends ReadFault) printed = absurd printed
-  printed_is x makes (Ends Memory) printed = absurd printed
+  printed_is x makes turn printed = absurd printed
 
   -- the disk failed in it
   pub failed_is : Makes command s t old new None → (turn : Turn) → (turn ≡ Ends DiskFault) × (took ≡ written) → Answers command s t old new written took turn
@@ -164,9 +157,4 @@ module _ (said : Said) (command : Command) (asks : commands_of said ≡ command 
   serves_line written took (Ends Refused) did = line_damaged (λ line. Appends written took line) did
   serves_line written took (Ends WriteFault) (inl did) = inl (line_answered (λ line. AppendsPart written took line) did)
   serves_line written took (Ends WriteFault) (inr did) = inr (line_damaged (λ line. AppendsPart written took line) did)
-  serves_line written took (Ends Done) did = absurd did
-  serves_line written took (Ends Found) did = absurd did
-  serves_line written took (Ends Words) did = absurd did
-  serves_line written took (Ends Script) did = absurd did
-  serves_line written took (Ends ReadFault) did = absurd did
-  serves_line written took (Ends Memory) did = absurd did
+  serves_line written took turn did = absurd did

@@ -26,13 +26,7 @@ pub ends_refused : (bound : ℕ) (old new : State) → new.outside.told ≡ old.
     → RefusesLine old.lines old.outside.written new.outside.written status → EndsIn bound old new status
 ends_refused bound old new same one refused Script wrote = ends_script bound old new same one refused wrote
 ends_refused bound old new same one refused WriteFault wrote = ends_script_fault bound old new same one refused wrote
-ends_refused bound old new same one refused Done wrote = absurd wrote
-ends_refused bound old new same one refused Found wrote = absurd wrote
-ends_refused bound old new same one refused Words wrote = absurd wrote
-ends_refused bound old new same one refused Refused wrote = absurd wrote
-ends_refused bound old new same one refused DiskFault wrote = absurd wrote
-ends_refused bound old new same one refused ReadFault wrote = absurd wrote
-ends_refused bound old new same one refused Memory wrote = absurd wrote
+ends_refused bound old new same one refused status wrote = absurd wrote
 
 -- what the reader refuses is refused
 pub refused_next : (outside : Outside) (left : Option (List ℕ)) (old : Session) (room : Room) → EndedIsEnd old outside.left

@@ -14,7 +14,7 @@ use Rattle.df_layout.specs.declared.places.Zone.TheVariants.{WalHeaders}
 use Rattle.df_quorum.specs.Quorum.{AreMembers}
 use Rattle.df_quorum.proofs.Laws.{one_law}
 use Rattle.df_replica.proofs.Laws.{filter_more, one_super, same_file}
-use Rattle.df_replica.specs.Below.{if_wanted, needs_header, slot_mends, IsOpened, memory, reply_sum, shape, spelling, stored_sum, DataFile}
+use Rattle.df_replica.specs.Below.{if_wanted, needs_header, slot_mends, IsOpened, memory, reply_sum, shape, spelling, stored_sum, DataFile, State}
 use Rattle.df_replica.specs.Replica.{Survey, summary_of}
 use Rattle.df_replica.specs.Surveying.{IsMendable, copy_mend_at, mends_of}
 use Rattle.df_script_model.specs.Texts.{body_text, line_of, numbered, spaced}
@@ -92,6 +92,22 @@ mends_same layout image f g m k fields bits =
     (filter_same (λ n. not (get_or m n false)) (λ n. not (get_or k n false)) 4 (λ n below. ap not (bits n below)))
     ∙ ap (λ (x : SuperFields). mends_of layout image x k) fields
 
+-- replicas with the same superblock, and the same in memory, have one summary
+pub summary_same : (s u : State) → s.file ≡ u.file → s.fields ≡ u.fields → memory s ≡ memory u → summary_of s ≡ summary_of u
+summary_same s u file fields known = λ i. record {
+  cluster = (file i).cluster;
+  layout = (file i).layout;
+  sequence = (fields i).sequence;
+  checkpoint_op = (fields i).op;
+  head = (known i).head;
+  replies = (known i).replies;
+  sessions = count i;
+  references = length (known i).blocks.durable;
+}
+  where
+    count : length s.table.sessions ≡ length u.table.sessions
+    count = sym (count_is s.table.sessions) ∙ ap (λ (m : Memory). length m.sessions) known ∙ count_is u.table.sessions
+
 -- ---- the law
 
 module _ (layout : Layout) (image : Image) (s u : Survey) (one : IsOpened layout image s.state) (one_mends : IsMendable layout image s) (other : IsOpened layout image u.state) (other_mends : IsMendable layout image u) where
@@ -116,20 +132,8 @@ module _ (layout : Layout) (image : Image) (s u : Survey) (one : IsOpened layout
   sessions : sessions_of s.state.table.sessions ≡ sessions_of u.state.table.sessions
   sessions = ap (λ (m : Memory). m.sessions) known
 
-  count : length s.state.table.sessions ≡ length u.state.table.sessions
-  count = sym (count_is s.state.table.sessions) ∙ ap length sessions ∙ count_is u.state.table.sessions
-
   summary : summary_of s.state ≡ summary_of u.state
-  summary = λ i. record {
-    cluster = (file i).cluster;
-    layout = (file i).layout;
-    sequence = (fields i).sequence;
-    checkpoint_op = (fields i).op;
-    head = (known i).head;
-    replies = (known i).replies;
-    sessions = count i;
-    references = length (known i).blocks.durable;
-  }
+  summary = summary_same s.state u.state file fields known
 
   lines : each_text session_text 0 s.state.table.sessions ≡ each_text session_text 0 u.state.table.sessions
   lines = texts_same 0 s.state.table.sessions u.state.table.sessions sessions (ap (λ (m : Memory). m.stored) known)

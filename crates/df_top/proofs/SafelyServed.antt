@@ -57,17 +57,7 @@ session_ends n old new turns None cut WriteFault ends = Unwritten refl
 session_ends n old new turns (Some a) cut DiskFault ends = Unserved refl
 session_ends n old new turns (Some a) cut Refused ends = Damaged refl
 session_ends n old new turns (Some a) cut WriteFault ends = Unwritten refl
-session_ends n old new turns None cut Found ends = absurd ends
-session_ends n old new turns None cut Words ends = absurd ends
-session_ends n old new turns None cut Refused ends = absurd ends
-session_ends n old new turns None cut DiskFault ends = absurd ends
-session_ends n old new turns None cut Memory ends = absurd ends
-session_ends n old new turns (Some a) cut Done ends = absurd ends
-session_ends n old new turns (Some a) cut Script ends = absurd ends
-session_ends n old new turns (Some a) cut ReadFault ends = absurd ends
-session_ends n old new turns (Some a) cut Found ends = absurd ends
-session_ends n old new turns (Some a) cut Words ends = absurd ends
-session_ends n old new turns (Some a) cut Memory ends = absurd ends
+session_ends n old new turns failed cut status ends = absurd ends
 
 -- ---- a text that is whole has no line that is refused
 
@@ -83,23 +73,11 @@ whole_uncut layout text rest asked budget whole begins refused =
 run_ends : (run : Generated) (last : Replica) (told : Option Told) (failed : Option Act) (written took : Option (List ℕ)) (status : Status) → Writes run last told failed written took status
     → (status ≡ Done) ⊎ (status ≡ Refused) ⊎ (status ≡ DiskFault) ⊎ (status ≡ WriteFault)
 run_ends run last told None written took Done writes = inl refl
-run_ends run last told None written took Found writes = absurd writes
-run_ends run last told None written took Words writes = absurd writes
-run_ends run last told None written took Script writes = absurd writes
-run_ends run last told None written took Refused writes = absurd writes
-run_ends run last told None written took DiskFault writes = absurd writes
-run_ends run last told None written took ReadFault writes = absurd writes
 run_ends run last told None written took WriteFault writes = inr (inr (inr refl))
-run_ends run last told None written took Memory writes = absurd writes
-run_ends run last told (Some a) written took Done writes = absurd writes
-run_ends run last told (Some a) written took Found writes = absurd writes
-run_ends run last told (Some a) written took Words writes = absurd writes
-run_ends run last told (Some a) written took Script writes = absurd writes
 run_ends run last told (Some a) written took Refused writes = inr (inl refl)
 run_ends run last told (Some a) written took DiskFault writes = inr (inr (inl refl))
-run_ends run last told (Some a) written took ReadFault writes = absurd writes
 run_ends run last told (Some a) written took WriteFault writes = inr (inr (inr refl))
-run_ends run last told (Some a) written took Memory writes = absurd writes
+run_ends run last told failed written took status writes = absurd writes
 
 -- ---- the words
 

@@ -1,5 +1,5 @@
 -- Device calls that are steps lie within the zones of the file, and so do a part of such calls, and some of them behind others.
-use Rattle.std.proofs.Common.{◌≡◌, inl, inr, ℕ, List, [], ◌∷◌, ◌++◌, Option, sym, ◌∙◌, ap, subst, arith}
+use Rattle.std.proofs.Common.{◌≡◌, ◌≤◌, ◌<◌, ◌+◌, inl, inr, ℕ, List, [], ◌∷◌, ◌++◌, Option, sym, ◌∙◌, ap, subst, arith}
 use Rattle.std.proofs.lemmas.Bool.{and_parts, leb-true, ltb-true}
 use Rattle.df_base.specs.Log.{Event, Stop, Sync, Write}
 use Rattle.df_disk.proofs.Laws.{after_append}
@@ -9,6 +9,7 @@ use Rattle.df_format.proofs.Laws.{has-true}
 use Rattle.df_layout.proofs.Laws.{lies_inside}
 use Rattle.df_layout.specs.declared.layout.Layout.{Layout}
 use Rattle.df_theory.specs.Runs.{Puts, Step, Syncs}
+use Rattle.df_units.specs.Bytes.{span_at}
 use Rattle.df_units.specs.Meaning.{place_of}
 use Rattle.df_units.specs.Within.{AddsWithin, AreWithin, PlacesLieInZones, StepsLieWithin}
 
@@ -28,8 +29,8 @@ places_in_zones layout place sector here =
     let parts = and_parts _ _ here in
     let run = and_parts _ _ parts.1 in
     let inside = lies_inside layout (place_of place) (has-true layout (place_of place).zone (place_of place).index parts.0) in
-    let from = leb-true _ _ run.0 in
-    let upto = ltb-true _ _ run.1 in
+    let from : (span_at layout place).first ≤ sector = leb-true _ _ run.0 in
+    let upto : sector < (span_at layout place).first + (span_at layout place).count = ltb-true _ _ run.1 in
     (omega (arith, inside.begins, from), omega (arith, inside.ends, upto))
 
 module _ (layout : Layout) where

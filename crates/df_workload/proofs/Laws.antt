@@ -7,7 +7,7 @@ use Rattle.df_workload.specs.Following.{Follows}
 use Rattle.df_workload.specs.Hearing.{heard, stepped, told, told_at}
 use Rattle.df_workload.specs.Sound.{MayBeTold, is_at_end}
 use Rattle.df_workload.specs.declared.outcome.Outcome.{Outcome}
-use Rattle.df_workload.specs.declared.outcome.Outcome.TheVariants.{Refused, Accepted, Wrote, Finished}
+use Rattle.df_workload.specs.declared.outcome.Outcome.TheVariants.{Refused}
 use Rattle.df_workload.specs.declared.state.Point.{Point}
 use Rattle.df_workload.specs.declared.state.Point.TheVariants.{Appending, Replying, Stepping, Writing, Releasing, Beginning, Ending}
 use Rattle.df_workload.specs.declared.state.State.{State}
@@ -62,9 +62,7 @@ is_ending Ending is = refl
 
 stepped_point : (o : Outcome) (s : State) → (stepped o s).point ≡ s.point
 stepped_point Refused s = refl
-stepped_point Accepted s = refl
-stepped_point (Wrote a) s = refl
-stepped_point Finished s = refl
+stepped_point o s = refl
 
 -- a step there leads no further
 pub still_ending : (o : Outcome) (s : State) → s.point ≡ Ending → (told o s).point ≡ Ending

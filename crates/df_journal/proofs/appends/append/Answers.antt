@@ -1,13 +1,12 @@
 -- The events are steps, and their moments and their end are those of the theory's append.
-use Rattle.std.proofs.Common.{◌≡◌, ◌/◌, ◌∷◌, [], ℕ, List, ap, refl, subst, sym}
-use Rattle.std.specs.Prelude.{Err}
+use Rattle.std.proofs.Common.{◌/◌, ◌∷◌, [], ap, subst, sym}
 use Rattle.df_layout.specs.declared.layout.Layout.{Layout}
 use Rattle.df_disk.proofs.Laws.{adds_part}
 use Rattle.df_format.specs.declared.header.Header.{Header}
 use Rattle.df_headers.specs.Ring.{IsTable}
 use Rattle.df_journal.specs.Append.{journal_events}
 use Rattle.df_journal.proofs.Moments.{append_steps, ends_of, moments_of, sector_of_ring}
-use Rattle.df_journal.proofs.Settling.{both_add, put_fails}
+use Rattle.df_journal.proofs.RingWrites.{adds_failed, both_add, put_fails}
 use Rattle.df_journal.proofs.appends.append.Goals as goal
 
 pub settle-requires-clause-table : goal.settle-requires-clause-table
@@ -19,7 +18,8 @@ pub settle-requires-clause-sectors : goal.settle-requires-clause-sectors
 settle-requires-clause-sectors g c = sector_of_ring c.args.layout.now c.args.room.now.layout c.args.unit.now.unit c.header.result.now c.requires.room c.header.ensures.header c.put.ensures.own
 
 pub returns-in_err-put-clause-events : goal.returns-in_err-put-clause-events
-returns-in_err-put-clause-events g c = put_fails c.args.layout.now c.args.unit.now c.args.table.now _ _ c.in_err-put.ensures.events
+returns-in_err-put-clause-events g c =
+    adds_failed (journal_events c.args.layout.now c.args.unit.now c.args.table.now) (g.D.Disk.told c.args.disk.now) (g.D.Disk.told c.put.new.disk) c.from_residual.result c.from_residual.ensures.0 (put_fails c.args.layout.now c.args.unit.now c.args.table.now (g.D.Disk.told c.args.disk.now) (g.D.Disk.told c.put.new.disk) c.in_err-put.ensures.events)
 
 pub returns-in_err-put-clause-steps : goal.returns-in_err-put-clause-steps
 returns-in_err-put-clause-steps g c = append_steps c.args.layout.now c.args.unit.now.unit c.args.table.now c.put.ensures.own c.requires.table _ c.put.ensures.brings

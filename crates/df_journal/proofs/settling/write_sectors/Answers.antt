@@ -1,14 +1,12 @@
 -- Each turn writes one more sector, or a part of the writes was made.
-use Rattle.std.proofs.Common.{◌≡◌, ◌∙◌, subst, arith}
-use Rattle.df_disk.specs.Adds.{AddsPart, after_all}
-use Rattle.df_layout.specs.declared.layout.Layout.{Layout}
-use Rattle.df_headers.specs.Ring.{sector_events, sector_writes}
+use Rattle.std.proofs.Common.{◌∙◌, refl, arith}
+use Rattle.df_headers.specs.Ring.{sector_writes}
 use Rattle.df_headers.proofs.Laws.{table_written}
-use Rattle.df_journal.proofs.Settling.{in_ring, in_table, leads_end, leads_first, may_write, turn_fails, turn_leads}
+use Rattle.df_journal.proofs.RingWrites.{adds_failed, in_ring, in_table, leads_end, leads_first, may_write, turn_fails, turn_leads}
 use Rattle.df_journal.proofs.settling.write_sectors.Goals as goal
 
-pub loop-i-enters : goal.loop-i-enters
-loop-i-enters g c = record { within = omega arith; room = refl; leads = leads_first _ _; faults = refl }
+pub loop-i-init : goal.loop-i-init
+loop-i-init g c = record { within = omega arith; room = refl; leads = leads_first _ _; faults = refl }
 
 pub write_sector-requires-clause-sector : goal.write_sector-requires-clause-sector
 write_sector-requires-clause-sector g c = in_table c.args.room.now.layout c.args.table.now c.args.sectors.now c.loop-i.i _ (omega (arith, c.loop-i-test.true)) c.requires.table.0 c.requires.table.1 c.requires.sectors
@@ -23,15 +21,14 @@ write_sector-requires-clause-sealed g c =
 
 pub returns-in_err-write_sector-clause-events : goal.returns-in_err-write_sector-clause-events
 returns-in_err-write_sector-clause-events g c =
-    turn_fails c.args.room.now.layout c.args.table.now c.args.sectors.now c.loop-i.i _ (omega (arith, c.loop-i-test.true)) _ _ (g.D.Disk.told c.loop-i.disk) _ c.loop-i.invariant.leads
-    (subst (λ (l : Layout). AddsPart (sector_events l _ c.args.table.now) (g.D.Disk.told c.loop-i.disk) (g.D.Disk.told c.write_sector.new.disk)) c.loop-i.invariant.room c.in_err-write_sector.ensures.events)
+    adds_failed _ _ _ _ c.from_residual.ensures.0
+    (turn_fails c.args.room.now.layout c.args.table.now c.args.sectors.now c.loop-i.i _ (omega (arith, c.loop-i-test.true)) c.loop-i.room.layout _ _ (g.D.Disk.told c.loop-i.disk) (g.D.Disk.told c.write_sector.new.disk) c.loop-i.invariant.room c.loop-i.invariant.leads c.in_err-write_sector.ensures.events)
 
 pub loop-i-preserved : goal.loop-i-preserved
 loop-i-preserved g c = record {
   within = omega (arith, c.loop-i-test.true);
   room = c.write_sector.ensures.room ∙ c.loop-i.invariant.room;
-  leads = turn_leads c.args.room.now.layout c.args.table.now c.args.sectors.now c.loop-i.i _ (omega (arith, c.loop-i-test.true)) _ _ (g.D.Disk.told c.loop-i.disk) (g.D.Disk.told c.write_sector.new.disk) c.loop-i.invariant.leads
-      (subst (λ (l : Layout). g.D.Disk.told c.write_sector.new.disk ≡ after_all (sector_events l _ c.args.table.now) (g.D.Disk.told c.loop-i.disk)) c.loop-i.invariant.room c.in_ok-write_sector.ensures.events);
+  leads = turn_leads c.args.room.now.layout c.args.table.now c.args.sectors.now c.loop-i.i _ (omega (arith, c.loop-i-test.true)) c.loop-i.room.layout _ _ (g.D.Disk.told c.loop-i.disk) (g.D.Disk.told c.write_sector.new.disk) c.loop-i.invariant.room c.loop-i.invariant.leads c.in_ok-write_sector.ensures.events;
   faults = c.in_ok-write_sector.ensures.cause.same ∙ c.loop-i.invariant.faults;
 }
 

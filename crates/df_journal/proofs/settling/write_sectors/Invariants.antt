@@ -1,7 +1,7 @@
 -- All writes from the start are those from this sector on, behind what was told.
 use Rattle.std.proofs.Common.{◌≡◌, ◌≤◌, ◌-◌, length, drop}
 use Rattle.df_headers.specs.Ring.{sector_writes}
-use Rattle.df_journal.proofs.Settling.{LeadsAs}
+use Rattle.df_journal.proofs.RingWrites.{LeadsAs}
 use Rattle.df_journal.proofs.settling.write_sectors.Given as goal
 
 abbrev pub invariant-loop-i : goal.invariant-loop-i

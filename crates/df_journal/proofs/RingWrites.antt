@@ -1,7 +1,8 @@
 -- The device calls of a settling, sector by sector, and of a put with a settling behind it.
-use Rattle.std.specs.Prelude.{Result, Ok, Err, OnOk, OnErr}
+use Rattle.std.specs.Prelude.{Result, Ok, Err, IsErr, OnOk, OnErr}
 use Rattle.std.proofs.Common.{◌≡◌, inl, ℕ, zero, suc, ◌+◌, ◌*◌, ◌/◌, ◌<◌, ◌≤◌, List, [], ◌∷◌, ◌++◌, length, drop, slice_index_or, Option, Some, refl, sym, ◌∙◌, ap, subst, arith}
 use Rattle.std.specs.List.{slice_get}
+use Rattle.std.proofs.lemmas.Bool.{false≢true}
 use Rattle.std.proofs.lemmas.Option.{same_Some, slice_get-get_or}
 use Rattle.df_base.specs.declared.Failed.{Failed}
 use Rattle.df_base.specs.Log.{Event, Sync}
@@ -16,11 +17,15 @@ use Rattle.df_theory.specs.Runs.{Syncs}
 use Rattle.df_theory.proofs.Laws.{steps_join_law}
 use Rattle.df_units.specs.Format.{format_of}
 use Rattle.df_headers.specs.Ring.{AreOfRing, IsTable, sector_events, sector_writes, write_steps}
-use Rattle.df_headers.proofs.Laws.{table_written, writes_are_steps}
+use Rattle.df_headers.proofs.Laws.{writes_are_steps}
 use Rattle.df_prepares.specs.Slots.{put_events}
 use Rattle.df_journal.specs.Append.{journal_events, settle_events, settle_steps, with_header}
 
--- ---- a sync
+-- ---- calls that fail, and a sync
+
+pub adds_failed : {T E : Type 0} → (es : List Event) (old new : Option Told) (result : Result T E) → IsErr result → AddsPart es old new → Adds es old new result
+adds_failed es old new (Ok x) failed part = absurd (false≢true failed)
+adds_failed es old new (Err e) failed part = part
 
 pub sync_adds : {T E : Type 0} → (old new : Option Told) (result : Result T E) → OnOk result (new ≡ after Sync old) → OnErr result (new ≡ old) → Adds (Sync ∷ []) old new result
 sync_adds old new (Ok x) ok err = ok
@@ -78,16 +83,16 @@ module _ (layout : Layout) (table : List Header) (sectors : List ℕ) (k past : 
   pub may_write : (cluster : ℕ) → IsTable layout cluster table → AreOfRing layout sectors → IsTable layout cluster table × (at_k < layout.slots / 16)
   may_write cluster is are = (is, are k at_k there)
 
-  pub turn_leads : (all : List Event) (old mid new : Option Told) → LeadsAs all (sector_writes layout table (drop k sectors)) old mid → new ≡ after_all (sector_events layout at_k table) mid
+  pub turn_leads : (room : Layout) (all : List Event) (old mid new : Option Told) → room ≡ layout → LeadsAs all (sector_writes layout table (drop k sectors)) old mid → new ≡ after_all (sector_events room at_k table) mid
       → LeadsAs all (sector_writes layout table (drop (k + 1) sectors)) old new
-  turn_leads all old mid new before turn =
+  turn_leads room all old mid new here before turn =
       leads_more all (sector_events layout at_k table) (sector_writes layout table (drop (k + 1) sectors)) old mid new
-      (subst (λ (es : List Event). LeadsAs all es old mid) (writes_from layout table sectors k at_k there) before) turn
+      (subst (λ (es : List Event). LeadsAs all es old mid) (writes_from layout table sectors k at_k there) before) (subst (λ (l : Layout). new ≡ after_all (sector_events l at_k table) mid) here turn)
 
-  pub turn_fails : (all : List Event) (old mid new : Option Told) → LeadsAs all (sector_writes layout table (drop k sectors)) old mid → AddsPart (sector_events layout at_k table) mid new → AddsPart all old new
-  turn_fails all old mid new before part =
+  pub turn_fails : (room : Layout) (all : List Event) (old mid new : Option Told) → room ≡ layout → LeadsAs all (sector_writes layout table (drop k sectors)) old mid → AddsPart (sector_events room at_k table) mid new → AddsPart all old new
+  turn_fails room all old mid new here before part =
       before.part new (subst (λ (es : List Event). AddsPart es mid new) (sym (writes_from layout table sectors k at_k there))
-      (part_then (sector_events layout at_k table) (sector_writes layout table (drop (k + 1) sectors)) mid new part))
+      (part_then (sector_events layout at_k table) (sector_writes layout table (drop (k + 1) sectors)) mid new (subst (λ (l : Layout). AddsPart (sector_events l at_k table) mid new) here part)))
 
 pub leads_end : (layout : Layout) (table : List Header) (sectors : List ℕ) (k : ℕ) (all : List Event) (old mid : Option Told) → length sectors ≤ k → LeadsAs all (sector_writes layout table (drop k sectors)) old mid → mid ≡ after_all all old
 leads_end layout table sectors k all old mid past leads =
