@@ -33,7 +33,7 @@ use Rattle.df_theory.specs.Found.{IsFound}
 use Rattle.df_theory.specs.Holds.{Held}
 use Rattle.df_theory.specs.Next.{appended}
 use Rattle.df_theory.specs.Shape.{slots}
-use Rattle.df_theory.specs.View.{Checkpoint, View, head}
+use Rattle.df_theory.specs.View.{Checkpoint, View, boot_of, head}
 use Rattle.df_theory.proofs.Laws.{clear_slot_law, found_law, slot_law}
 use Rattle.df_units.specs.Append.{LeadsOnDisk, append_events}
 use Rattle.df_units.specs.Bytes.{first_at, unit_at}
@@ -112,12 +112,13 @@ stays layout cluster named parse image v u whole held same low high =
     let units = unit_at layout cluster image in
     let found : IsFound sh units u = (found_law sh units u).0 held in
     let version = found.checkpoint.tests.of.one found.checkpoint.tests.version in
+    let boot : boot_of u ≡ boot_of v = ap (λ (c : Checkpoint). c.content.boot) same in
     let places = of_places layout cluster named parse image whole in
     let op : u.checkpoint.content.op ≡ v.checkpoint.content.op = ap (λ (c : Checkpoint). c.content.op) same in
-    let slot : (o : ℕ) → v.checkpoint.content.op < o → o ≤ v.checkpoint.content.op + slots sh → (o ≤ head u → IsTake (decision (slots sh) 0 units o)) × (head u < o → IsEmpty (decision (slots sh) 0 units o)) = λ o above within.
+    let slot : (o : ℕ) → v.checkpoint.content.op < o → o ≤ v.checkpoint.content.op + slots sh → (o ≤ head u → IsTake (decision (slots sh) (boot_of v) units o)) × (head u < o → IsEmpty (decision (slots sh) (boot_of v) units o)) = λ o above within.
     let law = slot_law sh units u o places found (omega (arith, above, op)) (omega (arith, within, op)) in (
-      λ le. subst (λ (b : ℕ). IsTake (decision (slots sh) b units o)) version.0 (law.0 (omega (arith, version.1, above, op)) le),
-      λ less. subst (λ (b : ℕ). IsEmpty (decision (slots sh) b units o)) version.0 (clear_slot_law sh units u o places found version.0 less (omega (arith, within, op))),
+      λ le. subst (λ (b : ℕ). IsTake (decision (slots sh) b units o)) boot (law.0 (omega (arith, version.1, above, op)) le),
+      λ less. subst (λ (b : ℕ). IsEmpty (decision (slots sh) b units o)) boot (clear_slot_law sh units u o places found version.0 less (omega (arith, within, op))),
     ) in
     record {
       taken = λ o above le. (slot o above (omega (arith, le, low, op, found.tail.room))).0 (omega (arith, le, low));

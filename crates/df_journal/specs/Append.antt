@@ -16,7 +16,7 @@ use Rattle.df_theory.specs.Next.{MayAppend, appended}
 use Rattle.df_theory.specs.Runs.{Step, Syncs}
 use Rattle.df_theory.specs.Shape.{Shape, slots}
 use Rattle.df_theory.specs.TidyLaws.{IsTidy}
-use Rattle.df_theory.specs.View.{View, head}
+use Rattle.df_theory.specs.View.{View, boot_of, head}
 use Rattle.df_units.specs.Meaning.{header_of, message_of}
 use Rattle.df_units.specs.Bytes.{unit_at}
 use Rattle.df_units.specs.Format.{format_of, shape_of}
@@ -61,10 +61,10 @@ pub record MayAppendOn (layout : Layout) (u : Message) (table : List Header) (t 
   pub may : MayAppend (shape_of layout u.header.cluster named parse) view (message_of u ∷ [])
   pub ring : ShowsRing layout u.header.cluster (Log.now t.log) table
 
--- every slot but that of the next op stays taken or stays empty; what is to be mended may change
+-- in the view's boot every slot but that of the next op stays taken or stays empty; what is to be mended may change
 pub record OthersStay (sh : Shape) (image : Units.Units) (v : View) : Type 0 where
-  pub taken : (o : ℕ) → v.checkpoint.content.op < o → o ≤ head v → IsTake (decision (slots sh) 0 image o)
-  pub empty : (o : ℕ) → head v + 1 < o → o ≤ v.checkpoint.content.op + slots sh → IsEmpty (decision (slots sh) 0 image o)
+  pub taken : (o : ℕ) → v.checkpoint.content.op < o → o ≤ head v → IsTake (decision (slots sh) (boot_of v) image o)
+  pub empty : (o : ℕ) → head v + 1 < o → o ≤ v.checkpoint.content.op + slots sh → IsEmpty (decision (slots sh) (boot_of v) image o)
 
 -- at a moment of the append the log is good for the view before it and the one behind it, and in whatever a stop leaves, under no chance, every other slot stays taken or stays empty
 pub record Leaves (layout : Layout) (u : Message) (table : List Header) (t : Told) (may : MayAppendOn layout u table t) (log : Log.Log) : Type 0 where

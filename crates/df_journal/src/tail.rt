@@ -83,7 +83,7 @@ pub fn find_tail(
     requires checksum { IsCheck checksum.now }
     requires places { sessions.old.max ≡ layout.now.clients }
     ensures tail { (sh : Shape) (image : Units) (b : Checkpoint) → Tells layout.now image found.now
-        → StartsAt sh b layout.now found.now.start.op checksum.now sessions.old.sessions → FindsTail sh image b result sessions.new.sessions }
+        → StartsAt sh b layout.now found.now.start checksum.now sessions.old.sessions → FindsTail sh image b result sessions.new.sessions }
     ensures from { found.now.start.op ≤ result.op }
     ensures within { result.op ≤ found.now.start.op + layout.now.slots }
     ensures most { result.op ≤ 2 ^ 62 }

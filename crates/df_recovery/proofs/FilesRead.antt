@@ -32,6 +32,7 @@ use Rattle.df_recovery.specs.Checkpoints.{Base, base_of}
 use Rattle.df_recovery.specs.Finding.{FileIsRead, IsOfFile, Read, lowest_of, or_first}
 use Rattle.df_state.specs.State.{shape}
 use Rattle.df_state.specs.declared.file.DataFile.{DataFile}
+use Rattle.df_recovery.proofs.Starts.{version_one}
 use Rattle.df_recovery.proofs.Written.{super_is_written}
 
 -- ---- the lowest member
@@ -145,7 +146,7 @@ module _ (t : Told) (file : DataFile) (read : Read) (base : Base) (is : IsOfFile
 
 pub file_is_read : FileIsRead
 file_is_read t file read base is = record {
-  tells = subst (λ (image : Units.Units). Tells read.layout image read.slots) same (slots_shown read.layout t read.slots is.scanned.slots);
+  tells = subst (λ (image : Units.Units). Tells read.layout image read.slots) same (slots_shown read.layout t read.slots (version_one read.slots.start read.found.content is.start) is.scanned.slots);
   shows = subst (λ (image : Units.Units). ShowsReplies image read.replies) same (replies_shown read.layout read.slots.start.cluster t read.replies is.scanned.replies);
   slots_are = ap (λ (l : Layout). l.slots) (sym is.layout);
   clients_are = ap (λ (l : Layout). l.clients) (sym is.layout);

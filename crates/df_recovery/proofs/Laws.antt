@@ -11,3 +11,5 @@ pub use Rattle.df_recovery.proofs.Plans.{filter_more, slot_mends_more}
 pub use Rattle.df_recovery.proofs.Waits.{waiting_count}
 -- ---- what was scanned is of its file
 pub use Rattle.df_recovery.proofs.Scans.{scanned_of_file}
+-- ---- a scan behind a superblock is one of version 1
+pub use Rattle.df_recovery.proofs.Starts.{version_one}

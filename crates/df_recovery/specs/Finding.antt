@@ -34,6 +34,7 @@ use Rattle.df_checkpoint.specs.Reads.{blocks_read}
 use Rattle.df_recovery.specs.Checkpoints.{Base, HasCheckpoint, base_of}
 use Rattle.df_recovery.specs.Waiting.{waiting_in, waiting_sum}
 use Rattle.df_recovery.specs.Found.{IsChoiceOf}
+use Rattle.df_recovery.specs.Starting.{start_of}
 use Rattle.df_recovery.specs.Surveys.{HasFile, Surveys, class_there}
 use Rattle.df_state.specs.declared.file.DataFile.{DataFile}
 use Rattle.df_recovery.specs.declared.superblock.Found.{Found}
@@ -144,7 +145,7 @@ pub record IsOfFile (t : Told) (file : DataFile) (read : Read) (base : Base) : T
   pub chosen_is : read.found.content ≡ read.found.chosen.content
   pub layout : read.layout ≡ file.layout
   pub cluster : read.slots.start.cluster ≡ file.cluster
-  pub op : read.slots.start.op ≡ read.found.content.op
+  pub start : read.slots.start ≡ start_of read.found.content
   pub scanned : IsScannedFrom t read
   pub checkpoint : HasCheckpoint file (unit_at file.layout file.cluster t.shown) read.found.content base
   pub sessions : base.sessions ≡ read.sessions

@@ -6,12 +6,13 @@ ghost use Rattle.df_sessions.specs.Requests.{sessions_of};
 ghost use Rattle.df_theory.specs.Sessions.{Tracks};
 ghost use Rattle.df_theory.specs.Units.{CopyPlace, PreparePlace, ReplyPlace, Units};
 ghost use Rattle.df_journal.specs.Counts.{CountsAll};
-ghost use Rattle.df_journal.specs.Scan.{entry};
+ghost use Rattle.df_journal.specs.Scan.{IsOfVersionOne, entry};
 ghost use Rattle.df_journal.specs.Seen.{class_of};
 ghost use Rattle.df_journal.specs.Tail.{AreNumbered, AreUnstored};
 ghost use Rattle.df_journal.specs.Shows.{IsTable, ShowsTable};
 ghost use Rattle.df_replies.specs.Shown.{ShowsReplies};
 ghost use Rattle.df_recovery.specs.Finding.{Answers, FileIsRead, IsDamage, KeptIsAnswer, RefusedIsAnswer, StateIsOpened, damage, lowest_of};
+ghost use Rattle.df_recovery.specs.Starting.{start_of};
 ghost use Rattle.df_state.specs.State.{AreAsked};
 
 use crate::{Found, OpenError};
@@ -80,9 +81,9 @@ fn reply_damage(lacking: &Lacking) -> OpenError
     damage(Zone::ClientReplies, lacking.place, lacking.class)
 }
 
-// The counters of all units, in the rings and in the reply slots.
+// The counters of all units, in the rings and in the reply slots, of a file of version 1.
 fn count_all(slots: &SlotTable, replies: &ReplyTable) -> Counters
-    ensures { (image : Units) → ShowsTable image slots.now.slots → ShowsReplies image replies.now → CountsAll image result }
+    ensures { (image : Units) → IsOfVersionOne slots.now.start → ShowsTable image slots.now.slots → ShowsReplies image replies.now → CountsAll image slots.now.start.boot result }
 {
     replies.count(&count_rings(slots))
 }
@@ -98,7 +99,7 @@ pub fn find_state(
     sessions: &mut SessionTable,
 ) -> Result<Traces, OpenError>
     requires table { IsTable layout.now slots.now.start.cluster slots.now.slots }
-    requires start { slots.now.start.op ≡ found.now.content.op }
+    requires start { slots.now.start ≡ start_of found.now.content }
     requires replies { length replies.now ≡ layout.now.clients }
     requires places { sessions.old.max ≡ layout.now.clients }
     ensures answer { Answers (record { layout = layout.now; found = found.now; slots = slots.now; replies = replies.now; sessions = sessions.old.sessions })

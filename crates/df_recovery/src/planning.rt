@@ -132,7 +132,7 @@ fn plan_slot(
     requires room { vec_len mends.old < vec_capacity mends.old }
     ensures header { PutsHeader cluster found.now slot headers.old headers.new }
     ensures list { (layout : AnyLayout) (image : Units) → Tells layout image found.now
-        → mends.new.items ≡ mends.old.items ++ if_wanted (needs_header layout found.now.start.op image slot) (slot_mend (shown_class found.now) slot) }
+        → mends.new.items ≡ mends.old.items ++ if_wanted (needs_header layout found.now.start image slot) (slot_mend (shown_class found.now) slot) }
     ensures len { vec_len mends.new ≤ vec_len mends.old + 1 }
     ensures room { vec_capacity mends.new ≡ vec_capacity mends.old }
 {
@@ -161,7 +161,7 @@ pub fn plan(
     requires room { layout.now.slots + 4 ≤ vec_capacity mends.old }
     ensures table { IsTable layout.now cluster headers.new }
     ensures tells { (sh : Shape) (image : Units) (v : View) → IsScanOf layout.now sh image v found.now → IsSlotTable sh image v (headers_in headers.new) }
-    ensures whole { (sh : Shape) (image : Units) (v : View) → IsScanOf layout.now sh image v found.now → AreDistinct image → OthersAreShown layout.now found.now.start.op image (headers_in headers.new) }
+    ensures whole { (sh : Shape) (image : Units) (v : View) → IsScanOf layout.now sh image v found.now → AreDistinct image → OthersAreShown layout.now found.now.start image (headers_in headers.new) }
     ensures lists { (image : Units) → Tells layout.now image found.now → mends.new.items ≡ mend_list layout.now found.now image copies.now members.now }
     ensures room { vec_capacity mends.new ≡ vec_capacity mends.old }
 {

@@ -110,9 +110,12 @@ fn scan_log<D: Disk>(
     ensures cause { IsBlamed is_open_fault (D.faults disk.old) (D.faults disk.new) (without_rooms result) }
 {
     let fields = copies.found.content.fields();
+    // The superblock of a file of version 1 names no head above its op, and no boot.
     let start = Start {
         cluster: fields.cluster,
         op: fields.op,
+        head: fields.op,
+        boot: 0,
     };
     let (log, done) = scan_zones(disk, &start, log);
     let Checkpoint {

@@ -196,7 +196,7 @@ planned_same file table mends f members t base same plan =
       copies = plan.copies;
       super = plan.super;
       members_are = plan.members_are;
-      op = plan.op;
+      start = plan.start;
       scanned = plan.scanned;
       planned = plan.planned;
     } in

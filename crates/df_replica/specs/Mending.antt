@@ -31,6 +31,7 @@ use Rattle.df_superblock.specs.Steps.{repaired}
 use Rattle.df_state.specs.declared.file.DataFile.{DataFile}
 use Rattle.df_recovery.specs.Opening.{HasSuper}
 use Rattle.df_recovery.specs.Plan.{AreDistinct, IsScanOf, OthersAreShown, headers_in, if_wanted, mend_list}
+use Rattle.df_recovery.specs.Starting.{start_of}
 use Rattle.df_replica.specs.Following.{MayOpen}
 use Rattle.df_replica.specs.Serving.{Grade, StandingFor, StandsFor, format}
 use Rattle.df_recovery.specs.declared.scanned.Scanned.{Scanned}
@@ -108,7 +109,7 @@ pub record IsMended (g : Grade) (file : DataFile) (view : View) (table : List He
 pub record ArePlannedFrom (layout : Layout) (cluster : ℕ) (scan : Scan) (copies : List Slot) (members : List Bool) (table : List Header) (mends : List Mend) : Type 0 where
   pub is_table : IsTable layout cluster table
   pub from : (sh : Shape) (image : Units) (v : View) → IsScanOf layout sh image v scan → IsSlotTable sh image v (headers_in table)
-  pub others : (sh : Shape) (image : Units) (v : View) → IsScanOf layout sh image v scan → AreDistinct image → OthersAreShown layout scan.start.op image (headers_in table)
+  pub others : (sh : Shape) (image : Units) (v : View) → IsScanOf layout sh image v scan → AreDistinct image → OthersAreShown layout scan.start image (headers_in table)
   pub list : (image : Units) → Tells layout image scan → mends ≡ mend_list layout scan image copies members
 
 -- what a survey hands out is planned from what was read
@@ -124,7 +125,7 @@ pub record IsPlanned (file : DataFile) (table : List Header) (mends : List Mend)
   pub copies : List Slot
   pub super : HasSuper t.shown f
   pub members_are : AreMembers (content_at t.shown) super.content members
-  pub op : scan.start.op ≡ f.op
+  pub start : scan.start ≡ start_of f
   pub scanned : Tells file.layout (unit_at file.layout file.cluster t.shown) scan
   pub planned : ArePlannedFrom file.layout file.cluster scan copies members table mends
 

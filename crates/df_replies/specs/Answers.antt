@@ -67,7 +67,6 @@ LacksHere ss n replies (Some lacking) = IsFirstLacking ss n replies lacking
 
 -- the content names no reply, as in version 1: whatever answers a session's last request will do
 pub record NamesNone (c : Content) : Type 0 where
-  pub boot : c.boot ≡ 0
   pub answered : c.answered ≡ 0
 
 -- each stored reply is shown

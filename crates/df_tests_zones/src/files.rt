@@ -105,7 +105,12 @@ pub(crate) fn tried(
     let mut found = SlotTable::over(vec![in alloc; blank; layout.slots as usize]?);
     let mut sector: Raw<HeaderSector> = Raw::reserve(alloc, layout)?;
     let room: Raw<Prepare> = Raw::reserve(alloc, layout)?;
-    let start = Start { cluster: 7, op };
+    let start = Start {
+        cluster: 7,
+        op,
+        head: op,
+        boot: 0,
+    };
     let (_, done) = scan(disk, layout, &start, &mut found, &mut sector, room);
     Ok((found, done))
 }

@@ -14,7 +14,7 @@ use Rattle.df_layout.specs.declared.places.Zone.TheVariants.{WalHeaders}
 use Rattle.df_quorum.specs.Quorum.{AreMembers}
 use Rattle.df_quorum.proofs.Laws.{one_law}
 use Rattle.df_replica.proofs.Laws.{filter_more, one_super, same_file}
-use Rattle.df_replica.specs.Below.{if_wanted, needs_header, slot_mends, IsOpened, memory, reply_sum, shape, spelling, stored_sum, DataFile, State}
+use Rattle.df_replica.specs.Below.{if_wanted, needs_header, slot_mends, start_of, IsOpened, memory, reply_sum, shape, spelling, stored_sum, DataFile, State}
 use Rattle.df_replica.specs.Replica.{Survey, summary_of}
 use Rattle.df_replica.specs.Surveying.{IsMendable, copy_mend_at, mends_of}
 use Rattle.df_script_model.specs.Texts.{body_text, line_of, numbered, spaced}
@@ -88,7 +88,7 @@ members_same image c d m k same one other n below =
 
 mends_same : (layout : Layout) (image : Image) (f g : SuperFields) (m k : List Bool) → f ≡ g → ((n : ℕ) → n < 4 → get_or m n false ≡ get_or k n false) → mends_of layout image f m ≡ mends_of layout image g k
 mends_same layout image f g m k fields bits =
-    ap (λ (ns : List ℕ). map (copy_mend_at image) ns ++ slot_mends (needs_header layout f.op (unit_at layout f.cluster image)) (λ s. class_at layout f.cluster image (place_in WalHeaders s)) layout.slots)
+    ap (λ (ns : List ℕ). map (copy_mend_at image) ns ++ slot_mends (needs_header layout (start_of f) (unit_at layout f.cluster image)) (λ s. class_at layout f.cluster image (place_in WalHeaders s)) layout.slots)
     (filter_same (λ n. not (get_or m n false)) (λ n. not (get_or k n false)) 4 (λ n below. ap not (bits n below)))
     ∙ ap (λ (x : SuperFields). mends_of layout image x k) fields
 
