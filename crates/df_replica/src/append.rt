@@ -70,16 +70,16 @@ impl Replica {
         ensures rules { ObeysRules (for_body result body.now) }
         ensures own { IsSome (own_place self.now.file.layout WalPrepares result) }
     {
-        let parent = self.head_checksum;
+        let parent = self.parts.head_checksum;
         Header {
             parent,
             client,
-            op: self.head + 1,
+            op: self.parts.head + 1,
             request,
-            mark: self.replies,
-            checkpoint: self.content.fields().sequence,
-            slot: ((self.head + 1) % u64::from(self.file.layout.slots)) as u32,
-            ..Header::of(Kind::Prepare, self.file.cluster)
+            mark: self.parts.replies,
+            checkpoint: self.parts.content.fields().sequence,
+            slot: ((self.parts.head + 1) % u64::from(self.parts.file.layout.slots)) as u32,
+            ..Header::of(Kind::Prepare, self.parts.file.cluster)
         }
     }
 
@@ -88,13 +88,13 @@ impl Replica {
         ensures { AreCounters (memory self.now) result }
     {
         Counters {
-            op: self.content.fields().op,
-            head: self.head,
-            replies: self.replies,
-            sessions: self.sessions.len(),
-            places: u64::from(self.file.layout.clients),
-            slots: u64::from(self.file.layout.slots),
-            message_room: u64::from(self.file.layout.message_size) - 256,
+            op: self.parts.content.fields().op,
+            head: self.parts.head,
+            replies: self.parts.replies,
+            sessions: self.parts.sessions.len(),
+            places: u64::from(self.parts.file.layout.clients),
+            slots: u64::from(self.parts.file.layout.slots),
+            message_room: u64::from(self.parts.file.layout.message_size) - 256,
         }
     }
 
@@ -105,8 +105,8 @@ impl Replica {
         ensures table { IsSessions self.now.table }
     {
         // The table is one.
-        let _count = self.sessions.len();
-        let last = session_of(&self.sessions, client);
+        let _count = self.parts.sessions.len();
+        let last = session_of(&self.parts.sessions, client);
         append_refusal(&self.counters(), last, client, request, size)
     }
 
@@ -126,7 +126,8 @@ impl Replica {
         ensures cause { HasCause (D.faults disk.old) (D.faults disk.new) result }
     {
         let header = self.header_given(client, request, body);
-        append_in(disk, &self.file, header, body, &mut self.rooms)
+        let parts = &mut self.parts;
+        append_in(disk, &parts.file, header, body, &mut parts.rooms)
     }
 
     // Notes a prepare that is durable.
@@ -136,10 +137,12 @@ impl Replica {
         requires sum { IsCheck made.now.checksum }
         ensures { self.new ≡ noted self.old made.now }
     {
-        self.head = made.op;
-        self.head_checksum = made.checksum;
-        self.waiting.push(made.checksum);
-        self.sessions.apply(made.client, made.request, made.op);
+        self.parts.head = made.op;
+        self.parts.head_checksum = made.checksum;
+        self.parts.waiting.push(made.checksum);
+        self.parts
+            .sessions
+            .apply(made.client, made.request, made.op);
     }
 
     // Appends the next prepare.

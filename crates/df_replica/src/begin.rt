@@ -73,11 +73,11 @@ impl Replica {
         ensures { IsPlan self.now root.now result }
     {
         let root = root.len() as u64;
-        let sessions = self.sessions.len();
-        let blocks = self.grid.live_blocks();
+        let sessions = self.parts.sessions.len();
+        let blocks = self.parts.grid.live_blocks();
         Plan {
-            size: trailer_size(&self.file.layout, root, sessions, blocks),
-            blocks: blocks_needed(&self.file.layout, root, sessions, blocks),
+            size: trailer_size(&self.parts.file.layout, root, sessions, blocks),
+            blocks: blocks_needed(&self.parts.file.layout, root, sessions, blocks),
         }
     }
 
@@ -87,7 +87,7 @@ impl Replica {
         ensures state { IsState self.now }
         ensures bytes { AreBytes root.now }
     {
-        if let Some(running) = &self.running {
+        if let Some(running) = &self.parts.running {
             return Err(BeginError::Running {
                 left: steps_left(running),
             });
@@ -96,14 +96,14 @@ impl Replica {
             return Err(BeginError::RootTooLong { max: ROOT as u64 });
         }
         let plan = self.plan(root);
-        let free = self.grid.free();
+        let free = self.parts.grid.free();
         if free < plan.blocks {
             return Err(BeginError::GridFull {
                 needed: plan.blocks,
                 free,
             });
         }
-        if self.content.fields().sequence == GREATEST {
+        if self.parts.content.fields().sequence == GREATEST {
             return Err(BeginError::SequenceSpent);
         }
         Ok(plan)
@@ -116,13 +116,13 @@ impl Replica {
     {
         let capture = Capture {
             root: root_of(root),
-            sessions: sessions_in(&self.sessions),
-            sequence: self.content.fields().sequence + 1,
+            sessions: sessions_in(&self.parts.sessions),
+            sequence: self.parts.content.fields().sequence + 1,
         };
-        self.grid.capture(plan.blocks);
-        self.running = Some(Captured {
-            op: self.head,
-            op_checksum: self.head_checksum,
+        self.parts.grid.capture(plan.blocks);
+        self.parts.running = Some(Captured {
+            op: self.parts.head,
+            op_checksum: self.parts.head_checksum,
             capture,
             size: plan.size,
             blocks: plan.blocks,

@@ -86,7 +86,7 @@ impl Replica {
     pub fn reference(&self, address: u64) -> Option<Check>
         ensures { number_in result ≡ sum_at address self.now.blocks.live }
     {
-        self.grid.live(address)
+        self.parts.grid.live(address)
     }
 
     // The address of the next block, or why none is written.
@@ -95,9 +95,9 @@ impl Replica {
         ensures free { IfOk result (IsUnheld (grid_with self.now.file self.now.blocks)) }
         ensures state { IsState self.now }
     {
-        let layout = &self.file.layout;
+        let layout = &self.parts.file.layout;
         let room = u64::from(layout.block_size) - HEADER as u64;
-        let next = self.grid.next();
+        let next = self.parts.grid.next();
         address_or_refusal(kind, size, room, next, u64::from(layout.blocks))
     }
 
@@ -113,7 +113,7 @@ impl Replica {
         Header {
             op: address,
             block_kind: kind,
-            ..Header::of(Kind::Block, self.file.cluster)
+            ..Header::of(Kind::Block, self.parts.file.cluster)
         }
     }
 
@@ -134,7 +134,14 @@ impl Replica {
         ensures cause { HasCause (D.faults disk.old) (D.faults disk.new) result }
     {
         let header = self.block_given(address, kind, body);
-        put_block(&mut self.grid, &mut self.trailer.block, disk, header, body)
+        let parts = &mut self.parts;
+        put_block(
+            &mut parts.grid,
+            &mut parts.trailer.block,
+            disk,
+            header,
+            body,
+        )
     }
 
     /// Writes a block of this kind at the least address that isn't held, by one write and without a sync: it is live then, and the next
@@ -175,7 +182,7 @@ impl Replica {
         ensures exact { IsRelease address self.old self.new result }
         ensures call { (told : Option Told) → Serves (Release address) self.old self.new told told (release_answer result) }
     {
-        if !self.grid.release(address) {
+        if !self.parts.grid.release(address) {
             return Err(NotLive);
         }
         Ok(())

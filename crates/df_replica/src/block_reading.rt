@@ -51,13 +51,14 @@ impl Replica {
         ensures same { D.told disk.new ≡ D.told disk.old }
         ensures cause { IsBlamed is_read_fault (D.faults disk.old) (D.faults disk.new) result }
     {
-        if self.grid.live(address).is_none() {
+        if self.parts.grid.live(address).is_none() {
             return Err(ReadError::NotLive);
         }
-        let wrong = match self.grid.load(&mut self.trailer.block, disk, address) {
+        let parts = &mut self.parts;
+        let wrong = match parts.grid.load(&mut parts.trailer.block, disk, address) {
             Ok(wrong) => wrong,
             Err(_) => {
-                end_calls(&mut self.live);
+                end_calls(&mut self.parts.live);
                 return Err(ReadError::DiskFault);
             }
         };
@@ -66,7 +67,7 @@ impl Replica {
                 place: block_place(address),
                 class,
             }),
-            None => Ok(self.trailer.block.unit()),
+            None => Ok(self.parts.trailer.block.unit()),
         }
     }
 }

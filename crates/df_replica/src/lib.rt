@@ -15,6 +15,7 @@ mod making;
 mod mended;
 mod mending;
 mod opened;
+mod parts;
 mod reading;
 mod refusing;
 mod replica;

@@ -124,14 +124,14 @@ impl Replica {
         ensures stored { IfOk result (IsStoredFor self.now client) }
     {
         // The table is one.
-        let _count = self.sessions.len();
-        let Some(place) = self.sessions.place_of(client) else {
+        let _count = self.parts.sessions.len();
+        let Some(place) = self.parts.sessions.place_of(client) else {
             return Err(LookupError::NoClient);
         };
-        let Some(session) = self.sessions.get(place) else {
+        let Some(session) = self.parts.sessions.get(place) else {
             unreachable!()
         };
-        if self.replies < session.op {
+        if self.parts.replies < session.op {
             return Err(LookupError::ReplyPending { op: session.op });
         }
         let reply = session.reply;
@@ -159,10 +159,11 @@ impl Replica {
             Ok(stored) => stored,
             Err(error) => return Err(error),
         };
-        let wrong = match load_reply(disk, &self.file, &stored, &mut self.rooms.reply) {
+        let parts = &mut self.parts;
+        let wrong = match load_reply(disk, &parts.file, &stored, &mut parts.rooms.reply) {
             Ok(wrong) => wrong,
             Err(_) => {
-                end_calls(&mut self.live);
+                end_calls(&mut self.parts.live);
                 return Err(LookupError::DiskFault);
             }
         };
@@ -171,7 +172,7 @@ impl Replica {
                 place: reply_place(stored.place),
                 class,
             }),
-            None => Ok(self.rooms.reply.unit()),
+            None => Ok(self.parts.rooms.reply.unit()),
         }
     }
 }

@@ -82,7 +82,7 @@ impl Replica {
         ensures state { IsState self.now }
     {
         // The state makes sense.
-        let _file = &self.file;
+        let _file = &self.parts.file;
         prepare_refusal(&self.counters(), op)
     }
 
@@ -107,19 +107,20 @@ impl Replica {
         if let Some(error) = self.prepare_refusal(op) {
             return Err(error);
         }
-        let wrong = match load_prepare(disk, &self.file, op, &mut self.rooms) {
+        let parts = &mut self.parts;
+        let wrong = match load_prepare(disk, &parts.file, op, &mut parts.rooms) {
             Ok(wrong) => wrong,
             Err(_) => {
-                end_calls(&mut self.live);
+                end_calls(&mut self.parts.live);
                 return Err(PrepareError::DiskFault);
             }
         };
         match wrong {
             Some(class) => Err(PrepareError::Damaged {
-                place: prepare_place(&self.file.layout, op),
+                place: prepare_place(&self.parts.file.layout, op),
                 class,
             }),
-            None => Ok(self.rooms.prepare.unit()),
+            None => Ok(self.parts.rooms.prepare.unit()),
         }
     }
 }

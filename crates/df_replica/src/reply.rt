@@ -107,7 +107,7 @@ impl Replica {
         ensures value { result ≡ first_check self.now.waiting }
         ensures check { IsCheck result }
     {
-        let first = self.waiting[0];
+        let first = self.parts.waiting[0];
         as_check(first)
     }
 
@@ -119,19 +119,19 @@ impl Replica {
         ensures rules { ObeysRules (for_body result body.now) }
         ensures own { IsSome (own_place self.now.file.layout ClientReplies result) }
     {
-        let place = place_of_op(&self.sessions, self.replies + 1);
-        let session = session_in(&self.sessions, place);
+        let place = place_of_op(&self.parts.sessions, self.parts.replies + 1);
+        let session = session_in(&self.parts.sessions, place);
         let client = client_of(&session);
         let parent = self.first_waiting();
         Header {
             parent,
             client,
-            op: self.replies + 1,
+            op: self.parts.replies + 1,
             request: session.request,
-            mark: self.head,
-            checkpoint: self.content.fields().sequence,
+            mark: self.parts.head,
+            checkpoint: self.parts.content.fields().sequence,
             slot: place as u32,
-            ..Header::of(Kind::Reply, self.file.cluster)
+            ..Header::of(Kind::Reply, self.parts.file.cluster)
         }
     }
 
@@ -141,7 +141,7 @@ impl Replica {
         ensures state { IsState self.now }
     {
         // The state makes sense.
-        let _count = self.sessions.len();
+        let _count = self.parts.sessions.len();
         reply_refusal(&self.counters(), op, size)
     }
 
@@ -154,7 +154,8 @@ impl Replica {
         ensures cause { HasCause (D.faults disk.old) (D.faults disk.new) result }
     {
         let header = self.reply_given(body);
-        reply_in(disk, &self.file, header, body, &mut self.rooms.reply)
+        let parts = &mut self.parts;
+        reply_in(disk, &parts.file, header, body, &mut parts.rooms.reply)
     }
 
     // Notes a reply that is durable.
@@ -163,10 +164,10 @@ impl Replica {
         requires place { made.now.slot < length self.old.table.sessions }
         ensures { self.new ≡ replied self.old made.now }
     {
-        self.replies += 1;
-        self.waiting.remove(0);
+        self.parts.replies += 1;
+        self.parts.waiting.remove(0);
         let checksum = made.checksum;
-        self.sessions.store(u64::from(made.slot), checksum);
+        self.parts.sessions.store(u64::from(made.slot), checksum);
     }
 
     // Stores the next reply.

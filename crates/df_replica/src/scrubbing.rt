@@ -31,7 +31,8 @@ impl Replica {
         ensures same { D.told disk.new ≡ D.told disk.old }
         ensures cause { HasCause (D.faults disk.old) (D.faults disk.new) result }
     {
-        match self.scrub.scrubber.step(disk, &mut self.grid) {
+        let parts = &mut self.parts;
+        match parts.scrub.scrubber.step(disk, &mut parts.grid) {
             Ok(scrubbed) => Ok(scrubbed),
             Err(failed) => {
                 self.stop();
@@ -50,14 +51,15 @@ impl Replica {
         ensures same { D.told disk.new ≡ D.told disk.old }
         ensures cause { HasCause (D.faults disk.old) (D.faults disk.new) result }
     {
-        let done = self
-            .scrub
+        let parts = &mut self.parts;
+        let scrub = &mut parts.scrub;
+        let done = scrub
             .scrubber
-            .scrub(disk, &mut self.grid, &mut self.scrub.report);
+            .scrub(disk, &mut parts.grid, &mut scrub.report);
         match done {
-            Ok(()) => Ok(self.scrub.report.as_slice()),
+            Ok(()) => Ok(self.parts.scrub.report.as_slice()),
             Err(failed) => {
-                end_calls(&mut self.live);
+                end_calls(&mut self.parts.live);
                 Err(failed)
             }
         }
@@ -69,13 +71,13 @@ impl Replica {
         ensures few { length self.now.findings ≤ 64 }
         ensures call { self.now.live ≡ true → (told : Option Told) → Serves (Recent place) self.now self.now told told (Some (ToRecent result)) }
     {
-        self.scrub.scrubber.recent(place)
+        self.parts.scrub.scrubber.recent(place)
     }
 
     /// How many blocks are referenced: so many a whole tour checks.
     pub fn referenced(&self) -> u64
         ensures { result ≡ length (referenced_of (memory self.now)) }
     {
-        self.grid.referenced()
+        self.parts.grid.referenced()
     }
 }

@@ -86,7 +86,7 @@ impl Replica {
         ensures pending { result ≡ pending self.now.running self.now.blocks.left }
         ensures state { IsState self.now }
     {
-        match &self.running {
+        match &self.parts.running {
             Some(running) => Some(running.blocks - running.written),
             None => None,
         }
@@ -102,24 +102,25 @@ impl Replica {
         ensures kept { OnErr result (self.new ≡ self.old) }
         ensures cause { HasCause (D.faults disk.old) (D.faults disk.new) result }
     {
-        let Some(mut running) = self.running.take() else {
+        let Some(mut running) = self.parts.running.take() else {
             unreachable!()
         };
+        let parts = &mut self.parts;
         let done = write_piece(
             disk,
-            &mut self.grid,
+            &mut parts.grid,
             &running.capture,
-            &mut self.trailer.piece,
+            &mut parts.trailer.piece,
             running.written,
         );
         match done {
             Ok(()) => {
                 running.written += 1;
-                self.running = Some(running);
+                self.parts.running = Some(running);
                 Ok(())
             }
             Err(failed) => {
-                self.running = Some(running);
+                self.parts.running = Some(running);
                 Err(failed)
             }
         }
@@ -151,13 +152,19 @@ impl Replica {
         ensures rules { fault_of result ≡ None }
         ensures sum { number_of (spelled 16 (first_sum self.now.blocks.written)) ≡ first_sum self.now.blocks.written }
     {
-        let Some(running) = &self.running else {
+        let Some(running) = &self.parts.running else {
             unreachable!()
         };
-        let Some(last) = self.grid.trailer() else {
+        let Some(last) = self.parts.grid.trailer() else {
             unreachable!()
         };
-        fields_for(&self.file, running, last, self.head, self.replies)
+        fields_for(
+            &self.parts.file,
+            running,
+            last,
+            self.parts.head,
+            self.parts.replies,
+        )
     }
 
     // The superblock that ends the checkpoint.
@@ -179,7 +186,7 @@ impl Replica {
         ensures kept { self.new ≡ self.old }
         ensures cause { IsBlamed is_step_fault (D.faults disk.old) (D.faults disk.new) result }
     {
-        make_durable(disk, &mut self.rooms.superblock, content)
+        make_durable(disk, &mut self.parts.rooms.superblock, content)
     }
 
     // The checkpoint is the durable one.
@@ -188,14 +195,14 @@ impl Replica {
         requires content { OfRunning self.old.running (λ r. content ≡ next_fields self.old r) }
         ensures { OfRunning self.old.running (λ r. self.new ≡ finished self.old r) }
     {
-        let Some(running) = self.running.take() else {
+        let Some(running) = self.parts.running.take() else {
             unreachable!()
         };
         let Captured { capture, .. } = running;
         let Capture { root, .. } = capture;
-        self.root = root;
-        self.content = content;
-        self.grid.finish();
+        self.parts.root = root;
+        self.parts.content = content;
+        self.parts.grid.finish();
     }
 
     // The step that ends the checkpoint.

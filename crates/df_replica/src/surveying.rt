@@ -13,7 +13,7 @@ ghost use Rattle.df_recovery.specs.Waiting.{waiting_in};
 ghost use Rattle.df_replica.specs.Mending.{ArePlannedFrom, IsPlanned, IsSettledFrom};
 ghost use Rattle.df_replica.specs.Surveying.{AreAfter, EndsBehind, IsLawful, IsReadOf, IsSettled, TellsMends, TellsSurvey, state_of};
 
-use crate::replica::rooms_of;
+use crate::parts::{Parts, rooms_of};
 use crate::{DataFile, OpenError, Rooms, Surveyed};
 use arrayvec::ArrayVec;
 use df_base::Check;
@@ -103,21 +103,23 @@ fn surveyed(traces: &Traces, scanned: Scanned) -> Surveyed
     let head_checksum = traces.tail.checksum;
     let waiting = waiting_in(&file, &rooms, content.fields().op, traces.replies, head);
     root_fits(&root);
-    Surveyed {
+    let parts = Parts {
         file,
         content,
-        chosen,
         root,
         head,
         head_checksum,
         replies: traces.replies,
         sessions,
         waiting,
+        live: false,
         rooms,
         grid,
+        running: None,
         trailer,
         scrub,
-    }
+    };
+    Surveyed { parts, chosen }
 }
 
 // The survey of a file that was read: its state is found, and the mending planned.

@@ -12,5 +12,5 @@ returns-clause-why c body size =
     c.address_or_refusal.ensures.value (memory c.args.self.now) body
     (ap (λ (s : State). s.file.layout.block_size - 256) (sym c.self.view_is) ∙ ap (λ (n : ℕ). n - 256) (sym c.from.ensures))
     (ap (λ (s : State). s.file.layout.blocks) (sym c.self.view_is) ∙ sym c.from-2.ensures)
-    (c.next-next.ensures.next ∙ ap (λ (l : Layout). slice_get (free_in (layout_of l) c.self.inside.grid.blocks) 0) c.self.invariant.2 ∙ ap (λ (s : State). slice_get (free_in (layout_of s.file.layout) s.blocks) 0) c.self.view_is)
+    (c.next-next.ensures.next ∙ ap (λ (l : Layout). slice_get (free_in (layout_of l) c.self.inside.parts.grid.blocks) 0) c.self.invariant.grid_fits ∙ ap (λ (s : State). slice_get (free_in (layout_of s.file.layout) s.blocks) 0) c.self.view_is)
     size
