@@ -131,7 +131,7 @@ module _ (layout : Layout) (cluster : ℕ) where
   unwritten ((Stop cs) ∷ es) ss are place none sector here = absurd are
 
   -- a sector that isn't written stays
-  same_sector : (events : List Event) (steps : List Step) → AreSteps (format_of layout cluster) events steps → (image : Image) (sector : ℕ) → writes_to events sector ≡ false → image_after events image sector ≡ image sector
+  pub same_sector : (events : List Event) (steps : List Step) → AreSteps (format_of layout cluster) events steps → (image : Image) (sector : ℕ) → writes_to events sector ≡ false → image_after events image sector ≡ image sector
   same_sector [] [] are image sector dry = refl
   same_sector [] (p ∷ ss) are image sector dry = absurd are
   same_sector ((Write at bytes) ∷ es) ((Puts put) ∷ ss) are image sector dry =
@@ -161,7 +161,7 @@ module _ (layout : Layout) (cluster : ℕ) where
     abbrev AreSame : Place → Type 0
     AreSame place = (sector : ℕ) → has layout place sector ≡ true → a sector ≡ b sector
 
-    same_class : (place : Place) → IsReadPlace layout place → AreSame place → class_at layout cluster a place ≡ class_at layout cluster b place
+    pub same_class : (place : Place) → IsReadPlace layout place → AreSame place → class_at layout cluster a place ≡ class_at layout cluster b place
     same_class (CopyPlace n) there same = absurd there
     same_class (HeaderPlace n) there same = absurd there
     same_class (PreparePlace n) there same =
@@ -409,7 +409,7 @@ module _ (given : Given) (command : Command) (s : State) (events : List Event) (
   abbrev cluster : ℕ
   cluster = s.file.cluster
 
-  none_put : (place : Place) → IsReadPlace layout place → puts_of (memory s) given.checksum command place ≡ None → unit_after makes.steps place None ≡ None
+  pub none_put : (place : Place) → IsReadPlace layout place → puts_of (memory s) given.checksum command place ≡ None → unit_after makes.steps place None ≡ None
   none_put (CopyPlace k) read none = absurd read
   none_put (HeaderPlace k) read none = absurd read
   none_put (PreparePlace k) read none = makes.prepare k None ∙ ap (λ (p : Option AnyUnit). or_else p None) none

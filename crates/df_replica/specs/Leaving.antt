@@ -33,6 +33,11 @@ pub record LeavesShown (file : DataFile) (m : Memory) (sum : ℕ) (command : Com
   pub units : AgreeReads (unit_at file.layout file.cluster after) (overlay (puts_of m sum command) (unit_at file.layout file.cluster before))
   pub classes : (place : Place) → IsReadPlace file.layout place → puts_of m sum command place ≡ None → class_at file.layout file.cluster after place ≡ class_at file.layout file.cluster before place
 
+-- a call leaves each place as it was that calls read and at which its command puts nothing, with its unit and its class; so does one that wasn't answered
+pub record SparesOthers (file : DataFile) (m : Memory) (sum : ℕ) (command : Command) (before after : Image) : Type 0 where
+  pub units : (place : Place) → IsReadPlace file.layout place → puts_of m sum command place ≡ None → unit_at file.layout file.cluster after place ≡ unit_at file.layout file.cluster before place
+  pub classes : (place : Place) → IsReadPlace file.layout place → puts_of m sum command place ≡ None → class_at file.layout file.cluster after place ≡ class_at file.layout file.cluster before place
+
 -- and of the superblock's copies it leaves what it makes of them
 abbrev pub LeavesCopies : DataFile → Memory → (sum : ℕ) → Command → (before after : Image) → Type 0
 LeavesCopies file m sum command before after = (n : ℕ) → unit_at file.layout file.cluster after (CopyPlace n) ≡ overlay (puts_of m sum command) (unit_at file.layout file.cluster before) (CopyPlace n)

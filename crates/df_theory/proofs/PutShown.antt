@@ -11,7 +11,7 @@ untouched_stays : (f : Format) → IsFormat f → (at : ℕ) (bytes : List ℕ) 
 untouched_stays f is at bytes place image apart = is.local (written at bytes image) image place (λ sector here. written_else at bytes image sector (is.apart at bytes place sector apart here))
 
 pub put_shown_law : PutShownLaw
-put_shown_law f at bytes put is piece touched shown = record { piece = piece; touches = touched; shows = λ image place whole. shows_at image place (put place) whole refl }
+put_shown_law f at bytes put is piece within touched shown = record { piece = piece; within = within; touches = touched; shows = λ image place whole. shows_at image place (put place) whole refl }
   where
     shows_at : (image : Image) (place : Place) (o : Option AnyUnit) → IsImage image → put place ≡ o → f.unit_at (written at bytes image) place ≡ or_else (put place) (f.unit_at image place)
     shows_at image place None whole none =

@@ -25,6 +25,7 @@ mod Causes
 mod RunCalls
 mod Runs
 mod Hurts
+mod Within
 mod WorksOn
 mod Made
 mod SafelyServed

@@ -20,6 +20,7 @@ pub mod Scrubs
 pub mod Touring
 pub mod Run
 pub mod Hurting
+pub mod Within
 pub mod Formats
 pub mod OneText
 pub mod Completeness
