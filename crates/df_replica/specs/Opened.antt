@@ -31,8 +31,8 @@ pub record OpensOver (g : Grade) (view : View) (s : State) (base n : Told) : Typ
   pub kept_for : IsKept g s (first_work (shape s.file) (unit_at s.file.layout s.file.cluster base.shown) view) n.log
   pub settled : AreSettled s.file n.log (first_work (shape s.file) (unit_at s.file.layout s.file.cluster base.shown) view)
 
--- A mending of a file, or as much of it as was done: what is told changed by these events alone, whose writes lie within the zones of the file, and which leave each place
--- that a call reads as it was, whatever is shown.
+-- A mending of a file, or as much of it as was done: what is told changed by these events alone, whose writes lie within the zones of the file, and whatever is shown they
+-- leave each place that a call reads as it was.
 pub record Mends (file : DataFile) (old new : Option Told) : Type 0 where
   pub events : List Event
   pub told : new ≡ after_all events old
