@@ -1,6 +1,7 @@
 // Worked tables: what a program that keeps one answers, without a file; a table that is full; and the bytes of rows and commands.
 use crate::{
-    Answer, Command, LONGEST_VALUE, Line, ObjectTable, Row, parse, print_answer, print_not_table,
+    Answer, Command, LONGEST_VALUE, Line, ObjectTable, ROW, Row, parse, print_answer,
+    print_not_table, rows_in_block,
 };
 use df_base::{Failed, MemorySink, OutOfMemory};
 use df_layout::{Layout, Place, Zone};
@@ -201,15 +202,33 @@ fn a_full_table_refuses_new_keys(rt: HostRuntime) -> Result<(), Fail> {
     Ok(())
 }
 
+// Puts the rows of a block at the front of `body`, and says how many bytes they are.
+fn block_in(
+    rt: &impl Abort,
+    table: &ObjectTable,
+    layout: &Layout,
+    block: u64,
+    body: &mut [u8],
+) -> usize {
+    assert!(rt; block < table.blocks(layout));
+    assert!(rt; ROW * rows_in_block(layout) as usize <= body.len());
+    table.put_block(layout, block, body)
+}
+
+// The table with the rows that the first bytes of `body` are.
+fn taken(rt: &impl Abort, table: ObjectTable, body: &[u8], size: usize) -> Option<ObjectTable> {
+    assert!(rt; size <= body.len());
+    table.with_block(&body[..size])
+}
+
 // The table whose rows stand in the blocks of another one.
 fn copied(rt: &impl Abort, alloc: Global, table: &ObjectTable) -> Result<ObjectTable, Fail> {
     let layout = Layout::small();
     let mut copy = ObjectTable::reserve(alloc, &layout)?;
     let mut body = vec![in alloc; 0; 16_128]?;
     for block in 0..table.blocks(&layout) {
-        let size = table.put_block(&layout, block, &mut body);
-        assert!(rt; size <= body.len());
-        copy = copy.with_block(&body[..size]).ok_or("no rows")?;
+        let size = block_in(rt, table, &layout, block, &mut body);
+        copy = taken(rt, copy, &body, size).ok_or("no rows")?;
     }
     Ok(copy)
 }
@@ -231,14 +250,15 @@ fn the_blocks_of_a_table_are_the_table(rt: HostRuntime) -> Result<(), Fail> {
 fn a_block_is_taken_once_and_whole(rt: HostRuntime) -> Result<(), Fail> {
     let layout = least();
     let table = filled(rt.alloc(), &layout, 3)?;
-    let mut body = [0u8; 3840];
-    let size = table.put_block(&layout, 0, &mut body);
+    let mut body = vec![in rt.alloc(); 0; 3840]?;
+    let size = block_in(&rt, &table, &layout, 0, &mut body);
     assert_eq!(rt; size, 192);
-    assert!(rt; table.with_block(&body[..size]).is_none());
+    assert!(rt; taken(&rt, table, &body, 192).is_none());
     let short = ObjectTable::reserve(rt.alloc(), &layout)?;
-    assert!(rt; short.with_block(&body[..191]).is_none());
+    assert!(rt; taken(&rt, short, &body, 191).is_none());
     let empty = ObjectTable::reserve(rt.alloc(), &layout)?;
-    assert!(rt; empty.with_block(&[]).is_some_and(|t| t.len() == 0));
+    let none = taken(&rt, empty, &body, 0).ok_or("no rows")?;
+    assert_eq!(rt; none.len(), 0);
     Ok(())
 }
 
