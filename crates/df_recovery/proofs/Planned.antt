@@ -98,7 +98,7 @@ module _ (layout : Layout) (sh : Shape) (image : Units.Units) (v : View) (scan :
 
   -- what the decision says of the slot
   says : (slot o : ℕ) (d : Decision) → o % layout.slots ≡ slot → decision_of d ≡ decision layout.slots scan.start.boot image o → SaysOfSlot scan.start.boot o (image (HeaderPlace slot)) (image (PreparePlace slot)) (decision_of d)
-  says slot o d here decided = subst (λ (n : ℕ). SaysOfSlot scan.start.boot o (image (HeaderPlace n)) (image (PreparePlace n)) (decision_of d)) here (subst (SaysOfSlot scan.start.boot o (image (HeaderPlace (o % layout.slots))) (image (PreparePlace (o % layout.slots)))) (sym decided) (decision_law layout.slots 0 o image))
+  says slot o d here decided = subst (λ (n : ℕ). SaysOfSlot scan.start.boot o (image (HeaderPlace n)) (image (PreparePlace n)) (decision_of d)) here (subst (SaysOfSlot scan.start.boot o (image (HeaderPlace (o % layout.slots))) (image (PreparePlace (o % layout.slots)))) (sym decided) (decision_law layout.slots scan.start.boot o image))
 
   -- the prepare of the tail with this op is taken from its slot
   taken : (slot o : ℕ) (d : Decision) → IsOpOf layout.slots scan.start.op slot o → decision_of d ≡ decision layout.slots scan.start.boot image o → o ≤ head v
