@@ -1,16 +1,7 @@
 // The append of a prepare with its header: the prepare is put and its header noted in the table, and then both are settled. The
 // prepare is durable before its header sector is written, so that a header never stands before its prepare.
 ghost use Rattle.std.specs.Prelude.{◌≡◌, Some, take, OnErr, OnOk};
-ghost use Rattle.df_base.specs.Causes.{HasCause};
-ghost use Rattle.df_base.specs.Moments.{EachMoment};
-ghost use Rattle.df_disk.specs.Told.{Told};
-ghost use Rattle.df_disk.specs.Adds.{Adds};
-ghost use Rattle.df_format.specs.Brings.{Brings};
-ghost use Rattle.df_format.specs.Message.{sectors_end};
-ghost use Rattle.df_prepares.specs.Slots.{IsInOwnSlot, put_events, put_steps, slot_place};
-ghost use Rattle.df_theory.specs.Device.{AreSteps};
-ghost use Rattle.df_units.specs.Format.{format_of};
-ghost use Rattle.df_headers.specs.Ring.{IsTable};
+ghost use Rattle.df_journal.specs.Below.{HasCause, EachMoment, Told, Adds, Brings, sectors_end, IsInOwnSlot, put_events, put_steps, slot_place, AreSteps, format_of, IsTable};
 ghost use Rattle.df_journal.specs.Append.{EndsAppended, Leaves, MayAppendOn, journal_events, journal_steps, with_header};
 
 use crate::settling::settle;

@@ -1,8 +1,6 @@
 // The greatest numbers of the units in the two rings, and what they say of a state with those of the replies.
 ghost use Rattle.std.specs.Prelude.{◌≡◌, ◌↔◌, ◌≤◌, ℕ, IsTrue, IsFalse};
-ghost use Rattle.df_theory.specs.Units.{Content, Units};
-ghost use Rattle.df_theory.specs.Shape.{Shape, slots as shape_slots};
-ghost use Rattle.df_theory.specs.Found.{NotBehind, NotLost};
+ghost use Rattle.df_journal.specs.Below.{Content, Units, Shape, slots as shape_slots, NotBehind, NotLost};
 ghost use Rattle.df_journal.specs.Scan.{IsOfVersionOne};
 ghost use Rattle.df_journal.specs.Shows.{ShowsTable};
 ghost use Rattle.df_journal.specs.Counts.{CountsAll, CountsRings, checkpoint_in, op_in, with_unit};

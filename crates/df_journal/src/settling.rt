@@ -1,10 +1,6 @@
 // The settling of what was put: a sync, so that a header never stands before its prepare, then the header sectors, and a sync.
 ghost use Rattle.std.specs.Prelude.{◌≡◌, ℕ};
-ghost use Rattle.df_base.specs.Causes.{HasCause};
-ghost use Rattle.df_disk.specs.Adds.{Adds};
-ghost use Rattle.df_theory.specs.Device.{AreSteps};
-ghost use Rattle.df_units.specs.Format.{format_of};
-ghost use Rattle.df_headers.specs.Ring.{AreOfRing, IsTable, sector_writes};
+ghost use Rattle.df_journal.specs.Below.{HasCause, Adds, AreSteps, format_of, AreOfRing, IsTable, sector_writes};
 ghost use Rattle.df_journal.specs.Append.{settle_events, settle_steps};
 
 use df_base::Failed;

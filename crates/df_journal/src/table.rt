@@ -1,9 +1,6 @@
 // The table of slots: what the two rings show, slot by slot, and what is decided of each.
 ghost use Rattle.std.specs.Prelude.{◌≡◌, ◌<◌, ◌≤◌, ◌^◌, ℕ, length, slice_get};
-ghost use Rattle.df_layout.specs.declared.layout.Layout.{Layout as AnyLayout};
-ghost use Rattle.df_theory.specs.Units.{Units};
-ghost use Rattle.df_theory.specs.Cases.{decision as decided};
-ghost use Rattle.df_cases.specs.Cases.{decision_of};
+ghost use Rattle.df_journal.specs.Below.{Layout as AnyLayout, Units, decision as decided, decision_of};
 ghost use Rattle.df_journal.specs.Scan.{entry, with_slot};
 ghost use Rattle.df_journal.specs.Seen.{IsOpOf, class_of, header_of_seen};
 ghost use Rattle.df_journal.specs.Shows.{Tells};

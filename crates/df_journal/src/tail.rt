@@ -1,11 +1,6 @@
 // The tail: the longest list of taken prepares behind the checkpoint, each of which fits what precedes it.
 ghost use Rattle.std.specs.Prelude.{◌≡◌, ◌≤◌, ◌<◌, ◌+◌, ◌^◌, List, [], IfSome};
-ghost use Rattle.df_format.specs.Spelling.{IsCheck};
-ghost use Rattle.df_sessions.specs.declared.session.Session.{Session};
-ghost use Rattle.df_theory.specs.Units.{Message, Units};
-ghost use Rattle.df_theory.specs.Shape.{Shape, slots};
-ghost use Rattle.df_theory.specs.Found.{slot_behind as blamed};
-ghost use Rattle.df_theory.specs.View.{Checkpoint};
+ghost use Rattle.df_journal.specs.Below.{IsCheck, Session, Message, Units, Shape, slots, slot_behind as blamed, Checkpoint};
 ghost use Rattle.df_journal.specs.Shows.{IsTable, Tells};
 ghost use Rattle.df_journal.specs.Tail.{AreNumbered, AreUnstored, EndsAt, FindsTail, GoesOn, IsSound, StartsAt, tail_to};
 

@@ -1,13 +1,8 @@
 // The write of one slot of the ring: put alone, it is durable with the next sync; written, it is durable before its writer
 // answers.
 ghost use Rattle.std.specs.Prelude.{◌≡◌, take};
-ghost use Rattle.df_base.specs.Causes.{HasCause};
-ghost use Rattle.df_disk.specs.Adds.{Adds};
-ghost use Rattle.df_format.specs.Brings.{Brings};
-ghost use Rattle.df_format.specs.Message.{sectors_end};
+ghost use Rattle.df_prepares.specs.Below.{HasCause, Adds, Brings, sectors_end, AreSteps, format_of};
 ghost use Rattle.df_prepares.specs.Slots.{slot_place, IsInOwnSlot, put_events, put_steps, write_events, write_steps};
-ghost use Rattle.df_theory.specs.Device.{AreSteps};
-ghost use Rattle.df_places.specs.Below.{format_of};
 
 use df_base::Failed;
 use df_buffers::{Prepare, Sound};

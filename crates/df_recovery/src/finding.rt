@@ -1,19 +1,10 @@
 // What an open finds behind a superblock, from what a scan saw of the slots and of the replies: the state, or the first
 // damage in the order of open.
 ghost use Rattle.std.specs.Prelude.{◌≡◌, ◌≤◌, ◌<◌, ◌+◌, ◌^◌, length, position, IfOk, IfErr};
-ghost use Rattle.df_format.specs.Spelling.{IsCheck};
-ghost use Rattle.df_sessions.specs.Requests.{sessions_of};
-ghost use Rattle.df_theory.specs.Sessions.{Tracks};
-ghost use Rattle.df_theory.specs.Units.{CopyPlace, PreparePlace, ReplyPlace, Units};
-ghost use Rattle.df_journal.specs.Counts.{CountsAll};
-ghost use Rattle.df_journal.specs.Scan.{IsOfVersionOne, entry};
-ghost use Rattle.df_journal.specs.Seen.{class_of};
-ghost use Rattle.df_journal.specs.Tail.{AreNumbered, AreUnstored};
-ghost use Rattle.df_journal.specs.Shows.{IsTable, ShowsTable};
-ghost use Rattle.df_replies.specs.Shown.{ShowsReplies};
+ghost use Rattle.df_recovery.specs.Below.{IsCheck, sessions_of, Tracks, CopyPlace, PreparePlace, ReplyPlace, Units, CountsAll, IsOfVersionOne, entry, class_of, AreNumbered, AreUnstored, ShowsTable, ShowsReplies, AreAsked};
+ghost use Rattle.df_journal.specs.Shows.{IsTable};
 ghost use Rattle.df_recovery.specs.Finding.{Answers, FileIsRead, IsDamage, KeptIsAnswer, RefusedIsAnswer, StateIsOpened, damage, lowest_of};
 ghost use Rattle.df_recovery.specs.Starting.{start_of};
-ghost use Rattle.df_state.specs.State.{AreAsked};
 
 use crate::{Found, OpenError};
 use df_journal::{SlotTable, Tail, count_rings, find_tail, is_behind, is_lost, slot_behind};

@@ -1,15 +1,10 @@
 // What an open plans of a file that it finds: which header each slot of the header ring is to have, and what is to be
 // written again. Nothing is written here.
 ghost use Rattle.std.specs.Prelude.{◌≡◌, ◌<◌, ◌≤◌, ◌+◌, ◌++◌, false, not, get_or, length, vec_len, vec_capacity};
+ghost use Rattle.df_recovery.specs.Below.{Shape, Units, View, Layout as AnyLayout, entry, Tells, decision_of};
 ghost use Rattle.df_theory.specs.MendLaws.{IsTable as IsSlotTable};
-ghost use Rattle.df_theory.specs.Shape.{Shape};
-ghost use Rattle.df_theory.specs.Units.{Units};
-ghost use Rattle.df_theory.specs.View.{View};
 ghost use Rattle.df_headers.specs.Ring.{IsTable};
-ghost use Rattle.df_layout.specs.declared.layout.Layout.{Layout as AnyLayout};
-ghost use Rattle.df_journal.specs.Scan.{entry};
-ghost use Rattle.df_journal.specs.Shows.{IsTable as AreSlots, Tells};
-ghost use Rattle.df_cases.specs.Cases.{decision_of};
+ghost use Rattle.df_journal.specs.Shows.{IsTable as AreSlots};
 ghost use Rattle.df_recovery.specs.Plan.{AreDistinct, IsScanOf, OthersAreShown, PutsHeader, class_of_slot, copy_mend, copy_mends, header_by, header_or_reserved, headers_in, if_wanted, is_mended, mend_list, needs_header, shown_class, slot_mend};
 
 use df_cases::Decision;

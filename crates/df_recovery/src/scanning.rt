@@ -1,7 +1,6 @@
 // What an open reads of a file: after the barrier the four copies of the superblock, the trailer, both rings and the reply slots.
 ghost use Rattle.std.specs.Prelude.{◌≡◌, IfOk, IfErr, Ok, OnOk};
-ghost use Rattle.df_base.specs.Causes.{IsBlamed};
-ghost use Rattle.df_model.specs.Faults.{is_open_fault};
+ghost use Rattle.df_recovery.specs.Below.{IsBlamed, is_open_fault};
 ghost use Rattle.df_recovery.specs.Found.{Syncs, TellsFound};
 ghost use Rattle.df_recovery.specs.Scanning.{AreCopies, IsCheckpoint, IsFileOf, IsReadBehind, IsScan, IsServed, IsUnserved, RefusesBase, TellsRead, found_in, without_rooms};
 

@@ -1,6 +1,6 @@
 // Both rings and the reply slots are scanned into the tables of the rooms.
 ghost use Rattle.std.specs.Prelude.{◌≡◌, ◌≤◌, ◌^◌, OnOk};
-ghost use Rattle.df_base.specs.Causes.{HasCause};
+ghost use Rattle.df_recovery.specs.Below.{HasCause};
 ghost use Rattle.df_journal.specs.Scanned.{IsScanned};
 ghost use Rattle.df_replies.specs.Shown.{IsScanned as AreReplies};
 ghost use Rattle.df_recovery.specs.Scanning.{AreScanned};

@@ -1,24 +1,12 @@
 // The append of a replica: the next prepare is made in its room, and is durable, with its header, before anything in memory
 // moves on.
 ghost use Rattle.std.specs.Prelude.{◌≡◌, ◌+◌, ℕ, List, length, true, IsSome, IfOk, OnErr, OnOk};
-ghost use Rattle.df_base.specs.Causes.{HasCause, IsBlamed};
-ghost use Rattle.df_disk.specs.Adds.{Adds};
-ghost use Rattle.df_layout.specs.declared.places.Zone.TheVariants.{WalPrepares};
-ghost use Rattle.df_format.specs.declared.kind.Kind.TheVariants.{Prepare as AsPrepare};
-ghost use Rattle.df_format.specs.Making.{for_body};
-ghost use Rattle.df_format.specs.Own.{own_place, place_in};
-ghost use Rattle.df_format.specs.Rules.{ObeysRules};
-ghost use Rattle.df_format.specs.Spelling.{IsCheck};
+ghost use Rattle.df_replica.specs.Below.{HasCause, IsBlamed, Adds, WalPrepares, Prepare as AsPrepare, for_body, own_place, place_in, ObeysRules, IsCheck, with_header as table_with, Append, is_append_fault, append_refusals, first_refusal, IsState, memory};
 ghost use Rattle.df_journal.specs.Below.{IsInOwnSlot};
-ghost use Rattle.df_journal.specs.Append.{with_header as table_with};
 ghost use Rattle.df_sessions.specs.Table.{IsTable as IsSessions};
-ghost use Rattle.df_model.specs.Commands.{Append};
-ghost use Rattle.df_model.specs.Faults.{is_append_fault};
-ghost use Rattle.df_model.specs.Refusals.{append_refusals, first_refusal};
 ghost use Rattle.df_replica.specs.Answering.{Serves, answer_of, as_append};
 ghost use Rattle.df_replica.specs.Held.{AreRoomsOf};
 ghost use Rattle.df_replica.specs.Refusing.{AreCounters};
-ghost use Rattle.df_state.specs.State.{IsState, memory};
 ghost use Rattle.df_replica.specs.Appending.{IsAppend, IsMadeUnit, MayBeMade, MayNext, MayNote, append_events, appended, header_given, next_unit, noted, receipt_of, unit_events, unit_of, with_header};
 
 use crate::refusing::{Counters, append_refusal, session_of};

@@ -1,11 +1,8 @@
 // The begin of a checkpoint: the root, the sessions, the head and the live blocks are captured, and the addresses of the trailer's
 // blocks are set aside. It touches no disk.
 ghost use Rattle.std.specs.Prelude.{◌≡◌, ◌≤◌, ◌+◌, ◌-◌, true, Option, length};
-ghost use Rattle.df_base.specs.Fields.{AreBytes};
-ghost use Rattle.df_disk.specs.Told.{Told};
-ghost use Rattle.df_model.specs.Commands.{Begin};
+ghost use Rattle.df_replica.specs.Below.{AreBytes, Told, Begin, IsState};
 ghost use Rattle.df_sessions.specs.Table.{IsTable};
-ghost use Rattle.df_state.specs.State.{IsState};
 ghost use Rattle.df_replica.specs.Answering.{Serves, begin_answer};
 ghost use Rattle.df_replica.specs.Beginning.{IsBegin, IsPlan, IsTested, MayBegin, begun};
 

@@ -1,24 +1,7 @@
 // The calls that write a block and let one go. A block is made in its own room and written to the least address that isn't held,
 // without a sync: the next checkpoint makes it durable.
 ghost use Rattle.std.specs.Prelude.{◌≡◌, ◌<◌, ℕ, List, Option, length, slice_get, true, Some, IfOk, IsSome, OnErr, OnOk};
-ghost use Rattle.df_base.specs.Causes.{HasCause, IsBlamed};
-ghost use Rattle.df_disk.specs.Adds.{Adds};
-ghost use Rattle.df_disk.specs.Told.{Told};
-ghost use Rattle.df_layout.specs.declared.places.Zone.TheVariants.{Grid as InGrid};
-ghost use Rattle.df_format.specs.Making.{for_body};
-ghost use Rattle.df_format.specs.Own.{own_place, place_in};
-ghost use Rattle.df_format.specs.Rules.{ObeysRules};
-ghost use Rattle.df_units.specs.Meaning.{number_of};
-ghost use Rattle.df_trailer.specs.Rooms.{number_in};
-ghost use Rattle.df_grid.specs.Grid.{IsUnheld, with_blocks as grid_of};
-ghost use Rattle.df_grid.specs.Writes.{made_events};
-ghost use Rattle.df_model.specs.Blocks.{block_written, sum_at};
-ghost use Rattle.df_model.specs.Commands.{Release, WriteBlock};
-ghost use Rattle.df_model.specs.Faults.{is_block_fault};
-ghost use Rattle.df_model.specs.Making.{next_address};
-ghost use Rattle.df_model.specs.Memory.{Memory, block_room, free_of};
-ghost use Rattle.df_model.specs.Refusals.{block_refusals, first_refusal};
-ghost use Rattle.df_state.specs.State.{IsState, grid_with, memory};
+ghost use Rattle.df_replica.specs.Below.{HasCause, IsBlamed, Adds, Told, Grid as InGrid, for_body, own_place, place_in, ObeysRules, number_of, number_in, IsUnheld, with_blocks as grid_of, made_events, block_written, sum_at, Release, WriteBlock, is_block_fault, next_address, Memory, block_room, free_of, block_refusals, first_refusal, IsState, grid_with, memory};
 ghost use Rattle.df_replica.specs.Answering.{Serves, answer_of, as_write_block, release_answer};
 ghost use Rattle.df_replica.specs.Appending.{IsMadeUnit, unit_of};
 ghost use Rattle.df_replica.specs.Blocks.{IsRelease, IsWriteBlock, MayPut, MayWriteNext, address_or, block_events, block_given, next_block, written};

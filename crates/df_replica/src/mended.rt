@@ -1,8 +1,6 @@
 // What the rooms of a surveyed file list is mended; then calls may go on.
 ghost use Rattle.std.specs.Prelude.{◌≡◌, length, OnErr, OnOk};
-ghost use Rattle.df_base.specs.Causes.{HasCause};
-ghost use Rattle.df_disk.specs.Adds.{Adds};
-ghost use Rattle.df_theory.specs.Device.{AreSteps};
+ghost use Rattle.df_replica.specs.Below.{HasCause, Adds, AreSteps};
 ghost use Rattle.df_replica.specs.Held.{AreAsBefore, AreRoomsOf};
 ghost use Rattle.df_replica.specs.Mending.{live_state, mending_events, mending_steps};
 ghost use Rattle.df_replica.specs.Parts.{AreWhole, state_in};

@@ -2,17 +2,8 @@
 ghost use Rattle.std.specs.Prelude.{◌≡◌, ◌<◌, ◌%◌, true, slice_get, IfOk};
 ghost use Rattle.std.specs.Borrow.{sem};
 ghost use Rattle.std.specs.Io.BufRead.{Rests};
-ghost use Rattle.df_base.specs.Causes.{HasCause, IsBlamed};
-ghost use Rattle.df_layout.specs.declared.places.Zone.TheVariants.{WalPrepares};
-ghost use Rattle.df_format.specs.declared.kind.Kind.TheVariants.{Prepare as AsPrepare};
-ghost use Rattle.df_format.specs.Own.{place_in};
-ghost use Rattle.df_format.specs.Spelling.{IsCheck};
+ghost use Rattle.df_replica.specs.Below.{HasCause, IsBlamed, WalPrepares, Prepare as AsPrepare, place_in, IsCheck, ReadPrepare, ToReadPrepare, is_prepare_fault, prepare_sum, first_refusal, prepare_refusals, IsState, memory};
 ghost use Rattle.df_headers.specs.Ring.{IsTable};
-ghost use Rattle.df_model.specs.Commands.{ReadPrepare, ToReadPrepare};
-ghost use Rattle.df_model.specs.Faults.{is_prepare_fault};
-ghost use Rattle.df_model.specs.Memory.{prepare_sum};
-ghost use Rattle.df_model.specs.Refusals.{first_refusal, prepare_refusals};
-ghost use Rattle.df_state.specs.State.{IsState, memory};
 ghost use Rattle.df_replica.specs.Answering.{ServesRead, answer_of};
 ghost use Rattle.df_replica.specs.Held.{AreAsBefore, AreRoomsOf};
 ghost use Rattle.df_replica.specs.Lending.{LendsWrittenPrepare};

@@ -1,25 +1,14 @@
 // The reply of a replica: the next reply is made in its room, and is durable in its client's slot before anything in memory
 // moves on. Replies are stored in order of op.
 ghost use Rattle.std.specs.Prelude.{◌≡◌, ◌<◌, ◌+◌, ◌^◌, ℕ, List, length, slice_get, true, Some, IsSome, IfOk, OnErr, OnOk};
-ghost use Rattle.df_base.specs.Causes.{HasCause, IsBlamed};
-ghost use Rattle.df_disk.specs.Adds.{Adds};
-ghost use Rattle.df_layout.specs.declared.places.Zone.TheVariants.{ClientReplies};
+ghost use Rattle.df_replica.specs.Below.{HasCause, IsBlamed, Adds, ClientReplies, for_body, own_place, place_in, ObeysRules, IsCheck, sessions_of, is_reply_fault, place_of_op, first_refusal, reply_refusals, IsState, memory};
 ghost use Rattle.df_format.specs.declared.kind.Kind.TheVariants.{Reply as AsReply};
-ghost use Rattle.df_format.specs.Making.{for_body};
-ghost use Rattle.df_format.specs.Own.{own_place, place_in};
-ghost use Rattle.df_format.specs.Rules.{ObeysRules};
-ghost use Rattle.df_format.specs.Spelling.{IsCheck};
 ghost use Rattle.df_replies.specs.Slots.{IsInOwnSlot};
-ghost use Rattle.df_sessions.specs.Requests.{sessions_of};
 ghost use Rattle.df_sessions.specs.Table.{IsTable};
 ghost use Rattle.df_model.specs.Commands.{Reply as Replies};
-ghost use Rattle.df_model.specs.Faults.{is_reply_fault};
-ghost use Rattle.df_model.specs.Making.{place_of_op};
-ghost use Rattle.df_model.specs.Refusals.{first_refusal, reply_refusals};
 ghost use Rattle.df_replica.specs.Answering.{Serves, answer_of, as_reply};
 ghost use Rattle.df_replica.specs.Appending.{IsMadeUnit, MayBeMade, unit_of};
 ghost use Rattle.df_replica.specs.Replying.{IsReply, MayReplyNext, first_check, next_reply, replied, reply_calls, reply_events, reply_given};
-ghost use Rattle.df_state.specs.State.{IsState, memory};
 
 use crate::refusing::reply_refusal;
 use crate::{DataFile, Replica};

@@ -2,12 +2,7 @@
 ghost use Rattle.std.specs.Prelude.{◌≡◌, ◌≤◌, true, Option, Some, IfOk, length, slice_get};
 ghost use Rattle.std.specs.Borrow.{sem};
 ghost use Rattle.std.specs.Io.BufRead.{Rests};
-ghost use Rattle.df_base.specs.Causes.{HasCause};
-ghost use Rattle.df_disk.specs.Told.{Told};
-ghost use Rattle.df_model.specs.Commands.{Recent, ToRecent};
-ghost use Rattle.df_model.specs.Memory.{referenced_of};
-ghost use Rattle.df_state.specs.Below.{ListsFailing};
-ghost use Rattle.df_state.specs.State.{grid_with, memory};
+ghost use Rattle.df_replica.specs.Below.{HasCause, Told, Recent, ToRecent, referenced_of, ListsFailing, grid_with, memory};
 ghost use Rattle.df_replica.specs.Answering.{Serves, ServesScrub, ServesTour};
 ghost use Rattle.df_replica.specs.Scrubbing.{IsScrub, LeavesTour};
 ghost use Rattle.df_replica.specs.contracts.replica.Replica.{the_row};

@@ -1,23 +1,7 @@
 // The steps of a running checkpoint: each writes a block of its trailer, without a sync, and the last one syncs once and writes the
 // superblock that makes the checkpoint durable.
 ghost use Rattle.std.specs.Prelude.{◌≡◌, true, length, OnErr, OnOk};
-ghost use Rattle.df_base.specs.Causes.{HasCause, IsBlamed};
-ghost use Rattle.df_base.specs.Fields.{spelled};
-ghost use Rattle.df_disk.specs.Adds.{Adds};
-ghost use Rattle.df_format.specs.Spelling.{IsCheck};
-ghost use Rattle.df_format.specs.SuperRules.{fault_of};
-ghost use Rattle.df_superblock.specs.Events.{update_events};
-ghost use Rattle.df_superblock.specs.Steps.{AreStepsOfCopies};
-ghost use Rattle.df_theory.specs.CopyPuts.{update_steps};
-ghost use Rattle.df_theory.specs.Device.{AreSteps};
-ghost use Rattle.df_grid.specs.Writes.{block_steps, first_sum};
-ghost use Rattle.df_units.specs.Format.{format_of};
-ghost use Rattle.df_units.specs.Meaning.{block_of, number_of};
-ghost use Rattle.df_units.specs.Puts.{put_copies};
-ghost use Rattle.df_model.specs.Commands.{Advance, ToAdvance};
-ghost use Rattle.df_model.specs.Faults.{is_step_fault};
-ghost use Rattle.df_state.specs.Captures.{capture_of};
-ghost use Rattle.df_state.specs.State.{IsState};
+ghost use Rattle.df_replica.specs.Below.{HasCause, IsBlamed, spelled, Adds, IsCheck, fault_of, update_events, AreStepsOfCopies, update_steps, AreSteps, block_steps, first_sum, format_of, block_of, number_of, put_copies, Advance, ToAdvance, is_step_fault, capture_of, IsState};
 ghost use Rattle.df_replica.specs.Answering.{Serves, answer_of, is_step_unanswered};
 ghost use Rattle.df_replica.specs.Stepping.{IsMade, IsStep, MayAdvance, MayFinish, OfRunning, advanced, block_events, block_sum, block_to_write, fields_for, finished, trailer_unit, next_fields, pending};
 

@@ -1,13 +1,6 @@
 // A file that was surveyed: its state, and what is to be mended before calls may work on it.
 ghost use Rattle.std.specs.Prelude.{◌≡◌, IfOk, IfErr, slice_get};
-ghost use Rattle.df_base.specs.Causes.{HasCause};
-ghost use Rattle.df_base.specs.Moments.{EachMoment};
-ghost use Rattle.df_disk.specs.Told.{Told};
-ghost use Rattle.df_disk.specs.Adds.{Adds};
-ghost use Rattle.df_damage.specs.Anew.{told_after};
-ghost use Rattle.df_theory.specs.Device.{AreSteps};
-ghost use Rattle.df_theory.specs.View.{View};
-ghost use Rattle.df_state.specs.State.{shape};
+ghost use Rattle.df_replica.specs.Below.{HasCause, EachMoment, Told, Adds, told_after, AreSteps, View, shape};
 ghost use Rattle.df_replica.specs.Replica.{summary_of};
 ghost use Rattle.df_replica.specs.Mending.{IsMended, IsPlanned, RestsOnDisk, live_state, mending_events, mending_steps};
 ghost use Rattle.df_replica.specs.Serving.{Grade, IsGoodFor, format};

@@ -1,15 +1,7 @@
 // The survey of a file: what it shows is read, its state is found, and what is to be mended is listed. Nothing is written.
 ghost use Rattle.std.specs.Prelude.{◌≡◌, ◌≤◌, ◌+◌, length, Some, IfOk, IfErr};
-ghost use Rattle.df_base.specs.Causes.{IsBlamed};
-ghost use Rattle.df_disk.specs.Told.{Told};
+ghost use Rattle.df_replica.specs.Below.{IsBlamed, Told, is_open_fault, TellsHurt, AreOfCheckpoint, IsDamage, Syncs, Surveys, waiting_in};
 ghost use Rattle.df_journal.specs.Shows.{IsTable as AreSlots};
-ghost use Rattle.df_model.specs.Faults.{is_open_fault};
-ghost use Rattle.df_damage.specs.Answers.{TellsHurt};
-ghost use Rattle.df_recovery.specs.Checkpoints.{AreOfCheckpoint};
-ghost use Rattle.df_recovery.specs.Finding.{IsDamage};
-ghost use Rattle.df_recovery.specs.Found.{Syncs};
-ghost use Rattle.df_recovery.specs.Surveys.{Surveys};
-ghost use Rattle.df_recovery.specs.Waiting.{waiting_in};
 ghost use Rattle.df_replica.specs.Mending.{ArePlannedFrom, IsPlanned, IsSettledFrom};
 ghost use Rattle.df_replica.specs.Surveying.{AreAfter, EndsBehind, IsLawful, IsReadOf, IsSettled, TellsMends, TellsSurvey, state_of};
 
