@@ -67,7 +67,7 @@ def worker(i):
         subprocess.call(f'cd {w} && git fetch -q {base} {branch} && git checkout -q -f {commit} && git clean -qfd crates -e out',shell=True)
         cmd='check' if (pick in static or pick not in used) else 'lib'
         out=f'{D}/{pick}.out'
-        with open(out,'w') as f: r=subprocess.call(['rt',cmd,'--jobs',{'df_replica':'4','df_top':'4','df_grid':'2','df_recovery':'3','df_journal':'2','df_state':'2','df_checkpoint':'2'}.get(pick,'1')],cwd=f'{w}/crates/{pick}',stdout=f,stderr=subprocess.STDOUT,stdin=subprocess.DEVNULL)
+        with open(out,'w') as f: r=subprocess.call(['rt',cmd,'--jobs',{'df_replica':'4','df_top':'4','df_grid':'2','df_recovery':'3','df_journal':'2','df_rooms':'2','df_checkpoint':'2'}.get(pick,'1')],cwd=f'{w}/crates/{pick}',stdout=f,stderr=subprocess.STDOUT,stdin=subprocess.DEVNULL)
         with lock:
             running.pop(mykey,None)
             if r>=0: state[mykey]=(r==0); json.dump(state,open(D+'/state.json','w'))

@@ -5,9 +5,9 @@ ghost use Rattle.df_grid.specs.Laws.{ChainsHaveRoom};
 
 use crate::Grid;
 use df_base::Check;
-use df_trailer::Captured;
+use df_trailer::CapturedBlocks;
 
-impl Captured for Grid {
+impl CapturedBlocks for Grid {
     ghost captured = { λ g address. sum_at address g.blocks.captured };
 
     fn captured(&self, address: u64) -> Option<Check> {

@@ -35,8 +35,8 @@ use Rattle.df_checkpoint.specs.Waiting.{IsPending, IsUntracked}
 use Rattle.df_checkpoint.specs.declared.fault.TrailerFault.{TrailerFault}
 use Rattle.df_checkpoint.specs.declared.fault.TrailerFault.TheVariants.{BadField, Damaged, DiskFault}
 use Rattle.df_checkpoint.proofs.Laws.{its_text, some_chain}
-use Rattle.df_state.specs.State.{shape}
-use Rattle.df_state.specs.declared.file.DataFile.{DataFile}
+use Rattle.df_rooms.specs.State.{shape}
+use Rattle.df_rooms.specs.declared.file.DataFile.{DataFile}
 use Rattle.df_recovery.specs.Checkpoints.{Base, HasCheckpoint, HasText, RefusesTrailer, TellsCheckpoint, TellsText, error_of}
 use Rattle.df_recovery.proofs.Tracked.{has_is, has_not, sessions_back, tracked}
 

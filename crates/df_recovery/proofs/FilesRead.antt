@@ -30,8 +30,8 @@ use Rattle.df_replies.proofs.Laws.{scanned_shown as replies_shown}
 use Rattle.df_trailer.specs.Text.{parse_of}
 use Rattle.df_recovery.specs.Checkpoints.{Base, base_of}
 use Rattle.df_recovery.specs.Finding.{FileIsRead, IsOfFile, Read, lowest_of, or_first}
-use Rattle.df_state.specs.State.{shape}
-use Rattle.df_state.specs.declared.file.DataFile.{DataFile}
+use Rattle.df_rooms.specs.State.{shape}
+use Rattle.df_rooms.specs.declared.file.DataFile.{DataFile}
 use Rattle.df_recovery.proofs.Starts.{version_one}
 use Rattle.df_recovery.proofs.Written.{super_is_written}
 

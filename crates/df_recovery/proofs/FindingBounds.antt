@@ -17,7 +17,7 @@ use Rattle.df_theory.specs.Units.{AnyUnit, BlockPlace, CopyPlace, HeaderPlace, H
 use Rattle.df_theory.specs.Found.{IsReplies, NotLost}
 use Rattle.df_theory.specs.Sessions.{MayAsk, Tracks, noted, sessions_after}
 use Rattle.df_theory.proofs.Laws.{noted_get, tracks_chain}
-use Rattle.df_state.specs.State.{AreAsked}
+use Rattle.df_rooms.specs.State.{AreAsked}
 use Rattle.df_theory.specs.Tails.{Chain, last_mark}
 use Rattle.df_theory.specs.Shape.{Shape}
 use Rattle.df_theory.specs.View.{Checkpoint}
@@ -28,7 +28,7 @@ use Rattle.df_journal.specs.Tail.{FindsTail, StartsAt}
 use Rattle.df_journal.specs.declared.table.Start.{Start}
 use Rattle.df_journal.specs.declared.tail.Tail.{Tail}
 use Rattle.df_replies.specs.Shown.{ShowsReplies, ShowsReply}
-use Rattle.df_state.proofs.Laws.{asked_noted}
+use Rattle.df_rooms.proofs.Laws.{asked_noted}
 use Rattle.df_recovery.specs.Starting.{start_of}
 
 -- ---- an image that shows what the tables say

@@ -18,7 +18,7 @@ use Rattle.df_model.specs.Memory
 use Rattle.df_units.specs.Meaning.{header_of}
 use Rattle.df_replies.specs.Shown.{ShowsReply}
 use Rattle.df_recovery.specs.Finding.{StoredIsKept, StoresTo, reply_in, with_stored}
-use Rattle.df_state.specs.State.{reply_sum, stored_sum}
+use Rattle.df_rooms.specs.State.{reply_sum, stored_sum}
 
 -- ---- one place
 

@@ -4,7 +4,7 @@ pub use Rattle.df_recovery.proofs.Written.{super_is_written, written_is}
 pub use Rattle.df_recovery.proofs.FilesRead.{file_is_read}
 pub use Rattle.df_recovery.proofs.OpenAnswers.{kept_is_answer, refused_is_answer}
 -- ---- a file is its layout and its cluster
-pub use Rattle.df_state.proofs.Laws.{same_file}
+pub use Rattle.df_rooms.proofs.Laws.{same_file}
 -- ---- the mends of the slots, one slot more
 pub use Rattle.df_recovery.proofs.Plans.{filter_more, slot_mends_more}
 -- ---- the checksums that wait

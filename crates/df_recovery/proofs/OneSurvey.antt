@@ -21,9 +21,9 @@ use Rattle.df_grid.specs.Reads.{shown_of}
 use Rattle.df_checkpoint.specs.Chain.{content_in}
 use Rattle.df_checkpoint.specs.Tests.{FailsTest}
 use Rattle.df_checkpoint.proofs.Laws.{one_test}
-use Rattle.df_state.proofs.Laws.{same_file}
-use Rattle.df_state.specs.State.{shape}
-use Rattle.df_state.specs.declared.file.DataFile.{DataFile}
+use Rattle.df_rooms.proofs.Laws.{same_file}
+use Rattle.df_rooms.specs.State.{shape}
+use Rattle.df_rooms.specs.declared.file.DataFile.{DataFile}
 use Rattle.df_recovery.specs.Opening.{HasSuper, IsLayoutOf, Refuses}
 use Rattle.df_recovery.specs.SurveyLaws.{OneSurvey}
 use Rattle.df_recovery.specs.Surveys.{FailsTrailer, HasFile, HasOther, IsDamaged, Surveys, class_there}

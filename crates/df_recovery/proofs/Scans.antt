@@ -11,8 +11,8 @@ use Rattle.df_model.specs.declared.errors.OpenError.TheVariants.{DiskFault}
 use Rattle.df_journal.specs.Scanned as rings
 use Rattle.df_journal.specs.declared.table.Start.{Start}
 use Rattle.df_replies.specs.Shown as slots
-use Rattle.df_state.specs.declared.file.DataFile.{DataFile}
-use Rattle.df_state.specs.declared.rooms.Rooms.{Rooms}
+use Rattle.df_rooms.specs.declared.file.DataFile.{DataFile}
+use Rattle.df_rooms.specs.declared.rooms.Rooms.{Rooms}
 use Rattle.df_recovery.specs.Checkpoints.{Base, TellsCheckpoint}
 use Rattle.df_recovery.specs.Finding.{IsOfFile, read_of}
 use Rattle.df_recovery.specs.Found.{IsFound}

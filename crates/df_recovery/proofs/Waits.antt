@@ -18,7 +18,7 @@ use Rattle.df_buffers.specs.declared.slots.SlotSeen.{SlotSeen}
 use Rattle.df_journal.specs.Scan.{Scan, entry, or_blank}
 use Rattle.df_journal.specs.Seen.{header_of_seen}
 use Rattle.df_journal.specs.Shows.{ShowsPrepare, ShowsTable}
-use Rattle.df_state.specs.State.{State, prepare_sum, sum_of}
+use Rattle.df_rooms.specs.State.{State, prepare_sum, sum_of}
 use Rattle.df_recovery.specs.Waiting.{checksum_of, known_sum, shown_sum, waiting_at, waiting_in, waiting_sum}
 
 pub waiting_count : (n : ℕ) (scan : Scan) (headers : List Header) (replies head : ℕ) → length (waiting_in n scan headers replies head) ≡ head - replies

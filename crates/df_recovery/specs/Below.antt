@@ -14,5 +14,5 @@ pub use Rattle.df_journal.specs.Seen.{class_of, header_of_seen}
 pub use Rattle.df_journal.specs.Shows.{ShowsTable, Tells}
 pub use Rattle.df_journal.specs.Tail.{AreNumbered, AreUnstored}
 pub use Rattle.df_checkpoint.specs.Below.{AreFieldsOf, IsBlamed, parse_of}
-pub use Rattle.df_state.specs.State.{AreAsked, Represents, State, shape}
-pub use Rattle.df_state.specs.declared.file.DataFile.{DataFile}
+pub use Rattle.df_rooms.specs.State.{AreAsked, Represents, State, shape}
+pub use Rattle.df_rooms.specs.declared.file.DataFile.{DataFile}

@@ -23,8 +23,8 @@ use Rattle.df_checkpoint.specs.Reads.{blocks_read}
 use Rattle.df_checkpoint.specs.Tests.{FailsTest}
 use Rattle.df_checkpoint.specs.declared.fault.TrailerFault.{TrailerFault}
 use Rattle.df_checkpoint.specs.declared.fault.TrailerFault.TheVariants as trailer
-use Rattle.df_state.specs.State.{AreAsked, shape}
-use Rattle.df_state.specs.declared.file.DataFile.{DataFile}
+use Rattle.df_rooms.specs.State.{AreAsked, shape}
+use Rattle.df_rooms.specs.declared.file.DataFile.{DataFile}
 
 -- what is kept of a checkpoint: its root, its sessions, and what the grid holds
 pub record Base : Type 0 where

@@ -29,14 +29,14 @@ use Rattle.df_journal.specs.Shows.{Tells}
 use Rattle.df_journal.specs.Tail.{AreUnstored, EndsAt}
 use Rattle.df_replies.specs.Shown
 use Rattle.df_replies.specs.Shown.{ShowsReplies}
-use Rattle.df_state.specs.State.{Represents, State, shape, stored_sum}
+use Rattle.df_rooms.specs.State.{Represents, State, shape, stored_sum}
 use Rattle.df_checkpoint.specs.Reads.{blocks_read}
 use Rattle.df_recovery.specs.Checkpoints.{Base, HasCheckpoint, base_of}
 use Rattle.df_recovery.specs.Waiting.{waiting_in, waiting_sum}
 use Rattle.df_recovery.specs.Found.{IsChoiceOf}
 use Rattle.df_recovery.specs.Starting.{start_of}
 use Rattle.df_recovery.specs.Surveys.{HasFile, Surveys, class_there}
-use Rattle.df_state.specs.declared.file.DataFile.{DataFile}
+use Rattle.df_rooms.specs.declared.file.DataFile.{DataFile}
 use Rattle.df_recovery.specs.declared.superblock.Found.{Found}
 use Rattle.df_recovery.specs.declared.finding.Traces.{Traces}
 use Rattle.df_recovery.specs.declared.scanned.Scanned.{Scanned}

@@ -26,9 +26,9 @@ use Rattle.df_superblock.specs.Calls.{ShowsCopies, ShowsSlots}
 use Rattle.df_trailer.specs.Sessions.{AreRead}
 use Rattle.df_grid.specs.Grid.{GridState}
 use Rattle.df_grid.specs.Table.{IsIdle, no_blocks}
-use Rattle.df_state.specs.declared.file.DataFile.{DataFile}
-use Rattle.df_state.specs.declared.grid_rooms.GridRooms.{GridRooms}
-use Rattle.df_state.specs.declared.trailer_rooms.TrailerRooms.{TrailerRooms}
+use Rattle.df_rooms.specs.declared.file.DataFile.{DataFile}
+use Rattle.df_rooms.specs.declared.grid_rooms.GridRooms.{GridRooms}
+use Rattle.df_rooms.specs.declared.trailer_rooms.TrailerRooms.{TrailerRooms}
 
 -- the rooms of a layout serve the file of a superblock: it is of their layout
 pub record IsServed (layout : Layout) (f : SuperFields) : Type 0 where

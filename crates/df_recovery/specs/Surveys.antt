@@ -23,9 +23,9 @@ use Rattle.df_units.specs.Wanted.{class_at}
 use Rattle.df_grid.specs.Reads.{shown_of}
 use Rattle.df_checkpoint.specs.Chain.{content_in}
 use Rattle.df_checkpoint.specs.Tests.{FailsTest}
-use Rattle.df_state.specs.declared.file.DataFile.{DataFile}
+use Rattle.df_rooms.specs.declared.file.DataFile.{DataFile}
 use Rattle.df_recovery.specs.Opening.{HasFault, HasNoQuorum, HasSuper, IsLayoutOf, IsUnformatted, Refuses}
-use Rattle.df_state.specs.State.{Represents, State, shape}
+use Rattle.df_rooms.specs.State.{Represents, State, shape}
 
 -- the image's superblock can be used, and is of a file of this layout and cluster
 pub record HasFile (image : Image) (file : DataFile) (f : SuperFields) : Type 0 where

@@ -7,7 +7,7 @@ use Rattle.df_theory.specs.Units.{PreparePlace, Units}
 use Rattle.df_model.specs.Work.{checksum_of_op}
 use Rattle.df_journal.specs.Scan.{Scan, entry}
 use Rattle.df_journal.specs.Seen.{header_of_seen}
-use Rattle.df_state.specs.State.{State, prepare_sum}
+use Rattle.df_rooms.specs.State.{State, prepare_sum}
 
 -- the checksum of a header
 abbrev pub checksum_of : Option Header → List ℕ

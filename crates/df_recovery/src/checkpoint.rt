@@ -12,8 +12,8 @@ use df_disk::Disk;
 use df_format::Super;
 use df_grid::Grid;
 use df_layout::{Field, Place, ROOT, Zone};
+use df_rooms::{DataFile, GridRooms, TrailerRooms};
 use df_sessions::{Session, SessionTable};
-use df_state::{DataFile, GridRooms, TrailerRooms};
 use df_trailer::{Parts, Reader};
 
 /// The checkpoint that a superblock names, in the rooms that it was read into.

@@ -14,7 +14,7 @@ use df_format::Super;
 use df_journal::Start;
 use df_layout::Layout;
 use df_quorum::Slot;
-use df_state::{DataFile, GridRooms, LogRooms, Rooms, ScrubRooms};
+use df_rooms::{DataFile, GridRooms, LogRooms, Rooms, ScrubRooms};
 use df_superblock::read_all;
 
 /// The superblock of a file, and what the four places of its copies show.

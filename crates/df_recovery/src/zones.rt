@@ -9,7 +9,7 @@ use df_base::Failed;
 use df_disk::Disk;
 use df_journal::{Start, scan};
 use df_places::Shelf;
-use df_state::LogRooms;
+use df_rooms::LogRooms;
 
 // Scans both rings into the table of the rooms.
 fn scan_rings<D: Disk>(

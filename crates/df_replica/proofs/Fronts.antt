@@ -7,7 +7,7 @@ use Rattle.df_theory.specs.Runs.{Puts, Step, Syncs}
 use Rattle.df_theory.specs.Units.{AnyUnit, Place, Units, or_else}
 use Rattle.df_units.specs.Bytes.{unit_at}
 use Rattle.df_model.specs.Commands.{Command, Given}
-use Rattle.df_state.specs.State.{State, memory}
+use Rattle.df_rooms.specs.State.{State, memory}
 use Rattle.df_replica.specs.Leaving.{SparesOthers, image_after}
 use Rattle.df_replica.specs.Serving.{format}
 use Rattle.df_replica.proofs.Leaves.{Makes, none_put, same_class, same_sector, shown_by, some_stays, unit_after, unwritten}

@@ -33,8 +33,8 @@ use Rattle.df_model.specs.Work.{Running, Work, is_captured, is_held, is_known, i
 use Rattle.df_model.specs.declared.answers.Verdict.{Verdict}
 use Rattle.df_model.specs.declared.answers.Verdict.TheVariants.{Sound, Failing}
 use Rattle.df_model.proofs.Laws.{block_may_law, some_of}
-use Rattle.df_state.specs.declared.file.DataFile.{DataFile}
-use Rattle.df_state.specs.State.{Represents, State, memory, shape, spelling}
+use Rattle.df_rooms.specs.declared.file.DataFile.{DataFile}
+use Rattle.df_rooms.specs.State.{Represents, State, memory, shape, spelling}
 use Rattle.df_replica.specs.Leaving.{AreSettled, IsReadPlace, LeavesCopies, LeavesShown, SparesHeld, SparesReads, WritesNext, image_after, is_durable, writes_to}
 use Rattle.df_replica.specs.Serving.{Firm, Keeps, format, next}
 

@@ -26,8 +26,8 @@ use Rattle.df_replica.specs.Mending.{ArePlannedFrom, IsSettledFrom}
 use Rattle.df_recovery.specs.Starting.{start_of}
 use Rattle.df_replica.specs.Surveying.{IsMendable, IsReadOf, TellsMends, TellsSurvey, copy_mend_at, mends_of}
 use Rattle.df_model.specs.declared.errors.OpenError.{OpenError}
-use Rattle.df_state.specs.declared.file.DataFile.{DataFile}
-use Rattle.df_state.specs.State.{State}
+use Rattle.df_rooms.specs.declared.file.DataFile.{DataFile}
+use Rattle.df_rooms.specs.State.{State}
 use Rattle.df_recovery.proofs.Laws.{scanned_of_file, version_one}
 
 -- what two functions make of the numbers that are wanted is the same where they agree

@@ -13,8 +13,8 @@ use Rattle.df_theory.specs.Device.{NoChanceOf}
 use Rattle.df_model.specs.Commands.{Answer, Given, Recent}
 use Rattle.df_model.specs.declared.answers.Verdict.TheVariants.{Sound}
 use Rattle.df_model.specs.Work.{Work, kept}
-use Rattle.df_state.specs.declared.file.DataFile.{DataFile}
-use Rattle.df_state.specs.State.{State, shape}
+use Rattle.df_rooms.specs.declared.file.DataFile.{DataFile}
+use Rattle.df_rooms.specs.State.{State, shape}
 use Rattle.df_replica.specs.Leaving.{AreSettled}
 use Rattle.df_replica.specs.Serving.{EachIsGood, Firm, Grade, IsGoodFor, IsKept, Keeps, Whole, format, next}
 use Rattle.df_replica.specs.Session.{Act, AnsweredIsThere, EachIsMidway, FaultStopsThem, HasView, HoldsFor, HoldsSome, IsMidway, LeavesEither, LeavesView, NothingIsServed, OneMoreIsServed, answers_of, work_after}

@@ -20,8 +20,8 @@ use Rattle.df_recovery.specs.Found.{IsFound}
 use Rattle.df_recovery.specs.Scanning.{IsReadBehind, IsScan, TellsRead}
 use Rattle.df_recovery.specs.Surveys.{IsOpened}
 use Rattle.df_recovery.specs.declared.scanned.Scanned.{Scanned}
-use Rattle.df_state.specs.declared.file.DataFile.{DataFile}
-use Rattle.df_state.specs.State.{State}
+use Rattle.df_rooms.specs.declared.file.DataFile.{DataFile}
+use Rattle.df_rooms.specs.State.{State}
 use Rattle.df_replica.specs.Mending.{IsPlanned, IsSettledFrom, live_state}
 use Rattle.df_replica.specs.Replica.{Survey}
 use Rattle.df_replica.specs.Surveying.{IsLawful, TellsSurvey}

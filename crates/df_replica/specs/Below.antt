@@ -23,9 +23,9 @@ pub use Rattle.df_grid.specs.Writes.{first_sum}
 pub use Rattle.df_journal.specs.Append.{with_header}
 pub use Rattle.df_journal.specs.Below.{EachMoment, sector_writes}
 pub use Rattle.df_checkpoint.specs.Below.{block_steps, made_events, with_blocks}
-pub use Rattle.df_state.specs.Below.{IsStep, IsVerdict, ListsFailing, ScrubState, after_step, failing_among, failing_in, left_in, verdict_in, with_check}
-pub use Rattle.df_state.specs.Captures.{capture_of}
-pub use Rattle.df_state.specs.State.{Capture, IsState, grid_with, memory, reply_sum, spelling, stored_sum}
+pub use Rattle.df_rooms.specs.Below.{IsStep, IsVerdict, ListsFailing, ScrubState, after_step, failing_among, failing_in, left_in, verdict_in, with_check}
+pub use Rattle.df_rooms.specs.Courses.{running_state}
+pub use Rattle.df_rooms.specs.State.{RunningState, IsState, grid_with, memory, reply_sum, spelling, stored_sum}
 pub use Rattle.df_recovery.specs.Below.{DataFile, IsBlamed, State, Told, View, fault_of, is_open_fault, sessions_of, shape}
 pub use Rattle.df_recovery.specs.Checkpoints.{AreOfCheckpoint}
 pub use Rattle.df_recovery.specs.Finding.{IsDamage}

@@ -11,7 +11,7 @@ use Rattle.df_model.specs.Memory.{Memory}
 use Rattle.df_model.specs.Result.{AgreeReads}
 use Rattle.df_model.specs.Supply.{puts_of}
 use Rattle.df_model.specs.Work.{Running, Work, is_held, is_known, is_of}
-use Rattle.df_state.specs.declared.file.DataFile.{DataFile}
+use Rattle.df_rooms.specs.declared.file.DataFile.{DataFile}
 
 -- ---- what is shown
 

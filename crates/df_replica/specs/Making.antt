@@ -20,8 +20,8 @@ use Rattle.df_units.specs.Puts.{put_copies}
 use Rattle.df_units.specs.Sample.{reserved_header}
 use Rattle.df_headers.specs.Ring.{in_sector}
 use Rattle.df_model.specs.declared.errors.FormatError.{FormatError}
-use Rattle.df_state.specs.declared.file.DataFile.{DataFile}
-use Rattle.df_state.specs.State.{shape}
+use Rattle.df_rooms.specs.declared.file.DataFile.{DataFile}
+use Rattle.df_rooms.specs.State.{shape}
 use Rattle.df_replica.specs.Formatting.{AddsFormat, RefusesCluster, TellsBlank}
 
 -- n sectors of a table, from this one on

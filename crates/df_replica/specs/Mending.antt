@@ -28,7 +28,7 @@ use Rattle.df_journal.specs.Shows.{Tells}
 use Rattle.df_journal.specs.Append.{ShowsRing}
 use Rattle.df_superblock.specs.Events.{repair_events}
 use Rattle.df_superblock.specs.Steps.{repaired}
-use Rattle.df_state.specs.declared.file.DataFile.{DataFile}
+use Rattle.df_rooms.specs.declared.file.DataFile.{DataFile}
 use Rattle.df_recovery.specs.Opening.{HasSuper}
 use Rattle.df_recovery.specs.Plan.{AreDistinct, IsScanOf, OthersAreShown, headers_in, if_wanted, mend_list}
 use Rattle.df_recovery.specs.Starting.{start_of}
@@ -36,7 +36,7 @@ use Rattle.df_replica.specs.Following.{MayOpen}
 use Rattle.df_replica.specs.Serving.{Grade, StandingFor, StandsFor, format}
 use Rattle.df_recovery.specs.declared.scanned.Scanned.{Scanned}
 use Rattle.df_replica.specs.Replica.{Survey}
-use Rattle.df_state.specs.State.{State, shape}
+use Rattle.df_rooms.specs.State.{State, shape}
 
 -- ---- sectors
 

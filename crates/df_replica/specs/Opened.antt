@@ -11,8 +11,8 @@ use Rattle.df_theory.specs.View.{View}
 use Rattle.df_units.specs.Bytes.{unit_at}
 use Rattle.df_units.specs.Within.{AreWithin}
 use Rattle.df_model.specs.Work.{opened as first_work}
-use Rattle.df_state.specs.declared.file.DataFile.{DataFile}
-use Rattle.df_state.specs.State.{State, shape}
+use Rattle.df_rooms.specs.declared.file.DataFile.{DataFile}
+use Rattle.df_rooms.specs.State.{State, shape}
 use Rattle.df_recovery.specs.Surveys.{IsOpened}
 use Rattle.df_replica.specs.Following.{MayOpen}
 use Rattle.df_replica.specs.Leaving.{AreSettled, SparesReads, image_after}

@@ -1,8 +1,8 @@
 -- What a replica keeps in memory, live or not: the state that it stands for, and how its parts go together.
 use Rattle.std.specs.Prelude.{◌≡◌, false, None}
-use Rattle.df_state.specs.Below.{new_scrub}
-use Rattle.df_state.specs.Captures.{running_of}
-use Rattle.df_state.specs.State.{IsState, State}
+use Rattle.df_rooms.specs.Below.{new_scrub}
+use Rattle.df_rooms.specs.Courses.{running_of}
+use Rattle.df_rooms.specs.State.{IsState, State}
 use Rattle.df_replica.specs.declared.parts.Parts.{Parts}
 
 -- the state

@@ -19,8 +19,8 @@ use Rattle.df_model.specs.Commands.{Answer, Command, Given, IsInput, after}
 use Rattle.df_model.specs.Laws.{IsKeptBy}
 use Rattle.df_model.specs.Sense.{IsBacked, IsWork}
 use Rattle.df_model.specs.Work.{Work, kept}
-use Rattle.df_state.specs.declared.file.DataFile.{DataFile}
-use Rattle.df_state.specs.State.{Represents, State, memory, shape, spelling}
+use Rattle.df_rooms.specs.declared.file.DataFile.{DataFile}
+use Rattle.df_rooms.specs.State.{Represents, State, memory, shape, spelling}
 use Rattle.df_replica.specs.Leaving.{AreSettled, LeavesCopies, LeavesShown, SparesHeld, SparesOthers, image_after}
 use Rattle.df_replica.specs.Supply.{IsSupplied}
 use Rattle.df_replica.specs.WrittenFor.{WritesOn}

@@ -30,7 +30,7 @@ use Rattle.df_recovery.specs.Waiting.{waiting_in}
 use Rattle.df_recovery.specs.declared.finding.Traces.{Traces}
 use Rattle.df_recovery.specs.declared.scanned.Scanned.{Scanned}
 use Rattle.df_replica.specs.Replica.{Survey}
-use Rattle.df_state.specs.State.{AreAsked, State}
+use Rattle.df_rooms.specs.State.{AreAsked, State}
 
 -- what was read is of the file that a disk shows
 abbrev pub IsReadOf : Told → Scanned → Type 0

@@ -16,7 +16,7 @@ use df_disk::Disk;
 use df_format::{Header, Kind};
 use df_journal::append;
 use df_model::{AppendError, Receipt};
-use df_state::LogRooms;
+use df_rooms::LogRooms;
 
 // Makes a prepare in its room, and makes it durable, with its header.
 fn append_in<D: Disk>(

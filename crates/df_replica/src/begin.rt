@@ -12,8 +12,8 @@ use arrayvec::ArrayVec;
 use df_checkpoint::Capture;
 use df_layout::ROOT;
 use df_model::BeginError;
+use df_rooms::RunningCheckpoint;
 use df_sessions::{Session, SessionTable};
-use df_state::Captured;
 use df_trailer::{blocks_needed, trailer_size};
 
 // The greatest sequence.
@@ -55,7 +55,7 @@ fn root_of(root: &[u8]) -> ArrayVec<u8, ROOT>
 }
 
 // How many steps of a running checkpoint are still to come: one for each block of its trailer, and the last.
-pub(crate) fn steps_left(running: &Captured) -> u64
+pub(crate) fn steps_left(running: &RunningCheckpoint) -> u64
     requires written { running.now.written ≤ running.now.blocks }
     requires few { running.now.blocks ≤ 70 }
     ensures { result ≡ running.now.blocks - running.now.written + 1 }
@@ -117,7 +117,7 @@ impl Replica {
             sequence: self.parts.content.fields().sequence + 1,
         };
         self.parts.grid.capture(plan.blocks);
-        self.parts.running = Some(Captured {
+        self.parts.running = Some(RunningCheckpoint {
             op: self.parts.head,
             op_checksum: self.parts.head_checksum,
             capture,

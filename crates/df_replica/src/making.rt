@@ -13,7 +13,7 @@ use df_disk::Disk;
 use df_format::Super;
 use df_headers::HeaderTable;
 use df_layout::{Layout, SECTOR_HEADERS};
-use df_state::LogRooms;
+use df_rooms::LogRooms;
 use df_superblock::{first_written, read_all, write_copy};
 
 // Whether the sectors of the copies hold zeros alone.

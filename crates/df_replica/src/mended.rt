@@ -13,7 +13,7 @@ use df_base::Failed;
 use df_disk::Disk;
 use df_format::Super;
 use df_quorum::Chosen;
-use df_state::LogRooms;
+use df_rooms::LogRooms;
 
 // Writes what the rooms list, from the table that they have.
 fn mend_rooms<D: Disk>(

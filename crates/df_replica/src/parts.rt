@@ -10,8 +10,8 @@ use df_format::Super;
 use df_grid::Grid;
 use df_layout::{Layout, ROOT};
 use df_model::Summary;
+use df_rooms::{GridRooms, LogRooms, RunningCheckpoint, ScrubRooms, TrailerRooms};
 use df_sessions::SessionTable;
-use df_state::{Captured, GridRooms, LogRooms, ScrubRooms, TrailerRooms};
 
 /// The parts of a replica, and of a file that was surveyed.
 pub(crate) struct Parts {
@@ -28,7 +28,7 @@ pub(crate) struct Parts {
     pub(crate) live: bool,
     pub(crate) rooms: LogRooms,
     pub(crate) grid: Grid,
-    pub(crate) running: Option<Captured>,
+    pub(crate) running: Option<RunningCheckpoint>,
     pub(crate) trailer: TrailerRooms,
     pub(crate) scrub: ScrubRooms,
 }

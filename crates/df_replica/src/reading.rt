@@ -20,7 +20,7 @@ use df_disk::Disk;
 use df_headers::HeaderTable;
 use df_layout::{Class, Layout, Place, Zone};
 use df_model::PrepareError;
-use df_state::LogRooms;
+use df_rooms::LogRooms;
 
 // The place of the prepare of an op.
 fn prepare_place(layout: &Layout, op: u64) -> Place

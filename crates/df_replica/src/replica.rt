@@ -16,7 +16,7 @@ pub struct Replica {
 }
 
 impl Model for Replica {
-    ghost use Rattle.df_state.specs.State.{State};
+    ghost use Rattle.df_rooms.specs.State.{State};
     ghost use Rattle.df_replica.specs.Parts.{AreWhole, state_in};
 
     ghost Value = { State };

@@ -1,7 +1,7 @@
 // The steps of a running checkpoint: each writes a block of its trailer, without a sync, and the last one syncs once and writes the
 // superblock that makes the checkpoint durable.
 ghost use Rattle.std.specs.Prelude.{◌≡◌, true, length, OnErr, OnOk};
-ghost use Rattle.df_replica.specs.Below.{HasCause, IsBlamed, spelled, Adds, IsCheck, fault_of, update_events, AreStepsOfCopies, update_steps, AreSteps, block_steps, first_sum, format_of, block_of, number_of, put_copies, Advance, ToAdvance, is_step_fault, capture_of, IsState};
+ghost use Rattle.df_replica.specs.Below.{HasCause, IsBlamed, spelled, Adds, IsCheck, fault_of, update_events, AreStepsOfCopies, update_steps, AreSteps, block_steps, first_sum, format_of, block_of, number_of, put_copies, Advance, ToAdvance, is_step_fault, running_state, IsState};
 ghost use Rattle.df_replica.specs.Answering.{Serves, answer_of, is_step_unanswered};
 ghost use Rattle.df_replica.specs.Stepping.{IsMade, IsStep, MayAdvance, MayFinish, OfRunning, advanced, block_events, block_sum, block_to_write, fields_for, finished, trailer_unit, next_fields, pending};
 
@@ -13,18 +13,18 @@ use df_checkpoint::{Capture, write_piece};
 use df_disk::Disk;
 use df_format::{Reference, Super, SuperFields, test_fields};
 use df_model::{Progress, StepError};
-use df_state::{Captured, DataFile};
+use df_rooms::{DataFile, RunningCheckpoint};
 use df_superblock::{UpdateError, update};
 
 // What a superblock says of a checkpoint whose trailer ends with a block.
 fn fields_for(
     file: &DataFile,
-    running: &Captured,
+    running: &RunningCheckpoint,
     last: Reference,
     head: u64,
     replies: u64,
 ) -> SuperFields
-    ensures fields { result ≡ fields_for file.now (capture_of running.now) head replies last.address last.checksum }
+    ensures fields { result ≡ fields_for file.now (running_state running.now) head replies last.address last.checksum }
     ensures check { IsCheck last.checksum }
 {
     let trailer_checksum = as_check(last.checksum);
@@ -182,7 +182,7 @@ impl Replica {
         let Some(running) = self.parts.running.take() else {
             unreachable!()
         };
-        let Captured { capture, .. } = running;
+        let RunningCheckpoint { capture, .. } = running;
         let Capture { root, .. } = capture;
         self.parts.root = root;
         self.parts.content = content;

@@ -14,7 +14,7 @@ use df_layout::ROOT;
 use df_recovery::{
     Copies, Scanned, Traces, find_state, plan, scan_file, store_replies, waiting_of,
 };
-use df_state::LogRooms;
+use df_rooms::LogRooms;
 
 // Plans the mending in the rooms: the header that each slot is to have, and the list.
 fn plan_rooms(file: &DataFile, copies: &Copies, rooms: &mut LogRooms)

@@ -12,14 +12,14 @@ use df_format::Reference;
 use df_layout::{Class, Field, Layout};
 use df_memdisk::{MemoryDisk, Strike};
 use df_sessions::Session;
-use df_trailer::{Captured, piece};
+use df_trailer::{CapturedBlocks, piece};
 use std::alloc::Global;
 use std::test::Fail;
 
 // The 232 addresses from 793 on are referenced, each with a checksum of its own number.
 struct Highest;
 
-impl Captured for Highest {
+impl CapturedBlocks for Highest {
     ghost captured = { λ s address. if nat_le 793 address then Some (field_at 16 0 (replicate 16 (address % 256))) else None };
 
     fn captured(&self, address: u64) -> Option<Check> {

@@ -8,7 +8,7 @@ use df_base::Check;
 use df_layout::{Field, Layout};
 use df_sessions::Session;
 use df_trailer::{
-    Captured, Fault, Reader, blocks_needed, parts_have_one_text, piece, refusals_stay,
+    CapturedBlocks, Fault, Reader, blocks_needed, parts_have_one_text, piece, refusals_stay,
     sizes_are_exact, spelling_is_a_codec, text_has_one_parts,
 };
 use std::alloc::{AllocError, Global};
@@ -20,7 +20,7 @@ struct Lowest {
     count: u64,
 }
 
-impl Captured for Lowest {
+impl CapturedBlocks for Lowest {
     ghost captured = { λ s address. if nat_le address s.count then Some (field_at 16 0 (replicate 16 (address % 256))) else None };
 
     fn captured(&self, address: u64) -> Option<Check> {
@@ -42,7 +42,7 @@ struct Counted {
     lowest: Lowest,
 }
 
-impl Captured for Counted {
+impl CapturedBlocks for Counted {
     ghost captured = { λ s address. if nat_le address s.lowest.count then Some (field_at 16 0 (replicate 16 (address % 256))) else None };
 
     fn captured(&self, address: u64) -> Option<Check> {

@@ -30,7 +30,7 @@ use Rattle.df_model.specs.declared.errors.StepError.TheVariants as step
 use Rattle.df_replica.specs.Answering.{Serves, begin_answer, release_answer}
 use Rattle.df_replica.specs.Appending.{IsAppend, append_events, next_unit}
 use Rattle.df_replica.specs.Beginning.{IsBegin}
-use Rattle.df_replica.specs.Below.{Capture, State as Replica}
+use Rattle.df_replica.specs.Below.{RunningState, State as Replica}
 use Rattle.df_replica.specs.Blocks.{IsRelease, IsWriteBlock, block_events, next_block}
 use Rattle.df_replica.specs.Opened.{ToldBy}
 use Rattle.df_replica.specs.Replying.{IsReply, next_reply, reply_events}
@@ -50,19 +50,19 @@ untold None hides = refl
 untold (Some t) hides = absurd (hides tt)
 
 -- the events of a running checkpoint, all of them or a part
-told_all : (old new : Option Told) (running : Option Capture) (events : Capture → List Event) → OfRunning running (λ r. new ≡ after_all (events r) old) → ToldBy old new
+told_all : (old new : Option Told) (running : Option RunningState) (events : RunningState → List Event) → OfRunning running (λ r. new ≡ after_all (events r) old) → ToldBy old new
 told_all old new None events is = absurd is
 told_all old new (Some r) events is = (events r, is)
 
-told_part : (old new : Option Told) (running : Option Capture) (events : Capture → List Event) → OfRunning running (λ r. AddsPart (events r) old new) → ToldBy old new
+told_part : (old new : Option Told) (running : Option RunningState) (events : RunningState → List Event) → OfRunning running (λ r. AddsPart (events r) old new) → ToldBy old new
 told_part old new None events is = absurd is
 told_part old new (Some r) events is = part_told (events r) old new is
 
-pub on_running : {P Q : Capture → Type 0} (running : Option Capture) → ((r : Capture) → P r → Q r) → OfRunning running P → OfRunning running Q
+pub on_running : {P Q : RunningState → Type 0} (running : Option RunningState) → ((r : RunningState) → P r → Q r) → OfRunning running P → OfRunning running Q
 on_running None f is = absurd is
 on_running (Some r) f is = f r is
 
-never : {A : Type 0} (running : Option Capture) → OfRunning running (λ r. A) → A
+never : {A : Type 0} (running : Option RunningState) → OfRunning running (λ r. A) → A
 never None is = absurd is
 never (Some r) is = is
 

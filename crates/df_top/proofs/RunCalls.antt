@@ -14,7 +14,7 @@ use Rattle.df_model.specs.declared.errors.NotLive.{NotLive}
 use Rattle.df_model.specs.declared.errors.StepError.{StepError}
 use Rattle.df_model.specs.declared.errors.StepError.TheVariants as step
 use Rattle.df_replica.specs.Beginning.{IsBegin}
-use Rattle.df_replica.specs.Below.{Capture, State as Replica}
+use Rattle.df_replica.specs.Below.{RunningState, State as Replica}
 use Rattle.df_replica.specs.Blocks.{IsRelease}
 use Rattle.df_replica.specs.Stepping.{IsStep, OfRunning, advanced, finished}
 use Rattle.df_script_model.specs.Texts.{damaged_text}
@@ -53,7 +53,7 @@ module _ (command : Command) (s t : Replica) (old new : Option Told) (before now
 
 -- it runs as before
 stays : (s t : Replica) → t.running ≡ s.running → (flag : Bool) → (flag ≡ true → IsRunning s) → flag ≡ true → IsRunning t
-stays s t same flag had set = subst (λ (r : Option Capture). OfRunning r (λ c. Unit {0})) (sym same) (had set)
+stays s t same flag had set = subst (λ (r : Option RunningState). OfRunning r (λ c. Unit {0})) (sym same) (had set)
 
 same_running : (s t : Replica) → t ≡ s → t.running ≡ s.running
 same_running s t is = ap (λ (r : Replica). r.running) is
@@ -86,22 +86,22 @@ begin_on s t root (Err e) is = stays s t (same_running s t is.1)
 -- ---- a step
 
 not_running : (s : Replica) → s.running ≡ None → IsRunning s → ⊥
-not_running s is runs = subst (λ (r : Option Capture). OfRunning r (λ c. Unit {0})) is runs
+not_running s is runs = subst (λ (r : Option RunningState). OfRunning r (λ c. Unit {0})) is runs
 
 -- a checkpoint of which a block is written runs on
-runs_on : (s t : Replica) (running : Option Capture) → OfRunning running (λ r. t ≡ advanced s r) → IsRunning t
+runs_on : (s t : Replica) (running : Option RunningState) → OfRunning running (λ r. t ≡ advanced s r) → IsRunning t
 runs_on s t None is = absurd is
 runs_on s t (Some r) is = subst (λ (u : Replica). IsRunning u) (sym is) tt
 
-one_less : (s : Replica) (r : Capture) (left : List ℕ) → (left ≡ [] → ⊥) → length (advanced (record s { blocks = record s.blocks { left = left } }) r).blocks.left < length left
+one_less : (s : Replica) (r : RunningState) (left : List ℕ) → (left ≡ [] → ⊥) → length (advanced (record s { blocks = record s.blocks { left = left } }) r).blocks.left < length left
 one_less s r [] some = absurd (some refl)
 one_less s r (a ∷ more) some = omega arith
 
-fewer : (s t : Replica) (running : Option Capture) → OfRunning running (λ r. (s.blocks.left ≡ [] → ⊥) × (t ≡ advanced s r)) → length t.blocks.left < length s.blocks.left
+fewer : (s t : Replica) (running : Option RunningState) → OfRunning running (λ r. (s.blocks.left ≡ [] → ⊥) × (t ≡ advanced s r)) → length t.blocks.left < length s.blocks.left
 fewer s t None is = absurd is
 fewer s t (Some r) is = subst (λ (u : Replica). length u.blocks.left < length s.blocks.left) (sym is.1) (one_less s r s.blocks.left is.0)
 
-none_left : (s t : Replica) (running : Option Capture) → OfRunning running (λ r. t ≡ finished s r) → t.blocks.left ≡ []
+none_left : (s t : Replica) (running : Option RunningState) → OfRunning running (λ r. t ≡ finished s r) → t.blocks.left ≡ []
 none_left s t None is = absurd is
 none_left s t (Some r) is = ap (λ (u : Replica). u.blocks.left) is
 

@@ -5,8 +5,8 @@ use Rattle.df_format.specs.SuperRules.{fault_of}
 use Rattle.df_format.specs.declared.superblock.SuperFields.{SuperFields}
 use Rattle.df_grid.specs.Writes.{first_address, first_sum}
 use Rattle.df_layout.specs.declared.layout.Layout.{Layout}
-use Rattle.df_state.specs.Captures.{capture_of}
-use Rattle.df_state.specs.State.{State}
+use Rattle.df_rooms.specs.Courses.{running_state}
+use Rattle.df_rooms.specs.State.{State}
 use Rattle.df_units.specs.Meaning.{number_of}
 use Rattle.df_units.proofs.Laws.{whole_check}
 use Rattle.df_replica.specs.Parts.{state_in}
@@ -25,7 +25,7 @@ returns-clause-fields c =
     let pair = first_pair i.grid.blocks.written i.grid.blocks.left last.address (number_of last.checksum) may.done (c.in-Some-trailer.ensures {u = tt}).pair in
     let checksum : last.checksum ≡ spelled 16 (first_sum i.grid.blocks.written) = sym (whole_check last.checksum c.fields_for.ensures.check) ∙ ap (spelled 16) (sym pair.1) in
     of_running (λ x q. c.fields_for.result ≡ next_fields x q) s c.args.self.now i.running r c.in-Some.is refl c.self.view_is
-    (c.fields_for.ensures.fields ∙ (λ k. fields_for i.file (capture_of r) i.head i.replies (sym pair.0 k) (checksum k)))
+    (c.fields_for.ensures.fields ∙ (λ k. fields_for i.file (running_state r) i.head i.replies (sym pair.0 k) (checksum k)))
 
 pub returns-clause-rules : goal.returns-clause-rules
 returns-clause-rules c =
@@ -40,8 +40,8 @@ returns-clause-rules c =
     let runs = taken_runs i.file i.content i.head i.grid.blocks i.running r c.in-Some.is c.self.invariant.state.course in
     let some : 1 ≤ first_address i.grid.blocks.written = omega (arith, inside.0, pair.0) in
     let within : first_address i.grid.blocks.written ≤ i.file.layout.blocks = omega (arith, inside.1, pair.0, ap (λ (l : Layout). l.blocks) c.self.invariant.grid_fits) in
-    subst (λ (f : SuperFields). fault_of f ≡ None) (sym (c.fields_for.ensures.fields ∙ (λ k. fields_for i.file (capture_of r) i.head i.replies (sym pair.0 k) (checksum k))))
-    (no_fault s (capture_of r) c.self.invariant.state runs some within)
+    subst (λ (f : SuperFields). fault_of f ≡ None) (sym (c.fields_for.ensures.fields ∙ (λ k. fields_for i.file (running_state r) i.head i.replies (sym pair.0 k) (checksum k))))
+    (no_fault s (running_state r) c.self.invariant.state runs some within)
 
 pub returns-clause-sum : goal.returns-clause-sum
 returns-clause-sum c =

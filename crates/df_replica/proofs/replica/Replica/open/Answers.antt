@@ -10,7 +10,7 @@ use Rattle.df_damage.proofs.Laws.{added_is_told}
 use Rattle.df_units.proofs.Laws.{steps_within}
 use Rattle.df_units.specs.Bytes.{unit_at}
 use Rattle.df_model.specs.Work.{opened}
-use Rattle.df_state.specs.State.{State, shape}
+use Rattle.df_rooms.specs.State.{State, shape}
 use Rattle.df_replica.specs.Mending.{live_state, mending_events, mending_steps}
 use Rattle.df_replica.specs.Opened.{MendsAll}
 use Rattle.df_replica.specs.Serving.{IsGoodFor, StandsFor, format}

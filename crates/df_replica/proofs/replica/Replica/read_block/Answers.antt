@@ -5,7 +5,7 @@ use Rattle.df_model.specs.Blocks.{sum_at}
 use Rattle.df_model.specs.Refusals.{first_refusal, read_refusals}
 use Rattle.df_model.specs.declared.reading.ReadError.TheVariants as read
 use Rattle.df_grid.specs.Reads.{HoldsKnown, Loads}
-use Rattle.df_state.specs.State.{State, memory}
+use Rattle.df_rooms.specs.State.{State, memory}
 use Rattle.df_replica.specs.Stopping.{stopped}
 use Rattle.df_replica.specs.Parts.{state_in}
 use Rattle.df_replica.proofs.BlockReadCalls.{block_refused, block_stopped, is_live, lends_block, not_live, tells_block}

@@ -5,7 +5,7 @@ use Rattle.df_buffers.specs.Sounds.{Holding}
 use denote.Ref.{Bor}
 use Rattle.df_model.specs.Faults.{is_prepare_fault}
 use Rattle.df_model.specs.Refusals.{first_refusal, prepare_refusals}
-use Rattle.df_state.specs.State.{State, memory}
+use Rattle.df_rooms.specs.State.{State, memory}
 use Rattle.df_replica.specs.Stopping.{stopped}
 use Rattle.df_replica.specs.Parts.{state_in}
 use Rattle.df_replica.proofs.Lent.{lends_written_prepare}

@@ -3,7 +3,7 @@ use Rattle.std.proofs.Common.{◌≡◌, Bool, Some, true, refl, sym, ap, subst,
 use Rattle.df_buffers.specs.Sounds.{Holding}
 use Rattle.df_model.specs.Faults.{is_lookup_fault}
 use Rattle.df_model.specs.Refusals.{first_refusal, lookup_refusals}
-use Rattle.df_state.specs.State.{State, memory}
+use Rattle.df_rooms.specs.State.{State, memory}
 use Rattle.df_replica.specs.Lookups.{IsStoredFor}
 use Rattle.df_replica.specs.Stopping.{stopped}
 use Rattle.df_replica.specs.Parts.{state_in}

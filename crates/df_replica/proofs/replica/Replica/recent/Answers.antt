@@ -3,7 +3,7 @@ use Rattle.std.proofs.Common.{◌≡◌, ◌∙◌, Option, Some, sym, ap, subst
 use Rattle.std.specs.Prelude.{slice_get}
 use Rattle.df_layout.specs.declared.damage.Finding.{Finding}
 use Rattle.df_model.specs.Commands.{Recent, ToRecent}
-use Rattle.df_state.specs.State.{State}
+use Rattle.df_rooms.specs.State.{State}
 use Rattle.df_replica.specs.Answering.{Serves}
 use Rattle.df_replica.proofs.ScrubCalls.{recent_serves}
 use Rattle.df_replica.proofs.replica.Replica.recent.Goals as goal

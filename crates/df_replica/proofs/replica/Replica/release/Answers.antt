@@ -5,7 +5,7 @@ use Rattle.df_grid.specs.Grid.{GridState}
 use Rattle.df_model.specs.Blocks.{Blocks, sum_at, without_entry}
 use Rattle.df_model.specs.Commands.{Release, ToRelease}
 use Rattle.df_model.specs.Work.{is_known}
-use Rattle.df_state.specs.State.{State}
+use Rattle.df_rooms.specs.State.{State}
 use Rattle.df_replica.specs.Answering.{Serves}
 use Rattle.df_replica.specs.Blocks.{released}
 use Rattle.df_replica.specs.Parts.{AreWhole, state_in}

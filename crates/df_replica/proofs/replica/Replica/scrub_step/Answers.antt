@@ -2,8 +2,8 @@
 use Rattle.std.proofs.Common.{◌≡◌, true, refl, sym, ap, subst}
 use Rattle.std.specs.Prelude.{Ok}
 use Rattle.df_grid.specs.Grid.{GridState}
-use Rattle.df_state.specs.Below.{IsMachines}
-use Rattle.df_state.specs.State.{State}
+use Rattle.df_rooms.specs.Below.{IsMachines}
+use Rattle.df_rooms.specs.State.{State}
 use Rattle.df_replica.specs.Answering.{ServesScrub}
 use Rattle.df_replica.specs.Scrubbing.{with_scrub}
 use Rattle.df_replica.specs.Parts.{state_in}

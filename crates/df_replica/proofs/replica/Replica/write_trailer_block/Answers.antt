@@ -9,8 +9,8 @@ use Rattle.df_grid.specs.Writes.{block_steps, made_events}
 use Rattle.df_units.specs.Format.{format_of}
 use Rattle.df_units.specs.Meaning.{number_of}
 use Rattle.df_model.specs.Blocks.{Blocks}
-use Rattle.df_state.specs.Captures.{capture_of}
-use Rattle.df_state.specs.State.{IsRunning, State}
+use Rattle.df_rooms.specs.Courses.{running_state}
+use Rattle.df_rooms.specs.State.{IsRunning, State}
 use Rattle.df_replica.specs.Parts.{state_in}
 use Rattle.df_replica.specs.Stepping.{MayAdvance, advanced, block_events, trailer_unit}
 use Rattle.df_replica.proofs.BeginState.{with_course}
@@ -26,11 +26,11 @@ invariant_of-self g c =
     let grid = c.write_piece-done.new.grid in
     let sum = number_of (unit_in i.grid r.capture r.written).header.checksum in
     let written = c.in-Ok.ensures.written in
-    let runs : IsRunning i.file i.content i.head i.grid.blocks (capture_of r) = taken_runs i.file i.content i.head i.grid.blocks i.running r (sym c.in-Some.ensures.value) c.self.invariant.state.course in
-    let on = running_on i.file i.content i.head i.grid.blocks (capture_of r) sum runs may.some in
-    let course = subst (λ (b : Blocks). IsRunning i.file i.content i.head b (record (capture_of r) { written = r.written + 1 })) (ap (λ (x : GridState). x.blocks) (sym written)) on in
+    let runs : IsRunning i.file i.content i.head i.grid.blocks (running_state r) = taken_runs i.file i.content i.head i.grid.blocks i.running r (sym c.in-Some.ensures.value) c.self.invariant.state.course in
+    let on = running_on i.file i.content i.head i.grid.blocks (running_state r) sum runs may.some in
+    let course = subst (λ (b : Blocks). IsRunning i.file i.content i.head b (record (running_state r) { written = r.written + 1 })) (ap (λ (x : GridState). x.blocks) (sym written)) on in
     record {
-      state = with_course s grid.blocks (Some (record (capture_of r) { written = r.written + 1 })) c.self.invariant.state course;
+      state = with_course s grid.blocks (Some (record (running_state r) { written = r.written + 1 })) c.self.invariant.state course;
       rooms_fit = c.self.invariant.rooms_fit;
       grid_fits = ap (λ (x : GridState). x.layout) written ∙ c.self.invariant.grid_fits;
       grid_named = ap (λ (x : GridState). x.cluster) written ∙ c.self.invariant.grid_named;
@@ -75,7 +75,7 @@ returns-in-Ok-clause-written g c =
     let i = c.self.inside.parts in
     let s : State = state_in i in
     let r = c.in-Some.running in
-    let to : Blocks → State = λ b. record s { blocks = b; running = Some (record (capture_of r) { written = r.written + 1 }) } in
+    let to : Blocks → State = λ b. record s { blocks = b; running = Some (record (running_state r) { written = r.written + 1 }) } in
     let sum = ap (λ (x : GridState). to (next_written i.grid.blocks (number_of (unit_in x r.capture r.written).header.checksum))) (grid_is i.file i.grid c.self.invariant.grid_fits c.self.invariant.grid_named) in
     of_running (λ x q. to c.write_piece-done.new.grid.blocks ≡ advanced x q) s c.args.self.now i.running r (sym c.in-Some.ensures.value) refl c.self.view_is
     (ap (λ (x : GridState). to x.blocks) c.in-Ok.ensures.written ∙ sum)

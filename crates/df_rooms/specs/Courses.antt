@@ -1,10 +1,10 @@
 -- What the captured checkpoint that a replica keeps is in the words of its state.
 use Rattle.std.specs.Prelude.{Option, Some, None}
-use Rattle.df_state.specs.State.{Capture}
-use Rattle.df_state.specs.declared.captured.Captured.{Captured}
+use Rattle.df_rooms.specs.State.{RunningState}
+use Rattle.df_rooms.specs.declared.running.RunningCheckpoint.{RunningCheckpoint}
 
-abbrev pub capture_of : Captured → Capture
-capture_of c = record {
+abbrev pub running_state : RunningCheckpoint → RunningState
+running_state c = record {
   op = c.op;
   op_checksum = c.op_checksum;
   root = c.capture.root.items;
@@ -16,6 +16,6 @@ capture_of c = record {
 }
 
 -- of the running checkpoint, if there is one
-abbrev pub running_of : Option Captured → Option Capture
+abbrev pub running_of : Option RunningCheckpoint → Option RunningState
 running_of None = None
-running_of (Some c) = Some (capture_of c)
+running_of (Some c) = Some (running_state c)

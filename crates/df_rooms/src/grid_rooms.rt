@@ -1,6 +1,6 @@
 // The rooms of the grid: its table, its free set, and those that blocks are read into.
 ghost use Rattle.std.specs.Prelude.{◌≡◌, ◌<◌, All, false, length, replicate, vec_len, IfOk};
-ghost use Rattle.df_state.specs.Below.{no_blocks};
+ghost use Rattle.df_rooms.specs.Below.{no_blocks};
 
 use df_base::{Check, OutOfMemory};
 use df_buffers::{Block, Raw, Trailer};

@@ -1,6 +1,6 @@
 // The scrubber, with the list that a whole tour fills.
 ghost use Rattle.std.specs.Prelude.{◌≡◌, ◌≤◌, vec_capacity, IfOk};
-ghost use Rattle.df_state.specs.Below.{new_scrub};
+ghost use Rattle.df_rooms.specs.Below.{new_scrub};
 
 use df_base::OutOfMemory;
 use df_layout::{Finding, Layout};

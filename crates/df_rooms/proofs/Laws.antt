@@ -5,9 +5,9 @@ use Rattle.df_theory.specs.Sessions.{noted}
 use Rattle.df_theory.specs.Units
 use Rattle.df_theory.proofs.Laws.{noted_get}
 use Rattle.df_model.specs.Blocks.{Blocks}
-use Rattle.df_state.specs.declared.file.DataFile.{DataFile}
-use Rattle.df_state.specs.State.{AreAsked, Capture, IsCourse}
-pub use Rattle.df_state.proofs.SameFile.{same_file}
+use Rattle.df_rooms.specs.declared.file.DataFile.{DataFile}
+use Rattle.df_rooms.specs.State.{AreAsked, RunningState, IsCourse}
+pub use Rattle.df_rooms.proofs.SameFile.{same_file}
 
 -- a request that is noted is the last one of its client
 pub asked_noted : (h : Units.Header) (ss : List Units.Session) → AreAsked ss → 0 < h.request → AreAsked (noted h ss)
@@ -17,7 +17,7 @@ asked_noted h ss asked some k t at = elim (noted_get h ss k t at) [
 ]
 
 -- a running checkpoint goes with a log that grew
-pub course_on : (file : DataFile) (f : SuperFields) (head later : ℕ) (b : Blocks) (r : Option Capture) → head ≤ later → IsCourse file f head b r → IsCourse file f later b r
+pub course_on : (file : DataFile) (f : SuperFields) (head later : ℕ) (b : Blocks) (r : Option RunningState) → head ≤ later → IsCourse file f head b r → IsCourse file f later b r
 course_on file f head later b None more idle = idle
 course_on file f head later b (Some r) more is = record {
   op_from = is.op_from;

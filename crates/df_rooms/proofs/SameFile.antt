@@ -3,7 +3,7 @@ use Rattle.std.proofs.Common.{◌≡◌, ℕ, ◌<◌, ap, subst}
 use Rattle.std.proofs.Math.Bridge.{le_prop}
 use Rattle.std.proofs.Math.Nat.{ℕ_set}
 use Rattle.df_layout.specs.declared.layout.Layout.{Layout}
-use Rattle.df_state.specs.declared.file.DataFile.{DataFile}
+use Rattle.df_rooms.specs.declared.file.DataFile.{DataFile}
 
 of_pair : (n : Layout × ℕ) → 0 < n.1 → DataFile
 of_pair n named = record { layout = n.0; cluster = n.1; named = named }

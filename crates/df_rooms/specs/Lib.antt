@@ -1,3 +1,3 @@
 pub mod State
-pub mod Captures
+pub mod Courses
 pub mod Below

@@ -4,7 +4,7 @@ use df_checkpoint::Capture;
 
 /// A checkpoint that was begun and isn't finished.
 #[derive(Drop)]
-pub struct Captured {
+pub struct RunningCheckpoint {
     /// The op that it reaches, and the checksum of that prepare: zeros for op 0.
     pub op: u64,
     pub op_checksum: Check,

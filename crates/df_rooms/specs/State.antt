@@ -23,10 +23,10 @@ use Rattle.df_checkpoint.specs.Below.{spell, parse_of, captured_parts, shape_of,
 use Rattle.df_grid.specs.Grid.{GridState}
 use Rattle.df_grid.specs.Table.{IsIdle}
 use Rattle.df_grid.specs.Writes.{first_address, first_sum}
-use Rattle.df_state.specs.declared.file.DataFile.{DataFile}
+use Rattle.df_rooms.specs.declared.file.DataFile.{DataFile}
 
 -- what the running checkpoint captured, beside the blocks that the grid marks, and how far its trailer is written
-pub record Capture : Type 0 where
+pub record RunningState : Type 0 where
   pub op : ℕ
   pub op_checksum : List ℕ
   pub root : List ℕ
@@ -47,7 +47,7 @@ pub record State : Type 0 where
   pub waiting : List (List ℕ)  -- the checksums of the prepares that wait for their replies, in order of op
   pub headers : List Header  -- what the header ring shows, or is to show once it is mended, slot by slot
   pub blocks : Blocks  -- what the grid holds
-  pub running : Option Capture
+  pub running : Option RunningState
   pub tour : Tour
   pub findings : List Finding
   pub live : Bool  -- whether calls may go on: not before the file is mended, and not after a fault
@@ -76,10 +76,10 @@ abbrev pub spelling : DataFile → Parts → List ℕ
 spelling file = spell (layout_of file.layout)
 
 -- the text of the running checkpoint's trailer: of the grid's blocks those that are captured
-abbrev pub captured_text : DataFile → Blocks → Capture → List ℕ
+abbrev pub captured_text : DataFile → Blocks → RunningState → List ℕ
 captured_text file b r = spelling file (captured_parts r.root r.sessions (λ a. sum_at a b.captured))
 
-abbrev pub course_of : DataFile → Blocks → Capture → Course
+abbrev pub course_of : DataFile → Blocks → RunningState → Course
 course_of file b r = record {
   op = r.op;
   op_checksum = number_of r.op_checksum;
@@ -91,7 +91,7 @@ course_of file b r = record {
   left = b.left;
 }
 
-abbrev pub course_in : DataFile → Blocks → Option Capture → Option Course
+abbrev pub course_in : DataFile → Blocks → Option RunningState → Option Course
 course_in file b None = None
 course_in file b (Some r) = Some (course_of file b r)
 
@@ -132,7 +132,7 @@ abbrev pub AreAsked : List Units.Session → Type 0
 AreAsked ss = (k : ℕ) (s : Units.Session) → slice_get ss k ≡ Some s → 0 < s.request
 
 -- a running checkpoint goes with the superblock and the log that it was begun from, and with the blocks of the grid
-pub record IsRunning (file : DataFile) (f : SuperFields) (head : ℕ) (b : Blocks) (r : Capture) : Type 0 where
+pub record IsRunning (file : DataFile) (f : SuperFields) (head : ℕ) (b : Blocks) (r : RunningState) : Type 0 where
   pub op_from : f.op ≤ r.op
   pub op_to : r.op ≤ head
   pub parent : IsCheck r.op_checksum
@@ -148,7 +148,7 @@ pub record IsRunning (file : DataFile) (f : SuperFields) (head : ℕ) (b : Block
   pub written : r.written ≡ length b.written
 
 -- the running checkpoint, if there is one, is the grid's
-abbrev pub IsCourse : DataFile → SuperFields → (head : ℕ) → Blocks → Option Capture → Type 0
+abbrev pub IsCourse : DataFile → SuperFields → (head : ℕ) → Blocks → Option RunningState → Type 0
 IsCourse file f head b None = IsIdle b
 IsCourse file f head b (Some r) = IsRunning file f head b r
 

@@ -6,7 +6,7 @@ use Rattle.df_base.specs.Fields.{field_at}
 use Rattle.df_trailer.specs.Spelling.{is_referenced, listed}
 use Rattle.df_trailer.specs.Text.{ones}
 use Rattle.df_trailer.specs.Writing.{referenced_among}
-use Rattle.df_tests_grid.proofs.trailers.CountedCaptured.counted.Goals as goal
+use Rattle.df_tests_grid.proofs.trailers.CountedCapturedBlocks.counted.Goals as goal
 
 -- where those at the first places are referenced, and no others
 among : (f : ℕ → Option ℕ) (most n : ℕ) → ((k : ℕ) → k < most → is_referenced (f k) ≡ true) → ((k : ℕ) → most ≤ k → is_referenced (f k) ≡ false) → ones (map is_referenced (listed f n)) ≡ min n most
