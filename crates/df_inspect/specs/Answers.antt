@@ -20,7 +20,7 @@ command_of (calls.ReadPrepare op) = ReadPrepare op
 command_of (calls.ReadReply client) = ReadReply client
 command_of (calls.ReadBlock address) = ReadBlock address
 command_of calls.Scrub = Scrub
-command_of (calls.Recent place) = Recent place
+command_of calls.Recent = Recent
 
 -- the line: what was done, or why the call is refused. A unit that was read is lent by its call, and so is what the ring holds: they have lines of their own
 abbrev pub text_of : Command → Answer → List ℕ
@@ -34,4 +34,4 @@ text_of c (answers.ReadPrepare answer) = text_or prepare_refusal (λ done. []) a
 text_of c (answers.ReadReply answer) = text_or lookup_refusal (λ done. []) answer
 text_of c (answers.ReadBlock answer) = text_or read_refusal (λ done. []) answer
 text_of c (answers.Scrub answer) = scrubbed_text answer
-text_of c (answers.Recent answer) = []
+text_of c answers.Recent = []

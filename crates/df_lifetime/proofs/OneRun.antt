@@ -142,7 +142,7 @@ module _ (sh : Shape) (spell : Parts → List ℕ) (w : Work) (given : Given) wh
   counted_one (ReadReply client) = refl
   counted_one (ReadBlock address) = refl
   counted_one Scrub = check_counts given.verdict (to_check m)
-  counted_one (Recent place) = refl
+  counted_one Recent = refl
 
 -- behind calls they are what the answers make of them
 pub calls_count : (s u : Replica) (old new : Option Told) (acts : List Act) (answers : List Answer) (w : Work) → AreCalls s old acts answers u new → Keeps Firm s w None → numbers_in (memory u) ≡ after_answers answers (numbers_in (memory s))

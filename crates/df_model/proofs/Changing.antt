@@ -189,7 +189,7 @@ module _ (sh : Shape) (spell : Parts → List ℕ) (w : Work) (given : Given) wh
   blocks_is (ReadReply client) = refl
   blocks_is (ReadBlock address) = refl
   blocks_is Scrub = check_blocks given.verdict (to_check (memory_of sh spell w))
-  blocks_is (Recent place) = refl
+  blocks_is Recent = refl
 
 pub blocks_law : BlocksLaw
 blocks_law sh spell w given c = blocks_is sh spell w given c

@@ -176,7 +176,7 @@ module _ (sh : Shape) (spell : Parts → List ℕ) (log : UnitLog) (w : Work) (g
   shows_next (ReadReply client) does = idle log steps under does agree
   shows_next (ReadBlock address) does = idle log steps under does agree
   shows_next Scrub does = idle log steps under does agree
-  shows_next (Recent place) does = idle log steps under does agree
+  shows_next Recent does = idle log steps under does agree
 
 agree_self : (image : Units) → AgreeReads image image
 agree_self image = record { prepare = λ s. refl; reply = λ k. refl; block = λ a. refl }

@@ -135,7 +135,7 @@ module _ (file : DataFile) (w : Work) (a : ℕ) where
   held_before given (ReadReply client) d inside holds = inl holds
   held_before given (ReadBlock address) d inside holds = inl holds
   held_before given Scrub d inside holds = after_look given.verdict (to_check (memory_of (shape file) (spelling file) w)) d holds
-  held_before given (Recent place) d inside holds = inl holds
+  held_before given Recent d inside holds = inl holds
 
 -- ---- one checksum an address
 

@@ -236,7 +236,7 @@ module _ (file : DataFile) (w : Work) (work : IsWork (shape file) (spelling file
   held_unput (ReadReply client) other = refl
   held_unput (ReadBlock address) other = refl
   held_unput Scrub other = refl
-  held_unput (Recent place) other = refl
+  held_unput Recent other = refl
 
 -- ---- what is durable behind a command
 
@@ -296,7 +296,7 @@ module _ (file : DataFile) (w : Work) (a : ℕ) where
   was_durable given (ReadReply client) is = inl is
   was_durable given (ReadBlock address) is = inl is
   was_durable given Scrub is = inl (checked_was given.verdict (to_check (memory_of (shape file) (spelling file) w)) is)
-  was_durable given (Recent place) is = inl is
+  was_durable given Recent is = inl is
 
 -- what is durable is held
 pub durable_held : (w : Work) (a : ℕ) → is_durable w a ≡ true → is_held w a ≡ true
@@ -329,7 +329,7 @@ next_aside w a clear is (ReadPrepare op) never = never
 next_aside w a clear is (ReadReply client) never = never
 next_aside w a clear is (ReadBlock address) never = never
 next_aside w a clear is Scrub never = never
-next_aside w a clear is (Recent place) never = never
+next_aside w a clear is Recent never = never
 
 -- nor does the last step write one
 last_aside : (w : Work) (a : ℕ) (r : Running) → w.running ≡ Some r → r.left ≡ [] → (command : Command) → WritesNext command w a → ⊥
@@ -346,7 +346,7 @@ last_aside w a r running left (ReadPrepare op) never = never
 last_aside w a r running left (ReadReply client) never = never
 last_aside w a r running left (ReadBlock address) never = never
 last_aside w a r running left Scrub never = never
-last_aside w a r running left (Recent place) never = never
+last_aside w a r running left Recent never = never
 
 -- ---- a call whose steps put what its command makes
 
@@ -447,7 +447,7 @@ module _ (given : Given) (command : Command) (s : State) (events : List Event) (
   ends_last w a (ReadReply client) never = absurd never
   ends_last w a (ReadBlock address) never = absurd never
   ends_last w a Scrub never = absurd never
-  ends_last w a (Recent place) never = absurd never
+  ends_last w a Recent never = absurd never
 
   ends_held : (w : Work) (a : ℕ) (c : Command) → EndsWith c w a → (is_held w a ≡ true) × (WritesNext c w a → ⊥)
   ends_held w a Advance (r, running, left, taken) = (taken_held w r a running taken, last_aside w a r running left Advance)
@@ -460,7 +460,7 @@ module _ (given : Given) (command : Command) (s : State) (events : List Event) (
   ends_held w a (ReadReply client) never = absurd never
   ends_held w a (ReadBlock address) never = absurd never
   ends_held w a Scrub never = absurd never
-  ends_held w a (Recent place) never = absurd never
+  ends_held w a Recent never = absurd never
 
   firm_then : (w : Work) (log : Log) (k : Keeps Firm s w None) → AreSettled s.file log w → (a sector : ℕ) → has layout (BlockPlace a) sector ≡ true → WasDurable s.file w a command → loose (adds events log) sector ≡ false
   firm_then w log k settled a sector here (inl was) =

@@ -102,7 +102,7 @@ looks = record { checksum = 0; message = Err Blank; block = Err Blank; verdict =
 
 -- what is kept is good where it stands
 good_now : (g : Grade) (s : State) (w : Work) (t : Told) → IsKept g s w t.log → EachMoment t.log t.log (IsGoodFor g (format s.file) (shape s.file) (kept w) (kept w))
-good_now g s w t k = moments looks (Recent 0) s [] (record { checksum = omega arith; fields = tt }) (λ known x told there. record { steps = []; are = tt; does = refl }) g w t k t refl
+good_now g s w t k = moments looks Recent s [] (record { checksum = omega arith; fields = tt }) (λ known x told there. record { steps = []; are = tt; does = refl }) g w t k t refl
 
 view_now : (g : Grade) (s : State) (w : Work) (t : Told) → IsKept g s w t.log → LeavesView s.file g w (Some t)
 view_now g s w t k image left chance =

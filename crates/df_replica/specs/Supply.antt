@@ -24,4 +24,4 @@ IsSupplied s told (ReadPrepare op) given = (given.checksum ≡ 0) × IsFoundBy s
 IsSupplied s told (ReadReply client) given = (given.checksum ≡ 0) × IsFoundBy s (ReadReply client) told given.message
 IsSupplied s told (ReadBlock address) given = (given.checksum ≡ 0) × IsBlockFound s address told given.block
 IsSupplied s told Scrub given = (given.checksum ≡ 0) × IsCheckFound s told given.verdict
-IsSupplied s told (Recent place) given = given.checksum ≡ 0
+IsSupplied s told Recent given = given.checksum ≡ 0

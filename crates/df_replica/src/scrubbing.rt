@@ -60,11 +60,12 @@ impl Replica {
         }
     }
 
-    /// The finding at a place of the ring of at most 64, the oldest at place 0; None exactly past the last one.
+    /// The finding at a place of the ring of at most 64, the oldest at place 0; None exactly past the last one. So the machine's call, which
+    /// answers the whole ring, is a look at each place in turn.
     pub fn recent(&self, place: u64) -> Option<Finding>
         ensures value { result ≡ slice_get self.now.findings place }
         ensures few { length self.now.findings ≤ 64 }
-        ensures call { self.now.live ≡ true → (told : Option Told) → Serves (Recent place) self.now self.now told told (Some (ToRecent result)) }
+        ensures call { self.now.live ≡ true → (told : Option Told) → Serves Recent self.now self.now told told (Some (ToRecent self.now.findings)) }
     {
         self.parts.scrub.scrubber.recent(place)
     }

@@ -72,7 +72,7 @@ found_in s t given (ReadPrepare op) is = is.1
 found_in s t given (ReadReply client) is = is.1
 found_in s t given (ReadBlock address) is = is.1
 found_in s t given Scrub is = is.1
-found_in s t given (Recent place) is = tt
+found_in s t given Recent is = tt
 
 idle_sum : (s : State) (sum : ℕ) (o : Option RunningState) → s.running ≡ o → sum ≡ made_by s o → (memory s).running ≡ None → sum ≡ 0
 idle_sum s sum None running is none = is
@@ -89,7 +89,7 @@ no_sum s told given (ReadPrepare op) is = is.0
 no_sum s told given (ReadReply client) is = is.0
 no_sum s told given (ReadBlock address) is = is.0
 no_sum s told given Scrub is = is.0
-no_sum s told given (Recent place) is = is
+no_sum s told given Recent is = is
 
 pub supplied_is_result : SuppliedIsResult
 supplied_is_result s w t command given rep supplied sum =

@@ -1,14 +1,12 @@
 -- What a call comes to for a session, by what it answered and by what was printed of it.
-use Rattle.std.proofs.Common.{◌≡◌, ℕ, Bool, true, false, List, [], ◌∷◌, Option, Some, None, inl, inr, refl, sym, ◌∙◌, ap, subst, Result, Ok, Err}
+use Rattle.std.proofs.Common.{◌≡◌, ℕ, Bool, true, false, List, [], ◌∷◌, Option, Some, None, inl, inr, refl, sym, subst, Result, Ok, Err}
 use Rattle.df_base.specs.Causes.{Blamed, Rose}
 use Rattle.df_base.specs.Log.{Event}
 use Rattle.df_disk.specs.Told as told
 use Rattle.df_disk.specs.Told.{Told}
 use Rattle.df_disk.specs.Adds.{AddsPart}
-use Rattle.df_base.specs.Streams.{Appends, AppendsPart}
 use Rattle.df_inspect.specs.Answers.{text_of}
 use Rattle.df_inspect.specs.Prints.{Prints}
-use Rattle.df_lines.specs.Grammar.{Said}
 use Rattle.df_layout.specs.declared.damage.Class.{Class}
 use Rattle.df_layout.specs.declared.places.Place.{Place}
 use Rattle.df_model.specs.Commands.{Answer, Command, Given}
@@ -22,8 +20,7 @@ use Rattle.df_replica.specs.Supply.{IsSupplied}
 use Rattle.df_script_model.specs.Script.{answer_text}
 use Rattle.df_script_model.specs.Texts.{damaged_text}
 use Rattle.df_top.specs.Calls.{LendsNothing, is_damaged, is_fault, machine_answer}
-use Rattle.df_top.specs.Lines.{commands_of, line_text}
-use Rattle.df_top.specs.Step.{Answers, EndsDamaged, IsAnswered, IsLineAnswered, IsLineDamaged, Makes, ServesLine}
+use Rattle.df_top.specs.Step.{Answers, Makes}
 use Rattle.df_top.specs.Session.{IsDamaged}
 use Rattle.df_top.specs.Turning.{BlamesIfEnds, IsLastPrinted, IsPrinted, Tells, TellsAs, printed_turn}
 use Rattle.df_top.specs.declared.turns.Turn.{Turn}
@@ -127,34 +124,3 @@ module _ (command : Command) (s t : Replica) (old new : Option Told) (written to
 
     pub comes_told : Blamed (is_fault a) before now → Tells command a written took turn → Comes
     comes_told blamed tells = comes_as (is_fault a) (is_damaged a) (in_words command a lends) blamed tells
-
--- ---- the one call of a line
-
-module _ (said : Said) (command : Command) (asks : commands_of said ≡ command ∷ []) (text : (x : Answer) → line_text said (x ∷ []) ≡ answer_text command x) (s t : Replica) (old new : Option Told) where
-  line_answered : (P : List ℕ → Type 0) → IsAnswered command s t old new P → IsLineAnswered said s t old new P
-  line_answered P did = (
-    did.1.act ∷ [],
-    did.0 ∷ [],
-    ap (λ (c : Command). c ∷ []) did.1.is ∙ sym asks,
-    (t, new, did.1.calls, (refl, refl)),
-    subst P (sym (text did.0)) did.2,
-  )
-
-  act_asked : (answer : Option Answer) (makes : Makes command s t old new answer) → commands_of said ≡ makes.act.command ∷ []
-  act_asked answer makes = asks ∙ ap (λ (c : Command). c ∷ []) (sym makes.is)
-
-  line_damaged : (P : List ℕ → Type 0) → EndsDamaged command s t old new P → IsLineDamaged said s t old new P
-  line_damaged P did = (
-    did.1.act,
-    act_asked None did.1,
-    did.1.calls,
-    (did.0, subst (λ (c : Command). IsDamaged c new did.0) (sym did.1.is) did.2, did.3),
-  )
-
-  pub serves_line : (written took : Option (List ℕ)) (turn : Turn) → Answers command s t old new written took turn → ServesLine said s t old new written took turn
-  serves_line written took GoesOn did = line_answered (λ line. Appends written took line) did
-  serves_line written took (Ends DiskFault) did = (did.0.act, act_asked None did.0, did.0.calls, did.1)
-  serves_line written took (Ends Refused) did = line_damaged (λ line. Appends written took line) did
-  serves_line written took (Ends WriteFault) (inl did) = inl (line_answered (λ line. AppendsPart written took line) did)
-  serves_line written took (Ends WriteFault) (inr did) = inr (line_damaged (λ line. AppendsPart written took line) did)
-  serves_line written took turn did = absurd did

@@ -199,7 +199,7 @@ module _ (s t : Replica) (old new : Option Told) (answer : Answer) where
   exact_lends (ReadReply client) is = absurd is
   exact_lends (ReadBlock address) is = absurd is
   exact_lends Scrub is = absurd is
-  exact_lends (Recent place) is = absurd is
+  exact_lends Recent is = absurd is
 
   -- a step alone finds the superblock damaged, and only where the disk tells nothing
   pub exact_damaged : (command : Command) → IsExact command s t old new answer → (place : Place) (class : Class) → answer ≡ answers.Advance (Err (step.Damaged place class)) → IsDamaged command new (damaged_text place class)
@@ -216,4 +216,4 @@ module _ (s t : Replica) (old new : Option Told) (answer : Answer) where
   exact_damaged (ReadReply client) is place class damaged = absurd is
   exact_damaged (ReadBlock address) is place class damaged = absurd is
   exact_damaged Scrub is place class damaged = absurd is
-  exact_damaged (Recent place) is other class damaged = absurd is
+  exact_damaged Recent is other class damaged = absurd is

@@ -141,7 +141,7 @@ module _ (s t : Replica) (old new : Option Told) (a : Answer) where
   exact_on (ReadReply client) is = absurd is
   exact_on (ReadBlock address) is = absurd is
   exact_on Scrub is = absurd is
-  exact_on (Recent place) is = absurd is
+  exact_on Recent is = absurd is
 
   exact_steps : (command : Command) → IsExact command s t old new a → command ≡ Advance → StepsOn s t (heard a)
   exact_steps command exact is =

@@ -29,7 +29,7 @@ HasAnswer (ReadPrepare op) = ⊥
 HasAnswer (ReadReply client) = ⊥
 HasAnswer (ReadBlock address) = ⊥
 HasAnswer Scrub = ⊥
-HasAnswer (Recent place) = ⊥
+HasAnswer Recent = ⊥
 HasAnswer command = Unit {0}
 
 -- the disk is blamed

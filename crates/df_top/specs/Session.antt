@@ -15,7 +15,7 @@ use Rattle.df_replica.specs.Opened.{ToldBy}
 use Rattle.df_replica.specs.Serving.{IsCall}
 use Rattle.df_replica.specs.Session.{Act}
 use Rattle.df_script_model.specs.Texts.{damaged_text}
-use Rattle.df_top.specs.Lines.{AreTurned, Turned, all_acts, all_answers, commands_of, printed, said_in}
+use Rattle.df_top.specs.Lines.{AreTurned, Turned, all_acts, all_answers, command_of, printed, said_in}
 use Rattle.df_top.specs.Outside.{Outside}
 use Rattle.df_top.specs.declared.session.Session.{Session}
 use Rattle.df_top.specs.declared.status.Status.{Status}
@@ -79,7 +79,7 @@ events_to s t old new acts answers (Some a) calls = events_of s old acts answers
 pub record Failing : Type 0 where
   pub said : Said
   pub act : Act
-  pub asks : commands_of said ≡ act.command ∷ []
+  pub asks : act.command ≡ command_of said
 
 abbrev pub act_of : Option Failing → Option Act
 act_of None = None

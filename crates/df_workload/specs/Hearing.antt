@@ -30,7 +30,7 @@ outcome_of (ToReadPrepare read) = Accepted
 outcome_of (ToReadReply read) = Accepted
 outcome_of (ToReadBlock read) = Accepted
 outcome_of (ToScrub scrubbed) = Accepted
-outcome_of (ToRecent finding) = Accepted
+outcome_of (ToRecent findings) = Accepted
 
 -- ---- what is counted, and what the run has then
 
