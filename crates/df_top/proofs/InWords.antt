@@ -48,4 +48,4 @@ in_words c (answers.ReadReply (Err e)) lends = refused (is_lookup_fault e) c (an
 in_words c (answers.ReadBlock (Ok done)) lends = absurd lends
 in_words c (answers.ReadBlock (Err e)) lends = refused (is_read_fault e) c (answers.ReadBlock (Err e)) (ToReadBlock (Err e)) refl refl refl
 in_words c (answers.Scrub scrubbed) lends = (ToScrub scrubbed, refl, refl, refl)
-in_words c (answers.Recent found) lends = absurd lends
+in_words c answers.Recent lends = absurd lends

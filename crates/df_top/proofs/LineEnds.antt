@@ -1,5 +1,5 @@
 -- What one line does to a session: it goes on with the call that the line asks for, or ends.
-use Rattle.std.proofs.Common.{◌≡◌, inl, inr, true, ℕ, ◌+◌, List, [], ◌∷◌, Option, Some, ◌∙◌, ap}
+use Rattle.std.proofs.Common.{◌≡◌, inl, inr, true, ℕ, ◌+◌, List, Option, Some, ◌∙◌, ap}
 use Rattle.df_lines.specs.declared.line.Line.{Line}
 use Rattle.df_lines.specs.Grammar.{Said, said_with}
 use Rattle.df_lines.specs.Reads.{RefusesNext, TakesLine}
@@ -7,12 +7,11 @@ use Rattle.df_lines.specs.Room.{Room, Tells}
 use Rattle.df_lines.specs.Script.{IsRefused}
 use Rattle.df_lines.specs.Text.{unread}
 use Rattle.df_disk.specs.Told.{Told}
-use Rattle.df_model.specs.Commands.{Answer}
-use Rattle.df_replica.specs.Session.{Act}
 use Rattle.df_replica.specs.Below.{State as Replica}
+use Rattle.df_top.specs.Lines.{command_of}
 use Rattle.df_top.specs.Outside.{Outside}
-use Rattle.df_top.specs.Session.{AreCalls, EndedIsEnd, State, state}
-use Rattle.df_top.specs.Step.{EndsIn, RefusesLine, ServesLine, Takes, Turns}
+use Rattle.df_top.specs.Session.{EndedIsEnd, State, state}
+use Rattle.df_top.specs.Step.{Answers, EndsIn, RefusesLine, Takes, Turns}
 use Rattle.df_top.specs.Turning.{OnGoing}
 use Rattle.df_top.specs.declared.session.Session.{Session}
 use Rattle.df_top.specs.declared.turns.Turn.{Turn}
@@ -50,7 +49,7 @@ module _ (before after : Outside) (old : Session) (room : Room) (line : Line) (e
           ap (λ (l : Room). l.reading.budget) kept ∙ line_is.budget,
         )
 
-    pub line_turns : (turn : Turn) → ServesLine said old.replica new.replica before.told after.told before.written after.written turn → OnGoing turn (new.count ≡ old.count + 1)
+    pub line_turns : (turn : Turn) → Answers (command_of said) old.replica new.replica before.told after.told before.written after.written turn → OnGoing turn (new.count ≡ old.count + 1)
         → Turns old.lines.reading.bound (state before old) (state after new) turn
     line_turns GoesOn did count = goes_on old.lines.reading.bound (state before old) (state after new) said takes did count
     line_turns (Ends DiskFault) did count = ends_disk old.lines.reading.bound (state before old) (state after new) said takes did
@@ -66,12 +65,6 @@ module _ (before after : Outside) (old : Session) (room : Room) (line : Line) (e
 
 -- ---- calls may go on behind a line that was answered
 
-calls_live : (s t : Replica) (old new : Option Told) (acts : List Act) (answers : List Answer) → s.live ≡ true → AreCalls s old acts answers t new → t.live ≡ true
-calls_live s t old new [] [] live calls = ap (λ (r : Replica). r.live) calls.0 ∙ live
-calls_live s t old new [] (x ∷ answers) live calls = absurd calls
-calls_live s t old new (a ∷ acts) [] live calls = absurd calls
-calls_live s t old new (a ∷ acts) (x ∷ answers) live calls = calls_live calls.0 t calls.1 new acts answers calls.2.call.live calls.3
-
-pub live_on : (said : Said) (s t : Replica) (old new : Option Told) (written took : Option (List ℕ)) (turn : Turn) → s.live ≡ true → ServesLine said s t old new written took turn → OnGoing turn (t.live ≡ true)
-live_on said s t old new written took GoesOn live did = calls_live s t old new did.0 did.1 live did.3
-live_on said s t old new written took (Ends status) live did = tt
+pub live_on : (said : Said) (s t : Replica) (old new : Option Told) (written took : Option (List ℕ)) (turn : Turn) → Answers (command_of said) s t old new written took turn → OnGoing turn (t.live ≡ true)
+live_on said s t old new written took GoesOn did = did.1.calls.call.live
+live_on said s t old new written took (Ends status) did = tt

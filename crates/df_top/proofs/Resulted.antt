@@ -1,25 +1,15 @@
 -- A session's answers are the result, and its text is the machine's.
-use Rattle.std.specs.List.{range_with_len, slice_get}
-use Rattle.std.proofs.Common.{◌≡◌, ℕ, zero, suc, ◌+◌, ◌-◌, ◌≤◌, List, [], ◌∷◌, ◌++◌, length, map, Option, Some, None, refl, sym, ◌∙◌, ap, subst, arith, length-drop}
-use Rattle.std.proofs.lemmas.List.{map-append, length-map}
+use Rattle.std.proofs.Common.{◌≡◌, ◌+◌, List, [], ◌∷◌, ◌++◌, map, Option, Some, None, refl, sym, ◌∙◌, ap, subst}
 use Rattle.df_base.specs.Image.{Image, IsImage}
 use Rattle.df_base.specs.Log.{Sync}
 use Rattle.df_disk.specs.Told.{Told, did}
-use Rattle.df_layout.specs.declared.damage.Finding.{Finding}
-use Rattle.df_lines.specs.Grammar.{Said}
-use Rattle.df_lines.specs.Grammar as lines
 use Rattle.df_theory.specs.Shape.{Shape}
 use Rattle.df_theory.specs.Units.{BlockPlace, CopyPlace, HeaderPlace, Place, PreparePlace, ReplyPlace}
 use Rattle.df_units.specs.Bytes.{unit_at}
-use Rattle.df_model.specs.After.{after_check, after_running, after_step_of, begun, newest, outcome, to_check, with_live, with_prepare, with_reply, with_running}
-use Rattle.df_model.specs.Commands.{Advance, Answer, Append, Begin, Command, ReadBlock, ReadPrepare, ReadReply, Recent, Release, Reply, Scrub, ToRecent, WriteBlock}
-use Rattle.df_model.specs.Making.{needed_of, next_address, place_of_reply, prepare_of, reply_of}
+use Rattle.df_model.specs.Commands.{Answer, Command}
 use Rattle.df_model.specs.Memory.{Memory, memory_of}
-use Rattle.df_model.specs.Refusals.{append_refusals, begin_refusals, block_refusals, first_refusal, release_refusals, reply_refusals}
-use Rattle.df_model.specs.Supply.{Codec, Shown, checksum_given, first_check, last_shown, last_work, next, result, shown_after}
-use Rattle.df_model.specs.Work.{Running, Work}
-use Rattle.df_model.specs.declared.answers.Verdict.{Verdict}
-use Rattle.df_model.specs.declared.answers.Verdict.TheVariants.{Sound, Failing}
+use Rattle.df_model.specs.Supply.{Codec, Shown, next, result, shown_after}
+use Rattle.df_model.specs.Work.{Work}
 use Rattle.df_replica.specs.Below.{DataFile, State as Replica, shape, told_after}
 use Rattle.df_replica.specs.Leaving.{IsReadPlace, SparesReads}
 use Rattle.df_replica.specs.Opened.{MendsAll}
@@ -31,10 +21,9 @@ use Rattle.df_result.specs.Agreeing.{AgreeShown}
 use Rattle.df_result.specs.Calls.{IsResult}
 use Rattle.df_result.specs.Codec.{codec}
 use Rattle.df_result.proofs.Laws.{one_more_is_result}
-use Rattle.df_script_model.specs.Script.{Line, printed}
-use Rattle.df_script_model.specs.Texts.{recent_text}
-use Rattle.df_top.specs.Lines.{AreTurned, Turned, all_acts, all_answers, all_text, command_in, commands_of, found_in, found_of, line_text, said_in}
-use Rattle.df_top.specs.Resulting.{IsResultOf, joined, line_of, AnswersResult}
+use Rattle.df_script_model.specs.Script.{answer_text, printed}
+use Rattle.df_top.specs.Lines.{AreTurned, Turned, all_acts, all_answers, all_text, command_in, command_of, said_in}
+use Rattle.df_top.specs.Resulting.{IsResultOf, joined, AnswersResult}
 use Rattle.df_top.specs.Session.{AreCalls, EndsCalls}
 
 -- ---- answers

@@ -26,7 +26,7 @@ use Rattle.df_top.specs.Works.{Writes}
 use Rattle.df_top.specs.declared.mode.Mode.{Mode}
 use Rattle.df_top.specs.declared.mode.Mode.TheVariants.{Format, Run, Recover, Inspect, Scrub, Workload}
 use Rattle.df_top.specs.declared.status.Status.{Status}
-use Rattle.df_top.specs.declared.status.Status.TheVariants.{Done, Found, Words, Script, Refused, DiskFault, ReadFault, WriteFault, Memory}
+use Rattle.df_top.specs.declared.status.Status.TheVariants.{Done, Found, Script, Refused, DiskFault, ReadFault, WriteFault, Memory}
 
 -- a report ends Done or Found
 listed : (mends : List Mend) (status : Status) → status ≡ status_of mends → (status ≡ Done) ⊎ (status ≡ Found)

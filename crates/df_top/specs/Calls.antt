@@ -2,7 +2,7 @@
 use Rattle.std.specs.Prelude.{◌≡◌, ℕ, Bool, true, false, List, Option, Some, None, Result, Ok, Err}
 use Rattle.df_disk.specs.Told.{Told}
 use Rattle.df_format.specs.declared.reference.Reference.{Reference}
-use Rattle.df_model.specs.Commands.{Advance, Answer as Answered, Append, Begin, Command, ReadBlock, ReadPrepare, ReadReply, Recent, Release, Reply, Scrub, ToAdvance, ToReadBlock, ToReadPrepare, ToReadReply, ToRecent, ToScrub, WriteBlock}
+use Rattle.df_model.specs.Commands.{Advance, Answer as Answered, Append, Begin, Command, ReadBlock, ReadPrepare, ReadReply, Recent, Release, Reply, Scrub, ToAdvance, ToReadBlock, ToReadPrepare, ToReadReply, ToScrub, WriteBlock}
 use Rattle.df_model.specs.declared.answers.Progress.{Progress}
 use Rattle.df_model.specs.declared.answers.Receipt.{Receipt}
 use Rattle.df_model.specs.declared.commands.Answer.{Answer}
@@ -53,7 +53,7 @@ abbrev pub LendsNothing : Answer → Type 0
 LendsNothing (answers.ReadPrepare (Ok done)) = ⊥
 LendsNothing (answers.ReadReply (Ok done)) = ⊥
 LendsNothing (answers.ReadBlock (Ok done)) = ⊥
-LendsNothing (answers.Recent found) = ⊥
+LendsNothing answers.Recent = ⊥
 LendsNothing answer = Unit {0}
 
 -- the answer is that of the call, which is exact
@@ -66,7 +66,7 @@ IsExact (Begin root) s t old new answer = (r : Result ℕ BeginError) × (answer
 IsExact Advance s t old new answer = (r : Result Progress StepError) × (answer ≡ answers.Advance r) × IsStep s t old new r
 IsExact command s t old new answer = ⊥
 
--- the machine's answer: none where the disk failed, or where a step found the superblock damaged that it wrote; a unit that was read is no part of an answer
+-- the machine's answer: none where the disk failed, or where a step found the superblock damaged that it wrote; a unit that was read is no part of an answer, nor is what the ring holds
 abbrev pub machine_answer : Answer → Option Answered
 machine_answer (answers.Append r) = answer_of is_append_fault as_append r
 machine_answer (answers.Reply r) = answer_of is_reply_fault as_reply r
@@ -78,7 +78,6 @@ machine_answer (answers.ReadPrepare (Err e)) = answer_of is_prepare_fault ToRead
 machine_answer (answers.ReadReply (Err e)) = answer_of is_lookup_fault ToReadReply (Err e)
 machine_answer (answers.ReadBlock (Err e)) = answer_of is_read_fault ToReadBlock (Err e)
 machine_answer (answers.Scrub scrubbed) = Some (ToScrub scrubbed)
-machine_answer (answers.Recent found) = Some (ToRecent found)
 machine_answer answer = None
 
 -- it is that of a step that found the superblock damaged

@@ -34,6 +34,6 @@ pub fn call<D: Disk>(disk: &mut D, replica: &mut Replica, command: Command) -> A
         | Command::ReadReply { client: _ }
         | Command::ReadBlock { address: _ }
         | Command::Scrub
-        | Command::Recent { place: _ } => unreachable!(),
+        | Command::Recent => unreachable!(),
     }
 }

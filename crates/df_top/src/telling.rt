@@ -56,7 +56,7 @@ pub fn is_fault(answer: &Answer) -> bool
         Answer::ReadPrepare(answer) => blames(answer),
         Answer::ReadReply(answer) => blames(answer),
         Answer::ReadBlock(answer) => blames(answer),
-        Answer::Release(_) | Answer::Begin(_) | Answer::Scrub(_) | Answer::Recent(_) => false,
+        Answer::Release(_) | Answer::Begin(_) | Answer::Scrub(_) | Answer::Recent => false,
     }
 }
 
@@ -78,7 +78,7 @@ fn is_damaged(answer: &Answer) -> bool
         | Answer::ReadReply(_)
         | Answer::ReadBlock(_)
         | Answer::Scrub(_)
-        | Answer::Recent(_) => false,
+        | Answer::Recent => false,
     }
 }
 

@@ -62,7 +62,7 @@ fn outcome_in(answer: &Answer) -> Result<Outcome, Fault>
         | Answer::ReadReply(_)
         | Answer::ReadBlock(_)
         | Answer::Scrub(_)
-        | Answer::Recent(_) => Ok(Outcome::Accepted),
+        | Answer::Recent => Ok(Outcome::Accepted),
     }
 }
 
