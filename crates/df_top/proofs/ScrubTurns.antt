@@ -75,17 +75,13 @@ items_few (Some f) = omega arith
 -- the first n findings and that at the next place
 pub take_more : (xs : List Finding) (n : ℕ) → take (n + 1) xs ≡ take n xs ++ items_of (slice_get xs n)
 take_more [] zero = refl
-take_more [] (suc n) = refl
+take_more [] (suc n) =
+    let one : suc n + 1 ≡ suc (n + 1) = omega arith in
+    ap (λ (k : ℕ). take {A = Finding} k []) one
 take_more (x ∷ xs) zero = refl
 take_more (x ∷ xs) (suc n) =
     let one : suc n + 1 ≡ suc (n + 1) = omega arith in
     ap (λ (k : ℕ). take k (x ∷ xs)) one ∙ ap (λ (l : List Finding). x ∷ l) (take_more xs n)
-
-pub take_all : (xs : List Finding) (n : ℕ) → length xs ≤ n → take n xs ≡ xs
-take_all [] zero few = refl
-take_all [] (suc n) few = refl
-take_all (x ∷ xs) zero few = absurd (omega (arith, few))
-take_all (x ∷ xs) (suc n) few = ap (λ (l : List Finding). x ∷ l) (take_all xs n (omega (arith, few)))
 
 -- what was printed of them is the line's text
 pub ring_printed : (s : Replica) (told : Option Told) (written took : Option (List ℕ)) → Serves Recent s s told told (Some (ToRecent s.findings)) → {T E : Type 0} (r : Result T E) → Prints (recent_text s.findings) written took r

@@ -1,7 +1,8 @@
 -- Each place is read once.
 use Rattle.std.proofs.Common.{◌≡◌, ◌≤◌, ◌<◌, ◌++◌, ◌∙◌, refl, sym, length, arith}
+use Rattle.std.proofs.lemmas.List.{take_all}
 use Rattle.df_top.specs.Findings.{items_of}
-use Rattle.df_top.proofs.ScrubTurns.{items_few, take_all, take_more}
+use Rattle.df_top.proofs.ScrubTurns.{items_few, take_more}
 use Rattle.df_top.proofs.scrub_calls.fill.Goals as goal
 
 pub loop-place-init : goal.loop-place-init
@@ -25,7 +26,7 @@ returns-clause-ring c =
     let all : c.loop-place.place ≡ 64 = omega (arith, c.loop-place.invariant.within, c.loop-place-test.false) in
     let some : 0 < c.loop-place.place = omega (arith, all) in
     let few : length c.args.replica.now.findings ≤ c.loop-place.place = omega (arith, all, c.loop-place.invariant.ring some) in
-    c.loop-place.invariant.so_far ∙ take_all c.args.replica.now.findings c.loop-place.place few
+    c.loop-place.invariant.so_far ∙ take_all c.loop-place.place c.args.replica.now.findings few
 
 pub returns-clause-call : goal.returns-clause-call
 returns-clause-call c =
