@@ -26,7 +26,8 @@ use Rattle.df_result.specs.Agreeing.{AgreeShown}
 use Rattle.df_result.specs.Codec.{codec}
 use Rattle.df_model.specs.Commands.{Command}
 use Rattle.df_script_model.specs.Script.{answer_text, printed}
-use Rattle.df_top.specs.Acknowledging.{events_made, script_calls}
+use Rattle.df_session.specs.Links.{events_made}
+use Rattle.df_top.specs.Acknowledging.{script_calls}
 use Rattle.df_top.specs.Lines.{Turned, all_text, command_of, printed as prints, said_in}
 use Rattle.df_top.specs.OneText.{text_by}
 use Rattle.df_top.specs.Outside.{Outside}
@@ -172,8 +173,8 @@ module _ (layout : Layout) (t : Told) (old new : Outside) (status : Status) (s :
     -- the disk failed in the last one
     some_written : (f : Failing) (cut : Bool) (how : Status) → IsFront (prints 0 turns false) (whole_text s) → Ends (Some f) cut how → Writes
     some_written f cut DiskFault front ends = all_written false front (subst (λ (b : Bool). Appends old.written new.written (prints 0 turns b)) ends.0 ends.1)
-    some_written f cut WriteFault front ends = absurd (untold ends.2.untold)
-    some_written f cut Refused front ends = absurd (untold ends.2.untold)
+    some_written f cut WriteFault front ends = absurd (untold ends.2.step.untold)
+    some_written f cut Refused front ends = absurd (untold ends.2.step.untold)
     some_written f cut Done front ends = absurd ends
     some_written f cut Script front ends = absurd ends
     some_written f cut ReadFault front ends = absurd ends

@@ -25,10 +25,11 @@ use Rattle.df_replica.specs.HeldBlocks.{AreInputs}
 use Rattle.df_replica.specs.Serving.{Firm, Grade, StandsFor, Whole, format}
 use Rattle.df_replica.specs.Session.{Act, HasView, HoldsFor, IsMidway, answers_of, work_after}
 use Rattle.df_replica.proofs.Laws.{added_is_told, begun_may_open, same_goes_on, safe_is_not_refused, stopped_may_open}
-use Rattle.df_top.specs.Acknowledging.{CallsMade, IsUntil, KeepsAnswered, events_made, run_calls, script_calls}
-use Rattle.df_top.specs.Keeping.{KeepsFile, LeavesAll, over}
+use Rattle.df_session.specs.Links.{CallsMade, events_made, list_of}
+use Rattle.df_session.specs.Acknowledging.{IsUntil, KeepsAnswered}
+use Rattle.df_top.specs.Acknowledging.{run_calls, script_calls}
+use Rattle.df_session.specs.Keeping.{KeepsFile, LeavesAll, over}
 use Rattle.df_top.specs.Outside.{Outside}
-use Rattle.df_top.specs.Session.{list_of}
 use Rattle.df_lifetime.specs.Acknowledged.{AreThere}
 use Rattle.df_lifetime.specs.Hurt.{AreAnswered, HurtRunsKeep, HurtScriptsKeep, KeepsOn, NextFinds, RunsKeepOn, ScriptsKeepOn, at_end}
 use Rattle.df_lifetime.specs.Life.{start_of}

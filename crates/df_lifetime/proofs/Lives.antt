@@ -30,13 +30,14 @@ use Rattle.df_replica.specs.Opened.{Mends, MendsPartly, StopsOpening}
 use Rattle.df_replica.specs.Serving.{Grade, IsGoodFor, StandsFor, Whole, format}
 use Rattle.df_replica.specs.Session.{Act, HasView, IsMidway, work_after}
 use Rattle.df_replica.proofs.Laws.{added_is_told, good_left, good_safe, safe_is_not_refused}
-use Rattle.df_top.specs.Acknowledging.{CallsMade, IsUntil, KeepsAnswered, events_made, run_calls, script_calls}
+use Rattle.df_session.specs.Links.{CallsMade, events_made, list_of}
+use Rattle.df_session.specs.Acknowledging.{IsUntil, KeepsAnswered}
+use Rattle.df_top.specs.Acknowledging.{run_calls, script_calls}
 use Rattle.df_top.specs.Formats.{Formats}
-use Rattle.df_top.specs.Keeping.{KeepsFile, LeavesAll, over}
+use Rattle.df_session.specs.Keeping.{KeepsFile, LeavesAll, over}
 use Rattle.df_top.specs.Opening.{RefusesFile}
 use Rattle.df_top.specs.Outside.{Outside}
 use Rattle.df_top.specs.Run.{Does, ServesScript}
-use Rattle.df_top.specs.Session.{list_of}
 use Rattle.df_top.specs.Working.{WorksThrough}
 use Rattle.df_top.specs.declared.mode.Mode.{Mode}
 use Rattle.df_top.specs.declared.mode.Mode.TheVariants.{Format, Run, Recover, Inspect, Scrub, Workload}

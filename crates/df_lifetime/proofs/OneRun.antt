@@ -38,9 +38,8 @@ use Rattle.df_workload.specs.Following.{Follows}
 use Rattle.df_workload.specs.Hearing.{heard}
 use Rattle.df_workload.specs.Rounds.{start}
 use Rattle.df_workload.specs.declared.state.State.{State as Run}
-use Rattle.df_top.specs.Lines.{command_in}
+use Rattle.df_session.specs.Links.{AreCalls, EndsCalls, command_in}
 use Rattle.df_top.specs.Outside.{Outside}
-use Rattle.df_top.specs.Session.{AreCalls, EndsCalls}
 use Rattle.df_top.specs.Working.{WorksThrough}
 use Rattle.df_top.specs.Works.{Writes, asked_by, workload_of}
 use Rattle.df_top.specs.declared.status.Status.{Status}

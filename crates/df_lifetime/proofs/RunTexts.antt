@@ -37,7 +37,7 @@ use Rattle.df_workload.specs.declared.state.Point.{Point}
 use Rattle.df_workload.specs.declared.state.Point.TheVariants.{Appending, Replying, Stepping, Writing, Releasing, Beginning, Ending}
 use Rattle.df_workload.specs.declared.state.State.{State as Run}
 use Rattle.df_workload.proofs.Laws.{asks_end}
-use Rattle.df_top.specs.Lines.{command_in}
+use Rattle.df_session.specs.Links.{command_in}
 use Rattle.df_top.specs.Outside.{Outside}
 use Rattle.df_top.specs.Working.{WorksThrough}
 use Rattle.df_top.specs.Works.{workload_of}

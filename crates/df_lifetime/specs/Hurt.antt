@@ -13,11 +13,12 @@ use Rattle.df_replica.specs.Below.{DataFile, FindsHad, begun, told_after}
 use Rattle.df_replica.specs.Following.{MayOpen}
 use Rattle.df_replica.specs.Serving.{Grade, StandsFor, format}
 use Rattle.df_replica.specs.Session.{Act, work_after}
-use Rattle.df_top.specs.Acknowledging.{CallsMade, KeepsAnswered, WereAnswered, events_made, run_calls, script_calls}
-use Rattle.df_top.specs.Keeping.{KeepsFile, over}
+use Rattle.df_session.specs.Links.{CallsMade, events_made, list_of}
+use Rattle.df_session.specs.Acknowledging.{KeepsAnswered, WereAnswered}
+use Rattle.df_top.specs.Acknowledging.{run_calls, script_calls}
+use Rattle.df_session.specs.Keeping.{KeepsFile, over}
 use Rattle.df_top.specs.Outside.{Outside}
 use Rattle.df_top.specs.Run.{ServesScript}
-use Rattle.df_top.specs.Session.{list_of}
 use Rattle.df_top.specs.Working.{WorksThrough}
 use Rattle.df_top.specs.declared.status.Status.{Status}
 use Rattle.df_lifetime.specs.Acknowledged.{AreThere}

@@ -20,11 +20,12 @@ use Rattle.df_replica.specs.HeldBlocks.{AreInputs}
 use Rattle.df_replica.specs.Making.{MayMakeOn}
 use Rattle.df_replica.specs.Serving.{format}
 use Rattle.df_replica.specs.Session.{Act, answers_of, work_after}
-use Rattle.df_top.specs.Acknowledging.{CallsMade, WereAnswered, run_calls, script_calls}
+use Rattle.df_session.specs.Links.{CallsMade, list_of}
+use Rattle.df_session.specs.Acknowledging.{WereAnswered}
+use Rattle.df_top.specs.Acknowledging.{run_calls, script_calls}
 use Rattle.df_top.specs.Formats.{Formats, MakesFile}
 use Rattle.df_top.specs.Outside.{Outside}
 use Rattle.df_top.specs.Run.{DidNothing, Does, RefusesSuperblock, Runs, ServesOwn}
-use Rattle.df_top.specs.Session.{list_of}
 use Rattle.df_top.specs.declared.mode.Mode.{Mode}
 use Rattle.df_top.specs.declared.mode.Mode.TheVariants.{Format, Run, Recover, Inspect, Scrub, Workload}
 use Rattle.df_top.specs.declared.status.Status.{Status}

@@ -22,7 +22,8 @@ use Rattle.df_replica.specs.BlockReads.{IsBlockFound, block_found, what_block}
 use Rattle.df_replica.specs.Serving.{IsCall}
 use Rattle.df_replica.specs.Stopping.{left_by}
 use Rattle.df_script_model.specs.Texts.{block_text}
-use Rattle.df_top.specs.Step.{Answers, Makes}
+use Rattle.df_session.specs.Links.{Makes}
+use Rattle.df_top.specs.Step.{Answers}
 use Rattle.df_top.specs.Turning.{IsPrinted, Tells, printed_turn}
 use Rattle.df_top.specs.declared.turns.Turn.{Turn}
 use Rattle.df_top.proofs.ReadTurns.{ends_as}

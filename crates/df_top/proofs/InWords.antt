@@ -12,7 +12,7 @@ use Rattle.df_script_model.specs.Script.{answer_text}
 use Rattle.df_units.specs.Meaning.{number_of}
 use Rattle.df_model.specs.Faults.{is_append_fault, is_block_fault, is_lookup_fault, is_prepare_fault, is_read_fault, is_reply_fault}
 use Rattle.df_workload.specs.Hearing.{outcome_of}
-use Rattle.df_top.specs.Calls.{LendsNothing, is_damaged, is_fault, machine_answer}
+use Rattle.df_session.specs.Calls.{LendsNothing, is_damaged, is_fault, machine_answer}
 use Rattle.df_top.specs.Works.{outcome_in}
 
 -- there is none, or the machine's answer has the same line and is heard so

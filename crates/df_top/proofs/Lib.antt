@@ -6,16 +6,11 @@ mod Progress
 mod LineEnds
 mod InWords
 mod Answered
-mod Exact
 mod BlockReadTurns
 mod ScrubTurns
 mod Checks
 mod Tours
-mod Untouched
-mod Kept
 mod Resulted
-mod Acknowledged
-mod Spared
 mod Served
 mod Reported
 mod OneReport

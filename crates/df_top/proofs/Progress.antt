@@ -12,22 +12,14 @@ use Rattle.df_model.specs.Commands.{Answer, Command}
 use Rattle.df_replica.specs.Below.{State as Replica}
 use Rattle.df_replica.specs.Session.{Act}
 use Rattle.df_script_model.specs.Script.{answer_text}
+use Rattle.df_session.proofs.Laws.{calls_join}
 use Rattle.df_top.specs.Lines.{Turned, all_acts, all_answers, all_text, command_of, said_in}
-use Rattle.df_top.specs.Session.{AreCalls, Ended, EndsText, EndsWith, Executed, IsDamaged, State}
-use Rattle.df_top.specs.Step.{EndsDamaged, EndsIn, GoesOn, IsAnswered, Makes, Takes}
+use Rattle.df_session.specs.Links.{AreCalls, Makes}
+use Rattle.df_top.specs.Session.{Ended, EndsText, EndsWith, Executed, IsDamagedLine, State}
+use Rattle.df_top.specs.Step.{EndsDamaged, EndsIn, GoesOn, IsAnswered, Takes}
 use Rattle.df_top.specs.declared.status.Status.{Status}
 use Rattle.df_top.specs.declared.status.Status.TheVariants.{Done, Script, Refused, DiskFault, ReadFault, WriteFault}
 use Rattle.df_top.proofs.Written.{acts_more, answers_more, are_more, begins_more, text_more}
-
--- ---- calls
-
-pub calls_join : (s t u : Replica) (old mid new : Option Told) (acts more : List Act) (answers others : List Answer)
-    → AreCalls s old acts answers t mid → AreCalls t mid more others u new → AreCalls s old (acts ++ more) (answers ++ others) u new
-calls_join s t u old mid new [] more [] others calls rest =
-    subst (λ (o : Option Told). AreCalls s o more others u new) calls.1 (subst (λ (r : Replica). AreCalls r mid more others u new) calls.0 rest)
-calls_join s t u old mid new [] more (y ∷ answers) others calls rest = absurd calls
-calls_join s t u old mid new (b ∷ acts) more [] others calls rest = absurd calls
-calls_join s t u old mid new (b ∷ acts) more (y ∷ answers) others calls rest = (calls.0, calls.1, calls.2, calls_join calls.0 t u calls.1 mid new acts more answers others calls.3 rest)
 
 -- ---- on
 
@@ -220,8 +212,8 @@ module _ (bound : ℕ) (old new : State) (said : Said) (takes : Takes bound old 
   ends_answer done origin turns so_far = line_cut_off bound old new said takes done.0 done.1 origin turns so_far done.2
 
   -- its step is damaged
-  damaged_step : (makes : Makes (command_of said) old.replica new.replica old.outside.told new.outside.told None) (line : List ℕ) → IsDamaged (command_of said) new.outside.told line → IsDamaged makes.act.command new.outside.told line
-  damaged_step makes line damaged = subst (λ (c : Command). IsDamaged c new.outside.told line) (sym makes.is) damaged
+  damaged_step : (makes : Makes (command_of said) old.replica new.replica old.outside.told new.outside.told None) (line : List ℕ) → IsDamagedLine (command_of said) new.outside.told line → IsDamagedLine makes.act.command new.outside.told line
+  damaged_step makes line damaged = subst (λ (c : Command). IsDamagedLine c new.outside.told line) (sym makes.is) damaged
 
   -- the line that says so is written, or a front of it
   pub ends_damaged : EndsDamaged (command_of said) old.replica new.replica old.outside.told new.outside.told (λ line. Appends old.outside.written new.outside.written line) → EndsIn bound old new Refused

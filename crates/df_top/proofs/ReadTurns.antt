@@ -29,9 +29,10 @@ use Rattle.df_replica.specs.Reading.{IsFoundBy, message_at, prepare_found}
 use Rattle.df_replica.specs.Serving.{IsCall}
 use Rattle.df_replica.specs.Stopping.{left_by}
 use Rattle.df_script_model.specs.Texts.{damaged_text, message_text}
-use Rattle.df_top.specs.Calls.{LendsNothing, is_fault, machine_answer}
-use Rattle.df_top.specs.Session.{IsDamaged}
-use Rattle.df_top.specs.Step.{Answers, Makes}
+use Rattle.df_session.specs.Calls.{LendsNothing, is_fault, machine_answer}
+use Rattle.df_top.specs.Session.{IsDamagedLine}
+use Rattle.df_session.specs.Links.{Makes}
+use Rattle.df_top.specs.Step.{Answers}
 use Rattle.df_top.specs.Turning.{IsPrinted, Tells, printed_turn}
 use Rattle.df_top.specs.declared.turns.Turn.{Turn}
 use Rattle.df_top.proofs.Answered.{Comes, comes_answered, comes_told, prints_turn}
@@ -82,7 +83,7 @@ module _ (s t : Replica) (old new : Option Told) (same : new ≡ old) where
     abbrev Reads : Command → Type 0
     Reads command = Comes command s t old new written took before now turn
 
-    told : (command : Command) (a : Called) → LendsNothing a → Makes command s t old new (machine_answer a) → ((place : Place) (class : Class) → a ≡ answers.Advance (Err (step.Damaged place class)) → IsDamaged command new (damaged_text place class))
+    told : (command : Command) (a : Called) → LendsNothing a → Makes command s t old new (machine_answer a) → ((place : Place) (class : Class) → a ≡ answers.Advance (Err (step.Damaged place class)) → IsDamagedLine command new (damaged_text place class))
         → Blamed (is_fault a) before now → Tells command a written took turn → Reads command
     told command a lends makes damaged blamed tells = comes_told command s t old new written took before now turn a makes lends damaged blamed tells
 

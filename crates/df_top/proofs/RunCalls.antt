@@ -19,13 +19,14 @@ use Rattle.df_replica.specs.Blocks.{IsRelease}
 use Rattle.df_replica.specs.Stepping.{IsStep, OfRunning, advanced, finished}
 use Rattle.df_script_model.specs.Texts.{damaged_text}
 use Rattle.df_workload.specs.declared.outcome.Outcome.{Outcome}
-use Rattle.df_top.specs.Calls.{IsExact, is_damaged, is_fault, machine_answer}
-use Rattle.df_top.specs.Session.{IsDamaged}
-use Rattle.df_top.specs.Step.{Makes}
+use Rattle.df_session.specs.Calls.{IsExact, is_damaged, is_fault, machine_answer}
+use Rattle.df_top.specs.Session.{IsDamagedLine}
+use Rattle.df_session.specs.Links.{Makes}
 use Rattle.df_top.specs.Works.{IsRunning, MakesTo, RunsOn, StepsOn, heard, is_disk, outcome_in}
 use Rattle.df_top.specs.declared.works.Fault.{Fault}
 use Rattle.df_top.specs.declared.works.Fault.TheVariants.{Damaged, Disk}
-use Rattle.df_top.proofs.Exact.{append_moves, exact_damaged, exact_lends, on_running, reply_moves, write_moves}
+use Rattle.df_session.proofs.Laws.{append_moves, exact_damaged, exact_lends, on_running, reply_moves, write_moves}
+use Rattle.df_top.proofs.Answered.{damaged_line}
 use Rattle.df_top.proofs.InWords.{InWords, in_words}
 
 -- ---- what is heard
@@ -35,7 +36,7 @@ abbrev Heard : Command → (s t : Replica) → (old new : Option Told) → (befo
 Heard command s t old new before now r = MakesTo command s t old new r × IsBlamed is_disk before now r
 
 module _ (command : Command) (s t : Replica) (old new : Option Told) (before now : ℕ) (a : Answer) (makes : Makes command s t old new (machine_answer a))
-    (damaged : (place : Place) (class : Class) → a ≡ answers.Advance (Err (step.Damaged place class)) → IsDamaged command new (damaged_text place class)) where
+    (damaged : (place : Place) (class : Class) → a ≡ answers.Advance (Err (step.Damaged place class)) → IsDamagedLine command new (damaged_text place class)) where
   unless_fault : (fault : Bool) → is_fault a ≡ fault → heard a ≡ (if fault then Err Disk else outcome_in a)
   unless_fault fault is = ap (λ (b : Bool). if b then Err Disk else outcome_in a) is
 
@@ -151,5 +152,5 @@ module _ (s t : Replica) (old new : Option Told) (a : Answer) where
   pub heard_call : (before now : ℕ) (command : Command) → IsExact command s t old new a → Makes command s t old new (machine_answer a) → Blamed (is_fault a) before now → Call command s t old new before now (heard a)
   heard_call before now command exact makes blamed =
       let both =
-      heard_as command s t old new before now a makes (exact_damaged s t old new a command exact) (is_fault a) (is_damaged a) refl (in_words command a (exact_lends s t old new a command exact)) blamed in
+      heard_as command s t old new before now a makes (λ place class is. damaged_line command new place class (exact_damaged s t old new a command exact place class is)) (is_fault a) (is_damaged a) refl (in_words command a (exact_lends s t old new a command exact)) blamed in
       record { makes = both.0; runs = exact_on command exact; steps = exact_steps command exact; disk = both.1 }

@@ -17,10 +17,12 @@ use Rattle.df_replica.specs.Serving.{IsCall}
 use Rattle.df_replica.specs.Below.{verdict_in, State as Replica}
 use Rattle.df_script_model.specs.Texts.{recent_text}
 use Rattle.df_top.specs.Findings.{items_of}
-use Rattle.df_top.specs.Step.{Answers, Makes}
+use Rattle.df_session.specs.Links.{Makes}
+use Rattle.df_top.specs.Step.{Answers}
 use Rattle.df_top.specs.Turning.{Tells, printed_turn}
 use Rattle.df_top.specs.declared.turns.Turn.{Turn}
-use Rattle.df_top.proofs.Answered.{Comes, comes_answered, made, printed_is, prints_turn}
+use Rattle.df_session.proofs.Laws.{made}
+use Rattle.df_top.proofs.Answered.{Comes, comes_answered, printed_is, prints_turn}
 
 -- ---- what a check is rightly supplied with
 

@@ -16,10 +16,10 @@ use Rattle.df_replica.specs.Making.{making_events, making_steps}
 use Rattle.df_replica.specs.Opened.{Mends, StopsOpening}
 use Rattle.df_replica.specs.Serving.{IsCall}
 use Rattle.df_replica.specs.Session.{Act}
-use Rattle.df_top.specs.Acknowledging.{CallsMade, run_calls, script_calls}
+use Rattle.df_session.specs.Links.{AreCalls, CallsMade, EndsCalls}
+use Rattle.df_top.specs.Acknowledging.{run_calls, script_calls}
 use Rattle.df_top.specs.Outside.{Outside}
 use Rattle.df_top.specs.Run.{Does, Runs, ServesScript}
-use Rattle.df_top.specs.Session.{AreCalls, EndsCalls}
 use Rattle.df_top.specs.Within.{WritesOwn}
 use Rattle.df_top.specs.Working.{WorksThrough}
 use Rattle.df_top.specs.declared.mode.Mode.{Mode}

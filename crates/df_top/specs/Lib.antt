@@ -7,14 +7,11 @@ pub mod Findings
 pub mod Resulting
 pub mod Session
 pub mod Step
-pub mod Calls
 pub mod Turning
 pub mod Refusing
 pub mod Opening
-pub mod Keeping
 pub mod Works
 pub mod Acknowledging
-pub mod Sparing
 pub mod Working
 pub mod Reporting
 pub mod Scrubs

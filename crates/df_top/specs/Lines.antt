@@ -21,9 +21,6 @@ command_of (lines.Read address) = ReadBlock address
 command_of lines.Scrub = Scrub
 command_of lines.Recent = Recent
 
-abbrev pub command_in : Act → Command
-command_in a = a.command
-
 -- ---- a line that was executed
 
 -- a line with the call that it asked for, and its answer

@@ -4,15 +4,14 @@ use Rattle.df_base.specs.Image.{Image}
 use Rattle.df_lines.specs.Grammar.{Said}
 use Rattle.df_theory.specs.View.{View}
 use Rattle.df_units.specs.Bytes.{unit_at}
-use Rattle.df_model.specs.Commands.{Answer}
-use Rattle.df_model.specs.Supply.{Shown, result}
+use Rattle.df_model.specs.Supply.{Shown}
 use Rattle.df_model.specs.Work.{Work, opened}
 use Rattle.df_replica.specs.Below.{DataFile, shape}
 use Rattle.df_replica.specs.Reading.{shown_of}
-use Rattle.df_replica.specs.Session.{Act}
 use Rattle.df_result.specs.Codec.{codec}
 use Rattle.df_script_model.specs.Script.{printed}
-use Rattle.df_top.specs.Lines.{Turned, all_acts, all_answers, all_text, command_in, command_of, said_in}
+use Rattle.df_session.specs.Resulting.{AnswersResult}
+use Rattle.df_top.specs.Lines.{Turned, all_acts, all_answers, all_text, command_of, said_in}
 
 -- one text behind the other
 abbrev pub joined : List (List ℕ) → List ℕ
@@ -26,10 +25,6 @@ text_over file shown w says = joined (printed (shape file) (codec file) shown w 
 -- what they print over a file whose disk shows this image, in which this view is found
 abbrev pub script_text_of : DataFile → View → Image → List Said → List ℕ
 script_text_of file view image says = text_over file (shown_of file image) (opened (shape file) (unit_at file.layout file.cluster image) view) says
-
--- these calls answered what the machine answers over what is shown, from this state on: each in turn, over what those before it left shown
-abbrev pub AnswersResult : DataFile → Shown → Work → List Act → List Answer → Type 0
-AnswersResult file shown w acts answers = answers ≡ result (shape file) (codec file) shown w (map command_in acts)
 
 -- so it is of these lines, and so they print
 pub record IsResultOf (file : DataFile) (shown : Shown) (w : Work) (turns : List Turned) : Type 0 where

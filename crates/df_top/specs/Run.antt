@@ -20,13 +20,15 @@ use Rattle.df_replica.specs.Reading.{shown_of}
 use Rattle.df_replica.specs.Serving.{Grade, IsKept, StandsFor}
 use Rattle.df_replica.specs.Session.{answers_of}
 use Rattle.df_result.specs.Agreeing.{AgreeShown}
-use Rattle.df_top.specs.Acknowledging.{KeepsAnswered, events_made, script_calls}
-use Rattle.df_top.specs.Keeping.{KeepsFile, over}
+use Rattle.df_session.specs.Acknowledging.{KeepsAnswered}
+use Rattle.df_session.specs.Links.{events_made}
+use Rattle.df_top.specs.Acknowledging.{script_calls}
+use Rattle.df_session.specs.Keeping.{KeepsFile, over}
 use Rattle.df_top.specs.Opening.{FailsToOpen, IsSilent, PrintsRefusal, RefusesFile}
 use Rattle.df_top.specs.Outside.{Outside}
 use Rattle.df_top.specs.Reporting.{FailsToSurvey, Inspects, Recovers}
 use Rattle.df_top.specs.Scrubs.{ScrubsFile}
-use Rattle.df_top.specs.Sparing.{SparesBlocks}
+use Rattle.df_session.specs.Sparing.{SparesBlocks}
 use Rattle.df_top.specs.Working.{WorksThrough}
 use Rattle.df_top.specs.Lines.{all_acts, all_answers}
 use Rattle.df_top.specs.Resulting.{IsResultOf}

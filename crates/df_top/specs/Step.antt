@@ -8,20 +8,14 @@ use Rattle.df_lines.specs.Script.{IsLine}
 use Rattle.df_lines.specs.Text.{after_line, taken}
 use Rattle.df_model.specs.Commands.{Answer, Command}
 use Rattle.df_replica.specs.Below.{State as Replica}
-use Rattle.df_replica.specs.Session.{Act}
 use Rattle.df_script_model.specs.Script.{answer_text}
+use Rattle.df_session.specs.Links.{Makes}
 use Rattle.df_top.specs.Lines.{Turned}
-use Rattle.df_top.specs.Session.{Calls, Ended, Executed, IsDamaged, State}
+use Rattle.df_top.specs.Session.{Ended, Executed, IsDamagedLine, State}
 use Rattle.df_top.specs.declared.turns.Turn.{Turn}
 use Rattle.df_top.specs.declared.turns.Turn.TheVariants.{GoesOn as Goes, Ends as EndsBy}
 use Rattle.df_top.specs.declared.status.Status.{Status}
 use Rattle.df_top.specs.declared.status.Status.TheVariants.{Script, Refused, DiskFault, WriteFault}
-
--- the call that a command asks for
-pub record Makes (command : Command) (s t : Replica) (old new : Option Told) (answer : Option Answer) : Type 0 where
-  pub act : Act
-  pub is : act.command ≡ command
-  pub calls : Calls act s t old new answer
 
 -- the call was made and was answered
 abbrev pub IsAnswered : Command → (s t : Replica) → (old new : Option Told) → (List ℕ → Type 0) → Type 0
@@ -29,7 +23,7 @@ IsAnswered command s t old new Printed = (x : Answer) × Makes command s t old n
 
 -- it is a step that is damaged, and has no answer but the line that ends the session
 abbrev pub EndsDamaged : Command → (s t : Replica) → (old new : Option Told) → (List ℕ → Type 0) → Type 0
-EndsDamaged command s t old new Printed = (line : List ℕ) × Makes command s t old new None × IsDamaged command new line × Printed line
+EndsDamaged command s t old new Printed = (line : List ℕ) × Makes command s t old new None × IsDamagedLine command new line × Printed line
 
 -- the call was made and its answer is printed; or the disk failed in it; or it is a step that is damaged; or the sink failed with its line
 abbrev pub Answers : Command → (s t : Replica) → (old new : Option Told) → (written took : Option (List ℕ)) → Turn → Type 0

@@ -18,11 +18,13 @@ use Rattle.df_replica.specs.Session.{answers_of}
 use Rattle.df_result.specs.Agreeing.{AgreeShown}
 use Rattle.df_workload.specs.Rounds.{start}
 use Rattle.df_workload.specs.declared.state.State.{State as Run}
-use Rattle.df_top.specs.Acknowledging.{KeepsAnswered, events_made, run_calls}
-use Rattle.df_top.specs.Keeping.{KeepsFile, over}
+use Rattle.df_session.specs.Acknowledging.{KeepsAnswered}
+use Rattle.df_session.specs.Links.{events_made}
+use Rattle.df_top.specs.Acknowledging.{run_calls}
+use Rattle.df_session.specs.Keeping.{KeepsFile, over}
 use Rattle.df_top.specs.Outside.{Outside}
-use Rattle.df_top.specs.Resulting.{AnswersResult}
-use Rattle.df_top.specs.Sparing.{SparesBlocks}
+use Rattle.df_session.specs.Resulting.{AnswersResult}
+use Rattle.df_session.specs.Sparing.{SparesBlocks}
 use Rattle.df_top.specs.Works.{Worked, Writes}
 use Rattle.df_top.specs.declared.status.Status.{Status}
 use Rattle.df_top.specs.declared.status.Status.TheVariants.{Refused}

@@ -1,7 +1,6 @@
 //! What the program does: its words, its script, its answers and its status.
 #![tactic(auto)]
 
-mod calls;
 mod completeness;
 mod engine;
 mod making;

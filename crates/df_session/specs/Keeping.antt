@@ -11,7 +11,7 @@ use Rattle.df_replica.specs.Below.{DataFile, shape, told_after}
 use Rattle.df_replica.specs.Leaving.{AreSettled}
 use Rattle.df_replica.specs.Serving.{Grade, format}
 use Rattle.df_replica.specs.Session.{Act, IsMidway, LeavesEither, LeavesView, answers_of, work_after}
-use Rattle.df_top.specs.Session.{list_of}
+use Rattle.df_session.specs.Links.{list_of}
 
 -- what a base tells behind the barrier of an open and its mending, and behind what was done then
 abbrev pub over : (mending added : List Event) → (base : Told) → Option Told

@@ -12,10 +12,10 @@ use Rattle.df_model.specs.Work.{Work}
 use Rattle.df_replica.specs.Below.{DataFile, State as Replica}
 use Rattle.df_replica.specs.Serving.{Grade, Keeps, next}
 use Rattle.df_replica.specs.Session.{Act, EachIsMidway, IsMidway, work_after}
-use Rattle.df_top.specs.Acknowledging.{CallsMade, HadAnswers, HadReturned, IsUntil, KeepsAnswered}
-use Rattle.df_top.specs.Session.{AreCalls, Calls, EndsCalls, events_of, events_to, list_of}
+use Rattle.df_session.specs.Links.{AreCalls, Calls, CallsMade, EndsCalls, events_of, events_to, list_of}
+use Rattle.df_session.specs.Acknowledging.{HadAnswers, HadReturned, IsUntil, KeepsAnswered}
 use Rattle.df_replica.proofs.Laws.{fault_stops_them}
-use Rattle.df_top.proofs.Kept.{all_served}
+use Rattle.df_session.proofs.Kept.{all_served}
 
 module _ (file : DataFile) (g : Grade) where
   -- where a replica stands behind the first k of these acts, the calls that it makes from there, and what the base tells then

@@ -7,8 +7,7 @@ use Rattle.df_replica.specs.Below.{DataFile, State as Replica}
 use Rattle.df_replica.specs.Leaving.{SparesHeld}
 use Rattle.df_replica.specs.Serving.{next}
 use Rattle.df_replica.specs.Session.{Act, work_after}
-use Rattle.df_top.specs.Acknowledging.{CallsMade}
-use Rattle.df_top.specs.Session.{AreCalls, EndsCalls}
+use Rattle.df_session.specs.Links.{AreCalls, CallsMade, EndsCalls}
 
 -- each of these calls, by the events that it added, spares each block that was held before it, but the running trailer's next
 abbrev pub SpareHeld : DataFile → (s : Replica) → (old : Option Told) → Work → (acts : List Act) → (answers : List Answer) → (t : Replica) → (new : Option Told) → AreCalls s old acts answers t new → Type 0

@@ -7,10 +7,9 @@ use Rattle.df_replica.specs.Below.{DataFile, State as Replica}
 use Rattle.df_replica.specs.Leaving.{SparesHeld}
 use Rattle.df_replica.specs.Serving.{Firm, Keeps, next}
 use Rattle.df_replica.specs.Session.{Act, work_after}
-use Rattle.df_top.specs.Acknowledging.{CallsMade}
-use Rattle.df_top.specs.Session.{AreCalls, EndsCalls}
-use Rattle.df_top.specs.Sparing.{AllSpareHeld, SpareHeld, SparesBlocks}
-use Rattle.df_top.proofs.Kept.{all_served}
+use Rattle.df_session.specs.Links.{AreCalls, CallsMade, EndsCalls}
+use Rattle.df_session.specs.Sparing.{AllSpareHeld, SpareHeld, SparesBlocks}
+use Rattle.df_session.proofs.Kept.{all_served}
 
 module _ (file : DataFile) where
   all_spare : (w : Work) (s t : Replica) (old new : Option Told) (acts : List Act) (answers : List Answer) → s.file ≡ file → Keeps Firm s w None → (are : AreCalls s old acts answers t new) → SpareHeld file s old w acts answers t new are

@@ -5,7 +5,7 @@ use Rattle.df_base.specs.Causes.{Blamed, IsBlamed}
 use Rattle.df_disk.specs.Adds.{AddsPart, after_all}
 use Rattle.df_disk.specs.Told.{Told}
 use Rattle.df_format.specs.declared.reference.Reference.{Reference}
-use Rattle.df_inspect.specs.Answers.{command_of}
+use Rattle.df_model.specs.Called.{command_of}
 use Rattle.df_layout.specs.declared.damage.Class.{Class}
 use Rattle.df_layout.specs.declared.damage.Class.TheVariants.{Blank}
 use Rattle.df_layout.specs.declared.places.Place.{Place}
@@ -35,13 +35,12 @@ use Rattle.df_replica.specs.Blocks.{IsRelease, IsWriteBlock, block_events, next_
 use Rattle.df_replica.specs.Opened.{ToldBy}
 use Rattle.df_replica.specs.Replying.{IsReply, next_reply, reply_events}
 use Rattle.df_replica.specs.Stepping.{IsStep, OfRunning, Tells, block_events as piece_events, last_events, made_by, step_events}
-use Rattle.df_script_model.specs.Texts.{damaged_text}
 use Rattle.df_units.specs.Meaning.{number_of}
 use Rattle.df_model.specs.Faults.{is_append_fault, is_block_fault, is_reply_fault, is_step_fault}
-use Rattle.df_top.specs.Calls.{IsExact, LendsNothing, blames, is_fault, machine_answer}
-use Rattle.df_top.specs.Session.{IsDamaged}
-use Rattle.df_top.specs.Step.{Makes}
-use Rattle.df_top.proofs.Answered.{made, part_told}
+use Rattle.df_session.specs.Calls.{IsExact, LendsNothing, blames, is_fault, machine_answer}
+use Rattle.df_session.specs.Endings.{IsDamaged}
+use Rattle.df_session.specs.Links.{Makes}
+use Rattle.df_session.proofs.Joins.{made, part_told}
 
 -- ---- a running checkpoint
 
@@ -202,7 +201,7 @@ module _ (s t : Replica) (old new : Option Told) (answer : Answer) where
   exact_lends Recent is = absurd is
 
   -- a step alone finds the superblock damaged, and only where the disk tells nothing
-  pub exact_damaged : (command : Command) → IsExact command s t old new answer → (place : Place) (class : Class) → answer ≡ answers.Advance (Err (step.Damaged place class)) → IsDamaged command new (damaged_text place class)
+  pub exact_damaged : (command : Command) → IsExact command s t old new answer → (place : Place) (class : Class) → answer ≡ answers.Advance (Err (step.Damaged place class)) → IsDamaged command new place class
   exact_damaged (Append client request body) is place class damaged = absurd (cc (is.1, damaged))
   exact_damaged (Reply op body) is place class damaged = absurd (cc (is.1, damaged))
   exact_damaged (WriteBlock kind body) is place class damaged = absurd (cc (is.1, damaged))
@@ -211,7 +210,11 @@ module _ (s t : Replica) (old new : Option Told) (answer : Answer) where
   exact_damaged Advance is place class damaged =
       let answered : is.0 ≡ Err (step.Damaged place class) = cc (is.1, damaged) in
       let stopped = subst (λ (r : Result Progress StepError). IsStep s t old new r) answered is.2 in
-      record { step = refl; place = place; class = class; is = refl; untold = untold new (never s.running (on_running s.running (λ r i. i.3) stopped)) }
+      record {
+        step = refl;
+        copy = never s.running (on_running s.running (λ r i. ap (λ (p : Place). p.zone) i.4.verdict.place_is) stopped);
+        untold = untold new (never s.running (on_running s.running (λ r i. i.3) stopped));
+      }
   exact_damaged (ReadPrepare op) is place class damaged = absurd is
   exact_damaged (ReadReply client) is place class damaged = absurd is
   exact_damaged (ReadBlock address) is place class damaged = absurd is

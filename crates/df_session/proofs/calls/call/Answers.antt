@@ -1,6 +1,6 @@
 -- Each call is exact, and its answer is the machine's.
-use Rattle.df_top.proofs.Exact.{append_called, begin_called, for_command, release_called, reply_called, step_called, write_called}
-use Rattle.df_top.proofs.calls.call.Goals as goal
+use Rattle.df_session.proofs.Exact.{append_called, begin_called, for_command, release_called, reply_called, step_called, write_called}
+use Rattle.df_session.proofs.calls.call.Goals as goal
 
 pub returns-in-Append : goal.returns-in-Append
 returns-in-Append g c =

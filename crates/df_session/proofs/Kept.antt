@@ -24,9 +24,9 @@ use Rattle.df_replica.specs.Opened.{MendsAll, ToldBy}
 use Rattle.df_replica.specs.Serving.{Firm, Grade, IsGoodFor, IsKept, Keeps, KeptFor, StandsFor, Whole, format}
 use Rattle.df_replica.specs.Session.{Act, EachIsMidway, HasView, HoldsSome, IsMidway, IsServed, LeavesEither, LeavesView, answers_of, work_after}
 use Rattle.df_replica.proofs.Laws.{added_is_told, answered_is_there, fault_stops_them, good_left, good_safe, joined, keeps_alone, nothing_is_served, one_more_is_served}
-use Rattle.df_top.specs.Keeping.{KeepsFile}
-use Rattle.df_top.specs.Session.{AreCalls, Calls, EndsCalls, events_of, events_to}
-use Rattle.df_top.proofs.Untouched.{settled_told, stay_settled}
+use Rattle.df_session.specs.Keeping.{KeepsFile}
+use Rattle.df_session.specs.Links.{AreCalls, Calls, EndsCalls, events_of, events_to}
+use Rattle.df_session.proofs.Untouched.{settled_told, stay_settled}
 
 -- ---- what is told
 

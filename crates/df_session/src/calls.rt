@@ -1,9 +1,9 @@
 // The one call that a command asks for, and what it answers.
 ghost use Rattle.std.specs.Prelude.{◌≡◌, true};
 ghost use Rattle.df_base.specs.Causes.{Blamed};
-ghost use Rattle.df_inspect.specs.Answers.{command_of};
-ghost use Rattle.df_top.specs.Calls.{HasAnswer, IsExact, is_fault, machine_answer};
-ghost use Rattle.df_top.specs.Step.{Makes};
+ghost use Rattle.df_model.specs.Called.{command_of};
+ghost use Rattle.df_session.specs.Calls.{HasAnswer, IsExact, is_fault, machine_answer};
+ghost use Rattle.df_session.specs.Links.{Makes};
 
 use df_disk::Disk;
 use df_model::{Answer, Command};
