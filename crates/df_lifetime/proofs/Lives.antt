@@ -287,10 +287,10 @@ module _ (file : DataFile) (chapters : List Chapter) (t : Told) (is : IsInOrder 
         served_comes c n whole inputs (answered_as replica c mending.events (sym (told_over mending.events [] t c.old c.old mending.told refl)) one acknowledged) (sym adds ∙ to)
 
     script_comes : (serves : ServesScript layout t old new status) → Comes file chapters (Some (script_calls serves.session)) t n
-    script_comes serves = calls_come serves.replica (script_calls serves.session) serves.mending serves.is_opened serves.adds serves.keeps serves.acknowledged
+    script_comes serves = calls_come serves.replica (script_calls serves.session) serves.mending serves.is_opened serves.adds serves.calls.keeps serves.calls.acknowledged
 
     works_comes : (seed count : ℕ) (works : WorksThrough seed count layout t old new status) → Comes file chapters (Some (run_calls works.worked)) t n
-    works_comes seed count works = calls_come works.replica (run_calls works.worked) works.mending works.is_opened works.adds works.keeps works.acknowledged
+    works_comes seed count works = calls_come works.replica (run_calls works.worked) works.mending works.is_opened works.calls.adds works.calls.keeps works.calls.acknowledged
 
     does_comes : (mode : Mode) (does : Does mode layout t old new status) → Comes file chapters (calls_of mode layout t old new status does) t n
     does_comes (Format shape cluster) does = absurd does

@@ -197,7 +197,7 @@ module _ (seed count : ℕ) (layout : Layout) (t : Told) (old new : Outside) (st
   -- its answers over what is shown
   pub answers_over : (shown : Shown) → AgreeShown works.replica.file.layout (shown_of works.replica.file t.shown) shown
       → works.worked.answers ≡ result (shape works.replica.file) (codec works.replica.file) shown (opened (shape works.replica.file) (unit_at works.replica.file.layout works.replica.file.cluster t.shown) works.is_opened.view) (map command_in works.worked.acts)
-  answers_over shown agree = works.result works.is_opened.view shown found agree
+  answers_over shown agree = works.calls.result works.is_opened.view shown found agree
 
 -- ---- two of them
 

@@ -187,7 +187,7 @@ module _ (seed count : ℕ) (layout : Layout) (t : Told) (old new : Outside) (st
   w = opened (shape file) (unit_at file.layout file.cluster t.shown) view
 
   answers_are : works.worked.answers ≡ result (shape file) (codec file) (shown_of file t.shown) w (map command_in works.worked.acts)
-  answers_are = works.result view (shown_of file t.shown) found (agree_self file.layout (shown_of file t.shown))
+  answers_are = works.calls.result view (shown_of file t.shown) found (agree_self file.layout (shown_of file t.shown))
 
   follows_on : Follows (start seed count file.layout.clients) (map command_in works.worked.acts) works.worked.answers works.run
   follows_on = subst (λ (l : Layout). Follows (start seed count l.clients) (map command_in works.worked.acts) works.worked.answers works.run) (sym works.is_opened.of) works.worked.follows

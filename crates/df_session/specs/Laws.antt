@@ -12,7 +12,7 @@ use Rattle.df_model.specs.Supply.{Shown}
 use Rattle.df_model.specs.Work.{Work, opened}
 use Rattle.df_replica.specs.Below.{DataFile, IsOpened, State as Replica, shape, told_after}
 use Rattle.df_replica.specs.Following.{MayOpen}
-use Rattle.df_replica.specs.Opened.{MendsAll}
+use Rattle.df_replica.specs.Opened.{Mends, MendsAll}
 use Rattle.df_replica.specs.Reading.{shown_of}
 use Rattle.df_replica.specs.Serving.{Grade, IsKept, StandsFor}
 use Rattle.df_replica.specs.Session.{Act, answers_of}
@@ -31,17 +31,17 @@ first_of file t view = opened (shape file) (unit_at file.layout file.cluster t.s
 -- told is what the calls added; no call writes a sector of a block that is held, but a step those of the running trailer's next. By each log that shows what was shown, and by which
 -- the file may be opened, the told one or one that is begun anew there: the file is kept at the open, at the end all that was answered is there, and so it is at each moment from its
 -- answer on.
-pub record CallsKeep (t : Told) (s : Replica) (mended : Option Told) (found : MendsAll t s mended) (c : CallsMade) : Type 0 where
+pub record CallsKeep (t : Told) (s : Replica) (mended : Option Told) (mending : Mends s.file (Some (did Sync t)) mended) (c : CallsMade) : Type 0 where
   pub answered : (view : View) → IsFound (shape s.file) (unit_at s.file.layout s.file.cluster t.shown) view → c.answers ≡ answers_of s.file (first_of s.file t view) c.acts
   pub result : (view : View) (shown : Shown) → IsFound (shape s.file) (unit_at s.file.layout s.file.cluster t.shown) view → AgreeShown s.file.layout (shown_of s.file t.shown) shown
       → AnswersResult s.file shown (first_of s.file t view) c.acts c.answers
   pub adds : c.new ≡ after_all (events_made c) mended
   pub kept : (g : Grade) (view : View) (base : Told) → base.shown ≡ t.shown → MayOpen s.file view base → StandsFor g (unit_at s.file.layout s.file.cluster t.shown) view
-      → IsKept g s (first_of s.file t view) (told_after found.mending.events (did Sync base)).log
+      → IsKept g s (first_of s.file t view) (told_after mending.events (did Sync base)).log
   pub keeps : (g : Grade) (view : View) (base : Told) → base.shown ≡ t.shown → MayOpen s.file view base → StandsFor g (unit_at s.file.layout s.file.cluster t.shown) view
-      → KeepsFile s.file g (first_of s.file t view) base c.acts c.answers c.failed (over found.mending.events (events_made c) base)
+      → KeepsFile s.file g (first_of s.file t view) base c.acts c.answers c.failed (over mending.events (events_made c) base)
   pub acknowledged : (g : Grade) (view : View) (base : Told) → base.shown ≡ t.shown → MayOpen s.file view base → StandsFor g (unit_at s.file.layout s.file.cluster t.shown) view
-      → KeepsAnswered s.file g (first_of s.file t view) (over found.mending.events [] base) c
+      → KeepsAnswered s.file g (first_of s.file t view) (over mending.events [] base) c
   pub spares : (view : View) → IsFound (shape s.file) (unit_at s.file.layout s.file.cluster t.shown) view → SparesBlocks s.file (first_of s.file t view) c
 
 -- these calls, made on what an open found and mended
@@ -51,4 +51,4 @@ made_on s mended to new acts answers failed calls = record { from = s; to = to; 
 abbrev pub CallsOnOpenFileKeepIt : Type 0
 CallsOnOpenFileKeepIt =
     (t : Told) (s : Replica) (mended : Option Told) (found : MendsAll t s mended) (to : Replica) (new : Option Told) (acts : List Act) (answers : List Answer) (failed : Option Act) (calls : EndsCalls s to mended new acts answers failed)
-    → IsImage t.shown → s.live ≡ true → IsOpened s.file.layout t.shown s → CallsKeep t s mended found (made_on s mended to new acts answers failed calls)
+    → IsImage t.shown → s.live ≡ true → IsOpened s.file.layout t.shown s → CallsKeep t s mended found.mending (made_on s mended to new acts answers failed calls)

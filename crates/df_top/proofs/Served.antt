@@ -87,7 +87,7 @@ module _ (layout : Layout) (t : Told) (old new : Outside) (status : Status) (s :
       refused_never origin.lines origin.outside last.outside ended.turns (act_of ended.failing) ended.cut tells_on.0 tells_on.1
       (subst (λ (x : Status). EndsWith origin.lines origin.outside last.outside ended.turns (act_of ended.failing) ended.cut x) is ended.written)
 
-  calls : CallsKeep t s mended over (script_calls ended)
+  calls : CallsKeep t s mended over.mending (script_calls ended)
   calls = calls_keep t s mended over last.replica last.outside.told (all_acts ended.turns) (all_answers ended.turns) (act_of ended.failing) ended.calls whole live opened_here
 
   pub serves : ServesScript layout t old new status
@@ -99,15 +99,11 @@ module _ (layout : Layout) (t : Told) (old new : Outside) (status : Status) (s :
     last = last;
     last_is = last_is;
     session = ended;
-    answered = calls.answered;
     result = λ view shown found agree.
         opened_prints s t mended over whole (opened (shape s.file) (unit_at s.file.layout s.file.cluster t.shown) view) (found_keeps s t.shown view whole opened_here found) last.replica last.outside.told (act_of ended.failing) shown agree ended.turns
         ended.are ended.calls;
     adds = sym last_told ∙ calls.adds;
-    kept = calls.kept;
-    keeps = calls.keeps;
-    acknowledged = calls.acknowledged;
-    spares = calls.spares;
+    calls = calls;
     undamaged = undamaged;
   }
 

@@ -109,7 +109,7 @@ module _ (seed count : ℕ) (layout : Layout) (t : Told) (old new : Outside) (st
       damaged_never run last new.told ended.worked.failed old.written new.written tells_on.0 tells_on.1
       (subst (λ (x : Status). Writes run last new.told ended.worked.failed old.written new.written x) is ended.writes)
 
-  calls : CallsKeep t s mended over (run_calls ended.worked)
+  calls : CallsKeep t s mended over.mending (run_calls ended.worked)
   calls = calls_keep t s mended over last new.told ended.worked.acts ended.worked.answers ended.worked.failed ended.worked.calls image live opened_here
 
   pub works_through : WorksThrough seed count layout t old new status
@@ -123,12 +123,6 @@ module _ (seed count : ℕ) (layout : Layout) (t : Told) (old new : Outside) (st
     worked = ended.worked;
     written = ended.writes;
     mending = over.mending;
-    answered = calls.answered;
-    result = calls.result;
-    adds = calls.adds;
-    kept = calls.kept;
-    keeps = calls.keeps;
-    acknowledged = calls.acknowledged;
-    spares = calls.spares;
+    calls = calls;
     undamaged = undamaged;
   }
