@@ -66,123 +66,124 @@ fn reads_the_fields_of_each_kind(rt: HostRuntime) {
     }
 }
 
-#[test]
-fn writes_each_kind_as_it_was_read(rt: HostRuntime) {
-    for front in [RESERVED, PREPARE, REPLY, BLOCK, FIRST_TRAILER, TRAILER] {
-        let bytes = spelled(&front);
-        let kind = bytes[120];
-        assert!(rt; rewritten(&bytes) == Some(bytes), "kind {kind}");
-    }
-}
+// Changes of a byte that are judged alike: the offset, the byte, and whether it is a header still.
+type Rule = (usize, u8, bool);
 
-#[test]
-fn tests_what_all_kinds_have(rt: HostRuntime) {
-    let cases = [
-        (32, 0, false),
-        (113, 0, false),
-        (120, 0, false),
-        (120, 6, false),
-        (122, 0, false),
-        (122, 2, false),
-        (124, 1, false),
-        (132, 1, false),
-        (255, 1, false),
-        (255, 0, true),
-    ];
-    for front in [RESERVED, PREPARE, REPLY, BLOCK, FIRST_TRAILER, TRAILER] {
-        for (at, byte, is) in cases {
-            let decoded = decode_header(&changed(&front, at, byte));
-            assert!(rt; decoded.is_some() == is, "{byte} at {at}");
-        }
-    }
-}
+const OF_ALL: &'static [Rule] = &[
+    (32, 0, false),
+    (113, 0, false),
+    (120, 0, false),
+    (120, 6, false),
+    (122, 0, false),
+    (122, 2, false),
+    (124, 1, false),
+    (132, 1, false),
+    (255, 1, false),
+    (255, 0, true),
+];
 
-// For a kind: the offsets at which only zero stands, and those at which another byte than zero does; further bytes with
-// which it is a header still, and others with which it is none.
-#[derive(Clone, Copy)]
-struct Rules {
-    zero: &'static [usize],
-    nonzero: &'static [usize],
-    taken: &'static [(usize, u8)],
-    refused: &'static [(usize, u8)],
-}
+const OF_RESERVED: &'static [Rule] = &[
+    (16, 0, false),
+    (48, 1, false),
+    (64, 1, false),
+    (80, 1, false),
+    (88, 1, false),
+    (96, 1, false),
+    (104, 1, false),
+    (112, 1, false),
+    (121, 1, false),
+    (116, 9, true),
+];
 
-const OF_RESERVED: Rules = Rules {
-    zero: &[48, 64, 80, 88, 96, 104, 112, 121],
-    nonzero: &[16],
-    taken: &[(116, 9)],
-    refused: &[],
-};
+const OF_PREPARES: &'static [Rule] = &[
+    (48, 1, false),
+    (96, 1, false),
+    (121, 1, false),
+    (64, 0, false),
+    (80, 0, false),
+    (88, 0, false),
+    (104, 0, false),
+    (80, 2, true),
+    (87, 0x3f, true),
+    (112, 1, true),
+    (116, 9, true),
+    (87, 0x40, false),
+    (95, 0x40, false),
+    (111, 0x40, false),
+    (120, 1, false),
+];
 
-const OF_PREPARES: Rules = Rules {
-    zero: &[48, 96, 121],
-    nonzero: &[64, 80, 88, 104],
-    taken: &[(80, 2), (87, 0x3f), (112, 1), (116, 9)],
-    refused: &[(87, 0x40), (95, 0x40), (111, 0x40), (120, 1)],
-};
+const OF_REPLIES: &'static [Rule] = &[
+    (121, 1, false),
+    (64, 0, false),
+    (80, 0, false),
+    (88, 0, false),
+    (96, 0, false),
+    (104, 0, false),
+    (16, 0, true),
+    (48, 9, true),
+    (103, 0x3f, true),
+    (112, 1, true),
+    (116, 9, true),
+    (80, 2, false),
+    (95, 0x40, false),
+    (103, 0x40, false),
+    (111, 0x40, false),
+];
 
-const OF_REPLIES: Rules = Rules {
-    zero: &[121],
-    nonzero: &[64, 80, 88, 96, 104],
-    taken: &[(16, 0), (48, 9), (103, 0x3f), (112, 1), (116, 9)],
-    refused: &[(80, 2), (95, 0x40), (103, 0x40), (111, 0x40)],
-};
+const OF_BLOCKS: &'static [Rule] = &[
+    (48, 1, false),
+    (64, 1, false),
+    (88, 1, false),
+    (96, 1, false),
+    (104, 1, false),
+    (116, 1, false),
+    (80, 0, false),
+    (121, 0, false),
+    (87, 0xff, true),
+    (112, 1, true),
+    (121, 255, true),
+];
 
-const OF_BLOCKS: Rules = Rules {
-    zero: &[48, 64, 88, 96, 104, 116],
-    nonzero: &[80, 121],
-    taken: &[(87, 0xff), (112, 1), (121, 255)],
-    refused: &[],
-};
+const OF_FIRST_TRAILERS: &'static [Rule] = &[(48, 1, false), (88, 1, false), (96, 1, false)];
 
-const OF_FIRST_TRAILERS: Rules = Rules {
-    zero: &[48, 88, 96],
-    nonzero: &[],
-    taken: &[],
-    refused: &[],
-};
+const OF_TRAILERS: &'static [Rule] = &[
+    (64, 1, false),
+    (116, 1, false),
+    (121, 1, false),
+    (80, 0, false),
+    (88, 0, false),
+    (96, 0, false),
+    (48, 9, true),
+    (104, 1, false),
+    (111, 0x40, false),
+];
 
-const OF_TRAILERS: Rules = Rules {
-    zero: &[64, 116, 121],
-    nonzero: &[80, 88, 96],
-    taken: &[(48, 9)],
-    refused: &[(104, 1), (111, 0x40)],
-};
-
-// The first offset at which a byte of these isn't judged so.
-fn first_not(front: &[u8; 124], changes: &[(usize, u8)], is: bool) -> Option<usize> {
-    for (at, byte) in changes.iter().copied() {
-        if decode_header(&changed(front, at, byte)).is_some() != is {
-            return Some(at);
+// The first offset at which a byte is judged otherwise.
+fn first_other(front: &[u8; 124], rules: &[Rule]) -> Option<usize> {
+    for (at, byte, is) in rules {
+        if decode_header(&changed(front, *at, *byte)).is_some() != *is {
+            return Some(*at);
         }
     }
     None
 }
 
-// The first of these offsets at which this byte is still taken.
-fn first_taken(front: &[u8; 124], places: &[usize], byte: u8) -> Option<usize> {
-    for at in places.iter().copied() {
-        if decode_header(&changed(front, at, byte)).is_some() {
-            return Some(at);
-        }
-    }
-    None
-}
+const TABLES: [([u8; 124], &'static [Rule]); 6] = [
+    (RESERVED, OF_RESERVED),
+    (PREPARE, OF_PREPARES),
+    (REPLY, OF_REPLIES),
+    (BLOCK, OF_BLOCKS),
+    (FIRST_TRAILER, OF_FIRST_TRAILERS),
+    (TRAILER, OF_TRAILERS),
+];
 
 #[test]
-fn tests_the_rules_of_each_kind(rt: HostRuntime) {
-    let tables: [(&[u8; 124], Rules); 6] = [
-        (&RESERVED, OF_RESERVED),
-        (&PREPARE, OF_PREPARES),
-        (&REPLY, OF_REPLIES),
-        (&BLOCK, OF_BLOCKS),
-        (&FIRST_TRAILER, OF_FIRST_TRAILERS),
-        (&TRAILER, OF_TRAILERS),
-    ];
-    for (i, (front, rules)) in tables.iter().enumerate() {
-        assert!(rt; first_taken(front, rules.zero, 1) == None, "table {i}");
-        assert!(rt; first_taken(front, rules.nonzero, 0) == None, "table {i}");
-        assert!(rt; first_not(front, rules.taken, true) == None, "table {i}");
-        assert!(rt; first_not(front, rules.refused, false) == None, "table {i}");
+fn each_kind_is_written_as_it_was_read_and_has_its_rules(rt: HostRuntime) {
+    for (front, rules) in &TABLES {
+        let bytes = spelled(front);
+        assert!(rt; rewritten(&bytes) == Some(bytes));
+        assert!(rt; first_other(front, OF_ALL) == None);
+        assert!(rt; first_other(front, rules) == None);
     }
 }

@@ -37,13 +37,6 @@ fn makes_and_reads_the_example(rt: HostRuntime) {
 }
 
 #[test]
-fn a_changed_byte_needs_another_checksum(rt: HostRuntime) {
-    let mut bytes = example();
-    bytes[80] = 2;
-    assert!(rt; decode_header(&bytes).is_none());
-}
-
-#[test]
 fn tests_the_body_and_not_what_follows_it(rt: HostRuntime) {
     let mut slot = [0u8; 8192];
     let made = make_unit(prepare(b"abc"), b"abc", &mut slot);
