@@ -65,23 +65,25 @@ fn zeros_from(first: usize) -> [u32; 5] {
     numbers
 }
 
+// Five numbers, of which one is refused.
+const BEYOND: [([u32; 5], Field); 9] = [
+    ([1040, 4096, 1, 4096, 8], Field::Slots),
+    ([24, 4096, 1, 4096, 8], Field::Slots),
+    ([16, 4097, 1, 4096, 8], Field::MessageSize),
+    ([16, 1_052_672, 1, 4096, 8], Field::MessageSize),
+    ([16, 4096, 65, 4096, 8], Field::Clients),
+    ([16, 4096, 1, 2048, 8], Field::BlockSize),
+    ([16, 4096, 1, 528_384, 8], Field::BlockSize),
+    ([16, 4096, 1, 4096, 7], Field::Blocks),
+    ([16, 4096, 1, 4096, 16_385], Field::Blocks),
+];
+
 #[test]
 fn numbers_end_at_their_limits(rt: HostRuntime) {
     for numbers in [LEAST, [1024, 1_048_576, 64, 524_288, 16_384]] {
         assert!(rt; refused(numbers) == None);
     }
-    let beyond = [
-        ([1040, 4096, 1, 4096, 8], Field::Slots),
-        ([24, 4096, 1, 4096, 8], Field::Slots),
-        ([16, 4097, 1, 4096, 8], Field::MessageSize),
-        ([16, 1_052_672, 1, 4096, 8], Field::MessageSize),
-        ([16, 4096, 65, 4096, 8], Field::Clients),
-        ([16, 4096, 1, 2048, 8], Field::BlockSize),
-        ([16, 4096, 1, 528_384, 8], Field::BlockSize),
-        ([16, 4096, 1, 4096, 7], Field::Blocks),
-        ([16, 4096, 1, 4096, 16_385], Field::Blocks),
-    ];
-    for (i, (numbers, field)) in beyond.iter().enumerate() {
+    for (i, (numbers, field)) in BEYOND.iter().enumerate() {
         assert!(rt; refused(*numbers) == Some(*field), "beyond {i}");
     }
     let fields = [
