@@ -1,5 +1,5 @@
 -- What is promised of calls on a file that was opened, whatever they are.
-use Rattle.std.specs.Prelude.{◌≡◌, true, List, [], Option}
+use Rattle.std.specs.Prelude.{◌≡◌, true, List, [], Option, Some}
 use Rattle.df_base.specs.Image.{IsImage}
 use Rattle.df_base.specs.Log.{Sync}
 use Rattle.df_disk.specs.Adds.{after_all}
