@@ -29,6 +29,7 @@ use Rattle.df_replica.specs.Reading.{IsFoundBy, message_at, prepare_found}
 use Rattle.df_replica.specs.Serving.{IsCall}
 use Rattle.df_replica.specs.Stopping.{left_by}
 use Rattle.df_script_model.specs.Texts.{damaged_text, message_text}
+use Rattle.df_replica.specs.Supply.{IsSupplied}
 use Rattle.df_session.specs.Calls.{LendsNothing, is_fault, machine_answer}
 use Rattle.df_top.specs.Session.{IsDamagedLine}
 use Rattle.df_session.specs.Links.{Makes}
@@ -66,18 +67,23 @@ shown_turn word u h b written took r turn h_is b_is turn_is prints =
     (prints_turn (message_text word (message_of u)) written took r (subst (λ (k : Header). Prints (shown_text word k u.body) written took r) h_is (subst (λ (c : List ℕ). Prints (shown_text word h c) written took r) b_is prints)))
 
 module _ (s t : Replica) (old new : Option Told) (same : new ≡ old) where
-  -- what was found serves the command
-  makes : (command : Command) (found : Option (Result Message Class)) (answer : Option Answer) → ServesRead command s t old found answer → Makes command s t old new answer
-  makes command found answer serves = record {
+  -- what was found serves the command, where that is what it is rightly supplied with
+  makes : (command : Command) (found : Option (Result Message Class)) (answer : Option Answer) → IsSupplied s old command (supply s command old found) → ServesRead command s t old found answer → Makes command s t old new answer
+  makes command found answer supplied serves = record {
     act = record { command = command; given = supply s command old found };
     is = refl;
     calls = record {
       call =
-          subst (λ (o : Option Told). IsCall (supply s command old found) command s t old o answer) (sym same)
-          (serves (supply s command old found) (refl, found_by s command old found) (gives s command old found));
+          subst (λ (o : Option Told). IsCall (supply s command old found) command s t old o answer) (sym same) (serves (supply s command old found) supplied (gives s command old found));
       told = ([], same);
     };
   }
+
+  makes_prepare : (op : ℕ) (found : Option (Result Message Class)) (answer : Option Answer) → ServesRead (ReadPrepare op) s t old found answer → Makes (ReadPrepare op) s t old new answer
+  makes_prepare op found answer serves = makes (ReadPrepare op) found answer (refl, found_by s (ReadPrepare op) old found) serves
+
+  makes_reply : (client : ℕ) (found : Option (Result Message Class)) (answer : Option Answer) → ServesRead (ReadReply client) s t old found answer → Makes (ReadReply client) s t old new answer
+  makes_reply client found answer serves = makes (ReadReply client) found answer (refl, found_by s (ReadReply client) old found) serves
 
   module _ (written took : Option (List ℕ)) (before now : ℕ) (turn : Turn) where
     abbrev Reads : Command → Type 0
@@ -90,27 +96,27 @@ module _ (s t : Replica) (old new : Option Told) (same : new ≡ old) where
     -- a prepare
     module _ (op : ℕ) where
       pub prepare_shown : (m : Message) → ServesRead (ReadPrepare op) s t old (prepare_found (Ok m)) (answer_of is_prepare_fault ToReadPrepare (Ok m)) → now ≡ before → IsPrinted (message_text (codes "prepare") m) written took turn → Reads (ReadPrepare op)
-      prepare_shown m serves still printed = comes_answered (ReadPrepare op) s t old new written took before now turn (ToReadPrepare (Ok m)) (makes (ReadPrepare op) (Some (Ok m)) (Some (ToReadPrepare (Ok m))) serves) still printed
+      prepare_shown m serves still printed = comes_answered (ReadPrepare op) s t old new written took before now turn (ToReadPrepare (Ok m)) (makes_prepare op (Some (Ok m)) (Some (ToReadPrepare (Ok m))) serves) still printed
 
       pub prepare_refused : (e : PrepareError) → ServesRead (ReadPrepare op) s t old (prepare_found (Err e)) (answer_of is_prepare_fault ToReadPrepare (Err e)) → IsBlamed {T = Message} is_prepare_fault before now (Err e) → Tells (ReadPrepare op) (answers.ReadPrepare (Err e)) written took turn → Reads (ReadPrepare op)
-      prepare_refused prepare.DiskFault serves blamed tells = told (ReadPrepare op) (answers.ReadPrepare (Err prepare.DiskFault)) tt (makes (ReadPrepare op) None None serves) (λ place class no. absurd (cc)) blamed tells
+      prepare_refused prepare.DiskFault serves blamed tells = told (ReadPrepare op) (answers.ReadPrepare (Err prepare.DiskFault)) tt (makes_prepare op None None serves) (λ place class no. absurd (cc)) blamed tells
       prepare_refused (prepare.NotKept a b) serves still tells =
-          told (ReadPrepare op) (answers.ReadPrepare (Err (prepare.NotKept a b))) tt (makes (ReadPrepare op) None (Some (ToReadPrepare (Err (prepare.NotKept a b)))) serves) (λ place class no. absurd (cc)) still tells
+          told (ReadPrepare op) (answers.ReadPrepare (Err (prepare.NotKept a b))) tt (makes_prepare op None (Some (ToReadPrepare (Err (prepare.NotKept a b)))) serves) (λ place class no. absurd (cc)) still tells
       prepare_refused (prepare.Damaged a b) serves still tells =
-          told (ReadPrepare op) (answers.ReadPrepare (Err (prepare.Damaged a b))) tt (makes (ReadPrepare op) (Some (Err b)) (Some (ToReadPrepare (Err (prepare.Damaged a b)))) serves) (λ place class no. absurd (cc)) still tells
+          told (ReadPrepare op) (answers.ReadPrepare (Err (prepare.Damaged a b))) tt (makes_prepare op (Some (Err b)) (Some (ToReadPrepare (Err (prepare.Damaged a b)))) serves) (λ place class no. absurd (cc)) still tells
 
     -- a reply
     module _ (client : ℕ) where
       pub reply_shown : (m : Message) → ServesRead (ReadReply client) s t old (reply_found (Ok m)) (answer_of is_lookup_fault ToReadReply (Ok m)) → now ≡ before → IsPrinted (message_text (codes "reply") m) written took turn → Reads (ReadReply client)
-      reply_shown m serves still printed = comes_answered (ReadReply client) s t old new written took before now turn (ToReadReply (Ok m)) (makes (ReadReply client) (Some (Ok m)) (Some (ToReadReply (Ok m))) serves) still printed
+      reply_shown m serves still printed = comes_answered (ReadReply client) s t old new written took before now turn (ToReadReply (Ok m)) (makes_reply client (Some (Ok m)) (Some (ToReadReply (Ok m))) serves) still printed
 
       pub reply_refused : (e : LookupError) → ServesRead (ReadReply client) s t old (reply_found (Err e)) (answer_of is_lookup_fault ToReadReply (Err e)) → IsBlamed {T = Message} is_lookup_fault before now (Err e) → Tells (ReadReply client) (answers.ReadReply (Err e)) written took turn → Reads (ReadReply client)
-      reply_refused lookup.DiskFault serves blamed tells = told (ReadReply client) (answers.ReadReply (Err lookup.DiskFault)) tt (makes (ReadReply client) None None serves) (λ place class no. absurd (cc)) blamed tells
-      reply_refused lookup.NoClient serves still tells = told (ReadReply client) (answers.ReadReply (Err lookup.NoClient)) tt (makes (ReadReply client) None (Some (ToReadReply (Err lookup.NoClient))) serves) (λ place class no. absurd (cc)) still tells
+      reply_refused lookup.DiskFault serves blamed tells = told (ReadReply client) (answers.ReadReply (Err lookup.DiskFault)) tt (makes_reply client None None serves) (λ place class no. absurd (cc)) blamed tells
+      reply_refused lookup.NoClient serves still tells = told (ReadReply client) (answers.ReadReply (Err lookup.NoClient)) tt (makes_reply client None (Some (ToReadReply (Err lookup.NoClient))) serves) (λ place class no. absurd (cc)) still tells
       reply_refused (lookup.ReplyPending a) serves still tells =
-          told (ReadReply client) (answers.ReadReply (Err (lookup.ReplyPending a))) tt (makes (ReadReply client) None (Some (ToReadReply (Err (lookup.ReplyPending a)))) serves) (λ place class no. absurd (cc)) still tells
+          told (ReadReply client) (answers.ReadReply (Err (lookup.ReplyPending a))) tt (makes_reply client None (Some (ToReadReply (Err (lookup.ReplyPending a)))) serves) (λ place class no. absurd (cc)) still tells
       reply_refused (lookup.Damaged a b) serves still tells =
-          told (ReadReply client) (answers.ReadReply (Err (lookup.Damaged a b))) tt (makes (ReadReply client) (Some (Err b)) (Some (ToReadReply (Err (lookup.Damaged a b)))) serves) (λ place class no. absurd (cc)) still tells
+          told (ReadReply client) (answers.ReadReply (Err (lookup.Damaged a b))) tt (makes_reply client (Some (Err b)) (Some (ToReadReply (Err (lookup.Damaged a b)))) serves) (λ place class no. absurd (cc)) still tells
 
 -- ---- a read that lends nothing, where the result says what it leaves
 
