@@ -24,4 +24,5 @@ mod Within
 mod WorksOn
 mod Made
 mod SafelyServed
+mod BlankFormatted
 pub mod Laws
