@@ -1,16 +1,16 @@
 -- What one line does to a session: it goes on with the call that the line asks for, or ends.
-use Rattle.std.proofs.Common.{◌≡◌, inl, inr, true, ℕ, ◌+◌, List, Option, Some, ◌∙◌, ap}
+use Rattle.std.proofs.Common.{◌≡◌, ◌⊎◌, ◌<◌, inl, inr, true, ℕ, ◌+◌, List, ◌++◌, length, Option, Some, ◌∙◌, ap, subst}
 use Rattle.df_lines.specs.declared.line.Line.{Line}
 use Rattle.df_lines.specs.Grammar.{Said, said_with}
 use Rattle.df_lines.specs.Reads.{RefusesNext, TakesLine}
 use Rattle.df_lines.specs.Room.{Room, Tells}
 use Rattle.df_lines.specs.Script.{IsRefused}
-use Rattle.df_lines.specs.Text.{unread}
+use Rattle.df_lines.specs.Text.{line_of, unread}
 use Rattle.df_disk.specs.Told.{Told}
 use Rattle.df_replica.specs.Below.{State as Replica}
 use Rattle.df_top.specs.Lines.{command_of}
 use Rattle.df_top.specs.Outside.{Outside}
-use Rattle.df_top.specs.Session.{EndedIsEnd, State, state}
+use Rattle.df_top.specs.Session.{EndedIsEnd, HoldsLine, State, state}
 use Rattle.df_top.specs.Step.{Answers, EndsIn, RefusesLine, Takes, Turns}
 use Rattle.df_top.specs.Turning.{OnGoing}
 use Rattle.df_top.specs.declared.session.Session.{Session}
@@ -21,17 +21,31 @@ use Rattle.df_top.specs.declared.status.Status.TheVariants.{Done, Found, Words, 
 use Rattle.df_top.proofs.Progress.{ends_answer, ends_damaged, ends_damaged_fault, ends_disk, ends_script, ends_script_fault, goes_on}
 
 -- the line that refuses the next line ends the session
-pub ends_refused : (bound : ℕ) (old new : State) → new.outside.told ≡ old.outside.told → new.replica ≡ old.replica → ((rest : List ℕ) → old.text ≡ Some rest → IsRefused bound old.budget rest) → (status : Status)
+pub ends_refused : (bound : ℕ) (old new : State) → new.outside.told ≡ old.outside.told → new.replica ≡ old.replica → ((rest : List ℕ) → old.text ≡ Some rest → IsRefused bound old.budget rest)
+    → ((rest : List ℕ) → old.text ≡ Some rest → (remains : List ℕ) → new.outside.left ≡ Some remains → HoldsLine bound rest remains) → (status : Status)
     → RefusesLine old.lines old.outside.written new.outside.written status → EndsIn bound old new status
-ends_refused bound old new same one refused Script wrote = ends_script bound old new same one refused wrote
-ends_refused bound old new same one refused WriteFault wrote = ends_script_fault bound old new same one refused wrote
-ends_refused bound old new same one refused status wrote = absurd wrote
+ends_refused bound old new same one refused holds Script wrote = ends_script bound old new same one refused holds wrote
+ends_refused bound old new same one refused holds WriteFault wrote = ends_script_fault bound old new same one refused holds wrote
+ends_refused bound old new same one refused holds status wrote = absurd wrote
 
 -- what the reader refuses is refused
 pub refused_next : (outside : Outside) (left : Option (List ℕ)) (old : Session) (room : Room) → EndedIsEnd old outside.left
     → ((text : List ℕ) → Tells old.lines outside.left text → RefusesNext old.lines.reading room.reading text (unread room.reading.held left))
     → (text : List ℕ) → (state outside old).text ≡ Some text → IsRefused old.lines.reading.bound old.lines.reading.budget text
 refused_next outside left old room ended gives text is = (gives text (record { is = is; ended = ended })).refuses
+
+-- and the reader holds it, or more of it than the bound
+pub held_next : (outside : Outside) (left : Option (List ℕ)) (old : Session) (room : Room) → EndedIsEnd old outside.left → room.reading.bound ≡ old.lines.reading.bound
+    → ((text : List ℕ) → Tells old.lines outside.left text → RefusesNext old.lines.reading room.reading text (unread room.reading.held left))
+    → (text : List ℕ) → (state outside old).text ≡ Some text → (remains : List ℕ) → left ≡ Some remains → HoldsLine old.lines.reading.bound text remains
+held_next outside left old room ended bound gives text is remains has =
+    let refuses : RefusesNext old.lines.reading room.reading text (unread room.reading.held left) = gives text (record { is = is; ended = ended }) in
+    let whole : Some (room.reading.held ++ remains) ≡ Some text = subst (λ (o : Option (List ℕ)). unread room.reading.held o ≡ Some text) has refuses.rest in
+    record {
+      held = room.reading.held;
+      is = cc whole;
+      line = subst (λ (n : ℕ). (line_of room.reading.held ≡ line_of text) ⊎ (n < length (line_of room.reading.held))) bound refuses.read;
+    }
 
 -- ---- a line was taken
 

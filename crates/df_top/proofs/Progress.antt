@@ -15,7 +15,7 @@ use Rattle.df_script_model.specs.Script.{answer_text}
 use Rattle.df_session.proofs.Laws.{calls_join}
 use Rattle.df_top.specs.Lines.{Turned, all_acts, all_answers, all_text, command_of, said_in}
 use Rattle.df_session.specs.Links.{AreCalls, Makes}
-use Rattle.df_top.specs.Session.{Ended, EndsText, EndsWith, Executed, IsDamagedLine, State}
+use Rattle.df_top.specs.Session.{Ended, EndsText, EndsWith, Executed, HoldsLine, IsDamagedLine, State}
 use Rattle.df_top.specs.Step.{EndsDamaged, EndsIn, GoesOn, IsAnswered, Takes}
 use Rattle.df_top.specs.declared.status.Status.{Status}
 use Rattle.df_top.specs.declared.status.Status.TheVariants.{Done, Script, Refused, DiskFault, ReadFault, WriteFault}
@@ -92,7 +92,7 @@ module _ (bound : ℕ) (old new : State) (said : Said) (takes : Takes bound old 
           new.budget,
           more.0,
           subst (λ (l : List Said). Begins bound origin.budget text l new.budget more.0) (sym (append-nil (map said_in (turns ++ line ∷ [])))) more.2,
-          record { refused = λ no. absurd (cc); finished = λ no. absurd (cc) },
+          record { refused = λ no. absurd (cc); held = λ no. absurd (cc); finished = λ no. absurd (cc) },
         );
     are = are_more turns line so_far.are makes.is;
     written =
@@ -128,7 +128,7 @@ module _ (bound : ℕ) (old new : State) (same_told : new.outside.told ≡ old.o
     cut = false;
     text = λ text is.
         let before = so_far.text text is in
-        (old.budget, before.0, said_all origin turns text before.0 before.2, record { refused = λ no. absurd (cc); finished = λ yes. at_end before.0 before.1 });
+        (old.budget, before.0, said_all origin turns text before.0 before.2, record { refused = λ no. absurd (cc); held = λ no. absurd (cc); finished = λ yes. at_end before.0 before.1 });
     are = so_far.are;
     written = (refl, written_so origin turns same so_far);
     calls = stays origin turns so_far;
@@ -142,19 +142,20 @@ module _ (bound : ℕ) (old new : State) (same_told : new.outside.told ≡ old.o
     cut = false;
     text = λ text is.
         let before = so_far.text text is in
-        (old.budget, before.0, said_all origin turns text before.0 before.2, record { refused = λ no. absurd (cc); finished = λ no. absurd (cc) });
+        (old.budget, before.0, said_all origin turns text before.0 before.2, record { refused = λ no. absurd (cc); held = λ no. absurd (cc); finished = λ no. absurd (cc) });
     are = so_far.are;
     written = (refl, written_so origin turns same so_far);
     calls = stays origin turns so_far;
   }
 
-  -- the next line is refused, and the line that says so is written, or a front of it
-  module _ (refused : (rest : List ℕ) → old.text ≡ Some rest → IsRefused bound old.budget rest) where
+  -- the next line is refused, and was read, and the line that says so is written, or a front of it
+  module _ (refused : (rest : List ℕ) → old.text ≡ Some rest → IsRefused bound old.budget rest)
+      (holds : (rest : List ℕ) → old.text ≡ Some rest → (remains : List ℕ) → new.outside.left ≡ Some remains → HoldsLine bound rest remains) where
     cut_text : (origin : State) (turns : List Turned) (status : Status) → (status ≡ Done → ⊥) → Executed bound origin old turns → (text : List ℕ) → origin.text ≡ Some text
         → (budget : ℕ) × (rest : List ℕ) × Begins bound origin.budget text (map said_in turns ++ []) budget rest × EndsText bound budget rest new.outside.left true status
     cut_text origin turns status unfinished so_far text is =
         let before = so_far.text text is in
-        (old.budget, before.0, said_all origin turns text before.0 before.2, record { refused = λ yes. refused before.0 before.1; finished = λ done. absurd (unfinished done) })
+        (old.budget, before.0, said_all origin turns text before.0 before.2, record { refused = λ yes. refused before.0 before.1; held = λ yes. holds before.0 before.1; finished = λ done. absurd (unfinished done) })
 
     ends_cut : (status : Status) → (status ≡ Done → ⊥) → (origin : State) (turns : List Turned) → Executed bound origin old turns → EndsWith origin.lines origin.outside new.outside turns None true status → Ended bound origin new status
     ends_cut status unfinished origin turns so_far written = record {
@@ -187,7 +188,7 @@ module _ (bound : ℕ) (old new : State) (said : Said) (takes : Takes bound old 
       → (budget : ℕ) × (rest : List ℕ) × Begins bound origin.budget text (map said_in turns ++ said ∷ []) budget rest × EndsText bound budget rest new.outside.left false status
   last_text origin turns status unfinished so_far text is =
       let more = text_on bound origin old turns said new.text new.budget so_far takes text is in
-      (new.budget, more.0, more.2, record { refused = λ no. absurd (cc); finished = λ done. absurd (unfinished done) })
+      (new.budget, more.0, more.2, record { refused = λ no. absurd (cc); held = λ no. absurd (cc); finished = λ done. absurd (unfinished done) })
 
   -- its call wasn't answered
   ends_failing : (status : Status) → (status ≡ Done → ⊥) → (makes : Makes (command_of said) old.replica new.replica old.outside.told new.outside.told None) (origin : State) (turns : List Turned) → Executed bound origin old turns

@@ -1,5 +1,5 @@
 -- How far a session has come, and what it has done when it ends.
-use Rattle.std.specs.Prelude.{◌≡◌, ◌+◌, ℕ, Bool, true, false, IsTrue, List, [], ◌∷◌, ◌++◌, length, map, Option, Some, None}
+use Rattle.std.specs.Prelude.{◌≡◌, ◌⊎◌, ◌<◌, ◌+◌, ℕ, Bool, true, false, IsTrue, List, [], ◌∷◌, ◌++◌, length, map, Option, Some, None}
 use Rattle.df_base.specs.Streams.{Appends, AppendsPart}
 use Rattle.df_disk.specs.Told.{Told}
 use Rattle.df_layout.specs.declared.damage.Class.{Class}
@@ -7,7 +7,7 @@ use Rattle.df_layout.specs.declared.places.Place.{Place}
 use Rattle.df_lines.specs.Grammar.{Said}
 use Rattle.df_lines.specs.Room.{IsAtEnd}
 use Rattle.df_lines.specs.Script.{Begins, IsRefused}
-use Rattle.df_lines.specs.Text.{unread}
+use Rattle.df_lines.specs.Text.{line_of, unread}
 use Rattle.df_model.specs.Commands.{Command}
 use Rattle.df_replica.specs.Below.{State as Replica}
 use Rattle.df_replica.specs.Session.{Act}
@@ -61,9 +61,16 @@ pub record Executed (bound : ℕ) (origin now : State) (turns : List Turned) : T
   pub lines : now.lines ≡ origin.lines + length turns
   pub calls : AreCalls origin.replica origin.outside.told (all_acts turns) (all_answers turns) now.replica now.outside.told
 
--- what is unread at the end: where the script is cut, a line that is refused; at Done nothing at all
+-- of this rest of a text, of which the source has so much left, its first line was read, or more of it than the bound
+pub record HoldsLine (bound : ℕ) (rest left : List ℕ) : Type 0 where
+  pub held : List ℕ
+  pub is : rest ≡ held ++ left
+  pub line : (line_of held ≡ line_of rest) ⊎ (bound < length (line_of held))
+
+-- what is unread at the end: where the script is cut, a line that is refused, and the source was read as far as that takes; at Done nothing at all
 pub record EndsText (bound budget : ℕ) (rest : List ℕ) (left : Option (List ℕ)) (cut : Bool) (status : Status) : Type 0 where
   pub refused : cut ≡ true → IsRefused bound budget rest
+  pub held : cut ≡ true → (remains : List ℕ) → left ≡ Some remains → HoldsLine bound rest remains
   pub finished : status ≡ Done → (rest ≡ []) × (left ≡ Some [])
 
 -- the line of a step that is damaged
