@@ -50,9 +50,10 @@ use Rattle.df_lifetime.proofs.Acts.{HasFront, ends_inputs, first_answers, front_
 use Rattle.df_lifetime.proofs.Files.{one_file, one_told}
 use Rattle.df_lifetime.proofs.Orders.{Has, Order, after_barrier, goes_on, here, in_order, made_in_order, made_safe, may, none_referenced, order_of, same_moments, stands_shown, synced, synced_moments}
 
--- what a word leaves that made these calls: an honest disk, and its log in order at the end, and at each moment, by what was answered by then
+-- what a word leaves that made these calls: an honest disk, whose log began where it did, and its log in order at the end, and at each moment, by what was answered by then
 pub record Comes (file : DataFile) (chapters : List Chapter) (calls : Option CallsMade) (t n : Told) : Type 0 where
   pub honest : IsHonest n
+  pub start : n.log.start ≡ t.log.start
   pub at_end : Order file (chapters_of ToItsEnd t.shown calls ++ chapters) n.log
   pub moments : (k : ℕ) (log : Log) → IsMoment t.log n.log log → HaveAnswers k log calls → Order file (chapters_of (ToAMoment k) t.shown calls ++ chapters) log
 
@@ -60,12 +61,12 @@ module _ (file : DataFile) (chapters : List Chapter) (t : Told) (is : IsInOrder 
   -- ---- nothing but the barrier was done
 
   same_comes : (n : Told) → t ≡ n → Comes file chapters None t n
-  same_comes n same = subst (λ (x : Told). Comes file chapters None t x) same (record { honest = is.honest; at_end = order_of file chapters t is; moments = λ k log moment had. same_moments file chapters t is chance log moment })
+  same_comes n same = subst (λ (x : Told). Comes file chapters None t x) same (record { honest = is.honest; start = refl; at_end = order_of file chapters t is; moments = λ k log moment had. same_moments file chapters t is chance log moment })
 
   sync_comes : (n : Told) → did Sync t ≡ n → Comes file chapters None t n
   sync_comes n same =
       subst (λ (x : Told). Comes file chapters None t x) same
-      (record { honest = record { shows = is.honest.shows }; at_end = synced file chapters t is chance; moments = λ k log moment had. synced_moments file chapters t is chance log moment })
+      (record { honest = record { shows = is.honest.shows }; start = refl; at_end = synced file chapters t is chance; moments = λ k log moment had. synced_moments file chapters t is chance log moment })
 
   part_comes : (new : Option Told) (n : Told) → new ≡ Some n → AddsPart (Sync ∷ []) (Some t) new → Comes file chapters None t n
   part_comes new n to (inl none) = same_comes n (one_told new t n none to)
@@ -113,6 +114,7 @@ module _ (file : DataFile) (chapters : List Chapter) (t : Told) (is : IsInOrder 
       let later : EachMoment (did Sync t).log n.log (Order file chapters) = weaker (did Sync t).log n.log (IsGoodFor Whole (format file) (shape file) view view) (Order file chapters) (λ log good. good_order log good) each in
       record {
         honest = subst IsHonest same (goes.2.honest (record { shows = is.honest.shows }));
+        start = grew.2;
         at_end = later n.log (record { since = grew; until = extends_self n.log });
         moments = λ k log moment had. after_barrier file chapters t is chance n.log grew later log moment;
       }
@@ -248,6 +250,7 @@ module _ (file : DataFile) (chapters : List Chapter) (t : Told) (is : IsInOrder 
       served_comes : Comes file chapters (Some c) t n
       served_comes = record {
         honest = honest_end c.acts c.answers c.failed n keeps;
+        start = (barrier c.acts c.answers c.failed n keeps).2;
         at_end = end_order c.acts c.answers c.failed n keeps inputs (leaves c.acts c.answers c.failed n keeps);
         moments = all_moments;
       }
@@ -269,6 +272,7 @@ module _ (file : DataFile) (chapters : List Chapter) (t : Told) (is : IsInOrder 
     idle_comes : Comes file chapters None t n
     idle_comes = record {
       honest = honest_end [] [] None n keeps;
+      start = (barrier [] [] None n keeps).2;
       at_end = idle_moments n.log (record { since = barrier [] [] None n keeps; until = extends_self n.log });
       moments = λ k log moment had. after_barrier file chapters t is chance n.log (barrier [] [] None n keeps) idle_moments log moment;
     }
@@ -320,12 +324,12 @@ module _ (file : DataFile) (chapters : List Chapter) (t : Told) (is : IsInOrder 
   outcome_comes mode old new status n from to (inr (inl refuses)) = absurd (answers.1.usable refuses.error refuses.is)
   outcome_comes mode old new status n from to (inr (inr serves)) = does_comes serves.layout (answers.1.layout serves.layout serves.shown) old new status n to mode serves.serves
 
-  word_comes : (n : Told) (word : Word t n) → Comes file chapters (calls_made t n word) t n
+  pub word_comes : (n : Told) (word : Word t n) → Comes file chapters (calls_made t n word) t n
   word_comes n word = outcome_comes word.mode word.old word.new word.status n word.from word.to (word.runs t word.from word.whole)
 
   -- ---- the word `format` again
 
-  formatted_same : (layout : Layout) (cluster : ℕ) (n : Told) (old new : Option (List ℕ)) (status : Status) → Formats layout cluster (Some t) (Some n) old new status → t ≡ n
+  pub formatted_same : (layout : Layout) (cluster : ℕ) (n : Told) (old new : Option (List ℕ)) (status : Status) → Formats layout cluster (Some t) (Some n) old new status → t ≡ n
   formatted_same layout cluster n old new Done made = absurd (answers.1.usable NotFormatted (made.0.may.blank t refl))
   formatted_same layout cluster n old new Refused refuses = one_told (Some n) t n refuses.1.same refl
   formatted_same layout cluster n old new DiskFault part = elim part.1 [ inl none ↦ one_told (Some n) t n none refl | inr blank ↦ absurd (answers.1.usable NotFormatted blank) ]
