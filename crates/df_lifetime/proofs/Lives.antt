@@ -43,7 +43,7 @@ use Rattle.df_top.specs.declared.mode.Mode.{Mode}
 use Rattle.df_top.specs.declared.mode.Mode.TheVariants.{Format, Run, Recover, Inspect, Scrub, Workload}
 use Rattle.df_top.specs.declared.status.Status.{Status}
 use Rattle.df_top.specs.declared.status.Status.TheVariants.{Done, Found, Words, Script, Refused, DiskFault, ReadFault, WriteFault, Memory}
-use Rattle.df_lifetime.specs.Life.{Chapter, EveryLifeGoesOn, EveryLifeIsInOrder, FormatWord, HaveAnswers, IsInOrder, MayHave, Outcome, ToAMoment, ToItsEnd, Word, calls_in, calls_made, calls_of, chapter_of, chapters_of, sessions_in, start_of}
+use Rattle.df_lifetime.specs.Life.{Chapter, EveryLifeGoesOn, EveryLifeIsInOrder, FormatWord, HaveAnswers, IsInOrder, MayHave, Outcome, ToAMoment, ToItsEnd, Word, calls_in, calls_made, calls_of, chapter_of, chapters_of, outcome_of, sessions_in, start_of}
 use Rattle.df_lifetime.specs.Life.Life.{Begun, Ended, Formatted, Made, Ran, Stopped}
 use Rattle.df_lifetime.proofs.Bases.{AnsweredOver, KeepsOver, told_over}
 use Rattle.df_lifetime.proofs.Acts.{HasFront, ends_inputs, first_answers, front_and_rest, has_front, work_on}
@@ -86,6 +86,12 @@ module _ (file : DataFile) (chapters : List Chapter) (t : Told) (is : IsInOrder 
   found_shown : IsFound (shape file) (unit_at file.layout file.cluster t.shown) view
   found_shown = subst (λ (image : Image). IsFound (shape file) (unit_at file.layout file.cluster image) view) (λ i sector. sym (is.honest.shows sector) i) opens.found
 
+  -- what was opened is the file, in whatever rooms
+  one_opened : (layout : Layout) (s : Replica) → IsOpened layout t.shown s → s.file ≡ file
+  one_opened layout s opened =
+      let own : s.file.layout ≡ file.layout = answers.1.layout s.file.layout (record { fields = s.fields; super = opened.has.super; numbers = opened.has.layout }) in
+      one_file file layout t.shown view s (sym opened.of ∙ own) found_shown opened
+
   -- ---- the disk failed within the mending
 
   good_order : (log : Log) → IsGoodFor Whole (format file) (shape file) view view log → Order file chapters log
@@ -97,11 +103,11 @@ module _ (file : DataFile) (chapters : List Chapter) (t : Told) (is : IsInOrder 
     ];
   }
 
-  mends_comes : (layout : Layout) → layout ≡ file.layout → (new : Option Told) (n : Told) → new ≡ Some n → MendsPartly layout t new → Comes file chapters None t n
-  mends_comes layout own new n to mends =
+  mends_comes : (layout : Layout) (new : Option Told) (n : Told) → new ≡ Some n → MendsPartly layout t new → Comes file chapters None t n
+  mends_comes layout new n to mends =
       let goes = goes_told (did Sync t) new (mends.mending.events, mends.mending.told) in
       let same : goes.0 ≡ n = one_told new goes.0 n goes.1 to in
-      let one : mends.state.file ≡ file = one_file file layout t.shown view mends.state own found_shown mends.opened in
+      let one : mends.state.file ≡ file = one_opened layout mends.state mends.opened in
       let es : List Event = mends.mending.events in
       let ends : told_after es (did Sync t) ≡ n = one_told new (told_after es (did Sync t)) n (mends.mending.told ∙ added_is_told es (did Sync t)) to in
       let each : EachMoment (did Sync t).log n.log (IsGoodFor Whole (format file) (shape file) view view) =
@@ -119,15 +125,14 @@ module _ (file : DataFile) (chapters : List Chapter) (t : Told) (is : IsInOrder 
         moments = λ k log moment had. after_barrier file chapters t is chance n.log grew later log moment;
       }
 
-  stops_comes : (layout : Layout) → layout ≡ file.layout → (new : Option Told) (n : Told) → new ≡ Some n → StopsOpening layout t new → Comes file chapters None t n
-  stops_comes layout own new n to (inl none) = same_comes n (one_told new t n none to)
-  stops_comes layout own new n to (inr (inl all)) = sync_comes n (one_told new (did Sync t) n all to)
-  stops_comes layout own new n to (inr (inr mends)) = mends_comes layout own new n to mends
+  stops_comes : (layout : Layout) (new : Option Told) (n : Told) → new ≡ Some n → StopsOpening layout t new → Comes file chapters None t n
+  stops_comes layout new n to (inl none) = same_comes n (one_told new t n none to)
+  stops_comes layout new n to (inr (inl all)) = sync_comes n (one_told new (did Sync t) n all to)
+  stops_comes layout new n to (inr (inr mends)) = mends_comes layout new n to mends
 
-  refused : (layout : Layout) (old new : Outside) (status : Status) → layout ≡ file.layout → RefusesFile layout t old new status → ⊥
-  refused layout old new status own refuses =
-      let is_for = subst (λ (l : Layout). RefusesFile l t old new status) own refuses in
-      is_for.is.other (answers.1.answered is_for.error is_for.is.why)
+  -- it was refused behind the barrier, as one of another layout is
+  refused_comes : (layout : Layout) (old new : Outside) (status : Status) (n : Told) → new.told ≡ Some n → RefusesFile layout t old new status → Comes file chapters None t n
+  refused_comes layout old new status n to refuses = sync_comes n (one_told new.told (did Sync t) n refuses.barrier to)
 
   -- ---- the file was opened, and kept
 
@@ -279,12 +284,12 @@ module _ (file : DataFile) (chapters : List Chapter) (t : Told) (is : IsInOrder 
 
   -- ---- a word
 
-  module _ (layout : Layout) (own : layout ≡ file.layout) (old new : Outside) (status : Status) (n : Told) (to : new.told ≡ Some n) where
+  module _ (layout : Layout) (old new : Outside) (status : Status) (n : Told) (to : new.told ≡ Some n) where
     -- calls behind an open and what it mended
     calls_come : (replica : Replica) (c : CallsMade) (mending : Mends replica.file (Some (did Sync t)) c.old) → IsOpened layout t.shown replica → new.told ≡ after_all (events_made c) c.old
         → KeepsOver replica.file t c.acts c.answers c.failed mending.events (events_made c) → AnsweredOver replica.file t mending.events c → Comes file chapters (Some c) t n
     calls_come replica c mending opened adds keeps acknowledged =
-        let one : replica.file ≡ file = one_file file layout t.shown view replica own found_shown opened in
+        let one : replica.file ≡ file = one_opened layout replica opened in
         let whole : KeepsFile file Whole start t c.acts c.answers c.failed (Some n) =
         keeps_as replica c.acts c.answers c.failed mending.events (events_made c) n (sym (told_over mending.events (events_made c) t c.old new.told mending.told adds) ∙ to) one keeps in
         let inputs : AreInputs (c.acts ++ list_of c.failed) = ends_inputs c.from c.to c.old c.new c.acts c.answers c.failed c.calls in
@@ -298,34 +303,34 @@ module _ (file : DataFile) (chapters : List Chapter) (t : Told) (is : IsInOrder 
 
     does_comes : (mode : Mode) (does : Does mode layout t old new status) → Comes file chapters (calls_of mode layout t old new status does) t n
     does_comes (Format shape cluster) does = absurd does
-    does_comes Run (inl refuses) = absurd (refused layout old new status own refuses)
-    does_comes Run (inr (inl fails)) = stops_comes layout own new.told n to fails.disk
+    does_comes Run (inl refuses) = refused_comes layout old new status n to refuses
+    does_comes Run (inr (inl fails)) = stops_comes layout new.told n to fails.disk
     does_comes Run (inr (inr serves)) = script_comes serves
-    does_comes Recover (inl refuses) = absurd (refused layout old new status own refuses)
-    does_comes Recover (inr (inl fails)) = stops_comes layout own new.told n to fails.disk
+    does_comes Recover (inl refuses) = refused_comes layout old new status n to refuses
+    does_comes Recover (inr (inl fails)) = stops_comes layout new.told n to fails.disk
     does_comes Recover (inr (inr recovers)) =
         idle_comes n
-        (keeps_as recovers.replica [] [] None recovers.mending.events [] n (sym (told_over recovers.mending.events [] t new.told new.told recovers.mending.told refl) ∙ to) (one_file file layout t.shown view recovers.replica own found_shown recovers.is_opened) recovers.keeps)
-    does_comes Inspect (inl refuses) = absurd (refused layout old new status own refuses)
+        (keeps_as recovers.replica [] [] None recovers.mending.events [] n (sym (told_over recovers.mending.events [] t new.told new.told recovers.mending.told refl) ∙ to) (one_opened layout recovers.replica recovers.is_opened) recovers.keeps)
+    does_comes Inspect (inl refuses) = refused_comes layout old new status n to refuses
     does_comes Inspect (inr (inl fails)) = part_comes new.told n to fails.disk
     does_comes Inspect (inr (inr inspects)) = sync_comes n (one_told new.told (did Sync t) n inspects.barrier to)
-    does_comes Scrub (inl refuses) = absurd (refused layout old new status own refuses)
-    does_comes Scrub (inr (inl fails)) = stops_comes layout own new.told n to fails.disk
+    does_comes Scrub (inl refuses) = refused_comes layout old new status n to refuses
+    does_comes Scrub (inr (inl fails)) = stops_comes layout new.told n to fails.disk
     does_comes Scrub (inr (inr scrubs)) =
         idle_comes n
-        (keeps_as scrubs.replica [] [] None scrubs.mending.events [] n (sym (told_over scrubs.mending.events [] t new.told new.told scrubs.mending.told refl) ∙ to) (one_file file layout t.shown view scrubs.replica own found_shown scrubs.is_opened) scrubs.keeps)
-    does_comes (Workload seed count) (inl refuses) = absurd (refused layout old new status own refuses)
-    does_comes (Workload seed count) (inr (inl fails)) = stops_comes layout own new.told n to fails.disk
+        (keeps_as scrubs.replica [] [] None scrubs.mending.events [] n (sym (told_over scrubs.mending.events [] t new.told new.told scrubs.mending.told refl) ∙ to) (one_opened layout scrubs.replica scrubs.is_opened) scrubs.keeps)
+    does_comes (Workload seed count) (inl refuses) = refused_comes layout old new status n to refuses
+    does_comes (Workload seed count) (inr (inl fails)) = stops_comes layout new.told n to fails.disk
     does_comes (Workload seed count) (inr (inr works)) = works_comes seed count works
 
   outcome_comes : (mode : Mode) (old new : Outside) (status : Status) (n : Told) → old.told ≡ Some t → new.told ≡ Some n → (outcome : Outcome mode t old new status)
       → Comes file chapters (calls_in mode t old new status outcome) t n
   outcome_comes mode old new status n from to (inl nothing) = same_comes n (one_told new.told t n (nothing.without.same ∙ from) to)
   outcome_comes mode old new status n from to (inr (inl refuses)) = absurd (answers.1.usable refuses.error refuses.is)
-  outcome_comes mode old new status n from to (inr (inr serves)) = does_comes serves.layout (answers.1.layout serves.layout serves.shown) old new status n to mode serves.serves
+  outcome_comes mode old new status n from to (inr (inr does)) = does_comes does.0 old new status n to mode does.1
 
   pub word_comes : (n : Told) (word : Word t n) → Comes file chapters (calls_made t n word) t n
-  word_comes n word = outcome_comes word.mode word.old word.new word.status n word.from word.to (word.runs t word.from word.whole)
+  word_comes n word = outcome_comes word.mode word.old word.new word.status n word.from word.to (outcome_of word.mode t word.old word.new word.status word.carried word.from word.whole)
 
   -- ---- the word `format` again
 
