@@ -67,40 +67,30 @@ module _ (sh : Shape) (codec : Codec) where
   work_bare shown w Scrub other = absurd other
   work_bare shown w Recent other = absurd other
 
-  from_bare : (shown : Shown) (w : Work) (c : Command) → AsksOfOthers c → answer_from spell (memory_of sh spell w) (supplied codec shown (memory_of sh spell w) c) c ≡ answer_from spell (memory_of sh spell (bare w)) (supplied codec shown (memory_of sh spell (bare w)) c) c
-  from_bare shown w (Append client request body) other = refl
-  from_bare shown w (Reply op body) other = refl
-  from_bare shown w (WriteBlock kind body) other = refl
-  from_bare shown w (Release address) other = refl
-  from_bare shown w (Begin root) other = refl
-  from_bare shown w Advance other = refl
-  from_bare shown w (ReadPrepare op) other = refl
-  from_bare shown w (ReadReply client) other = refl
-  from_bare shown w (ReadBlock address) other = refl
-  from_bare shown w Scrub other = absurd other
-  from_bare shown w Recent other = absurd other
+  -- what is answered, and what is shown behind it
+  both_bare : (shown : Shown) (w : Work) (c : Command) → AsksOfOthers c
+      → (answer_from spell (memory_of sh spell w) (supplied codec shown (memory_of sh spell w) c) c ≡ answer_from spell (memory_of sh spell (bare w)) (supplied codec shown (memory_of sh spell (bare w)) c) c)
+      × (shown_after codec shown (memory_of sh spell w) c ≡ shown_after codec shown (memory_of sh spell (bare w)) c)
+  both_bare shown w (Append client request body) other = (refl, refl)
+  both_bare shown w (Reply op body) other = (refl, refl)
+  both_bare shown w (WriteBlock kind body) other = (refl, refl)
+  both_bare shown w (Release address) other = (refl, refl)
+  both_bare shown w (Begin root) other = (refl, refl)
+  both_bare shown w Advance other = (refl, refl)
+  both_bare shown w (ReadPrepare op) other = (refl, refl)
+  both_bare shown w (ReadReply client) other = (refl, refl)
+  both_bare shown w (ReadBlock address) other = (refl, refl)
+  both_bare shown w Scrub other = absurd other
+  both_bare shown w Recent other = absurd other
 
   answer_bare : (x : Stand) (c : Command) → AsksOfOthers c → answer_at sh codec x c ≡ answer_at sh codec (bare_at x) c
   answer_bare x c other =
       answer_is sh spell x.work (supplied codec x.shown (memory_of sh spell x.work) c) c
-      ∙ from_bare x.shown x.work c other
+      ∙ (both_bare x.shown x.work c other).0
       ∙ sym (answer_is sh spell (bare x.work) (supplied codec x.shown (memory_of sh spell (bare x.work)) c) c)
 
-  shown_bare : (shown : Shown) (w : Work) (c : Command) → AsksOfOthers c → shown_after codec shown (memory_of sh spell w) c ≡ shown_after codec shown (memory_of sh spell (bare w)) c
-  shown_bare shown w (Append client request body) other = refl
-  shown_bare shown w (Reply op body) other = refl
-  shown_bare shown w (WriteBlock kind body) other = refl
-  shown_bare shown w (Release address) other = refl
-  shown_bare shown w (Begin root) other = refl
-  shown_bare shown w Advance other = refl
-  shown_bare shown w (ReadPrepare op) other = refl
-  shown_bare shown w (ReadReply client) other = refl
-  shown_bare shown w (ReadBlock address) other = refl
-  shown_bare shown w Scrub other = absurd other
-  shown_bare shown w Recent other = absurd other
-
   led_bare : (x : Stand) (c : Command) (n k : ℕ) → AsksOfOthers c → n ≡ k → bare_at (led sh codec x c n) ≡ led sh codec (bare_at x) c k
-  led_bare x c n k other same = λ i. record { shown = shown_bare x.shown x.work c other i; work = work_bare x.shown x.work c other i; appended = same i }
+  led_bare x c n k other same = λ i. record { shown = (both_bare x.shown x.work c other).1 i; work = work_bare x.shown x.work c other i; appended = same i }
 
   script_bare : (x : Stand) (c : Command) → AsksOfOthers c → bare_at (by_script sh codec x c) ≡ by_script sh codec (bare_at x) c
   script_bare x c other = led_bare x c _ _ other (ap (counted x.appended) (answer_bare x c other))
