@@ -22,8 +22,7 @@ use Rattle.df_units.specs.Bytes.{unit_at}
 use Rattle.df_replica.specs.Below.{DataFile, shape, told_after}
 use Rattle.df_replica.specs.Reading.{shown_of}
 use Rattle.df_replica.proofs.Laws.{added_is_told}
-use Rattle.df_result.specs.Agreeing.{AgreeShown}
-use Rattle.df_result.specs.Codec.{codec}
+use Rattle.df_session.specs.Below.{AgreeShown, codec}
 use Rattle.df_model.specs.Commands.{Command}
 use Rattle.df_script_model.specs.Script.{answer_text, printed}
 use Rattle.df_session.specs.Links.{events_made}

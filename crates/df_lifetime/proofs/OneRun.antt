@@ -31,8 +31,7 @@ use Rattle.df_replica.specs.Reading.{shown_of}
 use Rattle.df_replica.specs.Serving.{Firm, Keeps, next as next_work}
 use Rattle.df_replica.specs.Session.{Act}
 use Rattle.df_replica.proofs.Laws.{found_keeps}
-use Rattle.df_result.specs.Agreeing.{AgreeShown}
-use Rattle.df_result.specs.Codec.{codec}
+use Rattle.df_session.specs.Below.{AgreeShown, codec}
 use Rattle.df_workload.specs.Asking.{asks}
 use Rattle.df_workload.specs.Following.{Follows}
 use Rattle.df_workload.specs.Hearing.{heard}

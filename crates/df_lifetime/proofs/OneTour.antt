@@ -15,7 +15,7 @@ use Rattle.df_model.specs.declared.answers.Scrubbed.TheVariants.{TourEnd}
 use Rattle.df_replica.specs.Below.{DataFile, State as Replica, failing_in, grid_with, memory}
 use Rattle.df_replica.specs.Leaving.{SparesReads}
 use Rattle.df_replica.specs.Reading.{shown_of}
-use Rattle.df_result.specs.Agreeing.{AgreeShown}
+use Rattle.df_session.specs.Below.{AgreeShown}
 use Rattle.df_script_model.specs.Texts.{scrubbed_text}
 use Rattle.df_top.specs.Outside.{PrintsLine}
 use Rattle.df_top.specs.Scrubs.{PrintsTour, ScrubsFile, failing_blocks, tour_report, tour_status}

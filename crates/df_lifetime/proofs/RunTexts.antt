@@ -27,7 +27,7 @@ use Rattle.df_model.specs.declared.errors.StepError.{StepError}
 use Rattle.df_replica.specs.Below.{DataFile, memory, shape}
 use Rattle.df_replica.specs.Reading.{shown_of}
 use Rattle.df_replica.proofs.Laws.{found_keeps}
-use Rattle.df_result.specs.Codec.{codec}
+use Rattle.df_session.specs.Below.{codec}
 use Rattle.df_workload.specs.Asking.{asks_at, number_body}
 use Rattle.df_workload.specs.Draw.{drawn_body}
 use Rattle.df_workload.specs.Following.{Follows}

@@ -7,3 +7,4 @@ pub mod Sparing
 pub mod Owning
 pub mod Resulting
 pub mod Laws
+pub mod Below

@@ -12,8 +12,7 @@ use Rattle.df_replica.specs.Opened.{MendsAll}
 use Rattle.df_replica.specs.Reading.{shown_of}
 use Rattle.df_replica.specs.Serving.{Firm, Keeps}
 use Rattle.df_replica.specs.Session.{Act}
-use Rattle.df_result.specs.Agreeing.{AgreeShown}
-use Rattle.df_result.specs.Codec.{codec}
+use Rattle.df_session.specs.Below.{AgreeShown, codec}
 use Rattle.df_script_model.specs.Script.{answer_text, printed}
 use Rattle.df_session.specs.Links.{EndsCalls, command_in}
 use Rattle.df_session.proofs.Laws.{opened_answers}

@@ -8,7 +8,7 @@ use Rattle.df_model.specs.Supply.{Shown}
 use Rattle.df_model.specs.Work.{Work, opened}
 use Rattle.df_replica.specs.Below.{DataFile, shape}
 use Rattle.df_replica.specs.Reading.{shown_of}
-use Rattle.df_result.specs.Codec.{codec}
+use Rattle.df_session.specs.Below.{codec}
 use Rattle.df_script_model.specs.Script.{printed}
 use Rattle.df_session.specs.Resulting.{AnswersResult}
 use Rattle.df_top.specs.Lines.{Turned, all_acts, all_answers, all_text, command_of, said_in}

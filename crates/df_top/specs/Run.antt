@@ -16,7 +16,7 @@ use Rattle.df_model.specs.declared.errors.OpenError.{OpenError}
 use Rattle.df_replica.specs.Below.{IsLayoutShown, Refuses, IsOpened, State as Replica, shape}
 use Rattle.df_replica.specs.Opened.{Mends}
 use Rattle.df_replica.specs.Reading.{shown_of}
-use Rattle.df_result.specs.Agreeing.{AgreeShown}
+use Rattle.df_session.specs.Below.{AgreeShown}
 use Rattle.df_session.specs.Links.{events_made}
 use Rattle.df_session.specs.Laws.{CallsKeep}
 use Rattle.df_top.specs.Acknowledging.{script_calls}
