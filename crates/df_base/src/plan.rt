@@ -9,21 +9,11 @@ use std::marker::Model;
 
 /// The numbers of the calls that fail, counted from 1, with the count of calls and of faults so
 /// far. Both counts stop at `u64::MAX`.
+#[derive(Drop)]
 pub struct FaultPlan {
     calls: u64,
     failing: Vec<u64>,
     faults: u64,
-}
-
-// Its owner lets go of it in one call, and not field by field.
-impl Drop for FaultPlan {
-    fn drop(self) {
-        let FaultPlan {
-            calls: _,
-            failing: _,
-            faults: _,
-        } = self;
-    }
 }
 
 impl Model for FaultPlan {

@@ -43,17 +43,11 @@ own_named layout zone h place is = if_inside layout _ place (if_true _ _ place i
 -- sealing and the body change nothing that names the place
 named_same : (kind : Kind) (h : Header) (body : List ℕ) → named_elsewhere kind (sealed (for_body h body)) ≡ named_elsewhere kind h
 named_same Reserved h body = refl
-named_same Prepare h body = refl
-named_same Reply h body = refl
-named_same Block h body = refl
-named_same Trailer h body = refl
+named_same kind h body = refl
 
 ring_same : (kind : Kind) (h : Header) (body : List ℕ) → named_in_ring kind (sealed (for_body h body)) ≡ named_in_ring kind h
 ring_same Reserved h body = refl
-ring_same Prepare h body = refl
-ring_same Reply h body = refl
-ring_same Block h body = refl
-ring_same Trailer h body = refl
+ring_same kind h body = refl
 
 place_same : (zone : Zone) (h : Header) (body : List ℕ) → named_place zone (sealed (for_body h body)) ≡ named_place zone h
 place_same Superblock h body = refl

@@ -1,6 +1,6 @@
 // The copy of the superblock that a room holds.
 ghost use Rattle.std.specs.Prelude.{◌≡◌, ◌<◌};
-ghost use Rattle.df_format.specs.Copies.{own_copy};
+ghost use Rattle.df_buffers.specs.Below.{own_copy};
 
 use crate::{Raw, SuperSector};
 use df_format::{SuperCopy, decode_own_copy};

@@ -1,8 +1,6 @@
 // The unit wanted at a place, tested on the bytes of the place.
 ghost use Rattle.std.specs.Prelude.{◌≡◌, ◌≢◌, ◌↔◌, [], length, IsTrue, IfOk, IfErr};
-ghost use Rattle.df_format.specs.Message.{Message};
-ghost use Rattle.df_format.specs.UnitLaws.{place_size};
-ghost use Rattle.df_format.specs.Wanted.{IsWanted};
+ghost use Rattle.df_buffers.specs.Below.{Message, place_size, IsWanted};
 ghost use Rattle.df_buffers.specs.Rooms.{StandsIn};
 ghost use Rattle.df_buffers.specs.Found.{words_of, Finds, FindsKind, IsThere, class_for};
 ghost use Rattle.df_buffers.specs.Sounds.{unit_with};

@@ -1,6 +1,6 @@
 // The sixteen headers of a sector of the header ring.
 ghost use Rattle.std.specs.Prelude.{◌≡◌, ◌<◌, [], length, IfOk, IfErr};
-ghost use Rattle.df_format.specs.Message.{Message};
+ghost use Rattle.df_buffers.specs.Below.{Message};
 ghost use Rattle.df_buffers.specs.Rooms.{header_bytes};
 ghost use Rattle.df_buffers.specs.Found.{Finds, IsThere, class_for, shown_in};
 

@@ -1,9 +1,6 @@
 // The kinds of rooms, as empty types: one for each kind of unit that has slots of its own, the header
 // sector, and the sector of a copy of the superblock.
-ghost use Rattle.df_layout.specs.declared.places.Zone.{Zone};
-ghost use Rattle.df_layout.specs.declared.places.Zone.TheVariants.{Superblock, WalHeaders, WalPrepares, ClientReplies, Grid};
-ghost use Rattle.df_format.specs.declared.kind.Kind.{Kind};
-ghost use Rattle.df_format.specs.declared.kind.Kind.TheVariants.{Prepare as AsPrepare, Reply as AsReply, Block as AsBlock, Trailer as AsTrailer};
+ghost use Rattle.df_buffers.specs.Below.{Zone, Superblock, WalHeaders, WalPrepares, ClientReplies, Grid, Kind, Prepare as AsPrepare, Reply as AsReply, Block as AsBlock, Trailer as AsTrailer};
 ghost use Rattle.df_buffers.specs.Rooms.{StandsIn};
 
 use df_format::Kind;

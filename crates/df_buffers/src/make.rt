@@ -1,12 +1,6 @@
 // Units as they are made in a room.
 ghost use Rattle.std.specs.Prelude.{◌≡◌, ◌≤◌, ◌+◌, length, take, drop, IsSome};
-ghost use Rattle.df_format.specs.Spelling.{sealed};
-ghost use Rattle.df_format.specs.Rules.{ObeysRules};
-ghost use Rattle.df_format.specs.Message.{sectors_of, sectors_end};
-ghost use Rattle.df_format.specs.Own.{own_place};
-ghost use Rattle.df_format.specs.Whole.{greatest_size};
-ghost use Rattle.df_format.specs.Making.{for_body};
-ghost use Rattle.df_format.specs.UnitLaws.{MadeIsUnit};
+ghost use Rattle.df_buffers.specs.Below.{sealed, ObeysRules, sectors_of, sectors_end, own_place, greatest_size, for_body, MadeIsUnit};
 
 use crate::{Raw, Sound, UnitKind};
 use df_format::{Header, make_unit};

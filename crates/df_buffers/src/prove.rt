@@ -1,6 +1,6 @@
 // Whether a room holds the unit that is wanted.
 ghost use Rattle.std.specs.Prelude.{◌≡◌, IfOk, IfErr};
-ghost use Rattle.df_format.specs.Message.{Message};
+ghost use Rattle.df_buffers.specs.Below.{Message};
 ghost use Rattle.df_buffers.specs.Found.{FindsKind, IsThere, class_for};
 
 use crate::find::find_kind;

@@ -1,7 +1,6 @@
 // Sound rooms: their bytes are a unit that is valid at its own place. They lend its parts without copying.
 ghost use Rattle.std.specs.Prelude.{◌≡◌, ◌≤◌, ◌-◌, length, take, drop};
-ghost use Rattle.df_base.specs.Fields.{AreBytes};
-ghost use Rattle.df_format.specs.Message.{sectors_end};
+ghost use Rattle.df_buffers.specs.Below.{AreBytes, sectors_end};
 ghost use Rattle.df_buffers.specs.Sounds.{AreWhole, BringsOwn, IsSound};
 
 use crate::{Raw, UnitKind};

@@ -1,4 +1,4 @@
--- The types of the recovery table in the words of the model.
+-- The types of the recovery table in the words of the theory.
 use Rattle.df_format.specs.Spelling.{IsCheck}
 use Rattle.df_theory.specs.Cases
 use Rattle.df_units.specs.Meaning.{number_of}

@@ -22,7 +22,7 @@ pub enum Decision {
     Empty { mend: bool },
 }
 
-/// What becomes of a slot whose rings show this: the decision of the model's one table.
+/// What becomes of a slot whose rings show this: the decision of the theory's one table.
 pub fn case(header: Seen, prepare: Seen) -> Decision
     ensures model { HasCheck header → HasCheck prepare → decision_of result ≡ decided (seen_of header) (seen_of prepare) }
 {

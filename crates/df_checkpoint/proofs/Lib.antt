@@ -7,4 +7,5 @@ pub mod Complete
 pub mod ReadWhole
 pub mod Unreadable
 pub mod Missed
+pub mod OneTest
 pub mod Laws

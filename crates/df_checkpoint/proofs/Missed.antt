@@ -12,11 +12,20 @@ use Rattle.df_checkpoint.specs.Laws.{BrokenIsShown, WholeIsShown}
 use Rattle.df_checkpoint.proofs.OneLink.{asked_is}
 
 -- two blocks at one address are one
-one_block : (image : Units) (a e : ℕ) (x y : Block) → a ≡ e → image (BlockPlace a) ≡ Some (BlockUnit x) → image (BlockPlace e) ≡ Some (BlockUnit y) → x ≡ y
+pub one_block : (image : Units) (a e : ℕ) (x y : Block) → a ≡ e → image (BlockPlace a) ≡ Some (BlockUnit x) → image (BlockPlace e) ≡ Some (BlockUnit y) → x ≡ y
 one_block image a e x y same one two = let both : Some (BlockUnit x) ≡ Some (BlockUnit y) = sym one ∙ ap (λ (n : ℕ). image (BlockPlace n)) same ∙ two in cc
 
 is_shown : (image : Units) (x : Block) (address sum a k : ℕ) → a ≡ address → k ≡ sum → image (BlockPlace address) ≡ Some (BlockUnit x) → x.checksum ≡ sum → x.kind ≡ 0 → IsShown image a k
 is_shown image x address sum a k place check shows is kind = (x, ap (λ (n : ℕ). image (BlockPlace n)) place ∙ shows, is ∙ sym check, kind)
+
+-- a walk that a block breaks off isn't passed by another one
+pub not_passed : (sh : Shape) (shown : Shown) (c : Content) (n index : ℕ) (y : ℕ × Block) (ys : List (ℕ × Block)) (address sum a k e d : ℕ) (block : Block) → a ≡ address → Arrives shown.units (y ∷ ys) address sum e d → n ≡ index + 1
+    → AreLinks sh c n (y ∷ ys) → asked shown a k ≡ Ok block → (IsLink sh c index block → ⊥) → ⊥
+not_passed sh shown c n index y ys address sum a k e d block place other count links is broken =
+    let there = asked_is shown a k block is in
+    let same : y.1 ≡ block = one_block shown.units address a y.1 block (sym place) other.3 there.shows in
+    let here : links.0 ≡ index = omega (arith, links.1, count) in
+    broken (subst (λ (b : Block). IsLink sh c index b) same (subst (λ (i : ℕ). IsLink sh c i y.1) here links.2))
 
 -- a walk down the chain ends no later than another one that a block breaks off
 ends_before : (sh : Shape) (shown : Shown) (c : Content) (n index : ℕ) (xs ys : List (ℕ × Block)) (address sum a k e d : ℕ) (block : Block) → Arrives shown.units xs address sum a k → Arrives shown.units ys address sum e d → n ≡ length xs + (index + 1)
@@ -24,11 +33,7 @@ ends_before : (sh : Shape) (shown : Shown) (c : Content) (n index : ℕ) (xs ys 
 ends_before sh shown c n index [] [] address sum a k e d block arrives other count links is broken =
     let there = asked_is shown a k block is in
     is_shown shown.units block a k e d (other.0 ∙ sym arrives.0) (other.1 ∙ sym arrives.1) there.shows there.sum there.kind
-ends_before sh shown c n index [] (y ∷ ys) address sum a k e d block arrives other count links is broken =
-    let there = asked_is shown a k block is in
-    let same : y.1 ≡ block = one_block shown.units address a y.1 block (sym arrives.0) other.3 there.shows in
-    let here : links.0 ≡ index = omega (arith, links.1, count) in
-    absurd (broken (subst (λ (b : Block). IsLink sh c index b) same (subst (λ (i : ℕ). IsLink sh c i y.1) here links.2)))
+ends_before sh shown c n index [] (y ∷ ys) address sum a k e d block arrives other count links is broken = absurd (not_passed sh shown c n index y ys address sum a k e d block arrives.0 other (omega (arith, count)) links is broken)
 ends_before sh shown c n index (x ∷ xs) [] address sum a k e d block arrives other count links is broken = is_shown shown.units x.1 address sum e d other.0 other.1 arrives.3 arrives.2 arrives.4
 ends_before sh shown c n index (x ∷ xs) (y ∷ ys) address sum a k e d block arrives other count links is broken =
     let same : y.1 ≡ x.1 = one_block shown.units address address y.1 x.1 refl other.3 arrives.3 in

@@ -1,5 +1,5 @@
 -- A whole chain whose text is read: what the text says of the blocks is what the grid adopts.
-use Rattle.std.proofs.Common.{◌≡◌, ℕ, zero, suc, ◌+◌, ◌-◌, ◌*◌, ◌^◌, ◌<◌, ◌≤◌, Option, Some, None, List, [], ◌∷◌, ◌++◌, length, map, min, refl, sym, ap, ◌∙◌, subst, arith, inl, inr, length-append}
+use Rattle.std.proofs.Common.{◌≡◌, ℕ, ◌+◌, ◌-◌, ◌*◌, ◌^◌, ◌<◌, ◌≤◌, Option, Some, None, List, [], ◌∷◌, ◌++◌, length, map, min, refl, sym, ap, ◌∙◌, subst, arith, inl, inr, length-append}
 use Rattle.std.specs.Prelude.{◌≢◌, Result, Ok, Err}
 use Rattle.std.specs.List.{range_with_len}
 use Rattle.arrayvec.specs.ArrayVec.{ArrayVec}
@@ -9,10 +9,10 @@ use Rattle.df_format.specs.declared.superblock.SuperFields.{SuperFields}
 use Rattle.df_format.specs.Copies.{content_with}
 use Rattle.df_format.specs.SuperRules.{IsSuper}
 use Rattle.df_theory.specs.Units as model
-use Rattle.df_theory.specs.Units.{Block, Content, Parts}
+use Rattle.df_theory.specs.Units.{Block, Parts}
 use Rattle.df_theory.specs.Shape.{Shape}
 use Rattle.df_theory.specs.Trailer.{IsReference, Says, text_of}
-use Rattle.df_model.specs.Blocks.{Blocks, entries, entry, pair_of}
+use Rattle.df_model.specs.Blocks.{Blocks, entries, pair_of}
 use Rattle.df_model.specs.Supply.{Shown}
 use Rattle.df_model.specs.Work.{is_known}
 use Rattle.df_model.proofs.Laws.{entries_same}

@@ -1,9 +1,6 @@
 -- A trailer that is refused is that of no checkpoint that can be read: what is shown has one chain, and it has one text.
-use Rattle.std.proofs.Common.{◌≡◌, ℕ, ◌+◌, ◌-◌, ◌*◌, ◌^◌, ◌<◌, ◌≤◌, ◌==◌, Bool, true, false, Option, Some, None, List, [], ◌∷◌, length, min, refl, sym, ap, ◌∙◌, subst, arith, inl, inr, eq-eqb}
+use Rattle.std.proofs.Common.{◌≡◌, ℕ, ◌+◌, ◌-◌, ◌^◌, ◌<◌, ◌≤◌, Bool, false, Option, Some, None, List, [], ◌∷◌, length, min, refl, sym, ap, ◌∙◌, subst, arith, inl, inr, eq-eqb}
 use Rattle.std.specs.Prelude.{Ok}
-use Rattle.std.proofs.lemmas.Bool.{cases_lt}
-use Rattle.std.proofs.lemmas.Bool.Decides.{nat_tests}
-use Rattle.std.proofs.Math.Nat.{mul-le-mul_left}
 use Rattle.df_layout.specs.declared.damage.Class.TheVariants.{Stale}
 use Rattle.df_theory.specs.Units.{AnyUnit, Block, BlockPlace, BlockUnit, Content, Parts, Units}
 use Rattle.df_theory.specs.Sessions.{Has}
@@ -15,7 +12,7 @@ use Rattle.df_model.specs.Supply.{Shown, block_given, class_at, given_if}
 use Rattle.df_model.specs.Work.{is_known}
 use Rattle.df_model.proofs.Laws.{count_le}
 use Rattle.df_trailer.specs.declared.fault.Fault.{Fault}
-use Rattle.df_trailer.specs.Text.{fault, parts_of, unless}
+use Rattle.df_trailer.specs.Text.{fault, parse_of, parts_of, unless}
 use Rattle.df_grid.specs.Reads.{trailer_alone}
 use Rattle.df_checkpoint.specs.Chain.{asked}
 use Rattle.df_checkpoint.specs.Reads.{IsWhole}
@@ -33,7 +30,7 @@ pub damage_missed : DamageIsMissed
 damage_missed sh shown c a class lacking = record { sum = lacking.sum; reads = lacking.reads; missed = λ is. let one = shown_asked shown a lacking.sum is in let two = lacking.is in cc }
 
 -- what is shown has one chain
-same_chain : (room : ℕ) (image : Units) (c : Content) (xs ys : List (ℕ × Block)) (address sum : ℕ) → Links room c xs address sum → Links room c ys address sum
+pub same_chain : (room : ℕ) (image : Units) (c : Content) (xs ys : List (ℕ × Block)) (address sum : ℕ) → Links room c xs address sum → Links room c ys address sum
     → ((a : ℕ) (b : Block) → InChain a b xs → image (BlockPlace a) ≡ Some (BlockUnit b)) → ((a : ℕ) (b : Block) → InChain a b ys → image (BlockPlace a) ≡ Some (BlockUnit b)) → xs ≡ ys
 same_chain room image c [] [] address sum one two first second = refl
 same_chain room image c [] (y ∷ ys) address sum one two first second = absurd (omega (arith, one, two.0))
@@ -65,12 +62,15 @@ its_parts sh shown c chain some whole b same readable =
     its_text sh c.op chain b.parts (some_chain (sh.layout.block_size - 256) c chain some whole.links)
     (subst (λ (l : List (ℕ × Block)). Says sh c.op l b.parts) (sym chains) (subst (λ (d : Content). Says sh d.op b.chain b.parts) same readable.sound.trailer.says))
 
+-- a text of which a part fails isn't parsed
+pub unparsed : (sh : Shape) (op : ℕ) (text : List ℕ) (f : Fault) → sh.parse ≡ parse_of sh.layout → op ≤ 2 ^ 62 → fault sh.layout op text ≡ Some f → sh.parse op text ≡ None
+unparsed sh op text f parse most fails =
+    let least : min op (2 ^ 62) ≡ op = omega arith in
+    ap (λ (p : ℕ → List ℕ → Option Parts). p op text) parse ∙ ap (λ (n : ℕ). unless (fault sh.layout n text) (parts_of sh.layout text)) least ∙ ap (λ (o : Option Fault). unless o (parts_of sh.layout text)) fails
+
 pub text_unreadable : BadTextIsUnreadable
 text_unreadable sh shown c field value parse some most bad b same readable =
-    let least : min c.op (2 ^ 62) ≡ c.op = omega arith in
-    let none : sh.parse c.op (text_of bad.chain) ≡ None =
-    ap (λ (p : ℕ → List ℕ → Option Parts). p c.op (text_of bad.chain)) parse ∙ ap (λ (n : ℕ). unless (fault sh.layout n (text_of bad.chain)) (parts_of sh.layout (text_of bad.chain))) least
-    ∙ ap (λ (o : Option Fault). unless o (parts_of sh.layout (text_of bad.chain))) bad.fails in
+    let none = unparsed sh c.op (text_of bad.chain) (record { field = field; value = value }) parse most bad.fails in
     let said = its_parts sh shown c bad.chain some bad.whole b same readable in cc
 
 pub referenced_unreadable : ReferencedIsUnreadable
@@ -96,7 +96,7 @@ untracked_unreadable sh shown c n some bad b same readable =
 -- ---- a link
 
 -- the block that is reached in a chain is its link
-link_there : (sh : Shape) (image : Units) (c : Content) (n index : ℕ) (read chain : List (ℕ × Block)) (address sum a k : ℕ) (block : Block) → Arrives image read address sum a k → n ≡ length read + (index + 1) → length chain ≡ n → Links (sh.layout.block_size - 256) c chain address sum
+pub link_there : (sh : Shape) (image : Units) (c : Content) (n index : ℕ) (read chain : List (ℕ × Block)) (address sum a k : ℕ) (block : Block) → Arrives image read address sum a k → n ≡ length read + (index + 1) → length chain ≡ n → Links (sh.layout.block_size - 256) c chain address sum
     → ((e : ℕ) (b : Block) → InChain e b chain → e ≤ sh.layout.blocks) → ((e : ℕ) (b : Block) → InChain e b chain → image (BlockPlace e) ≡ Some (BlockUnit b)) → image (BlockPlace a) ≡ Some (BlockUnit block) → IsLink sh c index block
 link_there sh image c n index [] [] address sum a k block arrives count size links inside shows at = absurd (omega (arith, count, size))
 link_there sh image c n index (r ∷ rs) [] address sum a k block arrives count size links inside shows at = absurd (omega (arith, count, size))

@@ -7,7 +7,7 @@ use Rattle.df_disk.specs.Told.{Told}
 use Rattle.df_layout.specs.declared.damage.Class.{Class}
 use Rattle.df_format.specs.declared.superblock.SuperFields.{SuperFields}
 use Rattle.df_theory.specs.Units as model
-use Rattle.df_theory.specs.Units.{Block, BlockPlace, BlockUnit, Content, Units}
+use Rattle.df_theory.specs.Units.{Block, BlockPlace, BlockUnit, Content}
 use Rattle.df_theory.specs.Shape.{Shape}
 use Rattle.df_theory.specs.Trailer.{InChain, IsCount}
 use Rattle.df_theory.specs.Opens.{AreLinks, Arrives, IsLink, ReadsTo}

@@ -1,4 +1,4 @@
--- What a refusal of a trailer says of the model's checkpoint.
+-- What a refusal of a trailer says of the theory's checkpoint.
 use Rattle.std.specs.Prelude.{◌≡◌, ◌<◌, ◌≤◌, ◌^◌, ℕ, List}
 use Rattle.df_layout.specs.declared.damage.Class.{Class}
 use Rattle.df_layout.specs.declared.fields.Field.{Field}
@@ -10,6 +10,7 @@ use Rattle.df_model.specs.Supply.{Shown}
 use Rattle.df_trailer.specs.Text.{parse_of}
 use Rattle.df_checkpoint.specs.Chain.{IsBroken, IsLacking}
 use Rattle.df_checkpoint.specs.Reads.{IsBadText, IsReferenced, IsWhole}
+use Rattle.df_checkpoint.specs.Tests.{FailsTest}
 use Rattle.df_checkpoint.specs.Waiting.{IsUntracked}
 
 -- a block that is wanted and not shown
@@ -18,7 +19,7 @@ pub record IsMissed (sh : Shape) (shown : Shown) (c : Content) (a : ℕ) : Type 
   pub reads : ReadsTo sh shown.units c a sum
   pub missed : IsShown shown.units a sum → ⊥
 
--- a block that is refused as damaged is one that the model misses
+-- a block that is refused as damaged is one that the theory misses
 abbrev pub DamageIsMissed : Type 0
 DamageIsMissed = (sh : Shape) (shown : Shown) (c : Content) (a : ℕ) (class : Class) → IsLacking sh shown c a class → IsMissed sh shown c a
 
@@ -35,6 +36,10 @@ BrokenIsUnreadable = (sh : Shape) (shown : Shown) (c : Content) (at : ℕ) → I
 
 abbrev pub UntrackedIsUnreadable : Type 0
 UntrackedIsUnreadable = (sh : Shape) (shown : Shown) (c : Content) (n : ℕ) → 0 < c.trailer → IsUntracked sh shown c n → (b : Checkpoint) → b.content ≡ c → IsReadable sh shown.units b → ⊥
+
+-- what is shown of a trailer fails one test first, which tells one value
+abbrev pub OneTestFails : Type 0
+OneTestFails = (sh : Shape) (shown : Shown) (c : Content) (field other : Field) (value number : ℕ) → sh.parse ≡ parse_of sh.layout → c.op ≤ 2 ^ 62 → FailsTest sh shown c field value → FailsTest sh shown c other number → (field ≡ other) × (value ≡ number)
 
 -- each block that is wanted is shown
 abbrev pub AllShown : Shape → Shown → Content → Type 0

@@ -4,5 +4,6 @@ pub mod Texts
 pub mod Adopting
 pub mod Reads
 pub mod Waiting
+pub mod Tests
 pub mod Laws
 pub mod Below

@@ -4,7 +4,7 @@ use Rattle.std.specs.List.{list_any}
 use Rattle.df_theory.specs.Units.{Block, Content, Parts}
 use Rattle.df_theory.specs.Sessions.{Has}
 use Rattle.df_theory.specs.Shape.{Shape}
-use Rattle.df_theory.specs.Trailer.{text_of}
+use Rattle.df_theory.specs.Trailer.{InChain, text_of}
 use Rattle.df_model.specs.Supply.{Shown}
 use Rattle.df_sessions.specs.declared.session.Session.{Session}
 use Rattle.df_checkpoint.specs.Reads.{IsWhole}
@@ -20,12 +20,13 @@ pub record IsLeast (sessions : List Session) (replies op n : ℕ) : Type 0 where
   pub lacks : has_op n sessions ≡ false
   pub least : (m : ℕ) → replies < m → m < n → has_op m sessions ≡ true
 
--- in the model's words: a chain is whole, its text is one, and this is the least op that waits for its reply and is the op of no session
+-- in the theory's words: a chain is whole, its text is one that references no address of the chain, and this is the least op that waits for its reply and is the op of no session
 pub record IsUntracked (sh : Shape) (shown : Shown) (c : Content) (n : ℕ) : Type 0 where
   pub chain : List (ℕ × Block)
   pub whole : IsWhole sh shown c chain
   pub parts : Parts
   pub says : sh.parse c.op (text_of chain) ≡ Some parts
+  pub spare : (a : ℕ) (b : Block) → InChain a b chain → parts.references a ≡ None
   pub above : c.replies < n
   pub reached : n ≤ c.op
   pub lacks : Has parts.sessions n → ⊥

@@ -1,10 +1,7 @@
 // What the grid takes over of a checkpoint that was read: the blocks that it references, and those of its trailer. Before anything is taken
 // over, each address of the chain is tested: none of them may be referenced.
 ghost use Rattle.std.specs.Prelude.{◌≡◌, ◌+◌, ◌≤◌, ℕ, [], OnErr, false, length, true};
-ghost use Rattle.df_model.specs.Blocks.{is_held_in};
-ghost use Rattle.df_trailer.specs.Reading.{HasBit, kept_at, referenced_below};
-ghost use Rattle.df_grid.specs.Grid.{with_blocks};
-ghost use Rattle.df_grid.specs.Table.{no_blocks};
+ghost use Rattle.df_checkpoint.specs.Below.{is_held_in, HasBit, kept_at, referenced_below, with_blocks, no_blocks};
 ghost use Rattle.df_checkpoint.specs.Chain.{AreApart, is_among};
 ghost use Rattle.df_checkpoint.specs.Adopting.{AdoptAnswer, FirstAnswer, blocks_to, chained};
 

@@ -1,12 +1,6 @@
 // The walk from the last block of the chain, which the superblock refers to, back to index 0.
 ghost use Rattle.std.specs.Prelude.{◌≡◌, ◌+◌, ◌-◌, ◌≤◌, ◌<◌, ℕ, length, IfOk, OnOk};
-ghost use Rattle.arrayvec.specs.ArrayVec.{array_vec_len};
-ghost use Rattle.df_base.specs.Causes.{IsBlamed};
-ghost use Rattle.df_theory.specs.Shape.{Shape};
-ghost use Rattle.df_theory.specs.Trailer.{IsCount};
-ghost use Rattle.df_units.specs.Meaning.{layout_of};
-ghost use Rattle.df_units.specs.Superblocks.{AreFieldsOf};
-ghost use Rattle.df_grid.specs.Grid.{HasAddress};
+ghost use Rattle.df_checkpoint.specs.Below.{array_vec_len, IsBlamed, Shape, IsCount, layout_of, AreFieldsOf, HasAddress};
 ghost use Rattle.df_checkpoint.specs.Chain.{AreApart, HasWalked, OfTold, StepAnswer, WalkAnswer, content_in, is_among, is_trailer_fault};
 
 use crate::TrailerFault;

@@ -1,13 +1,6 @@
 // What a checkpoint captured, and how a piece of its trailer's text is written: one block, which refers to the one before.
 ghost use Rattle.std.specs.Prelude.{◌≡◌, ◌≢◌, ◌-◌, ◌≤◌, ◌<◌, ◌^◌, [], length, OnErr, OnOk};
-ghost use Rattle.df_base.specs.Causes.{HasCause};
-ghost use Rattle.df_disk.specs.Adds.{Adds};
-ghost use Rattle.df_theory.specs.Device.{AreSteps};
-ghost use Rattle.df_units.specs.Format.{format_of};
-ghost use Rattle.df_units.specs.Meaning.{block_of, number_of};
-ghost use Rattle.df_grid.specs.Grid.{with_blocks};
-ghost use Rattle.df_grid.specs.Table.{next_written};
-ghost use Rattle.df_grid.specs.Writes.{block_steps, made_events, next_block};
+ghost use Rattle.df_checkpoint.specs.Below.{HasCause, Adds, AreSteps, format_of, block_of, number_of, with_blocks, next_written, block_steps, made_events, next_block};
 ghost use Rattle.df_checkpoint.specs.Writing.{piece_in, unit_in};
 
 use arrayvec::ArrayVec;

@@ -1,8 +1,6 @@
 // The text of the chain, from its first block to its last one: each is shown again, and its body given to the reader.
 ghost use Rattle.std.specs.Prelude.{◌≡◌, ◌+◌, ◌-◌, ◌≤◌, ◌<◌, ◌^◌, [], ℕ, length, get_or};
-ghost use Rattle.df_base.specs.Causes.{IsBlamed};
-ghost use Rattle.df_grid.specs.Grid.{HasAddress};
-ghost use Rattle.df_trailer.specs.Reading.{HasRead, bytes_read};
+ghost use Rattle.df_checkpoint.specs.Below.{IsBlamed, HasAddress, HasRead, bytes_read};
 ghost use Rattle.df_checkpoint.specs.Chain.{AreApart, is_trailer_fault};
 ghost use Rattle.df_checkpoint.specs.Texts.{FeedAnswer, FedAnswer, Feeds, TextAnswer, bad_of};
 

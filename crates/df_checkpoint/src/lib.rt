@@ -13,6 +13,6 @@ mod waiting;
 
 pub use capture::{Capture, write_piece};
 pub use fault::TrailerFault;
-pub use meaning::{damage_is_missed, refused_is_shown, refused_is_unreadable};
+pub use meaning::{damage_is_missed, one_test_fails, refused_is_shown, refused_is_unreadable};
 pub use reading::read_chain;
 pub use waiting::pending;

@@ -1,12 +1,6 @@
 // One link of the chain: the block that is asked for, and the reference that it has to the one before.
 ghost use Rattle.std.specs.Prelude.{◌≡◌, ◌-◌, ◌<◌, length, true, false, IfOk, MatchResult};
-ghost use Rattle.df_base.specs.Causes.{IsBlamed};
-ghost use Rattle.df_layout.specs.declared.fields.Field.TheVariants.{TrailerChain};
-ghost use Rattle.df_theory.specs.Shape.{Shape};
-ghost use Rattle.df_theory.specs.Trailer.{piece_size};
-ghost use Rattle.df_units.specs.Meaning.{layout_of};
-ghost use Rattle.df_units.specs.Superblocks.{AreFieldsOf};
-ghost use Rattle.df_grid.specs.Grid.{HasAddress};
+ghost use Rattle.df_checkpoint.specs.Below.{IsBlamed, TrailerChain, Shape, piece_size, layout_of, AreFieldsOf, HasAddress};
 ghost use Rattle.df_checkpoint.specs.Chain.{LinkAnswer, OfTold, before_of, content_in, is_link, is_trailer_fault};
 
 use crate::TrailerFault;

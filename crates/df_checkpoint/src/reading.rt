@@ -1,15 +1,6 @@
 // A checkpoint's trailer is read: the chain backwards, the text forwards, and what both name into the grid.
 ghost use Rattle.std.specs.Prelude.{◌≡◌, ◌≢◌, ◌-◌, ◌≤◌, ◌<◌, [], IfOk, OnErr, OnOk};
-ghost use Rattle.arrayvec.specs.ArrayVec.{array_vec_len};
-ghost use Rattle.df_base.specs.Causes.{IsBlamed};
-ghost use Rattle.df_format.specs.SuperRules.{IsSuper};
-ghost use Rattle.df_theory.specs.Shape.{Shape};
-ghost use Rattle.df_theory.specs.Trailer.{IsCount};
-ghost use Rattle.df_units.specs.Meaning.{layout_of};
-ghost use Rattle.df_units.specs.Superblocks.{AreFieldsOf};
-ghost use Rattle.df_trailer.specs.Reading.{HasRead};
-ghost use Rattle.df_trailer.specs.Text.{parse_of};
-ghost use Rattle.df_grid.specs.Table.{IsIdle, no_blocks};
+ghost use Rattle.df_checkpoint.specs.Below.{array_vec_len, IsBlamed, IsSuper, Shape, IsCount, layout_of, AreFieldsOf, HasRead, parse_of, IsIdle, no_blocks};
 ghost use Rattle.df_checkpoint.specs.Adopting.{SameFile};
 ghost use Rattle.df_checkpoint.specs.Chain.{AreApart, OfTold, content_in, is_trailer_fault};
 ghost use Rattle.df_checkpoint.specs.Reads.{ChainAnswer, FoundAnswer, IsComplete};

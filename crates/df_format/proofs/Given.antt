@@ -5,7 +5,7 @@ use Rattle.df_base.proofs.Laws.{length-check_of, AreBytes-check_of, AreBytes-zer
 use Rattle.df_format.specs.declared.header.Header.{Header}
 use Rattle.df_format.specs.declared.kind.Kind.{Kind}
 use Rattle.df_format.specs.declared.kind.Kind.TheVariants.{Reserved, Prepare as AsPrepare, Reply, Block, Trailer}
-use Rattle.df_format.specs.Making.{blank_header, for_body, of_kind}
+use Rattle.df_format.specs.Making.{for_body, of_kind}
 use Rattle.df_format.specs.Rules.{FitsFields, IsCounter, IsSealed, ObeysKind, ObeysRules}
 use Rattle.df_format.specs.Spelling.{IsCheck, no_checksum, sealed, spelling_rest}
 use Rattle.df_format.specs.Valid.{IsBodyOf}

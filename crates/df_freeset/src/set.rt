@@ -6,21 +6,11 @@ use crate::bits::{WORD, clear_bit, lowest_zero, ones_in, set_bit};
 use std::marker::Model;
 
 /// Which of the addresses 1 to `blocks` are taken; contracts see a Bool for each address in order.
+#[derive(Drop)]
 pub struct FreeSet {
     words: Vec<u64>,
     summary: Vec<u64>,
     blocks: u32,
-}
-
-// Its owner lets go of it in one call, and not field by field.
-impl Drop for FreeSet {
-    fn drop(self) {
-        let FreeSet {
-            words: _,
-            summary: _,
-            blocks: _,
-        } = self;
-    }
 }
 
 impl Model for FreeSet {

@@ -7,15 +7,16 @@ use Rattle.df_units.specs.Meaning.{number_of}
 use Rattle.df_grid.specs.declared.entry.Entry.{Entry}
 use Rattle.df_grid.specs.Table.{picked}
 
+-- an entry at another address is passed over
+other_at : (a s n : ℕ) (passes : Bool) (l : List (ℕ × ℕ)) → (s == a) ≡ false → sum_at a (cond passes ((s, n) ∷ l) l) ≡ sum_at a l
+other_at a s n true l other = cond-false (s == a) (Some n) (sum_at a l) other
+other_at a s n false l other = refl
+
 module _ (test : Entry → Bool) where
   -- nothing is picked below the first address
   pub below : (a s : ℕ) (es : List Entry) → a < s → sum_at a (picked test s es) ≡ None
   below a s [] less = refl
-  below a s (e ∷ es) less = go (test e) (below a (s + 1) es (omega arith))
-    where
-      go : (b : Bool) → sum_at a (picked test (s + 1) es) ≡ None → sum_at a (cond b ((s, number_of e.checksum) ∷ picked test (s + 1) es) (picked test (s + 1) es)) ≡ None
-      go true more = cond-false (s == a) (Some (number_of e.checksum)) (sum_at a (picked test (s + 1) es)) (ne_eqb s a (λ same. omega arith)) ∙ more
-      go false more = more
+  below a s (e ∷ es) less = other_at a s (number_of e.checksum) (test e) (picked test (s + 1) es) (ne_eqb s a (λ same. omega arith)) ∙ below a (s + 1) es (omega arith)
 
   -- what is looked up at an address is its entry's checksum, where the entry passes
   pub pick_at : (a s i : ℕ) (es : List Entry) (e : Entry) → a ≡ s + i → slice_get es i ≡ Some e → sum_at a (picked test s es) ≡ cond (test e) (Some (number_of e.checksum)) None
@@ -27,20 +28,12 @@ module _ (test : Entry → Bool) where
       go : (b : Bool) → sum_at a (cond b ((s, number_of e.checksum) ∷ picked test (s + 1) es) (picked test (s + 1) es)) ≡ cond b (Some (number_of e.checksum)) None
       go true = cond-true (s == a) (Some (number_of e.checksum)) (sum_at a (picked test (s + 1) es)) (eq-eqb s a (omega arith))
       go false = below a (s + 1) es (omega arith)
-  pick_at a s (suc i) (x ∷ es) e is at = go (test x) (pick_at a (s + 1) i es e (omega arith) at)
-    where
-      go : (b : Bool) → sum_at a (picked test (s + 1) es) ≡ cond (test e) (Some (number_of e.checksum)) None → sum_at a (cond b ((s, number_of x.checksum) ∷ picked test (s + 1) es) (picked test (s + 1) es)) ≡ cond (test e) (Some (number_of e.checksum)) None
-      go true more = cond-false (s == a) (Some (number_of x.checksum)) (sum_at a (picked test (s + 1) es)) (ne_eqb s a (λ same. omega arith)) ∙ more
-      go false more = more
+  pick_at a s (suc i) (x ∷ es) e is at = other_at a s (number_of x.checksum) (test x) (picked test (s + 1) es) (ne_eqb s a (λ same. omega arith)) ∙ pick_at a (s + 1) i es e (omega arith) at
 
   -- nothing is picked past the last one
   pub past : (a s : ℕ) (es : List Entry) → s + length es ≤ a → sum_at a (picked test s es) ≡ None
   past a s [] le = refl
-  past a s (e ∷ es) le = go (test e) (past a (s + 1) es (omega arith))
-    where
-      go : (b : Bool) → sum_at a (picked test (s + 1) es) ≡ None → sum_at a (cond b ((s, number_of e.checksum) ∷ picked test (s + 1) es) (picked test (s + 1) es)) ≡ None
-      go true more = cond-false (s == a) (Some (number_of e.checksum)) (sum_at a (picked test (s + 1) es)) (ne_eqb s a (λ same. omega arith)) ∙ more
-      go false more = more
+  past a s (e ∷ es) le = other_at a s (number_of e.checksum) (test e) (picked test (s + 1) es) (ne_eqb s a (λ same. omega arith)) ∙ past a (s + 1) es (omega arith)
 
   -- ---- a new entry
 

@@ -9,7 +9,6 @@ use Rattle.df_disk.specs.Told.{Told}
 use Rattle.df_layout.specs.declared.damage.Class.{Class}
 use Rattle.df_layout.specs.declared.damage.Class.TheVariants.{Stale}
 use Rattle.df_layout.specs.declared.layout.Layout.{Layout}
-use Rattle.df_layout.specs.declared.places.Place.{Place}
 use Rattle.df_layout.specs.declared.places.Zone.TheVariants.{Grid}
 use Rattle.df_format.specs.declared.header.Header.{Header}
 use Rattle.df_format.specs.declared.kind.Kind.{Kind}
@@ -17,20 +16,19 @@ use Rattle.df_format.specs.declared.kind.Kind.TheVariants.{Block, Trailer}
 use Rattle.df_format.specs.Message.{Message}
 use Rattle.df_format.specs.Own.{place_in}
 use Rattle.df_format.specs.Shown
-use Rattle.df_format.specs.Shown.{bytes_of, class_of, header_or_class, unit_in}
-use Rattle.df_format.specs.Spelling.{IsCheck, spelling_rest}
+use Rattle.df_format.specs.Shown.{header_or_class}
+use Rattle.df_format.specs.Spelling.{IsCheck}
 use Rattle.df_format.specs.Valid.{IsUnit}
-use Rattle.df_format.specs.Rules.{IsSealed, ObeysBlock, ObeysKind, ObeysTrailer}
-use Rattle.df_format.proofs.Laws.{valid_belongs, valid_stale, shown_stale}
+use Rattle.df_format.specs.Rules.{ObeysBlock, ObeysKind, ObeysTrailer}
+use Rattle.df_format.proofs.Laws.{valid_belongs, shown_stale}
 use Rattle.df_buffers.specs.declared.identity.Identity.{Identity}
 use Rattle.df_buffers.specs.Sounds.{Holding}
 use Rattle.df_theory.specs.Units
-use Rattle.df_theory.specs.Units.{AnyUnit, BlockPlace, BlockUnit}
+use Rattle.df_theory.specs.Units.{BlockPlace}
 use Rattle.df_model.specs.Supply.{block_at, block_given, class_or, given_if, is_sum, no_trailer}
 use Rattle.df_units.specs.Meaning.{block_of, number_of}
 use Rattle.df_units.specs.Bytes.{message_unit}
 use Rattle.df_units.proofs.Laws.{one_number, sealed_check}
-use Rattle.df_base.proofs.Laws.{AreBytes-check_of, length-check_of}
 use Rattle.df_places.specs.Units.{IsSeen}
 use Rattle.df_grid.specs.Grid.{IsKnownUnit}
 use Rattle.df_places.specs.Shelves.{HoldsFound, IsFound, IsOf, IsRead}

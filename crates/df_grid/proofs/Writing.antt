@@ -1,11 +1,9 @@
 -- A sound block stands at the address that its header names, and its write is the machine's put there.
 use Rattle.std.proofs.Common.{◌≡◌, ◌↔◌, ℕ, ◌+◌, ◌<◌, ◌≤◌, ◌^◌, List, [], ◌∷◌, length, take, Option, Some, None, refl, sym, ap, subst, ◌∙◌, arith}
 use Rattle.std.specs.Prelude.{IfSome, IsSome, slice_get}
-use Rattle.std.proofs.lemmas.List.{take_all}
 use Rattle.std.proofs.lemmas.Bool.Decides.{nat_tests}
 use Rattle.df_base.specs.Log.{Write}
 use Rattle.df_base.specs.Fields.{spelled}
-use Rattle.df_base.proofs.Laws.{spelled-field_at}
 use Rattle.df_layout.specs.declared.layout.Layout.{Layout}
 use Rattle.df_layout.specs.declared.places.Place.{Place}
 use Rattle.df_layout.specs.declared.places.Zone.{Zone}
@@ -34,7 +32,7 @@ use Rattle.df_units.proofs.Laws.{no_number, whole_check}
 use Rattle.df_places.specs.Units.{put_events, put_steps}
 use Rattle.df_grid.specs.Grid.{GridState}
 use Rattle.df_grid.specs.Table.{pair_in}
-use Rattle.df_grid.specs.Writes.{IsBefore, address_in, block_steps, checksum_in, first_address, first_sum, header_with, made, made_events, next_block, next_header, next_unit}
+use Rattle.df_grid.specs.Writes.{IsBefore, address_in, block_events, block_steps, checksum_in, first_address, first_sum, header_with, made, made_events, next_block, next_header, next_unit}
 
 pub own_block : (layout : Layout) (kind : Kind) (held : Holding) → IsSound Grid kind held → held.layout ≡ layout → IsUnit layout held.unit.header.cluster (place_in Grid held.unit.header.op) held.unit
 own_block layout kind held sound same =
@@ -55,6 +53,14 @@ pub block_put : (layout : Layout) (place : Place) (held : Holding) → place ≡
     → AreSteps (format_of layout held.unit.header.cluster) (put_events layout (place_in Grid held.unit.header.op) held) (block_steps held.unit)
 block_put layout place held here steps =
     subst (λ (p : Place). AreSteps (format_of layout held.unit.header.cluster) (put_events layout p held) (block_steps held.unit)) here (steps (BlockPlace held.unit.header.op) (BlockUnit (block_of held.unit)) (sym here) refl)
+
+-- of a block that a grid of this state is given, at the place that its header names
+pub own_steps : (w v : GridState) (here : Place) (header : Header) (held : Holding) (cluster : ℕ) → w ≡ v → here ≡ place_in Grid header.op → header ≡ held.unit.header → held.unit.header.cluster ≡ cluster → StepsAt w.layout here held
+    → AreSteps (format_of v.layout cluster) (block_events v held) (block_steps held.unit)
+own_steps w v here header held cluster same place is named steps =
+    let at = block_put w.layout here held (place ∙ ap (λ (h : Header). place_in Grid h.op) is) steps in
+    subst (λ (n : ℕ). AreSteps (format_of v.layout n) (block_events v held) (block_steps held.unit)) named
+    (subst (λ (g : GridState). AreSteps (format_of g.layout held.unit.header.cluster) (block_events g held) (block_steps held.unit)) same at)
 
 pub made_put : (layout : Layout) (place : Place) (held : Holding) (header : Header) (piece : List ℕ) → held.unit ≡ made header piece → take (sectors_end (256 + length piece)) held.bytes ≡ sectors_of held.unit → place ≡ place_in Grid held.unit.header.op
     → StepsAt layout place held → AreSteps (format_of layout header.cluster) (made_events layout (made header piece)) (block_steps (made header piece))
@@ -101,6 +107,18 @@ header_is cluster sequence a index b before first count pair fits =
     ∙ ap (λ (n : ℕ). header_with cluster (first_of b.left) n sequence (address_in before) (checksum_in before)) count
     ∙ ap (λ (n : ℕ). header_with cluster (first_of b.left) (length b.written) sequence n (checksum_in before)) (address_is before b.written pair)
     ∙ ap (λ (c : List ℕ). header_with cluster (first_of b.left) (length b.written) sequence (first_address b.written) c) (parent_is before b.written pair fits)
+
+-- the header that was made is the one of the next block
+pub header_next : (w v : GridState) (sequence a index : ℕ) (header : Header) (before : Option Reference) → w ≡ v → header ≡ header_with w.cluster a index sequence (address_in before) (checksum_in before) → Some a ≡ slice_get w.blocks.left 0 → index ≡ length v.blocks.written
+    → pair_in before ≡ slice_get w.blocks.written 0 → IsCheck (checksum_in before) → header ≡ next_header w.cluster sequence w.blocks
+header_next w v sequence a index header before same is next count pair fits = is ∙ header_is w.cluster sequence a index w.blocks before next (count ∙ ap (λ (g : GridState). length g.blocks.written) (sym same)) pair fits
+
+-- and its write is the machine's
+pub next_steps : (w v : GridState) (sequence : ℕ) (piece : List ℕ) (header : Header) → w ≡ v → header ≡ next_header w.cluster sequence w.blocks → AreSteps (format_of w.layout header.cluster) (made_events w.layout (made header piece)) (block_steps (made header piece))
+    → AreSteps (format_of v.layout v.cluster) (made_events v.layout (next_unit v sequence piece)) (block_steps (next_unit v sequence piece))
+next_steps w v sequence piece header same is steps =
+    subst (λ (g : GridState). AreSteps (format_of g.layout g.cluster) (made_events g.layout (next_unit g sequence piece)) (block_steps (next_unit g sequence piece))) same
+    (subst (λ (h : Header). AreSteps (format_of w.layout h.cluster) (made_events w.layout (made h piece)) (block_steps (made h piece))) is steps)
 
 sum_back : (before : Option Reference) (written : List (ℕ × ℕ)) → pair_in before ≡ slice_get written 0 → IsCheck (checksum_in before) → number_of (spelled 16 (first_sum written)) ≡ first_sum written
 sum_back None [] same fits = ap number_of zeros_are ∙ no_number

@@ -8,6 +8,8 @@ use Rattle.df_model.specs.Sense.{RiseFrom}
 use Rattle.df_format.specs.declared.reference.Reference.{Reference}
 use Rattle.df_units.specs.Meaning.{number_of}
 use Rattle.df_grid.specs.declared.entry.Entry.{Entry}
+use Rattle.df_grid.specs.declared.entry.Reason.{Reason}
+use Rattle.df_grid.specs.declared.entry.Reason.TheVariants.{Live, Durable, Any}
 use Rattle.df_grid.specs.Entries.{HasEntry, is_marked}
 
 -- how many addresses the table has, and what it says of their blocks
@@ -25,6 +27,12 @@ is_captured e = e.captured
 
 abbrev pub is_durable : Entry → Bool
 is_durable e = e.durable
+
+-- the one that is counted
+abbrev pub is_held_for : Reason → Entry → Bool
+is_held_for Live = is_live
+is_held_for Durable = is_durable
+is_held_for Any = is_marked
 
 -- ---- counts of captured blocks
 

@@ -1,14 +1,13 @@
 // The grid as a checkpoint's text asks for what is captured and counted, and how long a trailer is at most.
 ghost use Rattle.std.specs.Prelude.{◌≡◌, ◌≢◌, ◌*◌, ◌≤◌, [], IfSome, IsSome};
-ghost use Rattle.df_model.specs.Blocks.{sum_at};
-ghost use Rattle.df_trailer.specs.Writing.{referenced_among};
+ghost use Rattle.df_grid.specs.Below.{sum_at, referenced_among};
 ghost use Rattle.df_grid.specs.Laws.{ChainsHaveRoom};
 
 use crate::Grid;
 use df_base::Check;
-use df_trailer::Captured;
+use df_trailer::CapturedBlocks;
 
-impl Captured for Grid {
+impl CapturedBlocks for Grid {
     ghost captured = { λ g address. sum_at address g.blocks.captured };
 
     fn captured(&self, address: u64) -> Option<Check> {

@@ -1,6 +1,6 @@
 // How entries and the free set change together: one address, all of them for a capture or its end, and the least free ones.
 ghost use Rattle.std.specs.Prelude.{◌≡◌, ◌-◌, ◌≤◌, length, map, slice_get, slice_set, Some};
-ghost use Rattle.df_freeset.specs.Addresses.{free_of};
+ghost use Rattle.df_grid.specs.Below.{free_of};
 ghost use Rattle.df_grid.specs.declared.entry.Entry.{Entry as AnyEntry};
 ghost use Rattle.df_grid.specs.Entries.{HasEntry, is_marked};
 ghost use Rattle.df_grid.specs.Table.{AreFinished, AreTaken, capturing, finishing};

@@ -7,19 +7,10 @@ use df_base::Check;
 use std::marker::Model;
 
 /// The entries of the addresses from 1 on; contracts see them as a list.
+#[derive(Drop)]
 pub struct Entries {
     checks: Vec<Check>,
     marks: Vec<u8>,
-}
-
-// Its owner lets go of it in one call, and not field by field.
-impl Drop for Entries {
-    fn drop(self) {
-        let Entries {
-            checks: _,
-            marks: _,
-        } = self;
-    }
 }
 
 impl Model for Entries {

@@ -1,6 +1,7 @@
 // What is known of the block at an address, and its marks in one byte.
 ghost use Rattle.std.specs.Prelude.{◌≡◌, if◌then◌else◌, Some, None};
 ghost use Rattle.df_grid.specs.Entries.{entry_of, is_marked, mark_of};
+ghost use Rattle.df_grid.specs.Table.{is_held_for};
 
 use df_base::Check;
 
@@ -25,6 +26,25 @@ pub(crate) fn is_marked(entry: &Entry) -> bool
     ensures { result ≡ is_marked entry.now }
 {
     entry.live || entry.captured || entry.written || entry.durable || entry.chained
+}
+
+/// A reason to hold a block that entries are counted for, or any of the five.
+#[derive(Clone, Copy, Debug, PartialEq, Eq)]
+pub enum Reason {
+    Live,
+    Durable,
+    Any,
+}
+
+/// Whether the block is held for this reason.
+pub(crate) fn is_held_for(entry: &Entry, reason: Reason) -> bool
+    ensures { result ≡ is_held_for reason entry.now }
+{
+    match reason {
+        Reason::Live => entry.live,
+        Reason::Durable => entry.durable,
+        Reason::Any => is_marked(entry),
+    }
 }
 
 /// A checksum, where the test holds.

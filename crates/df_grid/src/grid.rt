@@ -1,13 +1,7 @@
 // The grid: which addresses are held and why, and what a new block, a release and a checkpoint make of that.
 ghost use Rattle.std.specs.Prelude.{◌≡◌, ◌≢◌, ◌*◌, ◌<◌, ◌≤◌, false, [], length, map, take, replicate, slice_get, All, IfSome, IsSome, nat_lt};
 ghost use Rattle.std.specs.List.{filter};
-ghost use Rattle.df_model.specs.Blocks.{block_released, blocks_captured, capture_finished, sum_at};
-ghost use Rattle.df_model.specs.Work.{is_known};
-ghost use Rattle.df_trailer.specs.Rooms.{number_in};
-ghost use Rattle.df_trailer.specs.Spelling.{is_referenced};
-ghost use Rattle.df_trailer.specs.Text.{ones};
-ghost use Rattle.df_trailer.specs.Writing.{captured_blocks, referenced_among};
-ghost use Rattle.df_units.specs.Meaning.{number_of};
+ghost use Rattle.df_grid.specs.Below.{block_released, blocks_captured, capture_finished, sum_at, is_known, number_in, is_referenced, ones, captured_blocks, referenced_among, number_of};
 ghost use Rattle.df_grid.specs.Grid.{GridState, HasAddress, IsUnheld, free_of, referenced_of, with_blocks};
 ghost use Rattle.df_grid.specs.Table.{IsIdle, adopted, last_of, no_blocks, pair_in};
 

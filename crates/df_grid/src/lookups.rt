@@ -2,10 +2,10 @@
 ghost use Rattle.std.specs.Prelude.{◌≡◌, ◌≤◌, length, nat_lt, slice_get};
 ghost use Rattle.std.specs.List.{filter};
 ghost use Rattle.df_grid.specs.Entries.{is_marked};
-ghost use Rattle.df_grid.specs.Table.{AreCounts, entry_at, is_durable, is_live, pair_in, picked};
+ghost use Rattle.df_grid.specs.Table.{AreCounts, entry_at, is_held_for, pair_in, picked};
 
 use crate::entries::Entries;
-use crate::entry::{Entry, is_marked};
+use crate::entry::{Entry, Reason, is_held_for, is_marked};
 use arrayvec::ArrayVec;
 use df_format::Reference;
 use df_trailer::GROUP;
@@ -39,32 +39,17 @@ pub(crate) fn first_marked(entries: &Entries, above: u64) -> Option<Reference>
     None
 }
 
-/// How many entries are of blocks that the durable checkpoint references.
-pub(crate) fn count_durable(entries: &Entries) -> u64
-    ensures { result ≡ length (picked is_durable 1 entries.now) }
-{
-    let mut count = 0;
-    let mut place = 0;
-    while place < entries.len() {
-        let entry = entries.get(place + 1);
-        if entry.durable {
-            count += 1;
-        }
-        place += 1;
-    }
-    count
-}
-
-/// How many entries are of live blocks.
-pub(crate) fn count_live(entries: &Entries) -> u64
-    ensures count { result ≡ length (picked is_live 1 entries.now) }
+/// How many entries are of blocks that are held for this reason.
+pub(crate) fn count_held(entries: &Entries, reason: Reason) -> u64
+    ensures count { result ≡ length (picked (is_held_for reason) 1 entries.now) }
     ensures most { result ≤ length entries.now }
 {
     let mut count = 0;
     let mut place = 0;
     while place < entries.len() {
         let entry = entries.get(place + 1);
-        if entry.live {
+        let held = is_held_for(&entry, reason);
+        if held {
             count += 1;
         }
         place += 1;
@@ -86,21 +71,4 @@ pub(crate) fn count_captured(entries: &Entries) -> ArrayVec<u64, 64>
         }
     }
     counts
-}
-
-/// How many entries are of referenced blocks.
-pub(crate) fn count_marked(entries: &Entries) -> u64
-    ensures { result ≡ length (picked is_marked 1 entries.now) }
-{
-    let mut count = 0;
-    let mut place = 0;
-    while place < entries.len() {
-        let entry = entries.get(place + 1);
-        let marked = is_marked(&entry);
-        if marked {
-            count += 1;
-        }
-        place += 1;
-    }
-    count
 }

@@ -2,14 +2,7 @@
 ghost use Rattle.std.specs.Prelude.{◌≡◌, ◌==◌, true, IfErr, IfOk, Ok, Err, Some};
 ghost use Rattle.std.specs.Borrow.{sem};
 ghost use Rattle.std.specs.Io.BufRead.{Rests};
-ghost use Rattle.df_base.specs.Causes.{HasCause};
-ghost use Rattle.df_format.specs.Own.{place_in};
-ghost use Rattle.df_format.specs.Spelling.{IsCheck};
-ghost use Rattle.df_format.specs.declared.kind.Kind.TheVariants.{Block as AsBlock, Trailer as AsTrailer};
-ghost use Rattle.df_layout.specs.declared.places.Zone.TheVariants.{Grid as InGrid};
-ghost use Rattle.df_model.specs.Blocks.{sum_at};
-ghost use Rattle.df_model.specs.Work.{is_known};
-ghost use Rattle.df_units.specs.Meaning.{block_of, number_of};
+ghost use Rattle.df_grid.specs.Below.{HasCause, place_in, IsCheck, Block as AsBlock, Trailer as AsTrailer, Grid as InGrid, sum_at, is_known, block_of, number_of};
 ghost use Rattle.df_grid.specs.Grid.{HasAddress, IsKnownUnit};
 ghost use Rattle.df_grid.specs.Reads.{HoldsKnown, Loads, ReadsBlock, ReadsTrailer, Tests, IsFaultOf, at_address, differs};
 ghost use Rattle.df_grid.specs.contracts.grid.Grid.{the_row};

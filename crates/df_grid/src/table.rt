@@ -1,21 +1,13 @@
 // The block table with the free set and the chains of both checkpoints: what the grid knows, and how that changes.
 ghost use Rattle.std.specs.Prelude.{◌≡◌, ◌≢◌, ◌-◌, ◌*◌, ◌<◌, ◌≤◌, true, false, [], Some, None, length, map, take, replicate, slice_get, All, IfSome, IsSome, nat_lt};
 ghost use Rattle.std.specs.List.{filter, range_with_len};
-ghost use Rattle.df_model.specs.Blocks.{block_released, block_written, blocks_captured, capture_finished, entries, is_held_in, reference_in, sum_at};
-ghost use Rattle.df_model.specs.Work.{is_known};
-ghost use Rattle.df_trailer.specs.Rooms.{number_in};
-ghost use Rattle.df_trailer.specs.Spelling.{is_referenced};
-ghost use Rattle.df_trailer.specs.Text.{ones};
-ghost use Rattle.df_trailer.specs.Writing.{captured_blocks, referenced_among};
-ghost use Rattle.df_units.specs.Meaning.{number_of};
+ghost use Rattle.df_grid.specs.Below.{block_released, block_written, blocks_captured, capture_finished, entries, is_held_in, reference_in, sum_at, is_known, number_in, is_referenced, ones, captured_blocks, referenced_among, number_of};
 ghost use Rattle.df_grid.specs.Table.{IsIdle, TableState, adopted, last_of, next_written, no_blocks, pair_in, unheld};
 
 use crate::changes::{capture_all, finish_all, replace, take_least};
 use crate::entries::Entries;
-use crate::entry::{Entry, checksum_if};
-use crate::lookups::{
-    count_captured, count_durable, count_live, count_marked, entry_in, first_marked,
-};
+use crate::entry::{Entry, Reason, checksum_if};
+use crate::lookups::{count_captured, count_held, entry_in, first_marked};
 use arrayvec::ArrayVec;
 use df_base::Check;
 use df_format::Reference;
@@ -26,6 +18,7 @@ use std::marker::Model;
 /// The table of blocks. Both parts of the running trailer and the durable one's chain are lists of addresses, the chains from the last
 /// block to the first; no layout has a trailer of more than 70 blocks. A capture also counts what it captured, for each full group of
 /// 256 addresses; no layout has more than 64 of these.
+#[derive(Drop)]
 pub struct Table {
     entries: Entries,
     free: FreeSet,
@@ -33,20 +26,6 @@ pub struct Table {
     left: ArrayVec<u64, LINKS>,
     chain: ArrayVec<u64, LINKS>,
     counts: ArrayVec<u64, 64>,
-}
-
-// Its owner lets go of it in one call, and not field by field.
-impl Drop for Table {
-    fn drop(self) {
-        let Table {
-            entries: _,
-            free: _,
-            written: _,
-            left: _,
-            chain: _,
-            counts: _,
-        } = self;
-    }
 }
 
 impl Model for Table {
@@ -109,7 +88,7 @@ impl Table {
     pub(crate) fn references(&self) -> u64
         ensures { result ≡ length self.now.blocks.durable }
     {
-        count_durable(&self.entries)
+        count_held(&self.entries, Reason::Durable)
     }
 
     /// How many blocks are live.
@@ -118,7 +97,7 @@ impl Table {
         ensures captured { result ≡ ones (map is_referenced (captured_blocks (λ a. sum_at a self.now.blocks.live) self.now.size)) }
         ensures most { result ≤ self.now.size }
     {
-        count_live(&self.entries)
+        count_held(&self.entries, Reason::Live)
     }
 
     /// The checksum of a live block, None where the address isn't live.
@@ -175,7 +154,7 @@ impl Table {
     pub(crate) fn referenced(&self) -> u64
         ensures { result ≡ length (entries (reference_in self.now.blocks) (range_with_len 1 self.now.size)) }
     {
-        count_marked(&self.entries)
+        count_held(&self.entries, Reason::Any)
     }
 
     /// The address of the running trailer's next block.

@@ -1,16 +1,6 @@
 // Writes of blocks: each is one write into a place that isn't held, or into the place of the running trailer's next block.
 ghost use Rattle.std.specs.Prelude.{◌≡◌, ◌≢◌, ◌+◌, ◌≤◌, ◌<◌, ◌^◌, false, [], length, IfOk, IsSome, OnErr, OnOk};
-ghost use Rattle.df_base.specs.Causes.{HasCause};
-ghost use Rattle.df_disk.specs.Adds.{Adds};
-ghost use Rattle.df_format.specs.Making.{for_body};
-ghost use Rattle.df_format.specs.Own.{own_place};
-ghost use Rattle.df_format.specs.Rules.{ObeysRules};
-ghost use Rattle.df_format.specs.Spelling.{IsCheck};
-ghost use Rattle.df_format.specs.Whole.{greatest_size};
-ghost use Rattle.df_model.specs.Blocks.{block_written, is_held_in};
-ghost use Rattle.df_theory.specs.Device.{AreSteps};
-ghost use Rattle.df_units.specs.Format.{format_of};
-ghost use Rattle.df_units.specs.Meaning.{block_of, number_of};
+ghost use Rattle.df_grid.specs.Below.{HasCause, Adds, for_body, own_place, ObeysRules, IsCheck, greatest_size, block_written, is_held_in, AreSteps, format_of, block_of, number_of};
 ghost use Rattle.df_grid.specs.Grid.{HasAddress, with_blocks};
 ghost use Rattle.df_grid.specs.Table.{next_written};
 ghost use Rattle.df_grid.specs.Writes.{IsBefore, address_in, block_events, block_steps, checksum_in, header_with, made, made_events, next_block, next_unit};

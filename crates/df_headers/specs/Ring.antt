@@ -1,5 +1,5 @@
--- The table of the header ring, and what a write of one of its sectors does.
-use Rattle.std.specs.Prelude.{◌≡◌, ◌<◌, ◌*◌, ◌/◌, ◌^◌, ℕ, List, [], ◌∷◌, length, take, drop, slice_get, slice_set, Some}
+-- The table of the header ring, and what writes of its sectors do.
+use Rattle.std.specs.Prelude.{◌≡◌, ◌<◌, ◌*◌, ◌/◌, ◌^◌, ℕ, List, [], ◌∷◌, ◌++◌, length, take, drop, slice_get, slice_set, Some}
 use Rattle.df_base.specs.Log.{Event, Write}
 use Rattle.df_layout.specs.declared.layout.Layout.{Layout}
 use Rattle.df_layout.specs.declared.places.Zone.TheVariants.{WalHeaders}
@@ -30,9 +30,23 @@ in_sector sector table = take 16 (drop (16 * sector) table)
 abbrev pub sector_events : Layout → ℕ → List Header → List Event
 sector_events layout sector table = Write (first_at layout (HeaderPlace (16 * sector))) (headers_bytes (in_sector sector table)) ∷ []
 
--- what it is in the words of the model: the sixteen headers are put into their slots
+-- what it is in the words of the theory: the sixteen headers are put into their slots
 abbrev pub sector_steps : ℕ → List Header → List Step
 sector_steps sector table = Puts (put_headers sector (in_sector sector table)) ∷ []
+
+-- each is a sector of the ring
+abbrev pub AreOfRing : Layout → List ℕ → Type 0
+AreOfRing layout sectors = (i sector : ℕ) → slice_get sectors i ≡ Some sector → sector < layout.slots / 16
+
+-- the writes of sectors of the table
+abbrev pub sector_writes : Layout → List Header → List ℕ → List Event
+sector_writes layout table [] = []
+sector_writes layout table (sector ∷ sectors) = sector_events layout sector table ++ sector_writes layout table sectors
+
+-- in the words of the theory
+abbrev pub write_steps : List Header → List ℕ → List Step
+write_steps table [] = []
+write_steps table (sector ∷ sectors) = sector_steps sector table ++ write_steps table sectors
 
 -- each sector of a table may be written
 abbrev pub TableIsWritten : Type 0

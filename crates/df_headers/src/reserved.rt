@@ -1,6 +1,6 @@
 // The headers of empty slots.
 ghost use Rattle.std.specs.Prelude.{◌≡◌, ◌<◌, ◌≤◌, length, slice_set};
-ghost use Rattle.df_units.specs.Sample.{reserved_header};
+ghost use Rattle.df_headers.specs.Below.{reserved_header};
 ghost use Rattle.df_headers.specs.Ring.{AreReserved};
 
 use df_base::{HEADER, check};

@@ -1,10 +1,6 @@
 // Where the sectors of the header ring lie, and reads of them.
 ghost use Rattle.std.specs.Prelude.{◌≡◌, ◌<◌, ◌*◌, ◌^◌, length, OnOk};
-ghost use Rattle.df_base.specs.Causes.{HasCause};
-ghost use Rattle.df_disk.specs.Told.{Shows};
-ghost use Rattle.df_layout.specs.declared.layout.Layout.{Layout};
-ghost use Rattle.df_theory.specs.Units.{HeaderPlace};
-ghost use Rattle.df_units.specs.Bytes.{first_at};
+ghost use Rattle.df_headers.specs.Below.{HasCause, Shows, Layout, HeaderPlace, first_at};
 
 use df_base::Failed;
 use df_buffers::{HeaderSector, Raw};

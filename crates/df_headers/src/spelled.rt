@@ -1,7 +1,6 @@
 // The bytes of a header sector: sixteen headers, one behind the other.
 ghost use Rattle.std.specs.Prelude.{◌≡◌, ◌≤◌, ◌+◌, ◌++◌, [], ◌∷◌, length, take};
-ghost use Rattle.df_format.specs.Rules.{IsSealed};
-ghost use Rattle.df_format.specs.UnitLaws.{AreSixteen, headers_bytes};
+ghost use Rattle.df_headers.specs.Below.{IsSealed, AreSixteen, headers_bytes};
 
 use df_base::HEADER;
 use df_format::{Header, encode_header};

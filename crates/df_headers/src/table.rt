@@ -1,11 +1,6 @@
 // The table of headers, slot by slot, and the write of one of its sectors.
 ghost use Rattle.std.specs.Prelude.{◌≡◌, ◌<◌, ◌≤◌, ◌+◌, ◌*◌, ℕ, Some, length, slice_get, slice_set};
-ghost use Rattle.df_base.specs.Causes.{HasCause};
-ghost use Rattle.df_disk.specs.Adds.{Adds};
-ghost use Rattle.df_format.specs.UnitLaws.{AreSixteen};
-ghost use Rattle.df_theory.specs.Device.{AreSteps};
-ghost use Rattle.df_units.specs.Format.{format_of};
-ghost use Rattle.df_units.specs.Puts.{AreHeaders};
+ghost use Rattle.df_headers.specs.Below.{HasCause, Adds, AreSixteen, AreSteps, format_of, AreHeaders};
 ghost use Rattle.df_headers.specs.Ring.{AreReserved, ReservedIsTable, TableIsKept, TableIsWritten, in_sector, sector_events, sector_steps};
 
 use crate::reserved::{put, put_reserved};

@@ -7,7 +7,7 @@ use Rattle.df_theory.specs.Copies.{rank_of}
 use Rattle.df_theory.specs.View.{Checkpoint, View, boot_of, head, sequence}
 use Rattle.df_theory.specs.Chance.{InImages}
 use Rattle.df_theory.specs.Grown.{IsClear, IsLeft}
-use Rattle.df_theory.proofs.Laws.{HasGap, IsNew, appended_clear, next_in, same_slot, append_here, reply_here, base_here}
+use Rattle.df_theory.proofs.Laws.{gap_left, HasGap, IsNew, appended_clear, next_in, same_slot, append_here, reply_here, base_here}
 use Rattle.df_history.specs.Lives.{Asleep, Awake, Follows, Lived, Lives, Steps, Turn, first_of}
 use Rattle.df_history.proofs.Steps.{lived_self}
 
@@ -115,15 +115,7 @@ born_prepare sh (image ∷ images) v t (holds, inr (u, s, step, lives)) k p (inl
     | inr (inr gap) ↦ inr (inr (gap_stays sh images image u s v t step lives old.0 p old.1 group gap))
   ]
   | inr (inl new) ↦ inr (inl (v, inl (refl, sym new.1.turn), new.0, new.1.head, new.1.replies, new.1.sequence, new.1.boot))
-  | inr (inr left) ↦ inr (inr (record {
-    missing = left.missing;
-    from = omega (arith, left.cut.first, left.from);
-    to = left.to;
-    lacks = λ i q at op boot same. elim at [
-      | inl shown ↦ left.lacks i q shown (boot ∙ left.own) op
-      | inr old ↦ omega (arith, left.clear i q old (boot ∙ left.own), left.from)
-    ];
-  }))
+  | inr (inr left) ↦ inr (inr (gap_left images image v p left))
 ]
 
 -- ---- replies

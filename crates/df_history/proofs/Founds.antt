@@ -1,18 +1,15 @@
 -- What is found in any image of units that a history settled was the view of a settled image of an awake log.
-use Rattle.std.proofs.Common.{◌≡◌, ◌⊎◌, inl, inr, ℕ, ◌+◌, ◌-◌, ◌%◌, ◌<◌, ◌≤◌, List, length, take, slice_index, Option, Some, None, refl, sym, ◌∙◌, ap, subst, arith}
-use Rattle.std.specs.List.{slice_get}
+use Rattle.std.proofs.Common.{◌≡◌, ◌⊎◌, inl, inr, ℕ, ◌+◌, ◌-◌, ◌%◌, ◌<◌, ◌≤◌, List, length, take, slice_index, Some, refl, sym, ◌∙◌, ap, subst, arith}
 use Rattle.std.proofs.lemmas.Bool.{cases_lt}
-use Rattle.df_theory.specs.Units.{BlockPlace, BlockUnit, Content, CopyPlace, CopyUnit, Message, PreparePlace, PrepareUnit, ReplyPlace, ReplyUnit, Session, Units}
-use Rattle.df_theory.specs.Sessions.{sessions_after}
+use Rattle.df_theory.specs.Units.{BlockPlace, BlockUnit, Content, CopyPlace, CopyUnit, Message, PreparePlace, PrepareUnit, ReplyPlace, ReplyUnit, Units}
 use Rattle.df_theory.specs.Tails.{Chain, In, last_checksum, last_mark}
 use Rattle.df_theory.specs.Shape.{Shape}
 use Rattle.df_theory.specs.Copies.{rank_of}
-use Rattle.df_theory.specs.Trailer.{Links}
 use Rattle.df_theory.specs.View.{View, boot_of, head, sessions}
 use Rattle.df_theory.specs.Holds.{IsNamed, Sound}
 use Rattle.df_theory.specs.HistoryLaws.{AreDistinct, ShowsSettled}
 use Rattle.df_theory.specs.Found.{IsFound}
-use Rattle.df_theory.proofs.Laws.{chain_at, chain_ops, take_boot, rank_low, same_parts as parts_same, same_links, same_chains, last_of, no_mark, same_named, HasGap, group_from, group_holds, same_group, chain_last}
+use Rattle.df_theory.proofs.Laws.{take_boot, rank_low, view_is_found, no_gap, last_of, no_mark, same_named, group_holds}
 use Rattle.df_theory.specs.Chance.{InImages}
 use Rattle.df_history.specs.Lives.{Awake, Lived, Lives, Turn, first_of}
 use Rattle.df_history.specs.Laws.{FoundLivedLaw, OneContentLaw, OnePrepareLaw, OneReplyLaw}
@@ -42,28 +39,6 @@ module _ (sh : Shape) (images : List Units) (v : View) (t : Turn) (lives : Lives
   settled_at : (p : Message) → In p w.tail → InImages images (PreparePlace (p.header.op % sh.layout.slots)) (PrepareUnit p)
   settled_at p at = of (PreparePlace (p.header.op % sh.layout.slots)) (PrepareUnit p) (f.tail.takes p at).shown
 
-  -- whole groups are found: of the group of a prepare above the pin none lacks
-  no_gap : (p : Message) → In p w.tail → p.header.group ≤ p.header.op → w.checkpoint.content.pin < p.header.op → HasGap images p → ⊥
-  no_gap p at holds_op above gap =
-      let ops = chain_ops sh.layout.clients (w.checkpoint.content.op + 1) w.checkpoint.content.op_checksum 0 w.checkpoint.parts.sessions w.tail p f.tail.chain at in
-      let last = f.tail.groups p at in
-      let begins : w.checkpoint.content.op < p.header.group = elim (cases_lt w.checkpoint.content.op p.header.group) [
-        | inl yes_above ↦ yes_above
-        | inr not ↦ absurd (omega (arith, ops.0, (group_from sh.layout.clients 0 w.checkpoint.content.op (w.checkpoint.content.op + 1) w.checkpoint.content.op_checksum 0 w.checkpoint.parts.sessions w.tail p f.tail.chain f.tail.grouped at (omega arith)).2))
-      ] in
-      let q = chain_at sh.layout.clients (w.checkpoint.content.op + 1) w.checkpoint.content.op_checksum 0 w.checkpoint.parts.sessions w.tail gap.missing f.tail.chain (omega (arith, gap.from)) (omega (arith, gap.to)) in
-      let group = same_group sh.layout.clients 0 w.checkpoint.content.op (w.checkpoint.content.op + 1) w.checkpoint.content.op_checksum 0 w.checkpoint.parts.sessions w.tail p q.0 f.tail.chain f.tail.grouped at q.1 (omega (arith, q.2, gap.from)) (omega (arith, q.2, gap.to)) in
-      let q_above : w.checkpoint.content.pin < q.0.header.op = elim (cases_lt w.checkpoint.content.pin q.0.header.op) [
-        | inl yes_above ↦ yes_above
-        | inr not ↦ absurd (let q_last = f.tail.pin_ends q.0 q.1 (omega arith) in let p_last = last_op p at in omega (arith, q_last, group.1, p_last, above))
-      ] in
-      let own_p = take_boot sh.layout.slots shown w.checkpoint.content p (f.tail.takes p at) above in
-      let own_q = take_boot sh.layout.slots shown w.checkpoint.content q.0 (f.tail.takes q.0 q.1) q_above in
-      gap.lacks (q.0.header.op % sh.layout.slots) q.0 (settled_at q.0 q.1) q.2 (own_q ∙ sym own_p) group.0
-    where
-      last_op : (p : Message) → In p w.tail → p.header.op ≤ p.header.group_last
-      last_op p at = chain_last sh.layout.clients (w.checkpoint.content.op + 1) w.checkpoint.content.op_checksum 0 w.checkpoint.parts.sessions w.tail p f.tail.chain at
-
   -- a prepare of this boot that is found was appended by an awake log
   appended_here : (q : Message) → In q w.tail → w.checkpoint.content.pin < q.header.op → Appended sh images v t lives q × (q.header.boot ≡ boot_of w)
   appended_here q at above =
@@ -72,7 +47,7 @@ module _ (sh : Shape) (images : List Units) (v : View) (t : Turn) (lives : Lives
       elim (born_prepare sh images v t lives (q.header.op % sh.layout.slots) q (settled_at q at) holds_op) [
         | inl older ↦ absurd (omega (arith, first_boot))
         | inr (inl b) ↦ (b, boot)
-        | inr (inr gap) ↦ absurd (no_gap q at holds_op above gap)
+        | inr (inr gap) ↦ absurd (no_gap sh images shown of w f q at holds_op above gap)
       ]
 
   stored_here : (k : ℕ) (r : Message) → shown (ReplyPlace k) ≡ Some (ReplyUnit r) → r.header.boot ≡ boot_of w → Stored sh images v t lives k r
@@ -165,14 +140,6 @@ module _ (sh : Shape) (images : List Units) (v : View) (t : Turn) (lives : Lives
         let a = checkpoint_event in
         lived_base sh images v t lives z Awake a.0 Awake was a.1 (s ∙ ap rank_of (sym a.2)) ∙ a.2
 
-    pub same_chain : z.checkpoint.chain ≡ w.checkpoint.chain
-    same_chain = same_links (sh.layout.block_size - 256) w.checkpoint.content z.checkpoint.chain w.checkpoint.chain w.checkpoint.content.trailer w.checkpoint.content.trailer_checksum
-        (subst (λ (c : Content). Links (sh.layout.block_size - 256) c z.checkpoint.chain c.trailer c.trailer_checksum) same_content sound.checkpoint.trailer.links) f.checkpoint.trailer.links
-        (λ a e b d at there checksum. distinct (BlockPlace a) (BlockPlace e) (BlockUnit b) (BlockUnit d) (lived_needs sh images v t lives z Awake was (BlockPlace a) (BlockUnit b) (b, at, refl)) (of (BlockPlace e) (BlockUnit d) (f.chain_shown e d there)) checksum)
-
-    pub same_parts : z.checkpoint.parts ≡ w.checkpoint.parts
-    same_parts = parts_same sh z.checkpoint.content w.checkpoint.content z.checkpoint.chain w.checkpoint.chain z.checkpoint.parts w.checkpoint.parts same_content same_chain sound.checkpoint.trailer.says f.checkpoint.trailer.says
-
     same_prepare : (p q : Message) → In p z.tail → In q w.tail → p.header.op ≡ q.header.op → p ≡ q
     same_prepare p q at there same = elim (cases_lt w.checkpoint.content.pin q.header.op) [
       | inl above ↦
@@ -182,15 +149,6 @@ module _ (sh : Shape) (images : List Units) (v : View) (t : Turn) (lives : Lives
           (omega (arith, first_boot, own_p, ap (λ (c : Content). c.boot) same_content)) same (own_p ∙ ap (λ (c : Content). c.boot) same_content ∙ sym own_q)
       | inr not ↦ same_known z was same_content p q at there same (omega arith)
     ]
-
-    pub same_tail : z.tail ≡ w.tail
-    same_tail =
-        let op : z.checkpoint.content.op ≡ w.checkpoint.content.op = ap (λ (c : Content). c.op) same_content in
-        same_chains sh.layout.clients (z.checkpoint.content.op + 1) z.checkpoint.content.op_checksum w.checkpoint.content.op_checksum 0 0 z.checkpoint.parts.sessions w.checkpoint.parts.sessions z.tail w.tail sound.chain
-        (subst (λ (n : ℕ). Chain sh.layout.clients (n + 1) w.checkpoint.content.op_checksum 0 w.checkpoint.parts.sessions w.tail) (sym op) f.tail.chain) (omega arith) same_prepare
-
-    pub same_sessions : sessions z ≡ sessions w
-    same_sessions = λ i. sessions_after (same_parts i).sessions (same_tail i)
 
     same_reply : (k : ℕ) (x q : Message) → z.stored k ≡ Some x → shown (ReplyPlace k) ≡ Some (ReplyUnit q) → IsNamed w.checkpoint.content k q → x.header.op ≡ q.header.op → x ≡ q
     same_reply k x q is at named ops = elim (cases_lt q.header.op w.checkpoint.content.answered) [
@@ -204,30 +162,11 @@ module _ (sh : Shape) (images : List Units) (v : View) (t : Turn) (lives : Lives
           one_of_stored sh images v t lives z b.0 k k x q was b.1 (ap (λ (c : Content). c.boot) same_content ∙ sym own ∙ sym b.6) is b.2 ops
     ]
 
-    stored_cases : (k : ℕ) (o p : Option Message) → z.stored k ≡ o → w.stored k ≡ p → o ≡ p
-    stored_cases k None None is at = refl
-    stored_cases k (Some x) (Some q) is at =
-        let n = f.stored.no_more k q at in
-        let there = f.stored.shown k n.0 n.1 n.2 in
-        let q_is : there.0 ≡ q = (let both : Some there.0 ≡ Some q = sym there.1 ∙ at in cc) in
-        let m = sound.answered k x is in
-        let one : m.0 ≡ n.0 = (let both : Some m.0 ≡ Some n.0 = sym m.1 ∙ ap (λ (l : List Session). slice_get l k) same_sessions ∙ n.1 in cc) in
-        let ops : x.header.op ≡ there.0.header.op = m.3.op ∙ ap (λ (u : Session). u.op) one ∙ sym there.3.op in
-        ap Some (same_reply k x there.0 is there.2 there.4 ops ∙ q_is)
-    stored_cases k (Some x) None is at =
-        let m = sound.answered k x is in
-        let there = f.stored.shown k m.0 (ap (λ (l : List Session). slice_get l k) (sym same_sessions) ∙ m.1) (omega (arith, m.2)) in
-        absurd (let both : Some there.0 ≡ None = sym there.1 ∙ at in cc)
-    stored_cases k None (Some q) is at =
-        let n = f.stored.no_more k q at in
-        let there = sound.stores k n.0 (ap (λ (l : List Session). slice_get l k) same_sessions ∙ n.1) (omega (arith, n.2)) in
-        absurd (let both : Some there.0 ≡ None = sym there.1 ∙ is in cc)
-
-    pub same_stored : (k : ℕ) → z.stored k ≡ w.stored k
-    same_stored k = stored_cases k (z.stored k) (w.stored k) refl refl
-
     pub same_view : z ≡ w
-    same_view = λ i. record { checkpoint = record { content = same_content i; chain = same_chain i; parts = same_parts i }; tail = same_tail i; replies = r i; stored = λ k. same_stored k i }
+    same_view =
+        view_is_found sh shown w f z sound same_content top r
+        (λ a e b d at there checksum. distinct (BlockPlace a) (BlockPlace e) (BlockUnit b) (BlockUnit d) (lived_needs sh images v t lives z Awake was (BlockPlace a) (BlockUnit b) (b, at, refl)) (of (BlockPlace e) (BlockUnit d) (f.chain_shown e d there)) checksum)
+        same_prepare same_reply
 
   pub found_lived : Lived sh images v t lives w Awake
   found_lived =

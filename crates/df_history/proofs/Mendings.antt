@@ -11,8 +11,8 @@ use Rattle.df_theory.specs.Grown.{Grows, IsSafe}
 use Rattle.df_theory.specs.Rests.{IsDry, IsGoodLog, IsQuiet, RestsOn}
 use Rattle.df_theory.specs.Runs.{AtEach, Puts, Step, Syncs, after_steps}
 use Rattle.df_theory.specs.MakingLaws.{all_puts}
-use Rattle.df_theory.specs.MendLaws.{AllPutCopy, AllPutTable, IsTable, MayMend, copy_steps, header_steps, mend_steps}
-use Rattle.df_theory.proofs.Laws.{after_append, copy_law, each_append, each_weaker, good_rests, header_law, mend_law, mends_whole_law, put_else, quiet_synced, synced_after, one_view, IsUnderWay, header_steps_miss, is_mend, missed, under_way_still, dry_copies, dry_headers}
+use Rattle.df_theory.specs.MendLaws.{AllPutCopy, AllPutTable, MayMend, copy_steps, header_steps, mend_steps}
+use Rattle.df_theory.proofs.Laws.{after_append, copy_law, each_append, each_weaker, good_rests, header_law, mend_law, mends_whole_law, put_else, quiet_synced, one_view, IsUnderWay, half_way, header_steps_miss, is_mend, missed, under_way_still, dry_copies, dry_headers}
 use Rattle.df_history.specs.Histories.{GrowsOn, IsBegunAnew, IsLived, IsLivedMoment, all_settled}
 use Rattle.df_history.proofs.Joins.{on_holds}
 use Rattle.df_history.specs.OpenLaws.{MendLivedLaw, OpenLivedLaw}
@@ -43,27 +43,9 @@ copies_now sh v m n (k ∷ ks) log apart inside one two rests quiet all =
     let second : now next (CopyPlace n) ≡ Some (CopyUnit v.checkpoint.content) = put_else k.1 (now log) (CopyPlace k.0) (CopyPlace n) (CopyUnit v.checkpoint.content) all.0 (λ same. all.2 (let at : CopyPlace n ≡ CopyPlace k.0 = same in cc)) ∙ two in
     (good_now sh log v rests, ((stepped.good, stepped.rests.holds), copies_now sh v m n ks next apart inside first second stepped.rests (quiet_synced (wrote k.1 log)) all.3))
 
-record IsHalf (sh : Shape) (log : UnitLog) (v : View) (headers : List Units) : Type 0 where
-  pub moments : AtEach (GoodNow sh v) log (header_steps headers)
-  pub rests : RestsOn sh (after_steps (header_steps headers) log) v
-  pub quiet : IsQuiet (after_steps (header_steps headers) log)
-
-half : (sh : Shape) (log : UnitLog) (v : View) (table : ℕ → Header) (headers : List Units) → RestsOn sh log v → IsQuiet log → IsTable sh (now log) v table → AllPutTable table headers → IsHalf sh log v headers
-half sh log v table [] rests quiet is all = record { moments = good_now sh log v rests; rests = rests; quiet = quiet }
-half sh log v table (put ∷ puts) rests quiet is all =
-    let written = headers_now sh v table (put ∷ puts) log rests (record { each = λ s. (is s).from }) all in
-    let after : UnitLog = after_steps (all_puts (put ∷ puts)) log in
-    let synced : RestsOn sh (add Synced after) v = synced_after sh v after written.1 in
-    let same : after_steps (header_steps (put ∷ puts)) log ≡ add Synced after = after_append (all_puts (put ∷ puts)) (Syncs ∷ []) log in
-    record {
-      moments = each_append (GoodNow sh v) (all_puts (put ∷ puts)) (Syncs ∷ []) log written.0 (good_now sh after v written.1, good_now sh (add Synced after) v synced);
-      rests = subst (λ (l : UnitLog). RestsOn sh l v) (sym same) synced;
-      quiet = subst IsQuiet (sym same) (quiet_synced after);
-    }
-
 pub mend_now : (sh : Shape) (log : UnitLog) (v : View) (table : ℕ → Header) (headers : List Units) (copies : List (ℕ × Units)) → MayMend sh log v table headers copies → AtEach (GoodNow sh v) log (mend_steps headers copies)
 mend_now sh log v table headers copies may =
-    let done = half sh log v table headers may.rests may.quiet may.tells may.puts_headers in
+    let done = half_way (GoodNow sh v) sh log v headers (λ l at. good_now sh l v at) may.rests may.quiet (headers_now sh v table headers log may.rests (record { each = λ s. (may.tells s).from }) may.puts_headers) in
     let mid : UnitLog = after_steps (header_steps headers) log in
     let stays : (n : ℕ) → now mid (CopyPlace n) ≡ now log (CopyPlace n) = λ n. missed (CopyPlace n) (header_steps headers) log (header_steps_miss table headers may.puts_headers n) in
     let agreed = may.agreed in

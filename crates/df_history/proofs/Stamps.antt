@@ -6,11 +6,24 @@ use Rattle.df_theory.specs.Copies.{rank_of}
 use Rattle.df_theory.specs.View.{View, boot_of, head}
 use Rattle.df_theory.specs.Holds.{Sound}
 use Rattle.df_theory.proofs.Laws.{reply_here, one_stored, stored_op, next_grew}
-use Rattle.df_history.specs.Lives.{Awake, Lived, Lives, Turn}
+use Rattle.df_history.specs.Lives.{Awake, Lived, Lives, Steps, Turn}
 use Rattle.df_history.proofs.Steps.{awake_low, lived_low, lived_self, lived_sound, lives_sound, step_same}
 
 stored_one : (sh : Shape) (v a b : View) (k j : ℕ) (r q : Message) → Sound sh v → a ≡ v → b ≡ v → a.stored k ≡ Some r → b.stored j ≡ Some q → r.header.op ≡ q.header.op → r ≡ q
 stored_one sh v a b k j r q sound is_a is_b at_a at_b same = one_stored sh v sound k j r q (ap (λ (x : View). x.stored k) (sym is_a) ∙ at_a) (ap (λ (x : View). x.stored j) (sym is_b) ∙ at_b) same
+
+-- the newest view, and an older one of its boot
+stored_newest : (sh : Shape) (images : List Units) (image : Units) (u v : View) (s t : Turn) → Steps images image u s v t → (lives : Lives sh images u s) → (a b : View) (k j : ℕ) (r q : Message) → (a ≡ v) × (Awake ≡ t) → Lived sh images u s lives b Awake → boot_of a ≡ boot_of b
+    → a.stored k ≡ Some r → b.stored j ≡ Some q → r.header.op ≡ q.header.op → (Lived sh images u s lives u Awake → boot_of u ≡ boot_of b → u.stored k ≡ Some r → r ≡ q) → r ≡ q
+stored_newest sh images image u v s t step lives a b k j r q is_a lived_b boots at_a at_b same more =
+    let older = lived_low sh images u s lives b Awake lived_b in
+    let goes = step_same images image u s v t step (sym is_a.1) (omega (arith, older.1, boots, ap boot_of is_a.0)) in
+    let grew = next_grew sh u v (lives_sound sh images u s lives) goes.1.next in
+    let boot : boot_of u ≡ boot_of b = omega (arith, older.1, boots, ap boot_of is_a.0, grew.boot) in
+    elim (reply_here u v k r goes.1.next (ap (λ (x : View). x.stored k) (sym is_a.0) ∙ at_a)) [
+      | inl old ↦ more (subst (λ (x : Turn). Lived sh images u s lives u x) goes.0 (lived_self sh images u s lives)) boot old
+      | inr new ↦ absurd (omega (arith, new.4, stored_op sh b (lived_sound sh images u s lives b Awake lived_b) j q at_b, awake_low sh images u s lives goes.0 b Awake lived_b (sym boot)))
+    ]
 
 -- the awake views of one boot have one reply an op
 pub one_of_stored : (sh : Shape) (images : List Units) (v : View) (t : Turn) (lives : Lives sh images v t) (a b : View) (k j : ℕ) (r q : Message) → Lived sh images v t lives a Awake → Lived sh images v t lives b Awake → boot_of a ≡ boot_of b
@@ -19,23 +32,9 @@ one_of_stored sh [] v t lives a b k j r q lived_a lived_b boots at_a at_b same =
 one_of_stored sh (image ∷ images) v t (holds, inl starts) a b k j r q is_a is_b boots at_a at_b same = stored_one sh v a b k j r q holds.bears.sound is_a.0 is_b.0 at_a at_b same
 one_of_stored sh (image ∷ images) v t (holds, inr (u, s, step, lives)) a b k j r q (inl is_a) (inl is_b) boots at_a at_b same = stored_one sh v a b k j r q holds.bears.sound is_a.0 is_b.0 at_a at_b same
 one_of_stored sh (image ∷ images) v t (holds, inr (u, s, step, lives)) a b k j r q (inl is_a) (inr lived_b) boots at_a at_b same =
-    let older = lived_low sh images u s lives b Awake lived_b in
-    let goes = step_same images image u s v t step (sym is_a.1) (omega (arith, older.1, boots, ap boot_of is_a.0)) in
-    let grew = next_grew sh u v (lives_sound sh images u s lives) goes.1.next in
-    let boot : boot_of u ≡ boot_of b = omega (arith, older.1, boots, ap boot_of is_a.0, grew.boot) in
-    elim (reply_here u v k r goes.1.next (ap (λ (x : View). x.stored k) (sym is_a.0) ∙ at_a)) [
-      | inl old ↦ one_of_stored sh images u s lives u b k j r q (subst (λ (x : Turn). Lived sh images u s lives u x) goes.0 (lived_self sh images u s lives)) lived_b boot old at_b same
-      | inr new ↦ absurd (omega (arith, new.4, stored_op sh b (lived_sound sh images u s lives b Awake lived_b) j q at_b, awake_low sh images u s lives goes.0 b Awake lived_b (sym boot)))
-    ]
+    stored_newest sh images image u v s t step lives a b k j r q is_a lived_b boots at_a at_b same (λ lived boot old. one_of_stored sh images u s lives u b k j r q lived lived_b boot old at_b same)
 one_of_stored sh (image ∷ images) v t (holds, inr (u, s, step, lives)) a b k j r q (inr lived_a) (inl is_b) boots at_a at_b same =
-    let older = lived_low sh images u s lives a Awake lived_a in
-    let goes = step_same images image u s v t step (sym is_b.1) (omega (arith, older.1, boots, ap boot_of is_b.0)) in
-    let grew = next_grew sh u v (lives_sound sh images u s lives) goes.1.next in
-    let boot : boot_of u ≡ boot_of a = omega (arith, older.1, boots, ap boot_of is_b.0, grew.boot) in
-    elim (reply_here u v j q goes.1.next (ap (λ (x : View). x.stored j) (sym is_b.0) ∙ at_b)) [
-      | inl old ↦ one_of_stored sh images u s lives a u k j r q lived_a (subst (λ (x : Turn). Lived sh images u s lives u x) goes.0 (lived_self sh images u s lives)) (sym boot) at_a old same
-      | inr new ↦ absurd (omega (arith, new.4, stored_op sh a (lived_sound sh images u s lives a Awake lived_a) k r at_a, awake_low sh images u s lives goes.0 a Awake lived_a (sym boot)))
-    ]
+    sym (stored_newest sh images image u v s t step lives b a j k q r is_b lived_a (sym boots) at_b at_a (sym same) (λ lived boot old. sym (one_of_stored sh images u s lives a u k j r q lived_a lived (sym boot) at_a old same)))
 one_of_stored sh (image ∷ images) v t (holds, inr (u, s, step, lives)) a b k j r q (inr lived_a) (inr lived_b) boots at_a at_b same = one_of_stored sh images u s lives a b k j r q lived_a lived_b boots at_a at_b same
 
 -- ---- three awake views of one boot, of which each has one of the three counters and none has more of the others: one awake view has all three

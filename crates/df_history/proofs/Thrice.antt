@@ -1,28 +1,27 @@
 -- A sample: a file is damaged and opened three times. The second damage and the third hit the same places: two copies of the superblock, and the header of the only prepare.
 use Rattle.std.proofs.Common.{◌≡◌, ◌⊎◌, inl, inr, ℕ, ◌+◌, ◌<◌, ◌≤◌, ◌==◌, ◌%◌, Bool, true, false, if◌then◌else◌, List, [], ◌∷◌, Option, Some, None, refl, sym, ◌∙◌, ap, subst, arith, eqb-true}
 use Rattle.std.specs.List.{slice_get}
-use Rattle.df_theory.specs.CopyPuts.{PutsCopies, update_steps}
+use Rattle.df_theory.specs.CopyPuts.{PutsCopies}
 use Rattle.df_theory.specs.Units.{AnyUnit, BlockPlace, Content, CopyPlace, CopyUnit, Header, HeaderPlace, HeaderUnit, Message, Place, PreparePlace, PrepareUnit, ReplyPlace, Units, or_else}
-use Rattle.df_theory.specs.Tails.{In}
 use Rattle.df_theory.specs.View.{View, sessions}
 use Rattle.df_theory.specs.Shows.{AgreesHeader, Needs}
 use Rattle.df_theory.specs.Holds.{Holds}
-use Rattle.df_theory.specs.Next.{IsStamped, MayAppend, MayBoot, appended, booted}
-use Rattle.df_theory.specs.UnitLog.{Synced, UnitLog, add, now, put_one, settled, wrote}
+use Rattle.df_theory.specs.Next.{MayBoot, appended, booted}
+use Rattle.df_theory.specs.UnitLog.{Synced, UnitLog, add, now, put_one, wrote}
 use Rattle.df_theory.specs.Chance.{InPool}
-use Rattle.df_theory.specs.Grown.{IsClear, IsSafe}
-use Rattle.df_theory.specs.Rests.{IsGoodLog, IsQuiet, RestsOn}
+use Rattle.df_theory.specs.Grown.{IsSafe}
+use Rattle.df_theory.specs.Rests.{IsGoodLog, RestsOn}
 use Rattle.df_theory.specs.Runs.{AtEach, Puts, Step, Syncs, after_steps}
 use Rattle.df_theory.specs.MendLaws.{IsSlotHeader, Reaches, mend_steps}
 use Rattle.df_theory.specs.WriterLaws.{Appends}
 use Rattle.df_theory.specs.Found.{AreOfPlaces, IsFound, IsInRange, IsOfPlace}
-use Rattle.df_theory.proofs.Laws.{anew_law, append_law, each_weaker, four, hurt_law, put_one_law, quiet_synced, rests_law, short_same, holds_found, low_steps, low_update, IsOpen, bears_open, chosen_same, pool_pools, All, now_all, pools_all, copies_of, reserved, sector, never_kept}
+use Rattle.df_theory.proofs.Laws.{anew_law, each_weaker, four, hurt_law, put_one_law, rests_law, short_same, holds_found, bears_open, chosen_same, pool_pools, All, IsOpen, now_all, pools_all, copies_of, reserved, copies_are, header_put, may_append, may_raise, prepare_put, quiet_updated, copies_all, put_all, never_kept}
 use Rattle.df_history.specs.Histories.{InHistoryPool, InHistoryPools, IsLived, IsLivedMoment, IsSettled, MayStart}
 use Rattle.df_history.specs.OpenLaws.{IsOpening}
 use Rattle.df_history.specs.Sample.{IsReopened, ThriceSampleLaw, opened}
 use Rattle.df_history.proofs.Mendings.{each_last, open_lived_law}
 use Rattle.df_history.proofs.Since.{found_since_law, synced_settled}
-use Rattle.df_history.proofs.Samples.{IsOurs, appends, booted1, booted1_all, content, copies_all, distinct, first, found2, in_range, lived2, made, made_all, of_copy, opened2, opening2, pinned, places2, prepare, put_all, renewed, second, second_all, shape, shown, start2, third}
+use Rattle.df_history.proofs.Samples.{AreOurs, IsOurs, append_ours, append_steps, appends, appends_to, booted1, booted1_ours, clear_of, content, distinct, first, found2, in_range, lived2, made, made_ours, of_copy, opened2, opening2, pinned, places2, pools_ours, prepare, renewed, second, second_ours, shape, shown, start2, third}
 
 -- ---- an open, and what follows it
 
@@ -59,55 +58,23 @@ history_pools (log ∷ logs) place x (inr older) = inr (history_pools logs place
 
 -- ---- the op is appended anew behind the first damage
 
-abbrev put2 : Units
-put2 = put_one (PreparePlace 1) (PrepareUnit renewed)
-
-abbrev header2 : Units
-header2 = put_one (HeaderPlace 1) (HeaderUnit renewed.header)
-
-abbrev steps2 : List Step
-steps2 = Puts put2 ∷ Syncs ∷ Puts header2 ∷ Syncs ∷ []
-
 abbrev renewing : UnitLog
-renewing = after_steps steps2 third
+renewing = after_steps (append_steps renewed) third
 
 -- the view with that prepare, and this superblock
 abbrev view : Content → View
 view c = booted (appended (first 2) (renewed ∷ [])) c
 
-stamped : (p : Message) → In p (renewed ∷ []) → IsStamped (first 2) 1 p.header
-stamped p (inl is) = subst (λ (q : Message). IsStamped (first 2) 1 q.header) (sym is) (record { mark = refl; checkpoint = refl; boot = refl; group = refl; group_last = refl })
-stamped p (inr none) = absurd none
-
-may_renew : MayAppend shape (first 2) (renewed ∷ [])
-may_renew = record {
-  is = record { some = omega arith; turn = (refl, refl, tt); stamped = stamped };
-  room = omega arith;
-  pipeline = omega arith;
-  unspent = omega arith;
-  asks = ((refl, omega arith), tt);
-}
-
-quiet2 : IsQuiet third
-quiet2 = quiet_synced (wrote (put_one (CopyPlace 3) (CopyUnit (content 2))) (add Synced (wrote (put_one (CopyPlace 2) (CopyUnit (content 2))) (add Synced (wrote (put_one (CopyPlace 1) (CopyUnit (content 2))) (add Synced (wrote (put_one (CopyPlace 0) (CopyUnit (content 2))) (record { start = shown; events = [] }))))))))
-
-clear2 : IsClear (settled third) (first 2)
-clear2 = (low_steps 2 0 (update_steps (copies_of (content 2))) (record { start = shown; events = [] }) (low_update 2 0 (content 2) (copies_of (content 2))) (record {
-  settled = λ s p at own. elim at [ inl here ↦ absurd (let both : None ≡ Some (PrepareUnit p) = here in cc) | inr none ↦ absurd none ];
-  shown = λ s p is own. absurd (let both : None ≡ Some (PrepareUnit p) = is in cc);
-})).settled
-
-renews : Appends shape third (first 2) (view (content 2)) put2 header2
-renews = append_law shape third (first 2) renewed put2 header2 opened2.0 quiet2 clear2 may_renew (put_one_law (PreparePlace 1) (PrepareUnit renewed)) (sector shape (now third) renewed)
+renews : Appends shape third (first 2) (view (content 2)) (prepare_put renewed) (header_put renewed)
+renews = appends_to 2 third renewed opened2.0 (quiet_updated (content 2) (record { start = shown; events = [] })) (clear_of 2 shown (λ s p is own. absurd (let both : None ≡ Some (PrepareUnit p) = is in cc)))
+    (may_append shape (first 2) (renewed ∷ []) (omega arith) (refl, refl, tt) (record { mark = refl; checkpoint = refl; boot = refl; group = refl; group_last = refl }, tt) (omega arith, omega arith, omega arith) ((refl, omega arith), tt))
 
 once : IsReopened shape (made ∷ []) second shown (first 1) renewing (view (content 2))
-once = reopened (made ∷ []) second shown (first 1) (λ s. reserved) [] [] (content 2) (copies_of (content 2)) steps2 (view (content 2)) lived2 start2 places2 found2 opening2
-    (λ rests. (each_weaker (IsGoodLog shape (first 2) (view (content 2))) (IsSafe shape) (λ l good. good.safe) steps2 third renews.leads.moments, renews.leads.rests))
+once = reopened (made ∷ []) second shown (first 1) (λ s. reserved) [] [] (content 2) (copies_of (content 2)) (append_steps renewed) (view (content 2)) lived2 start2 places2 found2 opening2
+    (λ rests. (each_weaker (IsGoodLog shape (first 2) (view (content 2))) (IsSafe shape) (λ l good. good.safe) (append_steps renewed) third renews.leads.moments, renews.leads.rests))
 
-renewing_all : All IsOurs renewing.start renewing.events
-renewing_all =
-    let third_all : All IsOurs third.start third.events = copies_all (content 2) (refl, omega arith) (record { start = shown; events = [] }) (now_all IsOurs booted1.start booted1.events booted1_all) in
-    put_all (HeaderPlace 1) (HeaderUnit renewed.header) (add Synced (wrote put2 third)) refl (put_all (PreparePlace 1) (PrepareUnit renewed) third (refl, refl) third_all)
+renewing_ours : All IsOurs renewing.start renewing.events
+renewing_ours = append_ours renewed third (refl, refl) (copies_all IsOurs (content 2) (refl, omega arith) (record { start = shown; events = [] }) (now_all IsOurs booted1.start booted1.events booted1_ours))
 
 -- ---- the places that are hurt: copies 2 and 3, and the header of the prepare
 
@@ -141,7 +108,7 @@ struck log copy g = hurt copy (Some (HeaderUnit g)) (now log)
 
 -- the log of the open that comes then
 abbrev next : UnitLog → Content → Content → Option AnyUnit → Header → UnitLog
-next log c d copy g = opened d (struck log copy g) (header2 ∷ []) (copy_puts c) (copies_of d)
+next log c d copy g = opened d (struck log copy g) (header_put renewed ∷ []) (copy_puts c) (copies_of d)
 
 module _ (logs : List UnitLog) (log : UnitLog) (c d : Content) (copy : Option AnyUnit) (g : Header) (is : IsStruck log c d copy g) (lived : IsLived shape (log ∷ logs))
     (ours : (place : Place) (x : AnyUnit) → InHistoryPools (log ∷ logs) place x → IsOurs x) (was : InHistoryPool (log ∷ logs) (HeaderPlace 1) (HeaderUnit g)) where
@@ -241,7 +208,7 @@ module _ (logs : List UnitLog) (log : UnitLog) (c d : Content) (copy : Option An
     ];
   }
 
-  struck_opening : IsOpening shape (struck log copy g) (view c) table (header2 ∷ []) (copy_puts c) d
+  struck_opening : IsOpening shape (struck log copy g) (view c) table (header_put renewed ∷ []) (copy_puts c) d
   struck_opening = record {
     may_mend = record {
       rests = anew_law shape (struck log copy g) (view c) struck_holds;
@@ -261,21 +228,22 @@ module _ (logs : List UnitLog) (log : UnitLog) (c d : Content) (copy : Option An
     may_boot = is.boot;
   }
     where
-      reaches : (s : ℕ) (b : Bool) → (1 == s) ≡ b → (struck log copy g (HeaderPlace s) ≡ Some (HeaderUnit (table s))) ⊎ Reaches (header2 ∷ []) (HeaderPlace s)
+      reaches : (s : ℕ) (b : Bool) → (1 == s) ≡ b → (struck log copy g (HeaderPlace s) ≡ Some (HeaderUnit (table s))) ⊎ Reaches (header_put renewed ∷ []) (HeaderPlace s)
       reaches s true at = inr (inl (HeaderUnit renewed.header, ap (λ (b : Bool). if b then Some (HeaderUnit renewed.header) else None) at))
       reaches s false at = inl (ap (λ (b : Bool). if b then Some (HeaderUnit g) else now log (HeaderPlace s)) at ∙ is.headers s at ∙ ap (λ (b : Bool). Some (HeaderUnit (if b then renewed.header else reserved))) (sym at))
 
   struck_reopened : IsReopened shape logs log (struck log copy g) (view c) (next log c d copy g) (view d)
-  struck_reopened = reopened logs log (struck log copy g) (view c) table (header2 ∷ []) (copy_puts c) d (copies_of d) [] (view d) lived struck_start struck_places (holds_found shape (struck log copy g) (view c) struck_holds) struck_opening
+  struck_reopened = reopened logs log (struck log copy g) (view c) table (header_put renewed ∷ []) (copy_puts c) d (copies_of d) [] (view d) lived struck_start struck_places (holds_found shape (struck log copy g) (view c) struck_holds) struck_opening
       (λ rests. ((rests_law shape (next log c d copy g) (view d) rests).0, rests))
 
-  next_all : IsOurs (CopyUnit c) → IsOurs (CopyUnit d) → All IsOurs (next log c d copy g).start (next log c d copy g).events
-  next_all c_ours d_ours =
+  next_ours : IsOurs (CopyUnit c) → IsOurs (CopyUnit d) → All IsOurs (next log c d copy g).start (next log c d copy g).events
+  next_ours c_ours d_ours =
       let l0 : UnitLog = record { start = struck log copy g; events = [] } in
-      let l1 : UnitLog = add Synced (wrote header2 l0) in
+      let l1 : UnitLog = add Synced (wrote (header_put renewed) l0) in
       let l2 : UnitLog = add Synced (wrote (put_one (CopyPlace 2) (CopyUnit c)) l1) in
       let l3 : UnitLog = add Synced (wrote (put_one (CopyPlace 3) (CopyUnit c)) l2) in
-      copies_all d d_ours l3 (put_all (CopyPlace 3) (CopyUnit c) l2 c_ours (put_all (CopyPlace 2) (CopyUnit c) l1 c_ours (put_all (HeaderPlace 1) (HeaderUnit renewed.header) l0 refl (λ place x shows. ours place x (history_pools (log ∷ logs) place x (struck_pool place x shows))))))
+      let a1 : All IsOurs l1.start l1.events = put_all IsOurs (HeaderPlace 1) (HeaderUnit renewed.header) l0 refl (λ place x shows. ours place x (history_pools (log ∷ logs) place x (struck_pool place x shows))) in
+      copies_all IsOurs d d_ours l3 (put_all IsOurs (CopyPlace 3) (CopyUnit c) l2 c_ours (put_all IsOurs (CopyPlace 2) (CopyUnit c) l1 c_ours a1))
 
   next_headers : (s : ℕ) → (1 == s) ≡ false → now (next log c d copy g) (HeaderPlace s) ≡ Some (HeaderUnit reserved)
   next_headers s at = ap (λ (b : Bool). or_else (if b then Some (HeaderUnit renewed.header) else None) (if b then Some (HeaderUnit g) else now log (HeaderPlace s))) at ∙ is.headers s at
@@ -284,42 +252,22 @@ module _ (logs : List UnitLog) (log : UnitLog) (c d : Content) (copy : Option An
 
 -- from a boot whose superblock records as many prepares as this
 boots : (b n sum : ℕ) → n ≤ 1 → b < 9 → MayBoot (view (record (content b) { head = n; pin = n; pin_checksum = sum })) (pinned 6 (b + 1))
-boots b n sum low small = record {
-  is = record {
-    same = record { file = (refl, refl, refl, refl); sequence = refl; op = (refl, refl); trailer = (refl, refl, refl) };
-    boot = refl;
-    pin = refl;
-    head = refl;
-    replies = refl;
-    answered = refl;
-    records = record {
-      pin_from = (low, omega arith);
-      pin_to = omega arith;
-      checksum = refl;
-      answered = (omega arith, omega arith);
-      stored = λ k r at. absurd (never_kept (slice_get (sessions (view (content 2))) k) 0 r at);
-      spare = λ k none. refl;
-    };
-    of = record { one = λ is. absurd (omega arith); two = λ is. (refl, refl) };
-  };
-  unspent = omega (arith, small);
-}
+boots b n sum low small = may_raise (view (record (content b) { head = n; pin = n; pin_checksum = sum })) (b + 1) 6 [] refl (omega (arith, small)) (record {
+  pin_from = (low, omega arith);
+  pin_to = omega arith;
+  checksum = refl;
+  answered = (omega arith, omega arith);
+  stored = λ k r at. absurd (never_kept (slice_get (sessions (view (content 2))) k) 0 r at);
+  spare = λ k none. refl;
+})
 
 -- ---- the second damage, and the third
-
-copies_are : (c : Content) (image : Units) → image (CopyPlace 0) ≡ Some (CopyUnit c) → image (CopyPlace 1) ≡ Some (CopyUnit c) → image (CopyPlace 2) ≡ Some (CopyUnit c) → image (CopyPlace 3) ≡ Some (CopyUnit c) → (n : ℕ) → n < 4 → image (CopyPlace n) ≡ Some (CopyUnit c)
-copies_are c image at0 at1 at2 at3 n below = elim (four n below) [
-  | inl at ↦ subst (λ (k : ℕ). image (CopyPlace k) ≡ Some (CopyUnit c)) (sym at) at0
-  | inr (inl at) ↦ subst (λ (k : ℕ). image (CopyPlace k) ≡ Some (CopyUnit c)) (sym at) at1
-  | inr (inr (inl at)) ↦ subst (λ (k : ℕ). image (CopyPlace k) ≡ Some (CopyUnit c)) (sym at) at2
-  | inr (inr (inr at)) ↦ subst (λ (k : ℕ). image (CopyPlace k) ≡ Some (CopyUnit c)) (sym at) at3
-]
 
 is_hurt : IsStruck renewing (content 2) (pinned 6 3) None reserved
 is_hurt = record {
   rests = renews.leads.rests;
-  ours = renewing_all;
-  settled_is = synced_settled (wrote header2 (add Synced (wrote put2 third)));
+  ours = renewing_ours;
+  settled_is = synced_settled (wrote (header_put renewed) (add Synced (wrote (prepare_put renewed) third)));
   copies = copies_are (content 2) (now renewing) refl refl refl refl;
   headers = λ s at. ap (λ (b : Bool). or_else (if b then Some (HeaderUnit renewed.header) else None) (Some (HeaderUnit reserved))) at;
   no_block = λ a. refl;
@@ -328,11 +276,8 @@ is_hurt = record {
   boot = boots 2 0 0 (omega arith) (omega arith);
 }
 
-ours2 : (place : Place) (x : AnyUnit) → InHistoryPools (renewing ∷ second ∷ made ∷ []) place x → IsOurs x
-ours2 place x (inl here) = pools_all IsOurs renewing.start renewing.events renewing_all place x here
-ours2 place x (inr (inl here)) = pools_all IsOurs second.start second.events second_all place x here
-ours2 place x (inr (inr (inl here))) = pools_all IsOurs made.start made.events made_all place x here
-ours2 place x (inr (inr (inr none))) = absurd none
+ours2 : AreOurs (renewing ∷ second ∷ made ∷ [])
+ours2 = (renewing_ours, (second_ours, (made_ours, tt)))
 
 shown2 : InHistoryPool (renewing ∷ second ∷ made ∷ []) (HeaderPlace 1) (HeaderUnit reserved)
 shown2 = inl (inl (inr (inl refl)))
@@ -341,34 +286,30 @@ abbrev fourth : UnitLog
 fourth = next renewing (content 2) (pinned 6 3) None reserved
 
 twice : IsReopened shape (second ∷ made ∷ []) renewing (struck renewing None reserved) (view (content 2)) fourth (view (pinned 6 3))
-twice = struck_reopened (second ∷ made ∷ []) renewing (content 2) (pinned 6 3) None reserved is_hurt once.lived ours2 shown2
+twice = struck_reopened (second ∷ made ∷ []) renewing (content 2) (pinned 6 3) None reserved is_hurt once.lived (pools_ours (renewing ∷ second ∷ made ∷ []) ours2) shown2
 
-fourth_all : All IsOurs fourth.start fourth.events
-fourth_all = next_all (second ∷ made ∷ []) renewing (content 2) (pinned 6 3) None reserved is_hurt once.lived ours2 shown2 (refl, omega arith) (refl, omega arith)
+fourth_ours : All IsOurs fourth.start fourth.events
+fourth_ours = next_ours (second ∷ made ∷ []) renewing (content 2) (pinned 6 3) None reserved is_hurt once.lived (pools_ours (renewing ∷ second ∷ made ∷ []) ours2) shown2 (refl, omega arith) (refl, omega arith)
 
 is_struck : IsStruck fourth (pinned 6 3) (pinned 6 4) (Some (CopyUnit (content 2))) prepare.header
 is_struck = record {
   rests = twice.rests;
-  ours = fourth_all;
+  ours = fourth_ours;
   settled_is = synced_settled (wrote (put_one (CopyPlace 3) (CopyUnit (pinned 6 3))) (after_steps (Puts (put_one (CopyPlace 0) (CopyUnit (pinned 6 3))) ∷ Syncs ∷ Puts (put_one (CopyPlace 1) (CopyUnit (pinned 6 3))) ∷ Syncs ∷ Puts (put_one (CopyPlace 2) (CopyUnit (pinned 6 3))) ∷ Syncs ∷ [])
-      (after_steps (mend_steps (header2 ∷ []) (copy_puts (content 2))) (record { start = struck renewing None reserved; events = [] }))));
+      (after_steps (mend_steps (header_put renewed ∷ []) (copy_puts (content 2))) (record { start = struck renewing None reserved; events = [] }))));
   copies = copies_are (pinned 6 3) (now fourth) refl refl refl refl;
-  headers = next_headers (second ∷ made ∷ []) renewing (content 2) (pinned 6 3) None reserved is_hurt once.lived ours2 shown2;
+  headers = next_headers (second ∷ made ∷ []) renewing (content 2) (pinned 6 3) None reserved is_hurt once.lived (pools_ours (renewing ∷ second ∷ made ∷ []) ours2) shown2;
   no_block = λ a. refl;
   old = λ x same. (inl (inr (inr (inl same))), inl (inr (inr (inl same))));
   older = ((prepare.header, refl, omega arith, λ some. (refl, in_range 5)), record { op = λ own. absurd (omega (arith, own)); ring = omega arith; checkpoint = omega arith; boot = omega arith; slot = λ some. refl; in_tail = λ own. absurd (omega (arith, own)) });
   boot = boots 3 1 6 (omega arith) (omega arith);
 }
 
-ours3 : (place : Place) (x : AnyUnit) → InHistoryPools (fourth ∷ renewing ∷ second ∷ made ∷ []) place x → IsOurs x
-ours3 place x (inl here) = pools_all IsOurs fourth.start fourth.events fourth_all place x here
-ours3 place x (inr older) = ours2 place x older
-
 abbrev fifth : UnitLog
 fifth = next fourth (pinned 6 3) (pinned 6 4) (Some (CopyUnit (content 2))) prepare.header
 
 thrice : IsReopened shape (renewing ∷ second ∷ made ∷ []) fourth (struck fourth (Some (CopyUnit (content 2))) prepare.header) (view (pinned 6 3)) fifth (view (pinned 6 4))
-thrice = struck_reopened (renewing ∷ second ∷ made ∷ []) fourth (pinned 6 3) (pinned 6 4) (Some (CopyUnit (content 2))) prepare.header is_struck twice.lived ours3 (inr (inr (inl (inl (inl refl)))))
+thrice = struck_reopened (renewing ∷ second ∷ made ∷ []) fourth (pinned 6 3) (pinned 6 4) (Some (CopyUnit (content 2))) prepare.header is_struck twice.lived (pools_ours (fourth ∷ renewing ∷ second ∷ made ∷ []) (fourth_ours, ours2)) (inr (inr (inl (inl (inl refl)))))
 
 pub thrice_sample_law : ThriceSampleLaw
 thrice_sample_law = record {

@@ -1,26 +1,11 @@
 -- The line that the answer of a call prints, by the answer as the call gives it.
 use Rattle.std.specs.Prelude.{ℕ, List, [], codes}
-use Rattle.df_model.specs.Commands.{Advance, Append, Begin, Command, ReadBlock, ReadPrepare, ReadReply, Recent, Release, Reply, Scrub, WriteBlock}
+use Rattle.df_model.specs.Commands.{Command}
+pub use Rattle.df_model.specs.Called.{command_of}
 use Rattle.df_model.specs.declared.commands.Answer.{Answer}
 use Rattle.df_model.specs.declared.commands.Answer.TheVariants as answers
-use Rattle.df_model.specs.declared.commands.Command.{Command as Called}
-use Rattle.df_model.specs.declared.commands.Command.TheVariants as calls
 use Rattle.df_script_model.specs.Script.{address_in, op_in}
 use Rattle.df_script_model.specs.Texts.{append_refusal, begin_refusal, block_refusal, line_of, lookup_refusal, numbered, prepare_refusal, progress_text, read_refusal, reply_refusal, scrubbed_text, step_refusal, text_or}
-
--- the machine's command
-abbrev pub command_of : Called → Command
-command_of (calls.Append client request body) = Append client request body.now
-command_of (calls.Reply op body) = Reply op body.now
-command_of (calls.WriteBlock kind body) = WriteBlock kind body.now
-command_of (calls.Release address) = Release address
-command_of (calls.Begin root) = Begin root.now
-command_of calls.Advance = Advance
-command_of (calls.ReadPrepare op) = ReadPrepare op
-command_of (calls.ReadReply client) = ReadReply client
-command_of (calls.ReadBlock address) = ReadBlock address
-command_of calls.Scrub = Scrub
-command_of (calls.Recent place) = Recent place
 
 -- the line: what was done, or why the call is refused. A unit that was read is lent by its call, and so is what the ring holds: they have lines of their own
 abbrev pub text_of : Command → Answer → List ℕ
@@ -34,4 +19,4 @@ text_of c (answers.ReadPrepare answer) = text_or prepare_refusal (λ done. []) a
 text_of c (answers.ReadReply answer) = text_or lookup_refusal (λ done. []) answer
 text_of c (answers.ReadBlock answer) = text_or read_refusal (λ done. []) answer
 text_of c (answers.Scrub answer) = scrubbed_text answer
-text_of c (answers.Recent answer) = []
+text_of c answers.Recent = []

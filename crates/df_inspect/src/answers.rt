@@ -45,7 +45,7 @@ fn answer_line(command: &Command, answer: &Answer) -> Line
         Answer::ReadPrepare(Ok(()))
         | Answer::ReadReply(Ok(()))
         | Answer::ReadBlock(Ok(()))
-        | Answer::Recent(_) => text_line(""),
+        | Answer::Recent => text_line(""),
     }
 }
 

@@ -7,7 +7,7 @@ ghost use Rattle.df_inspect.specs.Prints.{Prints};
 ghost use Rattle.df_inspect.specs.Reports.{each_text, failing_text, finding_text};
 
 use crate::blocks::tour_line;
-use crate::line::{Line, put, put_number, put_numbered, write_line};
+use crate::line::{put, put_number, put_numbered, write_line};
 use crate::names::put_class;
 use arrayvec::ArrayVec;
 use df_base::{Failed, Sink};
@@ -48,18 +48,12 @@ fn print_finding<W: Sink>(sink: &mut W, finding: Finding) -> Result<(), Failed>
     ensures prints { Prints (finding_text finding) (W.written sink.old) (W.written sink.new) result }
     ensures cause { HasCause (W.faults sink.old) (W.faults sink.new) result }
 {
-    write_line(sink, &finding_piece(finding))
-}
-
-fn finding_piece(finding: Finding) -> Line
-    ensures { result.items ≡ finding_text finding }
-{
     let mut line = ArrayVec::new();
     put(&mut line, " ");
     put_number(&mut line, u128::from(finding.address));
     put(&mut line, " ");
     put_class(&mut line, finding.class);
-    line
+    write_line(sink, &line)
 }
 
 /// `failing ADDRESS CLASS`: a block that fails in a tour.
@@ -67,18 +61,12 @@ pub fn print_failing<W: Sink>(sink: &mut W, finding: Finding) -> Result<(), Fail
     ensures prints { Prints (failing_text finding) (W.written sink.old) (W.written sink.new) result }
     ensures cause { HasCause (W.faults sink.old) (W.faults sink.new) result }
 {
-    write_line(sink, &failing_line(finding))
-}
-
-fn failing_line(finding: Finding) -> Line
-    ensures { result.items ≡ failing_text finding }
-{
     let mut line = ArrayVec::new();
     put_numbered(&mut line, "failing", u128::from(finding.address));
     put(&mut line, " ");
     put_class(&mut line, finding.class);
     put(&mut line, "\n");
-    line
+    write_line(sink, &line)
 }
 
 /// `tour CHECKED FAILING`: how many blocks a tour checked, and how many of them fail.

@@ -102,17 +102,11 @@ fn print_mend<W: Sink>(sink: &mut W, mend: Mend) -> Result<(), Failed>
     ensures prints { Prints (mend_text mend) (W.written sink.old) (W.written sink.new) result }
     ensures cause { HasCause (W.faults sink.old) (W.faults sink.new) result }
 {
-    write_line(sink, &mend_line(mend))
-}
-
-fn mend_line(mend: Mend) -> Line
-    ensures { result.items ≡ mend_text mend }
-{
     let mut line = ArrayVec::new();
     put(&mut line, "mend ");
     put_place(&mut line, mend.place);
     put(&mut line, " ");
     put_class(&mut line, mend.class);
     put(&mut line, "\n");
-    line
+    write_line(sink, &line)
 }

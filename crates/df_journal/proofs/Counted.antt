@@ -1,5 +1,5 @@
 -- The counters are the greatest numbers.
-use Rattle.std.proofs.Common.{◌≡◌, ◌↔◌, inl, inr, ℕ, ◌+◌, ◌<◌, ◌≤◌, Bool, true, false, List, length, get_or, Option, Some, None, refl, sym, ◌∙◌, ap, subst, arith, max}
+use Rattle.std.proofs.Common.{◌≡◌, ◌↔◌, inl, inr, ℕ, ◌+◌, ◌-◌, ◌<◌, ◌≤◌, Bool, true, false, List, length, get_or, Option, Some, None, refl, sym, ◌∙◌, ap, subst, arith, max}
 use Rattle.std.specs.Prelude.{Result, Ok, Err, IsTrue, IsFalse}
 use Rattle.std.specs.Bool.{OnFalse}
 use Rattle.std.specs.List.{slice_get}
@@ -9,13 +9,13 @@ use Rattle.df_layout.specs.declared.damage.Class.{Class}
 use Rattle.df_format.specs.declared.header.Header.{Header as FileHeader}
 use Rattle.df_stamps.specs.declared.counters.Counters.{Counters}
 use Rattle.df_stamps.specs.Evidence.{IsBehind, IsComplete, IsLost, IsUpToDate}
-use Rattle.df_theory.specs.Units.{AnyUnit, Content, Header, HeaderPlace, HeaderUnit, Message, PreparePlace, PrepareUnit, ReplyPlace, ReplyUnit, Units}
+use Rattle.df_theory.specs.Units.{AnyUnit, Content, Header, HeaderPlace, HeaderUnit, IsAlone, Message, PreparePlace, PrepareUnit, ReplyPlace, ReplyUnit, Units}
 use Rattle.df_theory.specs.Shape.{Shape, slots}
 use Rattle.df_theory.specs.Found.{NotBehind, NotLost}
 use Rattle.df_units.specs.Meaning.{header_of}
 use Rattle.df_buffers.specs.declared.slots.SlotSeen.{SlotSeen}
 use Rattle.df_journal.specs.Shows.{ShowsHeader, ShowsPrepare, ShowsTable}
-use Rattle.df_journal.specs.Counts.{CountsAll, CountsRings, RepliesWithin, RingsWithin, checkpoint_in, op_in, with_unit}
+use Rattle.df_journal.specs.Counts.{CountsAll, CountsRings, RingsWithin, checkpoint_in, op_in, with_unit}
 
 -- ---- the rings
 
@@ -35,6 +35,17 @@ checkpoint_is (Err class) = refl
 no_boot : (r : Result FileHeader Class) → number_in (λ h. h.boot) r ≡ 0
 no_boot (Ok h) = refl
 no_boot (Err class) = refl
+
+-- how far the numbers of a group are from the op
+abbrev apart_of : Header → ℕ
+apart_of h = (h.group - h.op) + (h.op - h.group) + (h.group_last - h.op) + (h.op - h.group_last)
+
+not_apart : (r : Result FileHeader Class) → number_in apart_of r ≡ 0
+not_apart (Ok h) = omega arith
+not_apart (Err class) = refl
+
+is_alone : (h : Header) → apart_of h ≤ 0 → IsAlone h
+is_alone h none = record { first = omega (arith, none); last = omega (arith, none) }
 
 -- in the first k slots the numbers are at most n
 abbrev pub SlotsWithin : (Header → ℕ) → ℕ → ℕ → List SlotSeen → Type 0
@@ -128,24 +139,34 @@ slots_more table k seen slot at is = record {
 then_iff : {A B C : Type 0} → A ↔ B → B ↔ C → A ↔ C
 then_iff one two = (λ a. two.0 (one.0 a), λ c. one.1 (two.1 c))
 
-pub slots_count : (table : List SlotSeen) (seen : Counters) (image : Units) → CountsSlots table (length table) seen → ShowsTable image table → CountsRings image seen
-slots_count table seen image is shows = record {
+pub slots_count : (table : List SlotSeen) (seen : Counters) (image : Units) (boot : ℕ) → boot ≡ 0 → CountsSlots table (length table) seen → ShowsTable image table → CountsRings image boot seen
+slots_count table seen image boot none is shows = record {
   ring_op = λ n. then_iff (is.ring_op n) (rings_within image table shows (λ h. h.op) n);
   checkpoint = λ n. then_iff (is.checkpoint n) (rings_within image table shows (λ h. h.checkpoint) n);
-  boot = (rings_within image table shows (λ h. h.boot) 0).0 (λ s seen less at. (omega (arith, no_boot seen.header), omega (arith, no_boot seen.prepare)));
+  boots = record {
+    header = λ s h shown. omega (arith, none, without.header s h shown);
+    prepare = λ s p shown. omega (arith, none, without.prepare s p shown);
+    alone = λ s p shown. is_alone p.header (together.prepare s p shown);
+  };
 }
+  where
+    without : RingsWithin image (λ h. h.boot) 0
+    without = (rings_within image table shows (λ h. h.boot) 0).0 (λ s seen less at. (omega (arith, no_boot seen.header), omega (arith, no_boot seen.prepare)))
+
+    together : RingsWithin image apart_of 0
+    together = (rings_within image table shows apart_of 0).0 (λ s seen less at. (omega (arith, not_apart seen.header), omega (arith, not_apart seen.prepare)))
 
 -- ---- what they say of a state
 
-pub up_to_date : (sh : Shape) (image : Units) (c : Content) (seen : Counters) → CountsAll image seen → IsUpToDate seen c.sequence c.op (slots sh) ↔ NotBehind sh image c
-up_to_date sh image c seen counts = (
+pub up_to_date : (sh : Shape) (image : Units) (c : Content) (seen : Counters) (boot : ℕ) → CountsAll image boot seen → boot ≤ c.boot → IsUpToDate seen c.sequence c.op (slots sh) ↔ NotBehind sh image c
+up_to_date sh image c seen boot counts low = (
   λ is.
       let op = (counts.ring_op (c.op + slots sh)).0 is.ring_op in
       let sequence = (counts.checkpoint c.sequence).0 is.checkpoint in
       record {
-        header = λ s h shown. (sequence.0.header s h shown, op.header s h shown, (let none = counts.boot.0.header s h shown in omega (arith, none)));
-        prepare = λ s p shown. (sequence.0.prepare s p shown, op.prepare s p shown, (let none = counts.boot.0.prepare s p shown in omega (arith, none)));
-        reply = λ k r shown. (sequence.1 k r shown, (let none = counts.boot.1 k r shown in omega (arith, none)));
+        header = λ s h shown. (sequence.0.header s h shown, op.header s h shown, (let own = counts.boots.0.header s h shown in omega (arith, own, low)));
+        prepare = λ s p shown. (sequence.0.prepare s p shown, op.prepare s p shown, (let own = counts.boots.0.prepare s p shown in omega (arith, own, low)));
+        reply = λ k r shown. (sequence.1 k r shown, (let own = counts.boots.1 k r shown in omega (arith, own, low)));
       },
   λ is. record {
     checkpoint = (counts.checkpoint c.sequence).1 (record { header = λ s h shown. (is.header s h shown).0; prepare = λ s p shown. (is.prepare s p shown).0 }, λ k r shown. (is.reply k r shown).0);
@@ -153,16 +174,16 @@ up_to_date sh image c seen counts = (
   },
 )
 
-pub complete : (image : Units) (c : Content) (head : ℕ) (seen : Counters) → CountsAll image seen → c.boot ≡ 0 → IsComplete seen c.head head ↔ NotLost image c head
-complete image c head seen counts boot = (
+pub complete : (image : Units) (c : Content) (head : ℕ) (seen : Counters) (one : ℕ) → CountsAll image one seen → c.boot ≡ one → IsComplete seen c.head head ↔ NotLost image c head
+complete image c head seen one counts boot = (
   λ is.
       let op = (counts.ring_op head).0 is.ring_op in
       let reply = (counts.reply_top head).0 is.reply_top in
       record { header = λ s h shown own. op.header s h shown; prepare = λ s p shown own. inl (op.prepare s p shown); superblock = is.superblock; reply = λ k r shown own. (reply.0 k r shown, reply.1 k r shown) },
   λ is.
-      let header : (s : ℕ) (h : Header) → image (HeaderPlace s) ≡ Some (HeaderUnit h) → h.op ≤ head = λ s h shown. is.header s h shown (let none = counts.boot.0.header s h shown in omega (arith, none, boot)) in
-      let prepare : (s : ℕ) (p : Message) → image (PreparePlace s) ≡ Some (PrepareUnit p) → p.header.op ≤ head = λ s p shown. let none = counts.boot.0.prepare s p shown in elim (is.prepare s p shown (omega (arith, none, boot))) [ inl below ↦ below | inr cut ↦ absurd (omega (arith, none, cut.boot)) ] in
-      let reply : (k : ℕ) (r : Message) → image (ReplyPlace k) ≡ Some (ReplyUnit r) → (r.header.op ≤ head) × (r.header.mark ≤ head) = λ k r shown. is.reply k r shown (let none = counts.boot.1 k r shown in omega (arith, none, boot)) in
+      let header : (s : ℕ) (h : Header) → image (HeaderPlace s) ≡ Some (HeaderUnit h) → h.op ≤ head = λ s h shown. is.header s h shown (counts.boots.0.header s h shown ∙ sym boot) in
+      let prepare : (s : ℕ) (p : Message) → image (PreparePlace s) ≡ Some (PrepareUnit p) → p.header.op ≤ head = λ s p shown. elim (is.prepare s p shown (counts.boots.0.prepare s p shown ∙ sym boot)) [ inl below ↦ below | inr cut ↦ let own = counts.boots.0.alone s p shown in absurd (omega (arith, own.first, own.last, cut.several)) ] in
+      let reply : (k : ℕ) (r : Message) → image (ReplyPlace k) ≡ Some (ReplyUnit r) → (r.header.op ≤ head) × (r.header.mark ≤ head) = λ k r shown. is.reply k r shown (counts.boots.1 k r shown ∙ sym boot) in
       record {
         ring_op = (counts.ring_op head).1 (record { header = header; prepare = prepare });
         reply_top = (counts.reply_top head).1 (λ k r shown. (reply k r shown).0, λ k r shown. (reply k r shown).1);
@@ -178,17 +199,17 @@ tells : {Bad Good N : Type 0} (b : Bool) → IsTrue b ↔ Bad → OnFalse b Good
 tells true found none iff apart = record { yes = (λ is n. apart (found.0 refl) (iff.1 n), λ no. refl); no = (λ is. absurd (cc), λ n. absurd (apart (found.0 refl) (iff.1 n))) }
 tells false found none iff apart = record { yes = (λ is. absurd (cc), λ no. absurd (no (iff.0 none))); no = (λ is. iff.0 none, λ n. refl) }
 
-pub behind_tells : (sh : Shape) (image : Units) (c : Content) (seen : Counters) (b : Bool) (sequence op slot_count : ℕ) → IsTrue b ↔ IsBehind seen sequence op slot_count → OnFalse b (IsUpToDate seen sequence op slot_count)
-    → CountsAll image seen → c.sequence ≡ sequence → c.op ≡ op → slots sh ≡ slot_count → Tells b (NotBehind sh image c)
-behind_tells sh image c seen b sequence op slot_count found none counts sequence_is op_is slots_are =
+pub behind_tells : (sh : Shape) (image : Units) (c : Content) (seen : Counters) (b : Bool) (boot sequence op slot_count : ℕ) → IsTrue b ↔ IsBehind seen sequence op slot_count → OnFalse b (IsUpToDate seen sequence op slot_count)
+    → CountsAll image boot seen → boot ≤ c.boot → c.sequence ≡ sequence → c.op ≡ op → slots sh ≡ slot_count → Tells b (NotBehind sh image c)
+behind_tells sh image c seen b boot sequence op slot_count found none counts low sequence_is op_is slots_are =
     let iff : IsUpToDate seen sequence op slot_count ↔ NotBehind sh image c =
-    subst (λ (k : ℕ). IsUpToDate seen k op slot_count ↔ NotBehind sh image c) sequence_is (subst (λ (k : ℕ). IsUpToDate seen c.sequence k slot_count ↔ NotBehind sh image c) op_is (subst (λ (k : ℕ). IsUpToDate seen c.sequence c.op k ↔ NotBehind sh image c) slots_are (up_to_date sh image c seen counts))) in
+    subst (λ (k : ℕ). IsUpToDate seen k op slot_count ↔ NotBehind sh image c) sequence_is (subst (λ (k : ℕ). IsUpToDate seen c.sequence k slot_count ↔ NotBehind sh image c) op_is (subst (λ (k : ℕ). IsUpToDate seen c.sequence c.op k ↔ NotBehind sh image c) slots_are (up_to_date sh image c seen boot counts low))) in
     tells b found none iff (λ bad good. elim bad [ inl later ↦ omega (arith, later, good.checkpoint) | inr further ↦ omega (arith, further, good.ring_op) ])
 
-pub lost_tells : (image : Units) (c : Content) (seen : Counters) (b : Bool) (superblock_head head : ℕ) → IsTrue b ↔ IsLost seen superblock_head head → OnFalse b (IsComplete seen superblock_head head)
-    → CountsAll image seen → c.boot ≡ 0 → c.head ≡ superblock_head → Tells b (NotLost image c head)
-lost_tells image c seen b superblock_head head found none counts boot is =
-    let iff : IsComplete seen superblock_head head ↔ NotLost image c head = subst (λ (k : ℕ). IsComplete seen k head ↔ NotLost image c head) is (complete image c head seen counts boot) in
+pub lost_tells : (image : Units) (c : Content) (seen : Counters) (b : Bool) (one superblock_head head : ℕ) → IsTrue b ↔ IsLost seen superblock_head head → OnFalse b (IsComplete seen superblock_head head)
+    → CountsAll image one seen → c.boot ≡ one → c.head ≡ superblock_head → Tells b (NotLost image c head)
+lost_tells image c seen b one superblock_head head found none counts boot is =
+    let iff : IsComplete seen superblock_head head ↔ NotLost image c head = subst (λ (k : ℕ). IsComplete seen k head ↔ NotLost image c head) is (complete image c head seen one counts boot) in
     tells b found none iff (λ bad good. elim bad [ inl ring ↦ omega (arith, ring, good.ring_op) | inr (inl reply) ↦ omega (arith, reply, good.reply_top) | inr (inr own) ↦ omega (arith, own, good.superblock) ])
 
 -- ---- turns of the loops, by what is read at an index

@@ -88,8 +88,9 @@ taken_check layout cluster s h (body, is) = unit_check layout cluster (place_in 
 
 -- the decision that is given on a slot
 pub decided_slot : (layout : Layout) (image : Units.Units) (scan : Scan) (slot op o : ℕ) (seen : SlotSeen) (d : Cases.Decision) → Tells layout image scan → slice_get scan.slots slot ≡ Some seen → IsOpOf (length scan.slots) scan.start.op slot op
-    → (HasChecks seen → d ≡ decision_on op seen) → IsOpOf layout.slots scan.start.op slot o → d ≡ Cases.decision layout.slots 0 image o
+    → (HasChecks seen → d ≡ decision_on op seen) → IsOpOf layout.slots scan.start.op slot o → d ≡ Cases.decision layout.slots scan.start.boot image o
 decided_slot layout image scan slot op o seen d tells at own is of =
     let same : op ≡ o = one_op layout.slots scan.start.op slot op o (subst (λ (n : ℕ). IsOpOf n scan.start.op slot op) tells.table.size own) of in
     is (slot_checks layout scan.start.cluster slot scan.slots seen tells.table at) ∙ ap (λ (k : ℕ). decision_on k seen) same
     ∙ sym (decision_is layout.slots o image seen (subst (λ (k : ℕ). ShowsSlot image k seen) (sym of.slot_is) (tells.shows.each slot seen at)))
+    ∙ ap (λ (b : ℕ). Cases.decision layout.slots b image o) (sym tells.version.boot)

@@ -3,6 +3,7 @@ pub mod Counted
 pub mod Decisions
 pub mod Moments
 pub mod Ops
+pub mod RingWrites
 pub mod Scans
 pub mod Walks
 pub mod Laws

@@ -1,7 +1,8 @@
 -- The moments of an append, and its end.
 use Rattle.std.specs.Prelude.{Result, Ok, Err, OnOk}
-use Rattle.std.proofs.Common.{◌≡◌, inl, inr, ℕ, ◌+◌, ◌*◌, ◌/◌, ◌%◌, ◌<◌, ◌≤◌, List, [], ◌∷◌, length, set, length-append, ◌==◌, Option, Some, None, refl, sym, ◌∙◌, ap, subst, arith}
+use Rattle.std.proofs.Common.{◌≡◌, inl, inr, ℕ, zero, suc, ◌+◌, ◌*◌, ◌/◌, ◌%◌, ◌<◌, ◌≤◌, List, [], ◌∷◌, take, length, set, length-append, ◌==◌, Option, Some, None, refl, sym, ◌∙◌, ap, subst, arith}
 use Rattle.std.specs.List.{slice_get}
+use Rattle.std.proofs.lemmas.Option.{same_Some}
 use Rattle.std.proofs.lemmas.Bool.{cases_eq, cond-false, cond-true, eq-eqb, ne_eqb}
 use Rattle.df_base.specs.declared.Failed.{Failed}
 use Rattle.df_base.specs.Image.{Image, IsImage, written}
@@ -15,12 +16,13 @@ use Rattle.df_layout.specs.declared.layout.Layout.{Layout}
 use Rattle.df_layout.specs.declared.places.Zone.TheVariants.{WalHeaders, WalPrepares}
 use Rattle.df_format.specs.declared.header.Header.{Header}
 use Rattle.df_format.specs.declared.kind.Kind.{Kind}
-use Rattle.df_format.specs.Message.{Message}
+use Rattle.df_format.specs.Message.{Message, sectors_end}
 use Rattle.df_format.specs.Own.{named_in_ring, place_in}
 use Rattle.df_format.specs.UnitLaws.{AreSixteen, headers_bytes}
 use Rattle.df_format.specs.Valid.{IsInSlot}
 use Rattle.df_format.specs.Brings.{Brings}
 use Rattle.df_format.proofs.Laws.{is_own, own_is, valid_belongs}
+use Rattle.df_buffers.specs.Sounds.{Holding}
 use Rattle.df_theory.specs.Units
 use Rattle.df_theory.specs.Units.{AnyUnit, HeaderPlace, HeaderUnit, PreparePlace, PrepareUnit, or_else}
 use Rattle.df_theory.specs.UnitLog.{put_one}
@@ -31,7 +33,7 @@ use Rattle.df_theory.specs.Found.{IsFound}
 use Rattle.df_theory.specs.Holds.{Held}
 use Rattle.df_theory.specs.Next.{appended}
 use Rattle.df_theory.specs.Shape.{slots}
-use Rattle.df_theory.specs.View.{Checkpoint, View, head}
+use Rattle.df_theory.specs.View.{Checkpoint, View, boot_of, head}
 use Rattle.df_theory.proofs.Laws.{clear_slot_law, found_law, slot_law}
 use Rattle.df_units.specs.Append.{LeadsOnDisk, append_events}
 use Rattle.df_units.specs.Bytes.{first_at, unit_at}
@@ -39,10 +41,10 @@ use Rattle.df_units.specs.Format.{format_of, shape_of}
 use Rattle.df_units.specs.Meaning.{header_of, message_of}
 use Rattle.df_units.specs.Puts.{IsNextSector, header_unit, put_headers}
 use Rattle.df_units.proofs.Laws.{all_added, append_on_disk, headers_put, of_places, part_moments, prepare_put}
-use Rattle.df_headers.specs.Ring.{IsHeader, IsTable, in_sector}
+use Rattle.df_headers.specs.Ring.{AreOfRing, IsHeader, IsTable, in_sector}
 use Rattle.df_headers.proofs.Laws.{sector_at, sector_has, set_cases, table_kept, table_written}
-use Rattle.df_prepares.specs.Slots.{IsInOwnSlot}
-use Rattle.df_journal.specs.Append.{EndsAppended, Leaves, MayAppendOn, OthersStay, ShowsRing, journal_steps, new_sector, with_header}
+use Rattle.df_prepares.specs.Slots.{IsInOwnSlot, slot_place}
+use Rattle.df_journal.specs.Append.{EndsAppended, Leaves, MayAppendOn, OthersStay, ShowsRing, journal_events, journal_steps, new_sector, with_header}
 
 -- the header of a prepare is valid in its slot of the header ring
 pub in_header_ring : (layout : Layout) (u : Message) → IsInOwnSlot layout u → IsHeader layout u.header.cluster u.header.slot u.header
@@ -110,12 +112,13 @@ stays layout cluster named parse image v u whole held same low high =
     let units = unit_at layout cluster image in
     let found : IsFound sh units u = (found_law sh units u).0 held in
     let version = found.checkpoint.tests.of.one found.checkpoint.tests.version in
+    let boot : boot_of u ≡ boot_of v = ap (λ (c : Checkpoint). c.content.boot) same in
     let places = of_places layout cluster named parse image whole in
     let op : u.checkpoint.content.op ≡ v.checkpoint.content.op = ap (λ (c : Checkpoint). c.content.op) same in
-    let slot : (o : ℕ) → v.checkpoint.content.op < o → o ≤ v.checkpoint.content.op + slots sh → (o ≤ head u → IsTake (decision (slots sh) 0 units o)) × (head u < o → IsEmpty (decision (slots sh) 0 units o)) = λ o above within.
+    let slot : (o : ℕ) → v.checkpoint.content.op < o → o ≤ v.checkpoint.content.op + slots sh → (o ≤ head u → IsTake (decision (slots sh) (boot_of v) units o)) × (head u < o → IsEmpty (decision (slots sh) (boot_of v) units o)) = λ o above within.
     let law = slot_law sh units u o places found (omega (arith, above, op)) (omega (arith, within, op)) in (
-      λ le. subst (λ (b : ℕ). IsTake (decision (slots sh) b units o)) version.0 (law.0 (omega (arith, version.1, above, op)) le),
-      λ less. subst (λ (b : ℕ). IsEmpty (decision (slots sh) b units o)) version.0 (clear_slot_law sh units u o places found version.0 less (omega (arith, within, op))),
+      λ le. subst (λ (b : ℕ). IsTake (decision (slots sh) b units o)) boot (law.0 (omega (arith, version.1, above, op)) le),
+      λ less. subst (λ (b : ℕ). IsEmpty (decision (slots sh) b units o)) boot (clear_slot_law sh units u o places found version.0 less (omega (arith, within, op))),
     ) in
     record {
       taken = λ o above le. (slot o above (omega (arith, le, low, op, found.tail.room))).0 (omega (arith, le, low));
@@ -195,3 +198,27 @@ module _ (layout : Layout) (u : Message) (table : List Header) (t : Told) (may :
   pub ends_appended : (after : Told) (new : List Header) (result : Result Unit Failed) → Adds events (Some t) (Some after) result → OnOk result (new ≡ with_header u table) → OnOk result (EndsAppended layout u table t may after new)
   ends_appended after new (Ok done) all same = append_ends after new all same
   ends_appended after new (Err failed) all same = tt
+
+-- ---- of what a disk told
+
+-- the sector of a prepare's header is one of the ring
+pub sector_of_ring : (layout room : Layout) (u : Message) (h : Header) → room ≡ layout → h ≡ u.header → IsInOwnSlot layout u → AreOfRing room (h.slot / 16 ∷ [])
+sector_of_ring layout room u h here same own zero sector at =
+    subst (λ (n : ℕ). n < room.slots / 16) (same_Some _ _ at) (omega (arith, sector_inside layout u own, ap (λ (x : Header). x.slot) same, ap (λ (l : Layout). l.slots) here))
+sector_of_ring layout room u h here same own (suc i) sector at = absurd (cc)
+
+module _ (layout : Layout) (held : Holding) (table : List Header) (own : IsInOwnSlot layout held.unit) (is : IsTable layout held.unit.header.cluster table) (brings : Brings layout held.unit.header.cluster (slot_place held.unit.header.slot) held.unit (take (sectors_end held.unit.header.size) held.bytes)) (old new : Option Told) where
+  pub moments_of : AddsPart (journal_events layout held table) old new → (before after : Told) → old ≡ Some before → new ≡ Some after → (may : MayAppendOn layout held.unit table before) → EachMoment before.log after.log (Leaves layout held.unit table before may)
+  moments_of part before after first last may =
+      append_moments layout held.unit table before may own is _ brings after
+      (subst (λ (o : Option Told). AddsPart (journal_events layout held table) o (Some after)) first (subst (λ (o : Option Told). AddsPart (journal_events layout held table) old o) last part))
+
+  pub ends_of : (made : List Header) (result : Result Unit Failed) → Adds (journal_events layout held table) old new result → made ≡ with_header held.unit table → (before after : Told) → old ≡ Some before → new ≡ Some after
+      → (may : MayAppendOn layout held.unit table before) → OnOk result (EndsAppended layout held.unit table before may after made)
+  ends_of made result adds same before after first last may =
+      ends_appended layout held.unit table before may own is _ brings after made result
+      (subst (λ (o : Option Told). Adds (journal_events layout held table) o (Some after) result) first (subst (λ (o : Option Told). Adds (journal_events layout held table) old o result) last adds)) (whole result)
+    where
+      whole : (r : Result Unit Failed) → OnOk r (made ≡ with_header held.unit table)
+      whole (Ok done) = same
+      whole (Err failed) = tt

@@ -1,5 +1,5 @@
 -- What is read of the rings is what they show.
-use Rattle.std.proofs.Common.{◌≡◌, ◌≢◌, inl, inr, ℕ, zero, suc, ◌+◌, ◌*◌, ◌/◌, ◌%◌, ◌<◌, ◌≤◌, List, [], ◌∷◌, length, set, Option, Some, None, refl, sym, ◌∙◌, ap, subst, arith}
+use Rattle.std.proofs.Common.{◌≡◌, inl, inr, ℕ, ◌+◌, ◌*◌, ◌/◌, ◌%◌, ◌<◌, ◌≤◌, List, length, set, Option, Some, None, refl, sym, ◌∙◌, ap, subst, arith}
 use Rattle.std.specs.List.{slice_get}
 use Rattle.std.proofs.lemmas.Bool.{cases_eq}
 use Rattle.std.proofs.lemmas.Option.{slice_get_cases, slice_get_within}
@@ -113,7 +113,7 @@ none_past layout cluster s image past = (headers (unit_at layout cluster image (
     prepares (Some u) is = let has : s < layout.slots = (shown_belongs layout cluster image (place_in WalPrepares s) u is).has in absurd (omega arith)
 
 pub scanned_shown : ScannedIsShown
-scanned_shown layout t scan is = record { table = is.is_table; shows = shows }
+scanned_shown layout t scan one is = record { version = one; table = is.is_table; shows = shows }
   where
     cluster : ℕ
     cluster = scan.start.cluster

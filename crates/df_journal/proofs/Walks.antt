@@ -24,7 +24,9 @@ use Rattle.df_theory.specs.GroupLaws.{WalksAlone}
 use Rattle.df_theory.proofs.Laws.{alone_law, chain_append, last_mark-append, sessions-append, in_either, in_single}
 use Rattle.df_units.specs.Meaning.{header_of, number_of}
 use Rattle.df_buffers.specs.declared.slots.SlotSeen.{SlotSeen}
+use Rattle.df_journal.specs.declared.table.Start.{Start}
 use Rattle.df_journal.specs.declared.tail.Tail.{Tail}
+use Rattle.df_journal.specs.Scan.{IsOfVersionOne}
 use Rattle.df_journal.specs.Seen.{IsTaken, decision_on}
 use Rattle.df_journal.specs.Shows.{IsTable, ShowsPrepare, ShowsTable}
 use Rattle.df_journal.specs.Tail.{AreNumbered, AreUnstored, EndsAt, FindsTail, IsNext, StartsAt, tail_to}
@@ -47,8 +49,8 @@ pub record IsWalk (layout : Layout) (image : Units.Units) (b : Checkpoint) (last
   pub alone : (p : Units.Message) → In p ps → IsAlone p.header
   pub ends : EndsAt b ps last sessions
 
-pub walk_none : (layout : Layout) (image : Units.Units) (sh : Shape) (b : Checkpoint) (op : ℕ) (checksum : List ℕ) (sessions : List Session) → StartsAt sh b layout op checksum sessions → IsWalk layout image b (record { op = op; checksum = checksum; mark = 0 }) sessions
-walk_none layout image sh b op checksum sessions starts = record {
+pub walk_none : (layout : Layout) (image : Units.Units) (sh : Shape) (b : Checkpoint) (start : Start) (checksum : List ℕ) (sessions : List Session) → StartsAt sh b layout start checksum sessions → IsWalk layout image b (record { op = start.op; checksum = checksum; mark = 0 }) sessions
+walk_none layout image sh b start checksum sessions starts = record {
   ps = [];
   chain = tt;
   takes = λ p none. absurd none;
@@ -164,18 +166,21 @@ module _ (layout : Layout) (cluster : ℕ) (table : List SlotSeen) (image : Unit
         };
       }
 
-  pub walk_ends : (sh : Shape) (b : Checkpoint) (op : ℕ) (checksum : List ℕ) (first : List Session) (last : Tail) (sessions : List Session) → StartsAt sh b layout op checksum first → IsWalk layout image b last sessions → last.op ≤ op + layout.slots
-      → ((h : Header) → last.op < op + layout.slots → IsNext layout table last sessions h → ⊥) → FindsTail sh image b last sessions
-  walk_ends sh b op checksum first last sessions starts walk within none = record { tail = walk.ps; is = ended.0; reach = ended.1; ends = walk.ends }
+  pub walk_ends : (sh : Shape) (b : Checkpoint) (start : Start) (checksum : List ℕ) (first : List Session) (last : Tail) (sessions : List Session) → IsOfVersionOne start → StartsAt sh b layout start checksum first → IsWalk layout image b last sessions → last.op ≤ start.op + layout.slots
+      → ((h : Header) → last.op < start.op + layout.slots → IsNext layout table last sessions h → ⊥) → FindsTail sh image b last sessions
+  walk_ends sh b start checksum first last sessions one starts walk within none = record { tail = walk.ps; is = ended.0; reach = ended.1; ends = walk.ends }
     where
+      pin : b.content.pin ≡ b.content.op
+      pin = starts.pin ∙ one.head ∙ sym starts.op_is
+
       none_pinned : b.content.pin - b.content.op ≡ 0
-      none_pinned = omega (arith, starts.pin)
+      none_pinned = omega (arith, pin)
 
       longest : (p : Units.Message) → length walk.ps < slots sh → Cases.Takes (slots sh) image b.content p
           → Fits (clients sh) (b.content.op + 1 + length walk.ps) (last_checksum b.content.op_checksum walk.ps) (last_mark 0 walk.ps) (sessions_after b.parts.sessions walk.ps) p.header → ⊥
       longest p room takes fits =
           let next : p.header.op ≡ last.op + 1 = omega (arith, fits.op_is, walk.ends.op) in
-          let taken : TakenOf (last.op + 1) p = shown_taken b.content (last.op + 1) p starts.boot (omega (arith, starts.pin, fits.op_is)) next (subst (λ (n : ℕ). Cases.Takes n image b.content p) starts.slots_are takes) in
+          let taken : TakenOf (last.op + 1) p = shown_taken b.content (last.op + 1) p (starts.boot ∙ one.boot) (omega (arith, pin, fits.op_is)) next (subst (λ (n : ℕ). Cases.Takes n image b.content p) starts.slots_are takes) in
           let here : Fits layout.clients (b.content.op + 1 + length walk.ps) (last_checksum b.content.op_checksum walk.ps) (last_mark 0 walk.ps) (sessions_after b.parts.sessions walk.ps) p.header =
           subst (λ (n : ℕ). Fits n (b.content.op + 1 + length walk.ps) (last_checksum b.content.op_checksum walk.ps) (last_mark 0 walk.ps) (sessions_after b.parts.sessions walk.ps) p.header) starts.clients_are fits in
           none taken.header (omega (arith, room, walk.ends.op, starts.op_is, starts.slots_are)) (record {
@@ -191,7 +196,7 @@ module _ (layout : Layout) (cluster : ℕ) (table : List SlotSeen) (image : Unit
         chain = subst (λ (n : ℕ). Chain n (b.content.op + 1) b.content.op_checksum 0 b.parts.sessions walk.ps) (sym starts.clients_are) walk.chain;
         takes = λ p at. subst (λ (n : ℕ). Cases.Takes n image b.content p) (sym starts.slots_are) (walk.takes p at);
         room = omega (arith, within, walk.ends.op, starts.op_is, starts.slots_are);
-        reaches = omega (arith, starts.pin);
+        reaches = omega (arith, pin);
         pinned = ap (λ (n : ℕ). last_checksum b.content.op_checksum (take n walk.ps)) none_pinned ∙ sym starts.pin_checksum;
         longest = longest;
       }

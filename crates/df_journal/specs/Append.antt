@@ -1,29 +1,27 @@
--- An append: its device calls, what they are in the words of the model, and what a stop at any moment of it leaves.
-use Rattle.std.specs.Prelude.{◌≡◌, ◌<◌, ◌≤◌, ◌+◌, ◌/◌, ℕ, List, [], ◌∷◌, take, slice_get, slice_set, Option, Some}
+-- An append, which is a put and a settling: its device calls, what they are in the words of the theory, and what a stop at any moment of it leaves.
+use Rattle.std.specs.Prelude.{◌≡◌, ◌<◌, ◌≤◌, ◌+◌, ◌/◌, ℕ, List, [], ◌∷◌, ◌++◌, slice_get, slice_set, Option, Some}
 use Rattle.df_base.specs.Image.{Image}
 use Rattle.df_base.specs.Log
-use Rattle.df_base.specs.Log.{Event, IsLeft, IsLog}
+use Rattle.df_base.specs.Log.{Event, IsLeft, IsLog, Sync}
 use Rattle.df_disk.specs.Told.{Told}
 use Rattle.df_layout.specs.declared.layout.Layout.{Layout}
 use Rattle.df_format.specs.declared.header.Header.{Header}
-use Rattle.df_format.specs.Message.{Message, sectors_end}
+use Rattle.df_format.specs.Message.{Message}
 use Rattle.df_buffers.specs.Sounds.{Holding}
 use Rattle.df_theory.specs.Units
-use Rattle.df_theory.specs.Units.{HeaderPlace, HeaderUnit, PreparePlace, PrepareUnit}
+use Rattle.df_theory.specs.Units.{HeaderPlace, HeaderUnit}
 use Rattle.df_theory.specs.Cases.{IsEmpty, IsTake, decision}
 use Rattle.df_theory.specs.Device.{IsGoodDisk, NoChanceOf, units_log}
 use Rattle.df_theory.specs.Next.{MayAppend, appended}
-use Rattle.df_theory.specs.Runs.{Puts, Step, Syncs}
+use Rattle.df_theory.specs.Runs.{Step, Syncs}
 use Rattle.df_theory.specs.Shape.{Shape, slots}
 use Rattle.df_theory.specs.TidyLaws.{IsTidy}
-use Rattle.df_theory.specs.UnitLog.{put_one}
-use Rattle.df_theory.specs.View.{View, head}
+use Rattle.df_theory.specs.View.{View, boot_of, head}
 use Rattle.df_units.specs.Meaning.{header_of, message_of}
-use Rattle.df_units.specs.Append.{append_events}
 use Rattle.df_units.specs.Bytes.{unit_at}
 use Rattle.df_units.specs.Format.{format_of, shape_of}
-use Rattle.df_units.specs.Puts.{put_headers}
-use Rattle.df_headers.specs.Ring.{in_sector}
+use Rattle.df_headers.specs.Ring.{in_sector, sector_writes, write_steps}
+use Rattle.df_prepares.specs.Slots.{put_events, put_steps}
 
 -- the table with the header of a prepare in its slot
 abbrev pub with_header : Message → List Header → List Header
@@ -33,14 +31,21 @@ with_header u table = slice_set table u.header.slot u.header
 abbrev pub new_sector : Message → List Header → List Header
 new_sector u table = in_sector (u.header.slot / 16) (with_header u table)
 
--- the device calls: the prepare's sectors, a sync, the header sector, a sync
-abbrev pub journal_events : Layout → Holding → List Header → List Event
-journal_events layout held table =
-    append_events layout held.unit.header.slot (take (sectors_end held.unit.header.size) held.bytes) (held.unit.header.slot / 16) (new_sector held.unit table)
+-- the device calls of a settling: a sync, which makes durable what was put, each of these sectors of the table, and a sync
+abbrev pub settle_events : Layout → List Header → List ℕ → List Event
+settle_events layout table sectors = Sync ∷ (sector_writes layout table sectors ++ Sync ∷ [])
 
--- in the words of the model
+-- in the words of the theory
+abbrev pub settle_steps : List Header → List ℕ → List Step
+settle_steps table sectors = Syncs ∷ (write_steps table sectors ++ Syncs ∷ [])
+
+-- the device calls of an append: the prepare is put, and the sector of its header is settled
+abbrev pub journal_events : Layout → Holding → List Header → List Event
+journal_events layout held table = put_events layout held ++ settle_events layout (with_header held.unit table) (held.unit.header.slot / 16 ∷ [])
+
+-- in the words of the theory
 abbrev pub journal_steps : Message → List Header → List Step
-journal_steps u table = Puts (put_one (PreparePlace u.header.slot) (PrepareUnit (message_of u))) ∷ Syncs ∷ Puts (put_headers (u.header.slot / 16) (new_sector u table)) ∷ Syncs ∷ []
+journal_steps u table = put_steps u ++ settle_steps (with_header u table) (u.header.slot / 16 ∷ [])
 
 -- the header ring of an image shows the table
 abbrev pub ShowsRing : Layout → ℕ → Image → List Header → Type 0
@@ -56,10 +61,10 @@ pub record MayAppendOn (layout : Layout) (u : Message) (table : List Header) (t 
   pub may : MayAppend (shape_of layout u.header.cluster named parse) view (message_of u ∷ [])
   pub ring : ShowsRing layout u.header.cluster (Log.now t.log) table
 
--- every slot but that of the next op stays taken or stays empty; what is to be mended may change
+-- in the view's boot every slot but that of the next op stays taken or stays empty; what is to be mended may change
 pub record OthersStay (sh : Shape) (image : Units.Units) (v : View) : Type 0 where
-  pub taken : (o : ℕ) → v.checkpoint.content.op < o → o ≤ head v → IsTake (decision (slots sh) 0 image o)
-  pub empty : (o : ℕ) → head v + 1 < o → o ≤ v.checkpoint.content.op + slots sh → IsEmpty (decision (slots sh) 0 image o)
+  pub taken : (o : ℕ) → v.checkpoint.content.op < o → o ≤ head v → IsTake (decision (slots sh) (boot_of v) image o)
+  pub empty : (o : ℕ) → head v + 1 < o → o ≤ v.checkpoint.content.op + slots sh → IsEmpty (decision (slots sh) (boot_of v) image o)
 
 -- at a moment of the append the log is good for the view before it and the one behind it, and in whatever a stop leaves, under no chance, every other slot stays taken or stays empty
 pub record Leaves (layout : Layout) (u : Message) (table : List Header) (t : Told) (may : MayAppendOn layout u table t) (log : Log.Log) : Type 0 where

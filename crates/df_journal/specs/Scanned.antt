@@ -10,7 +10,7 @@ use Rattle.df_format.specs.Shown.{class_at}
 use Rattle.df_units.specs.Bytes
 use Rattle.df_buffers.specs.declared.slots.SlotSeen.{SlotSeen}
 use Rattle.df_places.specs.Units.{header_at}
-use Rattle.df_journal.specs.Scan.{Scan, entry}
+use Rattle.df_journal.specs.Scan.{IsOfVersionOne, Scan, entry}
 use Rattle.df_journal.specs.Seen.{class_of}
 use Rattle.df_journal.specs.Shows.{IsSlot, IsTable, Tells}
 
@@ -37,9 +37,9 @@ pub record IsScanned (layout : Layout) (told : Option Told) (scan : Scan) : Type
 abbrev pub header_first : Layout → ℕ → ℕ
 header_first layout slot = (span_of layout (place_in WalHeaders slot)).first
 
--- a table that was scanned says what the image shows, in the words of the model
+-- a table that was scanned says what the image shows, in the words of the theory; of a file of version 1
 abbrev pub ScannedIsShown : Type 0
-ScannedIsShown = (layout : Layout) (t : Told) (scan : Scan) → IsScanned layout (Some t) scan → Tells layout (Bytes.unit_at layout scan.start.cluster t.shown) scan
+ScannedIsShown = (layout : Layout) (t : Told) (scan : Scan) → IsOfVersionOne scan.start → IsScanned layout (Some t) scan → Tells layout (Bytes.unit_at layout scan.start.cluster t.shown) scan
 
 -- and its classes of a slot, where another unit is wanted, are the image's
 abbrev pub ClassIsShown : Type 0

@@ -14,6 +14,7 @@ use Rattle.df_theory.specs.View.{Checkpoint}
 use Rattle.df_theory.specs.Found
 use Rattle.df_units.specs.Meaning.{header_of, number_of}
 use Rattle.df_buffers.specs.declared.slots.SlotSeen.{SlotSeen}
+use Rattle.df_journal.specs.declared.table.Start.{Start}
 use Rattle.df_journal.specs.declared.tail.Tail.{Tail}
 use Rattle.df_journal.specs.Seen.{IsTaken}
 
@@ -21,14 +22,14 @@ use Rattle.df_journal.specs.Seen.{IsTaken}
 abbrev pub tail_to : Header → Tail
 tail_to h = record { op = h.op; checksum = h.checksum; mark = h.mark }
 
--- the checkpoint that the search starts from, of a file of version 1: it names no prepare beside its own
-pub record StartsAt (sh : Shape) (b : Checkpoint) (layout : Layout) (op : ℕ) (checksum : List ℕ) (sessions : List Session) : Type 0 where
+-- the checkpoint that the search starts from; its superblock names its own prepare last
+pub record StartsAt (sh : Shape) (b : Checkpoint) (layout : Layout) (start : Start) (checksum : List ℕ) (sessions : List Session) : Type 0 where
   pub slots_are : slots sh ≡ layout.slots
   pub clients_are : clients sh ≡ layout.clients
-  pub op_is : b.content.op ≡ op
+  pub op_is : b.content.op ≡ start.op
   pub checksum_is : b.content.op_checksum ≡ number_of checksum
-  pub boot : b.content.boot ≡ 0
-  pub pin : b.content.pin ≡ b.content.op
+  pub boot : b.content.boot ≡ start.boot
+  pub pin : b.content.pin ≡ start.head
   pub pin_checksum : b.content.pin_checksum ≡ b.content.op_checksum
   pub sessions_are : b.parts.sessions ≡ sessions_of sessions
 

@@ -1,49 +1,40 @@
-// The append of a prepare with its header: the prepare is durable before its header sector is written, so that a header
-// never stands before its prepare.
-ghost use Rattle.std.specs.Prelude.{◌≡◌, Some, take, OnOk};
-ghost use Rattle.df_base.specs.Causes.{HasCause};
-ghost use Rattle.df_base.specs.Moments.{EachMoment};
-ghost use Rattle.df_disk.specs.Told.{Told};
-ghost use Rattle.df_disk.specs.Adds.{Adds};
-ghost use Rattle.df_format.specs.Brings.{Brings};
-ghost use Rattle.df_format.specs.Message.{sectors_end};
-ghost use Rattle.df_prepares.specs.Slots.{IsInOwnSlot, slot_place};
-ghost use Rattle.df_theory.specs.Device.{AreSteps};
-ghost use Rattle.df_units.specs.Format.{format_of};
-ghost use Rattle.df_headers.specs.Ring.{IsTable};
+// The append of a prepare with its header: the prepare is put and its header noted in the table, and then both are settled. The
+// prepare is durable before its header sector is written, so that a header never stands before its prepare.
+ghost use Rattle.std.specs.Prelude.{◌≡◌, Some, take, OnErr, OnOk};
+ghost use Rattle.df_journal.specs.Below.{HasCause, EachMoment, Told, Adds, Brings, sectors_end, IsInOwnSlot, put_events, put_steps, slot_place, AreSteps, format_of, IsTable};
 ghost use Rattle.df_journal.specs.Append.{EndsAppended, Leaves, MayAppendOn, journal_events, journal_steps, with_header};
 
+use crate::settling::settle;
 use df_base::Failed;
 use df_buffers::{HeaderSector, Prepare, Raw, Sound};
 use df_disk::Disk;
 use df_headers::HeaderTable;
 use df_layout::{Layout, SECTOR_HEADERS};
-use df_prepares::write_prepare;
+use df_prepares::put_prepare;
 
-// Writes the prepare, syncs, writes its header sector from the table, which has the new header by then, and syncs.
-fn write_both<D: Disk>(
+/// Writes a prepare into its slot and puts its header into the table, without a sync: until the prepare is settled, its slot may
+/// hold anything once the machine stops. After an error the table is as before.
+pub fn put<D: Disk>(
     disk: &mut D,
     layout: &Layout,
     unit: &Sound<Prepare>,
     table: &mut HeaderTable,
-    room: &mut Raw<HeaderSector>,
 ) -> Result<(), Failed>
     requires layout { unit.now.layout ≡ layout.now }
     requires table { IsTable layout.now unit.now.unit.header.cluster table.old }
-    requires room { room.old.layout ≡ layout.now }
-    ensures events { Adds (journal_events layout.now unit.now table.old) (D.told disk.old) (D.told disk.new) result }
+    ensures events { Adds (put_events layout.now unit.now) (D.told disk.old) (D.told disk.new) result }
+    ensures steps { AreSteps (format_of layout.now unit.now.unit.header.cluster) (put_events layout.now unit.now) (put_steps unit.now.unit) }
+    ensures table { OnOk result (table.new ≡ with_header unit.now.unit table.old) }
+    ensures kept { OnErr result (table.new ≡ table.old) }
+    ensures valid { IsTable layout.now unit.now.unit.header.cluster table.new }
     ensures own { IsInOwnSlot layout.now unit.now.unit }
     ensures brings { Brings layout.now unit.now.unit.header.cluster (slot_place unit.now.unit.header.slot) unit.now.unit (take (sectors_end unit.now.unit.header.size) unit.now.bytes) }
-    ensures table { OnOk result (table.new ≡ with_header unit.now.unit table.old) }
-    ensures valid { IsTable layout.now unit.now.unit.header.cluster table.new }
-    ensures room { room.new.layout ≡ layout.now }
     ensures cause { HasCause (D.faults disk.old) (D.faults disk.new) result }
 {
-    write_prepare(disk, layout, unit)?;
+    put_prepare(disk, layout, unit)?;
     let header = *unit.header();
     table.set(header.slot, header);
-    table.write_sector(disk, room, header.slot / SECTOR_HEADERS)?;
-    disk.sync()
+    Ok(())
 }
 
 /// Puts a prepare into its slot and its header into the table, and makes both durable: the prepare, a sync, the header
@@ -71,5 +62,7 @@ pub fn append<D: Disk>(
     ensures own { IsInOwnSlot layout.now unit.now.unit }
     ensures cause { HasCause (D.faults disk.old) (D.faults disk.new) result }
 {
-    write_both(disk, layout, unit, table, room)
+    put(disk, layout, unit, table)?;
+    let sectors = [unit.header().slot / SECTOR_HEADERS];
+    settle(disk, table, room, &sectors)
 }

@@ -1,10 +1,6 @@
 // Whether a prepare fits what precedes it.
 ghost use Rattle.std.specs.Prelude.{◌≡◌, ◌↔◌, ◌<◌, ◌≤◌, ◌+◌, IsTrue};
-ghost use Rattle.df_format.specs.Spelling.{IsCheck};
-ghost use Rattle.df_sessions.specs.Requests.{sessions_of};
-ghost use Rattle.df_theory.specs.Sessions.{MayAsk};
-ghost use Rattle.df_theory.specs.Tails.{Fits};
-ghost use Rattle.df_units.specs.Meaning.{header_of, number_of};
+ghost use Rattle.df_journal.specs.Below.{IsCheck, sessions_of, MayAsk, Fits, header_of, number_of};
 
 use crate::Tail;
 use df_format::Header;

@@ -1,5 +1,5 @@
 //! The journal: what recovery sees in the two rings and decides of each slot, the tail that it finds there, and the append of a
-//! prepare with its header.
+//! prepare with its header: a put, and a settling of what was put.
 #![tactic(auto)]
 
 mod appends;
@@ -7,11 +7,13 @@ mod counts;
 mod fits;
 mod reads;
 mod seen;
+mod settling;
 mod table;
 mod tail;
 
-pub use appends::append;
+pub use appends::{append, put};
 pub use counts::{count_rings, is_behind, is_lost};
 pub use reads::{scan, scanned_is_shown};
+pub use settling::settle;
 pub use table::{SlotTable, Start};
 pub use tail::{Tail, find_tail, slot_behind};

@@ -1,11 +1,6 @@
 // The scan: each sector of the header ring and each slot of the ring of prepares is read once, into one room each.
 ghost use Rattle.std.specs.Prelude.{◌≡◌, ◌<◌, ◌≤◌, ◌+◌, ◌%◌, ◌^◌, length, IfOk, OnOk};
-ghost use Rattle.df_base.specs.Causes.{HasCause};
-ghost use Rattle.df_disk.specs.Told.{Shows};
-ghost use Rattle.df_layout.specs.declared.places.Zone.TheVariants.{WalHeaders};
-ghost use Rattle.df_format.specs.Own.{place_in};
-ghost use Rattle.df_format.specs.Shown.{class_of, header_or_class, unit_in};
-ghost use Rattle.df_buffers.specs.Rooms.{header_bytes};
+ghost use Rattle.df_journal.specs.Below.{HasCause, Shows, WalHeaders, place_in, class_of, header_or_class, unit_in, header_bytes};
 ghost use Rattle.df_journal.specs.Shows.{IsHeaderThere, IsSlot};
 ghost use Rattle.df_journal.specs.Scanned.{AreSeen, ClassIsShown, IsScanned, IsSeen, ScannedIsShown, header_first};
 

@@ -1,7 +1,6 @@
 // What is decided of a slot where an op is wanted there.
 ghost use Rattle.std.specs.Prelude.{◌≡◌, ◌↔◌, IsTrue};
-ghost use Rattle.df_theory.specs.Cases.{IsTake};
-ghost use Rattle.df_cases.specs.Cases.{HasCheck, decision_of, seen_of};
+ghost use Rattle.df_journal.specs.Below.{IsTake, HasCheck, decision_of, seen_of};
 ghost use Rattle.df_journal.specs.Seen.{decision_on, seen_in, HasChecks, IsOfCheck, TakesNow};
 
 use df_buffers::SlotSeen;

@@ -1,9 +1,6 @@
 // The table of slots: what the two rings show, slot by slot, and what is decided of each.
 ghost use Rattle.std.specs.Prelude.{◌≡◌, ◌<◌, ◌≤◌, ◌^◌, ℕ, length, slice_get};
-ghost use Rattle.df_layout.specs.declared.layout.Layout.{Layout as AnyLayout};
-ghost use Rattle.df_theory.specs.Units.{Units};
-ghost use Rattle.df_theory.specs.Cases.{decision as decided};
-ghost use Rattle.df_cases.specs.Cases.{decision_of};
+ghost use Rattle.df_journal.specs.Below.{Layout as AnyLayout, Units, decision as decided, decision_of};
 ghost use Rattle.df_journal.specs.Scan.{entry, with_slot};
 ghost use Rattle.df_journal.specs.Seen.{IsOpOf, class_of, header_of_seen};
 ghost use Rattle.df_journal.specs.Shows.{Tells};
@@ -15,11 +12,14 @@ use df_format::Header;
 use df_layout::Class;
 use std::marker::Model;
 
-/// The file and the checkpoint that a scan starts from: its op is at most 2^62.
+/// The file and the superblock that a scan starts from: the op of its checkpoint, at most 2^62, the head that it names, and its
+/// boot. Of a file of version 1 the head is the checkpoint's op, and the boot 0.
 #[derive(Clone, Copy, Debug, PartialEq, Eq)]
 pub struct Start {
     pub cluster: u128,
     pub op: u64,
+    pub head: u64,
+    pub boot: u64,
 }
 
 /// What a scan saw of each slot, behind the checkpoint that it started from. Before the first scan it holds any entries.
@@ -79,7 +79,12 @@ impl SlotTable {
         ensures { result.slots ≡ room.items }
     {
         SlotTable {
-            start: Start { cluster: 0, op: 0 },
+            start: Start {
+                cluster: 0,
+                op: 0,
+                head: 0,
+                boot: 0,
+            },
             slots: room,
         }
     }
@@ -113,7 +118,7 @@ impl SlotTable {
     pub fn decision(&self, slot: u32) -> Decision
         requires { slot < length self.now.slots }
         ensures model { (layout : AnyLayout) (image : Units) (o : ℕ) → Tells layout image self.now → IsOpOf layout.slots self.now.start.op slot o
-            → decision_of result ≡ decided layout.slots 0 image o }
+            → decision_of result ≡ decided layout.slots self.now.start.boot image o }
     {
         let op = op_of(
             self.slots.as_slice().len() as u64,

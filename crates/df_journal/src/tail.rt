@@ -1,11 +1,6 @@
 // The tail: the longest list of taken prepares behind the checkpoint, each of which fits what precedes it.
 ghost use Rattle.std.specs.Prelude.{◌≡◌, ◌≤◌, ◌<◌, ◌+◌, ◌^◌, List, [], IfSome};
-ghost use Rattle.df_format.specs.Spelling.{IsCheck};
-ghost use Rattle.df_sessions.specs.declared.session.Session.{Session};
-ghost use Rattle.df_theory.specs.Units.{Message, Units};
-ghost use Rattle.df_theory.specs.Shape.{Shape, slots};
-ghost use Rattle.df_theory.specs.Found.{slot_behind as blamed};
-ghost use Rattle.df_theory.specs.View.{Checkpoint};
+ghost use Rattle.df_journal.specs.Below.{IsCheck, Session, Message, Units, Shape, slots, slot_behind as blamed, Checkpoint};
 ghost use Rattle.df_journal.specs.Shows.{IsTable, Tells};
 ghost use Rattle.df_journal.specs.Tail.{AreNumbered, AreUnstored, EndsAt, FindsTail, GoesOn, IsSound, StartsAt, tail_to};
 
@@ -83,7 +78,7 @@ pub fn find_tail(
     requires checksum { IsCheck checksum.now }
     requires places { sessions.old.max ≡ layout.now.clients }
     ensures tail { (sh : Shape) (image : Units) (b : Checkpoint) → Tells layout.now image found.now
-        → StartsAt sh b layout.now found.now.start.op checksum.now sessions.old.sessions → FindsTail sh image b result sessions.new.sessions }
+        → StartsAt sh b layout.now found.now.start checksum.now sessions.old.sessions → FindsTail sh image b result sessions.new.sessions }
     ensures from { found.now.start.op ≤ result.op }
     ensures within { result.op ≤ found.now.start.op + layout.now.slots }
     ensures most { result.op ≤ 2 ^ 62 }

@@ -9,7 +9,7 @@ use Rattle.df_replica.specs.Below.{State as Replica, DataFile}
 use Rattle.df_replica.specs.HeldBlocks.{AreInputs}
 use Rattle.df_replica.specs.Serving.{Grade, next}
 use Rattle.df_replica.specs.Session.{Act, HasView, HoldsSome, answers_of, work_after}
-use Rattle.df_top.specs.Session.{AreCalls, EndsCalls, list_of}
+use Rattle.df_session.specs.Links.{AreCalls, EndsCalls, list_of}
 
 -- ---- what they were supplied with
 

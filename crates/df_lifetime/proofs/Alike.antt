@@ -15,7 +15,7 @@ use Rattle.df_model.specs.Work.{opened}
 use Rattle.df_replica.specs.Below.{DataFile, IsOpened, State as Replica, memory, shape, spelling}
 use Rattle.df_replica.specs.Reading.{shown_of}
 use Rattle.df_replica.proofs.Laws.{one_super, same_file}
-use Rattle.df_result.specs.Agreeing.{AgreeShown}
+use Rattle.df_session.specs.Below.{AgreeShown}
 use Rattle.df_top.specs.OneText.{ShowSame}
 
 module _ (layout : Layout) (a b : Image) (same : ShowSame layout a b) where

@@ -11,8 +11,9 @@ use Rattle.df_replica.specs.Following.{MayOpen}
 use Rattle.df_replica.specs.Serving.{Grade, StandsFor}
 use Rattle.df_replica.specs.Session.{Act}
 use Rattle.df_replica.proofs.Laws.{added_is_told}
-use Rattle.df_top.specs.Acknowledging.{CallsMade, KeepsAnswered}
-use Rattle.df_top.specs.Keeping.{KeepsFile, over}
+use Rattle.df_session.specs.Links.{CallsMade}
+use Rattle.df_session.specs.Acknowledging.{KeepsAnswered}
+use Rattle.df_session.specs.Keeping.{KeepsFile, over}
 use Rattle.df_lifetime.specs.Life.{start_of}
 
 -- by each log that shows what the disk shows, and by which the file may be opened, all is kept

@@ -1,15 +1,11 @@
 -- A file may be made on a disk that was never written.
-use Rattle.std.proofs.Common.{◌<◌, ◌^◌, ℕ, zero, suc, List, [], ◌∷◌, refl, replicate, sym, subst, arith}
-use Rattle.std.specs.Prelude.{slice_index}
-use Rattle.std.proofs.lemmas.List.{length-replicate}
-use Rattle.df_base.specs.Image.{Image, IsImage, blank}
+use Rattle.std.proofs.Common.{◌<◌, ◌^◌, ℕ, List, [], ◌∷◌, sym, subst, arith}
+use Rattle.df_base.specs.Image.{Image, IsImage}
 use Rattle.df_base.specs.Log.{AreEvents, AreSyncs, Event, Stop, Sync, Write}
-use Rattle.df_base.proofs.Laws.{blank_is_image, AreBytes-zeros}
+use Rattle.df_base.proofs.Laws.{blank_is_image}
 use Rattle.df_layout.specs.declared.layout.Layout.{Layout}
 use Rattle.df_format.specs.First.{first_content, first_super}
-use Rattle.df_format.specs.Spelling.{IsCheck, no_checksum}
 use Rattle.df_format.specs.Super.{FitsSuper}
-use Rattle.df_format.specs.SuperRules.{IsSuper}
 use Rattle.df_theory.specs.Device.{units_log}
 use Rattle.df_theory.specs.MakingLaws.{IsMaking}
 use Rattle.df_units.specs.Format.{format_of}

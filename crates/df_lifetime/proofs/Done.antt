@@ -1,5 +1,5 @@
 -- What a command was answered is in the view behind it, and stays there behind later ones.
-use Rattle.std.proofs.Common.{◌≡◌, inl, inr, ℕ, ◌+◌, ◌==◌, not, false, if◌then◌else◌, List, [], ◌∷◌, ◌++◌, length-append, Option, Some, None, refl, arith}
+use Rattle.std.proofs.Common.{◌≡◌, inl, inr, ℕ, ◌+◌, ◌==◌, not, false, List, [], ◌∷◌, ◌++◌, length-append, Option, Some, None, refl, arith}
 use Rattle.std.proofs.lemmas.Bool.Decides.{nat_tests}
 use Rattle.df_theory.specs.Next.{MayReply}
 use Rattle.df_theory.specs.Shape.{Shape}

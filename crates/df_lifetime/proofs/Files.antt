@@ -1,14 +1,7 @@
 -- What an open finds is the file: its layout and its cluster are those of the superblock that is chosen.
-use Rattle.std.proofs.Common.{◌≡◌, ℕ, ◌<◌, List, [], ◌∷◌, Option, Some, refl, sym, ◌∙◌, ap, subst}
-use Rattle.std.proofs.Math.Bridge.{le_prop}
-use Rattle.std.proofs.Math.Nat.{ℕ_set}
-use Rattle.df_base.specs.Image.{Image, changed, written}
-use Rattle.df_base.specs.Log.{Event, Stop, Sync, Write}
-use Rattle.df_base.specs.Moments.{Extends}
-use Rattle.df_base.proofs.Laws.{extends_self, extends_on}
-use Rattle.df_disk.specs.Adds.{after_all}
-use Rattle.df_disk.specs.Told.{IsHonest, Told, did}
-use Rattle.df_disk.proofs.Laws.{honest_did, goes_by}
+use Rattle.std.proofs.Common.{◌≡◌, ℕ, Option, Some, sym, ◌∙◌, ap}
+use Rattle.df_base.specs.Image.{Image}
+use Rattle.df_disk.specs.Told.{Told}
 use Rattle.df_layout.specs.declared.layout.Layout.{Layout}
 use Rattle.df_theory.specs.Copies.{IsChosen}
 use Rattle.df_theory.specs.Found.{IsFound}
@@ -17,7 +10,6 @@ use Rattle.df_theory.specs.View.{View}
 use Rattle.df_theory.proofs.Laws.{one_chosen_law}
 use Rattle.df_units.specs.Bytes.{unit_at}
 use Rattle.df_replica.specs.Below.{IsOpened, State, shape, DataFile}
-use Rattle.df_replica.specs.Opened.{ToldBy}
 use Rattle.df_replica.proofs.Laws.{same_file}
 
 -- ---- what is chosen among the copies is no matter of the file

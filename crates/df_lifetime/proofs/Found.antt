@@ -1,5 +1,5 @@
 -- What was acknowledged in any session of a life is in the view that is found.
-use Rattle.std.proofs.Common.{◌≡◌, inl, inr, List, [], ◌∷◌, ◌++◌, append_assoc, refl, sym, ◌∙◌, ap, subst, arith}
+use Rattle.std.proofs.Common.{◌≡◌, inl, inr, List, [], ◌∷◌, ◌++◌, append_assoc, refl, sym, ◌∙◌, ap, subst}
 use Rattle.df_base.specs.Image.{Image, IsImage}
 use Rattle.df_base.specs.Log.{now}
 use Rattle.df_theory.specs.Found.{IsFound}
@@ -9,13 +9,11 @@ use Rattle.df_theory.proofs.Laws.{one_found_law}
 use Rattle.df_units.specs.Bytes.{unit_at}
 use Rattle.df_units.specs.Meaning.{layout_of}
 use Rattle.df_units.proofs.Laws.{chosen_choice, of_places}
-use Rattle.df_model.specs.Codec.{IsCodec}
 use Rattle.df_model.specs.Commands.{Answer, Command}
 use Rattle.df_model.specs.Sense.{IsWork}
 use Rattle.df_model.specs.Work.{Work, kept}
 use Rattle.df_model.proofs.Laws.{found_law, next_law, sense_law}
 use Rattle.df_trailer.specs.Text.{parse_of}
-use Rattle.df_trailer.proofs.Laws.{codec}
 use Rattle.df_replica.specs.Below.{shape, spelling, DataFile}
 use Rattle.df_replica.specs.HeldBlocks.{AreInputs}
 use Rattle.df_replica.specs.Serving.{next}

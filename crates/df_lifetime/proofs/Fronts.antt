@@ -1,5 +1,5 @@
 -- However a session ends, what is written is a front of the text of its script.
-use Rattle.std.proofs.Common.{◌≡◌, ◌⊎◌, inl, inr, ℕ, ◌+◌, ◌-◌, suc, Bool, true, false, List, [], ◌∷◌, ◌++◌, append_assoc, length, length-append, map, Option, Some, None, refl, sym, ◌∙◌, ap, subst, arith}
+use Rattle.std.proofs.Common.{◌≡◌, ◌⊎◌, inl, inr, ℕ, ◌+◌, ◌-◌, Bool, true, false, List, [], ◌∷◌, ◌++◌, append_assoc, length, length-append, map, Option, Some, None, refl, sym, ◌∙◌, ap, subst, arith}
 use Rattle.std.specs.Prelude.{take}
 use Rattle.std.proofs.Math.Seq.{take-length}
 use Rattle.std.proofs.lemmas.List.{append-nil, take-append-le, map-append, length-map}
@@ -9,11 +9,11 @@ use Rattle.df_disk.specs.Adds.{after_all}
 use Rattle.df_disk.specs.Told.{Told, did}
 use Rattle.df_inspect.specs.Opening.{script_text}
 use Rattle.df_layout.specs.declared.layout.Layout.{Layout}
-use Rattle.df_lines.specs.Grammar.{Said, Says}
+use Rattle.df_lines.specs.Grammar.{Said}
 use Rattle.df_lines.specs.Room.{line_bound}
-use Rattle.df_lines.specs.Script.{Begins, IsLine, IsRefused, IsScript}
+use Rattle.df_lines.specs.Script.{Begins, IsRefused, IsScript}
 use Rattle.df_lines.specs.Text.{after_line, line_of as first_line, taken}
-use Rattle.df_lines.proofs.Laws.{nothing_said, one_said, one_script, no_line, begins_one}
+use Rattle.df_lines.proofs.Laws.{one_said, one_script, no_line, begins_one}
 use Rattle.df_theory.specs.Shape.{Shape}
 use Rattle.df_model.specs.Memory.{memory_of}
 use Rattle.df_model.specs.Supply.{Codec, Shown, next, shown_after}
@@ -22,15 +22,15 @@ use Rattle.df_units.specs.Bytes.{unit_at}
 use Rattle.df_replica.specs.Below.{DataFile, shape, told_after}
 use Rattle.df_replica.specs.Reading.{shown_of}
 use Rattle.df_replica.proofs.Laws.{added_is_told}
-use Rattle.df_result.specs.Agreeing.{AgreeShown}
-use Rattle.df_result.specs.Codec.{codec}
-use Rattle.df_script_model.specs.Script.{Call, Line, Ring, answer_text, printed}
-use Rattle.df_script_model.specs.Texts.{recent_text}
-use Rattle.df_top.specs.Acknowledging.{events_made, script_calls}
-use Rattle.df_top.specs.Lines.{Turned, all_text, printed as prints, said_in}
+use Rattle.df_session.specs.Below.{AgreeShown, codec}
+use Rattle.df_model.specs.Commands.{Command}
+use Rattle.df_script_model.specs.Script.{answer_text, printed}
+use Rattle.df_session.specs.Links.{events_made}
+use Rattle.df_top.specs.Acknowledging.{script_calls}
+use Rattle.df_top.specs.Lines.{Turned, all_text, command_of, printed as prints, said_in}
 use Rattle.df_top.specs.OneText.{text_by}
 use Rattle.df_top.specs.Outside.{Outside}
-use Rattle.df_top.specs.Resulting.{joined, line_of, text_over}
+use Rattle.df_top.specs.Resulting.{joined, text_over}
 use Rattle.df_top.specs.Run.{ServesScript, script_budget, start}
 use Rattle.df_top.specs.Session.{EndsWith, Failing, act_of, said_of}
 use Rattle.df_top.specs.declared.status.Status.{Status}
@@ -84,21 +84,18 @@ cut_text bound budget text lines says script left rest begins refused = (same, �
 -- ---- what they print
 
 -- the first lines print a front
-over_front : (sh : Shape) (by : Codec) (shown : Shown) (w : Work) (xs ys : List Line) → IsFront (joined (printed sh by shown w xs)) (joined (printed sh by shown w (xs ++ ys)))
+over_front : (sh : Shape) (by : Codec) (shown : Shown) (w : Work) (xs ys : List Command) → IsFront (joined (printed sh by shown w xs)) (joined (printed sh by shown w (xs ++ ys)))
 over_front sh by shown w [] ys = (joined (printed sh by shown w ys), refl)
-over_front sh by shown w ((Call c) ∷ xs) ys =
+over_front sh by shown w (c ∷ xs) ys =
     let line : List ℕ = answer_text c (next sh by shown w c).1 in
     let then : Shown = shown_after by shown (memory_of sh by.spell w) c in
     let more = over_front sh by then (next sh by shown w c).0 xs ys in
     (more.0, ap (λ (l : List ℕ). line ++ l) more.1 ∙ sym (append_assoc line (joined (printed sh by then (next sh by shown w c).0 xs)) more.0))
-over_front sh by shown w (Ring ∷ xs) ys =
-    let more = over_front sh by shown w xs ys in
-    (more.0, ap (λ (l : List ℕ). recent_text w.findings ++ l) more.1 ∙ sym (append_assoc (recent_text w.findings) (joined (printed sh by shown w xs)) more.0))
 
 text_front : (file : DataFile) (shown : Shown) (w : Work) (lines says : List Said) → IsFront lines says → IsFront (text_over file shown w lines) (text_over file shown w says)
 text_front file shown w lines says (more, is) =
-    let front = over_front (shape file) (codec file) shown w (map line_of lines) (map line_of more) in
-    (front.0, ap (λ (l : List Line). joined (printed (shape file) (codec file) shown w l)) (ap (map line_of) is ∙ map-append line_of lines more) ∙ front.1)
+    let front = over_front (shape file) (codec file) shown w (map command_of lines) (map command_of more) in
+    (front.0, ap (λ (l : List Command). joined (printed (shape file) (codec file) shown w l)) (ap (map command_of) is ∙ map-append command_of lines more) ∙ front.1)
 
 by_front : {A B : Type 0} (e : A ⊎ B) (n : ℕ) (line : List ℕ) → IsFront line (text_by e n line)
 by_front (inl none) n line = ([], sym (append-nil line))
@@ -175,8 +172,8 @@ module _ (layout : Layout) (t : Told) (old new : Outside) (status : Status) (s :
     -- the disk failed in the last one
     some_written : (f : Failing) (cut : Bool) (how : Status) → IsFront (prints 0 turns false) (whole_text s) → Ends (Some f) cut how → Writes
     some_written f cut DiskFault front ends = all_written false front (subst (λ (b : Bool). Appends old.written new.written (prints 0 turns b)) ends.0 ends.1)
-    some_written f cut WriteFault front ends = absurd (untold ends.2.untold)
-    some_written f cut Refused front ends = absurd (untold ends.2.untold)
+    some_written f cut WriteFault front ends = absurd (untold ends.2.step.untold)
+    some_written f cut Refused front ends = absurd (untold ends.2.step.untold)
     some_written f cut Done front ends = absurd ends
     some_written f cut Script front ends = absurd ends
     some_written f cut ReadFault front ends = absurd ends

@@ -25,10 +25,11 @@ use Rattle.df_replica.specs.HeldBlocks.{AreInputs}
 use Rattle.df_replica.specs.Serving.{Firm, Grade, StandsFor, Whole, format}
 use Rattle.df_replica.specs.Session.{Act, HasView, HoldsFor, IsMidway, answers_of, work_after}
 use Rattle.df_replica.proofs.Laws.{added_is_told, begun_may_open, same_goes_on, safe_is_not_refused, stopped_may_open}
-use Rattle.df_top.specs.Acknowledging.{CallsMade, IsUntil, KeepsAnswered, events_made, run_calls, script_calls}
-use Rattle.df_top.specs.Keeping.{KeepsFile, LeavesAll, over}
+use Rattle.df_session.specs.Links.{CallsMade, events_made, list_of}
+use Rattle.df_session.specs.Acknowledging.{IsUntil, KeepsAnswered}
+use Rattle.df_top.specs.Acknowledging.{run_calls, script_calls}
+use Rattle.df_session.specs.Keeping.{KeepsFile, LeavesAll, over}
 use Rattle.df_top.specs.Outside.{Outside}
-use Rattle.df_top.specs.Session.{list_of}
 use Rattle.df_lifetime.specs.Acknowledged.{AreThere}
 use Rattle.df_lifetime.specs.Hurt.{AreAnswered, HurtRunsKeep, HurtScriptsKeep, KeepsOn, NextFinds, RunsKeepOn, ScriptsKeepOn, at_end}
 use Rattle.df_lifetime.specs.Life.{start_of}
@@ -170,15 +171,15 @@ pub scripts_keep_on : ScriptsKeepOn
 scripts_keep_on g file view t base old new status serves same may stands =
     let c : CallsMade = script_calls serves.session in
     let one : serves.replica.file ≡ file = one_file file file.layout t.shown view serves.replica refl (found_shown file g view t base same may) serves.is_opened in
-    keeps_on file g view t base same may serves.mending.events c (subst (λ (f : DataFile). KeepsOver f t c.acts c.answers c.failed serves.mending.events (events_made c)) one serves.keeps g view base same may stands)
-    (subst (λ (f : DataFile). AnsweredOver f t serves.mending.events c) one serves.acknowledged g view base same may stands) serves.mending.told (ap (λ (o : Outside). o.told) serves.last_is ∙ serves.adds)
+    keeps_on file g view t base same may serves.mending.events c (subst (λ (f : DataFile). KeepsOver f t c.acts c.answers c.failed serves.mending.events (events_made c)) one serves.calls.keeps g view base same may stands)
+    (subst (λ (f : DataFile). AnsweredOver f t serves.mending.events c) one serves.calls.acknowledged g view base same may stands) serves.mending.told (ap (λ (o : Outside). o.told) serves.last_is ∙ serves.adds)
 
 pub runs_keep_on : RunsKeepOn
 runs_keep_on g file view t base old new status seed count works same may stands =
     let c : CallsMade = run_calls works.worked in
     let one : works.replica.file ≡ file = one_file file file.layout t.shown view works.replica refl (found_shown file g view t base same may) works.is_opened in
-    keeps_on file g view t base same may works.mending.events c (subst (λ (f : DataFile). KeepsOver f t c.acts c.answers c.failed works.mending.events (events_made c)) one works.keeps g view base same may stands)
-    (subst (λ (f : DataFile). AnsweredOver f t works.mending.events c) one works.acknowledged g view base same may stands) works.mending.told works.adds
+    keeps_on file g view t base same may works.mending.events c (subst (λ (f : DataFile). KeepsOver f t c.acts c.answers c.failed works.mending.events (events_made c)) one works.calls.keeps g view base same may stands)
+    (subst (λ (f : DataFile). AnsweredOver f t works.mending.events c) one works.calls.acknowledged g view base same may stands) works.mending.told works.calls.adds
 
 pub hurt_scripts_keep : HurtScriptsKeep
 hurt_scripts_keep g file view t old new status serves had same stands =

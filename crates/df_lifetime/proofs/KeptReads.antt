@@ -1,7 +1,6 @@
 -- What a read is supplied with is what a log shows over which the disk is honest, so that the machine's laws of reads apply.
-use Rattle.std.proofs.Common.{◌≡◌, ℕ, ◌<◌, ◌≤◌, ◌==◌, ◌&&◌, not, nat_lt, nat_le, zero, suc, Bool, true, false, if◌then◌else◌, List, [], ◌∷◌, Option, Some, None, Result, Ok, refl, sym, ◌∙◌, ap, subst, arith, lt-ltb, le-leb, le-ltb, eq-eqb, eqb-true}
+use Rattle.std.proofs.Common.{◌≡◌, ℕ, ◌≤◌, ◌==◌, ◌&&◌, not, nat_lt, nat_le, zero, suc, Bool, true, false, if◌then◌else◌, List, [], ◌∷◌, Option, Some, None, Result, Ok, refl, sym, ◌∙◌, ap, subst, arith, lt-ltb, le-leb, le-ltb, eq-eqb, eqb-true}
 use Rattle.std.specs.List.{slice_get}
-use Rattle.std.proofs.lemmas.Bool.Decides.{nat_tests}
 use Rattle.df_base.specs.Log as logs
 use Rattle.df_layout.specs.declared.damage.Class.{Class}
 use Rattle.df_theory.specs.Device.{units_log}

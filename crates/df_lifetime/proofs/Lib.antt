@@ -8,6 +8,7 @@ mod Next
 mod Done
 mod Found
 mod HurtSessions
+mod HurtLives
 mod KeptReads
 mod Alike
 mod OneText

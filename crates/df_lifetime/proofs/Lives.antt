@@ -23,35 +23,37 @@ use Rattle.df_units.proofs.Laws.{is_format}
 use Rattle.df_model.specs.Commands.{Answer}
 use Rattle.df_model.specs.Work.{Work, kept}
 use Rattle.df_model.specs.declared.errors.OpenError.TheVariants.{NotFormatted}
-use Rattle.df_replica.specs.Below.{State as Replica, shape, DataFile, IsNotRefused, told_after}
+use Rattle.df_replica.specs.Below.{IsOpened, State as Replica, shape, DataFile, IsNotRefused, told_after}
 use Rattle.df_replica.specs.Following.{MayOpen}
 use Rattle.df_replica.specs.HeldBlocks.{AreInputs}
-use Rattle.df_replica.specs.Opened.{MendsPartly, StopsOpening}
+use Rattle.df_replica.specs.Opened.{Mends, MendsPartly, StopsOpening}
 use Rattle.df_replica.specs.Serving.{Grade, IsGoodFor, StandsFor, Whole, format}
 use Rattle.df_replica.specs.Session.{Act, HasView, IsMidway, work_after}
 use Rattle.df_replica.proofs.Laws.{added_is_told, good_left, good_safe, safe_is_not_refused}
-use Rattle.df_top.specs.Acknowledging.{CallsMade, IsUntil, KeepsAnswered, events_made, run_calls, script_calls}
+use Rattle.df_session.specs.Links.{CallsMade, events_made, list_of}
+use Rattle.df_session.specs.Acknowledging.{IsUntil, KeepsAnswered}
+use Rattle.df_top.specs.Acknowledging.{run_calls, script_calls}
 use Rattle.df_top.specs.Formats.{Formats}
-use Rattle.df_top.specs.Keeping.{KeepsFile, LeavesAll, over}
+use Rattle.df_session.specs.Keeping.{KeepsFile, LeavesAll, over}
 use Rattle.df_top.specs.Opening.{RefusesFile}
 use Rattle.df_top.specs.Outside.{Outside}
 use Rattle.df_top.specs.Run.{Does, ServesScript}
-use Rattle.df_top.specs.Session.{list_of}
 use Rattle.df_top.specs.Working.{WorksThrough}
 use Rattle.df_top.specs.declared.mode.Mode.{Mode}
 use Rattle.df_top.specs.declared.mode.Mode.TheVariants.{Format, Run, Recover, Inspect, Scrub, Workload}
 use Rattle.df_top.specs.declared.status.Status.{Status}
 use Rattle.df_top.specs.declared.status.Status.TheVariants.{Done, Found, Words, Script, Refused, DiskFault, ReadFault, WriteFault, Memory}
-use Rattle.df_lifetime.specs.Life.{Chapter, EveryLifeGoesOn, EveryLifeIsInOrder, FormatWord, HaveAnswers, IsInOrder, MayHave, Outcome, ToAMoment, ToItsEnd, Word, calls_in, calls_made, calls_of, chapter_of, chapters_of, sessions_in, start_of}
+use Rattle.df_lifetime.specs.Life.{Chapter, EveryLifeGoesOn, EveryLifeIsInOrder, FormatWord, HaveAnswers, IsInOrder, MayHave, Outcome, ToAMoment, ToItsEnd, Word, calls_in, calls_made, calls_of, chapter_of, chapters_of, outcome_of, sessions_in, start_of}
 use Rattle.df_lifetime.specs.Life.Life.{Begun, Ended, Formatted, Made, Ran, Stopped}
 use Rattle.df_lifetime.proofs.Bases.{AnsweredOver, KeepsOver, told_over}
 use Rattle.df_lifetime.proofs.Acts.{HasFront, ends_inputs, first_answers, front_and_rest, has_front, work_on}
 use Rattle.df_lifetime.proofs.Files.{one_file, one_told}
 use Rattle.df_lifetime.proofs.Orders.{Has, Order, after_barrier, goes_on, here, in_order, made_in_order, made_safe, may, none_referenced, order_of, same_moments, stands_shown, synced, synced_moments}
 
--- what a word leaves that made these calls: an honest disk, and its log in order at the end, and at each moment, by what was answered by then
+-- what a word leaves that made these calls: an honest disk, whose log began where it did, and its log in order at the end, and at each moment, by what was answered by then
 pub record Comes (file : DataFile) (chapters : List Chapter) (calls : Option CallsMade) (t n : Told) : Type 0 where
   pub honest : IsHonest n
+  pub start : n.log.start ≡ t.log.start
   pub at_end : Order file (chapters_of ToItsEnd t.shown calls ++ chapters) n.log
   pub moments : (k : ℕ) (log : Log) → IsMoment t.log n.log log → HaveAnswers k log calls → Order file (chapters_of (ToAMoment k) t.shown calls ++ chapters) log
 
@@ -59,12 +61,12 @@ module _ (file : DataFile) (chapters : List Chapter) (t : Told) (is : IsInOrder 
   -- ---- nothing but the barrier was done
 
   same_comes : (n : Told) → t ≡ n → Comes file chapters None t n
-  same_comes n same = subst (λ (x : Told). Comes file chapters None t x) same (record { honest = is.honest; at_end = order_of file chapters t is; moments = λ k log moment had. same_moments file chapters t is chance log moment })
+  same_comes n same = subst (λ (x : Told). Comes file chapters None t x) same (record { honest = is.honest; start = refl; at_end = order_of file chapters t is; moments = λ k log moment had. same_moments file chapters t is chance log moment })
 
   sync_comes : (n : Told) → did Sync t ≡ n → Comes file chapters None t n
   sync_comes n same =
       subst (λ (x : Told). Comes file chapters None t x) same
-      (record { honest = record { shows = is.honest.shows }; at_end = synced file chapters t is chance; moments = λ k log moment had. synced_moments file chapters t is chance log moment })
+      (record { honest = record { shows = is.honest.shows }; start = refl; at_end = synced file chapters t is chance; moments = λ k log moment had. synced_moments file chapters t is chance log moment })
 
   part_comes : (new : Option Told) (n : Told) → new ≡ Some n → AddsPart (Sync ∷ []) (Some t) new → Comes file chapters None t n
   part_comes new n to (inl none) = same_comes n (one_told new t n none to)
@@ -84,6 +86,12 @@ module _ (file : DataFile) (chapters : List Chapter) (t : Told) (is : IsInOrder 
   found_shown : IsFound (shape file) (unit_at file.layout file.cluster t.shown) view
   found_shown = subst (λ (image : Image). IsFound (shape file) (unit_at file.layout file.cluster image) view) (λ i sector. sym (is.honest.shows sector) i) opens.found
 
+  -- what was opened is the file, in whatever rooms
+  one_opened : (layout : Layout) (s : Replica) → IsOpened layout t.shown s → s.file ≡ file
+  one_opened layout s opened =
+      let own : s.file.layout ≡ file.layout = answers.1.layout s.file.layout (record { fields = s.fields; super = opened.has.super; numbers = opened.has.layout }) in
+      one_file file layout t.shown view s (sym opened.of ∙ own) found_shown opened
+
   -- ---- the disk failed within the mending
 
   good_order : (log : Log) → IsGoodFor Whole (format file) (shape file) view view log → Order file chapters log
@@ -95,11 +103,11 @@ module _ (file : DataFile) (chapters : List Chapter) (t : Told) (is : IsInOrder 
     ];
   }
 
-  mends_comes : (layout : Layout) → layout ≡ file.layout → (new : Option Told) (n : Told) → new ≡ Some n → MendsPartly layout t new → Comes file chapters None t n
-  mends_comes layout own new n to mends =
+  mends_comes : (layout : Layout) (new : Option Told) (n : Told) → new ≡ Some n → MendsPartly layout t new → Comes file chapters None t n
+  mends_comes layout new n to mends =
       let goes = goes_told (did Sync t) new (mends.mending.events, mends.mending.told) in
       let same : goes.0 ≡ n = one_told new goes.0 n goes.1 to in
-      let one : mends.state.file ≡ file = one_file file layout t.shown view mends.state own found_shown mends.opened in
+      let one : mends.state.file ≡ file = one_opened layout mends.state mends.opened in
       let es : List Event = mends.mending.events in
       let ends : told_after es (did Sync t) ≡ n = one_told new (told_after es (did Sync t)) n (mends.mending.told ∙ added_is_told es (did Sync t)) to in
       let each : EachMoment (did Sync t).log n.log (IsGoodFor Whole (format file) (shape file) view view) =
@@ -112,19 +120,19 @@ module _ (file : DataFile) (chapters : List Chapter) (t : Told) (is : IsInOrder 
       let later : EachMoment (did Sync t).log n.log (Order file chapters) = weaker (did Sync t).log n.log (IsGoodFor Whole (format file) (shape file) view view) (Order file chapters) (λ log good. good_order log good) each in
       record {
         honest = subst IsHonest same (goes.2.honest (record { shows = is.honest.shows }));
+        start = grew.2;
         at_end = later n.log (record { since = grew; until = extends_self n.log });
         moments = λ k log moment had. after_barrier file chapters t is chance n.log grew later log moment;
       }
 
-  stops_comes : (layout : Layout) → layout ≡ file.layout → (new : Option Told) (n : Told) → new ≡ Some n → StopsOpening layout t new → Comes file chapters None t n
-  stops_comes layout own new n to (inl none) = same_comes n (one_told new t n none to)
-  stops_comes layout own new n to (inr (inl all)) = sync_comes n (one_told new (did Sync t) n all to)
-  stops_comes layout own new n to (inr (inr mends)) = mends_comes layout own new n to mends
+  stops_comes : (layout : Layout) (new : Option Told) (n : Told) → new ≡ Some n → StopsOpening layout t new → Comes file chapters None t n
+  stops_comes layout new n to (inl none) = same_comes n (one_told new t n none to)
+  stops_comes layout new n to (inr (inl all)) = sync_comes n (one_told new (did Sync t) n all to)
+  stops_comes layout new n to (inr (inr mends)) = mends_comes layout new n to mends
 
-  refused : (layout : Layout) (old new : Outside) (status : Status) → layout ≡ file.layout → RefusesFile layout t old new status → ⊥
-  refused layout old new status own refuses =
-      let is_for = subst (λ (l : Layout). RefusesFile l t old new status) own refuses in
-      is_for.is.other (answers.1.answered is_for.error is_for.is.why)
+  -- it was refused behind the barrier, as one of another layout is
+  refused_comes : (layout : Layout) (old new : Outside) (status : Status) (n : Told) → new.told ≡ Some n → RefusesFile layout t old new status → Comes file chapters None t n
+  refused_comes layout old new status n to refuses = sync_comes n (one_told new.told (did Sync t) n refuses.barrier to)
 
   -- ---- the file was opened, and kept
 
@@ -247,6 +255,7 @@ module _ (file : DataFile) (chapters : List Chapter) (t : Told) (is : IsInOrder 
       served_comes : Comes file chapters (Some c) t n
       served_comes = record {
         honest = honest_end c.acts c.answers c.failed n keeps;
+        start = (barrier c.acts c.answers c.failed n keeps).2;
         at_end = end_order c.acts c.answers c.failed n keeps inputs (leaves c.acts c.answers c.failed n keeps);
         moments = all_moments;
       }
@@ -268,67 +277,64 @@ module _ (file : DataFile) (chapters : List Chapter) (t : Told) (is : IsInOrder 
     idle_comes : Comes file chapters None t n
     idle_comes = record {
       honest = honest_end [] [] None n keeps;
+      start = (barrier [] [] None n keeps).2;
       at_end = idle_moments n.log (record { since = barrier [] [] None n keeps; until = extends_self n.log });
       moments = λ k log moment had. after_barrier file chapters t is chance n.log (barrier [] [] None n keeps) idle_moments log moment;
     }
 
   -- ---- a word
 
-  module _ (layout : Layout) (own : layout ≡ file.layout) (old new : Outside) (status : Status) (n : Told) (to : new.told ≡ Some n) where
-    script_comes : (serves : ServesScript layout t old new status) → Comes file chapters (Some (script_calls serves.session)) t n
-    script_comes serves =
-        let c : CallsMade = script_calls serves.session in
-        let one : serves.replica.file ≡ file = one_file file layout t.shown view serves.replica own found_shown serves.is_opened in
-        let mending : List Event = serves.mending.events in
-        let keeps : KeepsFile file Whole start t c.acts c.answers c.failed (Some n) =
-        keeps_as serves.replica c.acts c.answers c.failed mending (events_made c) n (sym (told_over mending (events_made c) t serves.mended new.told serves.mending.told serves.adds) ∙ to) one serves.keeps in
+  module _ (layout : Layout) (old new : Outside) (status : Status) (n : Told) (to : new.told ≡ Some n) where
+    -- calls behind an open and what it mended
+    calls_come : (replica : Replica) (c : CallsMade) (mending : Mends replica.file (Some (did Sync t)) c.old) → IsOpened layout t.shown replica → new.told ≡ after_all (events_made c) c.old
+        → KeepsOver replica.file t c.acts c.answers c.failed mending.events (events_made c) → AnsweredOver replica.file t mending.events c → Comes file chapters (Some c) t n
+    calls_come replica c mending opened adds keeps acknowledged =
+        let one : replica.file ≡ file = one_opened layout replica opened in
+        let whole : KeepsFile file Whole start t c.acts c.answers c.failed (Some n) =
+        keeps_as replica c.acts c.answers c.failed mending.events (events_made c) n (sym (told_over mending.events (events_made c) t c.old new.told mending.told adds) ∙ to) one keeps in
         let inputs : AreInputs (c.acts ++ list_of c.failed) = ends_inputs c.from c.to c.old c.new c.acts c.answers c.failed c.calls in
-        served_comes c n keeps inputs (answered_as serves.replica c mending (sym (told_over mending [] t serves.mended serves.mended serves.mending.told refl)) one serves.acknowledged) (sym serves.adds ∙ to)
+        served_comes c n whole inputs (answered_as replica c mending.events (sym (told_over mending.events [] t c.old c.old mending.told refl)) one acknowledged) (sym adds ∙ to)
+
+    script_comes : (serves : ServesScript layout t old new status) → Comes file chapters (Some (script_calls serves.session)) t n
+    script_comes serves = calls_come serves.replica (script_calls serves.session) serves.mending serves.is_opened serves.adds serves.calls.keeps serves.calls.acknowledged
 
     works_comes : (seed count : ℕ) (works : WorksThrough seed count layout t old new status) → Comes file chapters (Some (run_calls works.worked)) t n
-    works_comes seed count works =
-        let c : CallsMade = run_calls works.worked in
-        let one : works.replica.file ≡ file = one_file file layout t.shown view works.replica own found_shown works.is_opened in
-        let mending : List Event = works.mending.events in
-        let keeps : KeepsFile file Whole start t c.acts c.answers c.failed (Some n) =
-        keeps_as works.replica c.acts c.answers c.failed mending (events_made c) n (sym (told_over mending (events_made c) t works.mended new.told works.mending.told works.adds) ∙ to) one works.keeps in
-        let inputs : AreInputs (c.acts ++ list_of c.failed) = ends_inputs c.from c.to c.old c.new c.acts c.answers c.failed c.calls in
-        served_comes c n keeps inputs (answered_as works.replica c mending (sym (told_over mending [] t works.mended works.mended works.mending.told refl)) one works.acknowledged) (sym works.adds ∙ to)
+    works_comes seed count works = calls_come works.replica (run_calls works.worked) works.mending works.is_opened works.calls.adds works.calls.keeps works.calls.acknowledged
 
     does_comes : (mode : Mode) (does : Does mode layout t old new status) → Comes file chapters (calls_of mode layout t old new status does) t n
     does_comes (Format shape cluster) does = absurd does
-    does_comes Run (inl refuses) = absurd (refused layout old new status own refuses)
-    does_comes Run (inr (inl fails)) = stops_comes layout own new.told n to fails.disk
+    does_comes Run (inl refuses) = refused_comes layout old new status n to refuses
+    does_comes Run (inr (inl fails)) = stops_comes layout new.told n to fails.disk
     does_comes Run (inr (inr serves)) = script_comes serves
-    does_comes Recover (inl refuses) = absurd (refused layout old new status own refuses)
-    does_comes Recover (inr (inl fails)) = stops_comes layout own new.told n to fails.disk
+    does_comes Recover (inl refuses) = refused_comes layout old new status n to refuses
+    does_comes Recover (inr (inl fails)) = stops_comes layout new.told n to fails.disk
     does_comes Recover (inr (inr recovers)) =
         idle_comes n
-        (keeps_as recovers.replica [] [] None recovers.mending.events [] n (sym (told_over recovers.mending.events [] t new.told new.told recovers.mending.told refl) ∙ to) (one_file file layout t.shown view recovers.replica own found_shown recovers.is_opened) recovers.keeps)
-    does_comes Inspect (inl refuses) = absurd (refused layout old new status own refuses)
+        (keeps_as recovers.replica [] [] None recovers.mending.events [] n (sym (told_over recovers.mending.events [] t new.told new.told recovers.mending.told refl) ∙ to) (one_opened layout recovers.replica recovers.is_opened) recovers.keeps)
+    does_comes Inspect (inl refuses) = refused_comes layout old new status n to refuses
     does_comes Inspect (inr (inl fails)) = part_comes new.told n to fails.disk
     does_comes Inspect (inr (inr inspects)) = sync_comes n (one_told new.told (did Sync t) n inspects.barrier to)
-    does_comes Scrub (inl refuses) = absurd (refused layout old new status own refuses)
-    does_comes Scrub (inr (inl fails)) = stops_comes layout own new.told n to fails.disk
+    does_comes Scrub (inl refuses) = refused_comes layout old new status n to refuses
+    does_comes Scrub (inr (inl fails)) = stops_comes layout new.told n to fails.disk
     does_comes Scrub (inr (inr scrubs)) =
         idle_comes n
-        (keeps_as scrubs.replica [] [] None scrubs.mending.events [] n (sym (told_over scrubs.mending.events [] t new.told new.told scrubs.mending.told refl) ∙ to) (one_file file layout t.shown view scrubs.replica own found_shown scrubs.is_opened) scrubs.keeps)
-    does_comes (Workload seed count) (inl refuses) = absurd (refused layout old new status own refuses)
-    does_comes (Workload seed count) (inr (inl fails)) = stops_comes layout own new.told n to fails.disk
+        (keeps_as scrubs.replica [] [] None scrubs.mending.events [] n (sym (told_over scrubs.mending.events [] t new.told new.told scrubs.mending.told refl) ∙ to) (one_opened layout scrubs.replica scrubs.is_opened) scrubs.keeps)
+    does_comes (Workload seed count) (inl refuses) = refused_comes layout old new status n to refuses
+    does_comes (Workload seed count) (inr (inl fails)) = stops_comes layout new.told n to fails.disk
     does_comes (Workload seed count) (inr (inr works)) = works_comes seed count works
 
   outcome_comes : (mode : Mode) (old new : Outside) (status : Status) (n : Told) → old.told ≡ Some t → new.told ≡ Some n → (outcome : Outcome mode t old new status)
       → Comes file chapters (calls_in mode t old new status outcome) t n
   outcome_comes mode old new status n from to (inl nothing) = same_comes n (one_told new.told t n (nothing.without.same ∙ from) to)
   outcome_comes mode old new status n from to (inr (inl refuses)) = absurd (answers.1.usable refuses.error refuses.is)
-  outcome_comes mode old new status n from to (inr (inr serves)) = does_comes serves.layout (answers.1.layout serves.layout serves.shown) old new status n to mode serves.serves
+  outcome_comes mode old new status n from to (inr (inr does)) = does_comes does.0 old new status n to mode does.1
 
-  word_comes : (n : Told) (word : Word t n) → Comes file chapters (calls_made t n word) t n
-  word_comes n word = outcome_comes word.mode word.old word.new word.status n word.from word.to (word.runs t word.from word.whole)
+  pub word_comes : (n : Told) (word : Word t n) → Comes file chapters (calls_made t n word) t n
+  word_comes n word = outcome_comes word.mode word.old word.new word.status n word.from word.to (outcome_of word.mode t word.old word.new word.status word.carried word.from word.whole)
 
   -- ---- the word `format` again
 
-  formatted_same : (layout : Layout) (cluster : ℕ) (n : Told) (old new : Option (List ℕ)) (status : Status) → Formats layout cluster (Some t) (Some n) old new status → t ≡ n
+  pub formatted_same : (layout : Layout) (cluster : ℕ) (n : Told) (old new : Option (List ℕ)) (status : Status) → Formats layout cluster (Some t) (Some n) old new status → t ≡ n
   formatted_same layout cluster n old new Done made = absurd (answers.1.usable NotFormatted (made.0.may.blank t refl))
   formatted_same layout cluster n old new Refused refuses = one_told (Some n) t n refuses.1.same refl
   formatted_same layout cluster n old new DiskFault part = elim part.1 [ inl none ↦ one_told (Some n) t n none refl | inr blank ↦ absurd (answers.1.usable NotFormatted blank) ]

@@ -1,5 +1,5 @@
 -- What was acknowledged stays in the view, whatever happens to it next.
-use Rattle.std.proofs.Common.{◌≡◌, inl, inr, ℕ, ◌+◌, ◌-◌, ◌<◌, ◌≤◌, ◌==◌, zero, suc, if◌then◌else◌, List, [], ◌∷◌, ◌++◌, drop, length-append, Option, Some, None, sym, ◌∙◌, ap, arith}
+use Rattle.std.proofs.Common.{◌≡◌, inl, inr, ℕ, ◌+◌, ◌-◌, ◌<◌, ◌≤◌, if◌then◌else◌, List, [], ◌∷◌, ◌++◌, drop, length-append, Option, Some, None, sym, ◌∙◌, ap, arith}
 use Rattle.std.specs.Prelude.{nat_lt, Ok}
 use Rattle.std.specs.List.{slice_get}
 use Rattle.std.proofs.lemmas.Bool.{cases_eq}
@@ -9,7 +9,6 @@ use Rattle.df_theory.specs.Holds.{Sound}
 use Rattle.df_theory.specs.Next.{Append, AreInTurn, Boot, Finish, Next, Reply, Same, checkpointed, kept}
 use Rattle.df_theory.specs.Sessions.{noted, sessions_after}
 use Rattle.df_theory.specs.Shape.{Shape}
-use Rattle.df_theory.specs.Tails.{Chain, In}
 use Rattle.df_theory.specs.Units.{Message, Session}
 use Rattle.df_theory.specs.View.{View, head, sequence, sessions}
 use Rattle.df_theory.proofs.Laws.{noted_get, sessions-append, sessions-drop, in_front, in_drop, stored_else}

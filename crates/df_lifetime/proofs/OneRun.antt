@@ -31,16 +31,14 @@ use Rattle.df_replica.specs.Reading.{shown_of}
 use Rattle.df_replica.specs.Serving.{Firm, Keeps, next as next_work}
 use Rattle.df_replica.specs.Session.{Act}
 use Rattle.df_replica.proofs.Laws.{found_keeps}
-use Rattle.df_result.specs.Agreeing.{AgreeShown}
-use Rattle.df_result.specs.Codec.{codec}
+use Rattle.df_session.specs.Below.{AgreeShown, codec}
 use Rattle.df_workload.specs.Asking.{asks}
 use Rattle.df_workload.specs.Following.{Follows}
 use Rattle.df_workload.specs.Hearing.{heard}
 use Rattle.df_workload.specs.Rounds.{start}
 use Rattle.df_workload.specs.declared.state.State.{State as Run}
-use Rattle.df_top.specs.Lines.{command_in}
+use Rattle.df_session.specs.Links.{AreCalls, EndsCalls, command_in}
 use Rattle.df_top.specs.Outside.{Outside}
-use Rattle.df_top.specs.Session.{AreCalls, EndsCalls}
 use Rattle.df_top.specs.Working.{WorksThrough}
 use Rattle.df_top.specs.Works.{Writes, asked_by, workload_of}
 use Rattle.df_top.specs.declared.status.Status.{Status}
@@ -142,7 +140,7 @@ module _ (sh : Shape) (spell : Parts → List ℕ) (w : Work) (given : Given) wh
   counted_one (ReadReply client) = refl
   counted_one (ReadBlock address) = refl
   counted_one Scrub = check_counts given.verdict (to_check m)
-  counted_one (Recent place) = refl
+  counted_one Recent = refl
 
 -- behind calls they are what the answers make of them
 pub calls_count : (s u : Replica) (old new : Option Told) (acts : List Act) (answers : List Answer) (w : Work) → AreCalls s old acts answers u new → Keeps Firm s w None → numbers_in (memory u) ≡ after_answers answers (numbers_in (memory s))
@@ -198,7 +196,7 @@ module _ (seed count : ℕ) (layout : Layout) (t : Told) (old new : Outside) (st
   -- its answers over what is shown
   pub answers_over : (shown : Shown) → AgreeShown works.replica.file.layout (shown_of works.replica.file t.shown) shown
       → works.worked.answers ≡ result (shape works.replica.file) (codec works.replica.file) shown (opened (shape works.replica.file) (unit_at works.replica.file.layout works.replica.file.cluster t.shown) works.is_opened.view) (map command_in works.worked.acts)
-  answers_over shown agree = works.result works.is_opened.view shown found agree
+  answers_over shown agree = works.calls.result works.is_opened.view shown found agree
 
 -- ---- two of them
 

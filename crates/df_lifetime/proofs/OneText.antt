@@ -1,21 +1,18 @@
 -- A word that is carried out twice, over disks that show the same, prints one text.
-use Rattle.std.proofs.Common.{◌≡◌, inl, inr, ℕ, suc, List, [], ◌∷◌, length, Option, refl, sym, ◌∙◌, ap, subst}
+use Rattle.std.proofs.Common.{◌≡◌, inl, inr, ℕ, List, Option, refl, sym, ◌∙◌, ap, subst}
 use Rattle.df_base.specs.Image.{Image}
 use Rattle.df_base.specs.Streams.{Appends}
 use Rattle.df_disk.specs.Told.{Told}
 use Rattle.df_inspect.specs.Reports.{summary_text}
 use Rattle.df_layout.specs.declared.layout.Layout.{Layout}
-use Rattle.df_sessions.specs.Requests.{sessions_of}
-use Rattle.df_sessions.specs.declared.session.Session.{Session}
-use Rattle.df_model.specs.Memory.{Memory}
-use Rattle.df_replica.specs.Below.{IsOpened, State as Replica, memory}
+use Rattle.df_replica.specs.Below.{IsOpened, State as Replica}
 use Rattle.df_replica.specs.Replica.{summary_of}
 use Rattle.df_top.specs.OneText.{ShowSame}
 use Rattle.df_top.specs.Outside.{Outside, PrintsLine}
 use Rattle.df_top.specs.Reporting.{Recovers}
 use Rattle.df_top.specs.declared.status.Status.{Status}
 use Rattle.df_top.specs.declared.status.Status.TheVariants.{Done}
-use Rattle.df_top.proofs.Laws.{count_is}
+use Rattle.df_top.proofs.Laws.{summary_same}
 use Rattle.df_lifetime.specs.Printed.{Carried, HasEnded, PrintsOne, RecoverHasOneText}
 use Rattle.df_lifetime.proofs.Alike.{fields_alike, file_alike, memory_alike}
 
@@ -36,27 +33,8 @@ same_prints line text given wanted Word one other same is ended ending first sec
 
 -- ---- the summary
 
-module _ (layout : Layout) (a b : Image) (same : ShowSame layout a b) (s u : Replica) (one : IsOpened layout a s) (other : IsOpened layout b u) where
-  fields : s.fields ≡ u.fields
-  fields = fields_alike layout a b same s u one other
-
-  known : memory s ≡ memory u
-  known = memory_alike layout a b same s u one other
-
-  sessions_alike : length s.table.sessions ≡ length u.table.sessions
-  sessions_alike = sym (count_is s.table.sessions) ∙ ap (λ (m : Memory). length m.sessions) known ∙ count_is u.table.sessions
-
-  summary_alike : summary_of s ≡ summary_of u
-  summary_alike = λ i. record {
-    cluster = (file_alike layout a b same s u one other i).cluster;
-    layout = (file_alike layout a b same s u one other i).layout;
-    sequence = (fields i).sequence;
-    checkpoint_op = (fields i).op;
-    head = (known i).head;
-    replies = (known i).replies;
-    sessions = sessions_alike i;
-    references = length (known i).blocks.durable;
-  }
+summary_alike : (layout : Layout) (a b : Image) → ShowSame layout a b → (s u : Replica) → IsOpened layout a s → IsOpened layout b u → summary_of s ≡ summary_of u
+summary_alike layout a b same s u one other = summary_same s u (file_alike layout a b same s u one other) (fields_alike layout a b same s u one other) (memory_alike layout a b same s u one other)
 
 pub recover_has_one_text : RecoverHasOneText
 recover_has_one_text layout runs =

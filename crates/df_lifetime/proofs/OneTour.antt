@@ -6,17 +6,16 @@ use Rattle.df_base.specs.Image.{Image}
 use Rattle.df_inspect.specs.Reports.{failing_texts}
 use Rattle.df_layout.specs.declared.damage.Finding.{Finding}
 use Rattle.df_layout.specs.declared.layout.Layout.{Layout}
-use Rattle.df_theory.specs.Units.{AnyUnit, BlockPlace, CopyPlace, HeaderPlace, Place, PreparePlace, ReplyPlace}
-use Rattle.df_units.specs.Bytes.{unit_at}
+use Rattle.df_theory.specs.Units.{AnyUnit, BlockPlace}
 use Rattle.df_model.specs.Blocks.{entries, entry, reference_in}
 use Rattle.df_model.specs.Memory.{Memory, referenced_of}
 use Rattle.df_model.specs.Reading.{failing, with_finding}
 use Rattle.df_model.specs.Supply.{Shown, block_given, check_of, class_at, class_or, verdict_of}
 use Rattle.df_model.specs.declared.answers.Scrubbed.TheVariants.{TourEnd}
 use Rattle.df_replica.specs.Below.{DataFile, State as Replica, failing_in, grid_with, memory}
-use Rattle.df_replica.specs.Leaving.{IsReadPlace, SparesReads}
+use Rattle.df_replica.specs.Leaving.{SparesReads}
 use Rattle.df_replica.specs.Reading.{shown_of}
-use Rattle.df_result.specs.Agreeing.{AgreeShown}
+use Rattle.df_session.specs.Below.{AgreeShown}
 use Rattle.df_script_model.specs.Texts.{scrubbed_text}
 use Rattle.df_top.specs.Outside.{PrintsLine}
 use Rattle.df_top.specs.Scrubs.{PrintsTour, ScrubsFile, failing_blocks, tour_report, tour_status}

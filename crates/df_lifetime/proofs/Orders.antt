@@ -140,7 +140,7 @@ module _ (file : DataFile) (t n : Told) (may : MayMakeOn file.layout file.cluste
       subst (λ (f : DataFile). IsTidy (shape f) (units_log (format file) n.log) (first_view file.layout file.cluster)) (own file may.named)
       (subst (λ (x : Told). IsTidy (shape (file_of file.layout file.cluster may.named)) (units_log (format file) x.log) (first_view file.layout file.cluster)) same (makes.made done).tidy)
 
-made_grew : (layout : Layout) (cluster : ℕ) (t n : Told) → Some n ≡ after_all (making_events layout cluster) (Some t) → Extends n.log t.log
+pub made_grew : (layout : Layout) (cluster : ℕ) (t n : Told) → Some n ≡ after_all (making_events layout cluster) (Some t) → Extends n.log t.log
 made_grew layout cluster t n events =
     let all = told_log (making_events layout cluster) t in
     let is : n ≡ all.0 = one_told (Some n) n all.0 refl (events ∙ all.1) in

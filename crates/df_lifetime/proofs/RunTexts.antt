@@ -1,5 +1,5 @@
 -- What a generated run prints: its counts count its answers, and so they say how far the numbers of the file went on.
-use Rattle.std.proofs.Common.{◌≡◌, ℕ, ◌+◌, Bool, true, false, if◌then◌else◌, List, [], ◌∷◌, map, Some, None, Result, Ok, Err, refl, sym, ◌∙◌, ap, subst, arith}
+use Rattle.std.proofs.Common.{◌≡◌, ℕ, ◌+◌, Bool, true, false, if◌then◌else◌, List, [], ◌∷◌, map, Some, Result, Ok, Err, refl, sym, ◌∙◌, ap, subst, arith}
 use Rattle.std.specs.Prelude.{slice_index}
 use Rattle.df_base.specs.Image.{IsImage}
 use Rattle.df_base.specs.Streams.{Appends}
@@ -27,7 +27,7 @@ use Rattle.df_model.specs.declared.errors.StepError.{StepError}
 use Rattle.df_replica.specs.Below.{DataFile, memory, shape}
 use Rattle.df_replica.specs.Reading.{shown_of}
 use Rattle.df_replica.proofs.Laws.{found_keeps}
-use Rattle.df_result.specs.Codec.{codec}
+use Rattle.df_session.specs.Below.{codec}
 use Rattle.df_workload.specs.Asking.{asks_at, number_body}
 use Rattle.df_workload.specs.Draw.{drawn_body}
 use Rattle.df_workload.specs.Following.{Follows}
@@ -37,7 +37,7 @@ use Rattle.df_workload.specs.declared.state.Point.{Point}
 use Rattle.df_workload.specs.declared.state.Point.TheVariants.{Appending, Replying, Stepping, Writing, Releasing, Beginning, Ending}
 use Rattle.df_workload.specs.declared.state.State.{State as Run}
 use Rattle.df_workload.proofs.Laws.{asks_end}
-use Rattle.df_top.specs.Lines.{command_in}
+use Rattle.df_session.specs.Links.{command_in}
 use Rattle.df_top.specs.Outside.{Outside}
 use Rattle.df_top.specs.Working.{WorksThrough}
 use Rattle.df_top.specs.Works.{workload_of}
@@ -187,7 +187,7 @@ module _ (seed count : ℕ) (layout : Layout) (t : Told) (old new : Outside) (st
   w = opened (shape file) (unit_at file.layout file.cluster t.shown) view
 
   answers_are : works.worked.answers ≡ result (shape file) (codec file) (shown_of file t.shown) w (map command_in works.worked.acts)
-  answers_are = works.result view (shown_of file t.shown) found (agree_self file.layout (shown_of file t.shown))
+  answers_are = works.calls.result view (shown_of file t.shown) found (agree_self file.layout (shown_of file t.shown))
 
   follows_on : Follows (start seed count file.layout.clients) (map command_in works.worked.acts) works.worked.answers works.run
   follows_on = subst (λ (l : Layout). Follows (start seed count l.clients) (map command_in works.worked.acts) works.worked.answers works.run) (sym works.is_opened.of) works.worked.follows

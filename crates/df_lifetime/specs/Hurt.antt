@@ -1,7 +1,8 @@
--- What a session keeps by any log by which its file may be opened: on a hurt disk by the one that is begun anew at what its open found. So sessions compose there, too.
+-- What a session keeps by any log by which its file may be opened: on a hurt disk by the one that is begun anew at what its open found. So sessions compose there, too. And that
+-- whatever life a file has had, it may be hurt.
 use Rattle.std.specs.Prelude.{◌≡◌, ℕ, zero, suc, List, [], ◌++◌, take, drop, Some}
-use Rattle.df_base.specs.Image.{changed}
-use Rattle.df_base.specs.Log.{AreLoose, Event, Log, Stop, Sync, now}
+use Rattle.df_base.specs.Image.{Image, IsImage, blank, changed}
+use Rattle.df_base.specs.Log.{AreLoose, Event, Log, Stop, Sync, add, now}
 use Rattle.df_base.specs.Moments.{IsMoment}
 use Rattle.df_disk.specs.Told.{IsHonest, Told, did}
 use Rattle.df_theory.specs.Device.{NoChanceOf}
@@ -9,19 +10,21 @@ use Rattle.df_theory.specs.View.{View}
 use Rattle.df_units.specs.Bytes.{unit_at}
 use Rattle.df_model.specs.Commands.{Answer}
 use Rattle.df_model.specs.Work.{Work, kept}
-use Rattle.df_replica.specs.Below.{DataFile, FindsHad, begun, told_after}
+use Rattle.df_replica.specs.Below.{DataFile, FindsHad, MayBeHurt, begun, told_after}
 use Rattle.df_replica.specs.Following.{MayOpen}
 use Rattle.df_replica.specs.Serving.{Grade, StandsFor, format}
 use Rattle.df_replica.specs.Session.{Act, work_after}
-use Rattle.df_top.specs.Acknowledging.{CallsMade, KeepsAnswered, WereAnswered, events_made, run_calls, script_calls}
-use Rattle.df_top.specs.Keeping.{KeepsFile, over}
+use Rattle.df_session.specs.Links.{CallsMade, events_made, list_of}
+use Rattle.df_session.specs.Acknowledging.{KeepsAnswered, WereAnswered}
+use Rattle.df_top.specs.Acknowledging.{run_calls, script_calls}
+use Rattle.df_session.specs.Keeping.{KeepsFile, over}
 use Rattle.df_top.specs.Outside.{Outside}
 use Rattle.df_top.specs.Run.{ServesScript}
-use Rattle.df_top.specs.Session.{list_of}
 use Rattle.df_top.specs.Working.{WorksThrough}
 use Rattle.df_top.specs.declared.status.Status.{Status}
 use Rattle.df_lifetime.specs.Acknowledged.{AreThere}
-use Rattle.df_lifetime.specs.Life.{start_of}
+use Rattle.df_lifetime.specs.Life.{Chapter, Life, MayHave, start_of}
+use Rattle.df_lifetime.specs.Life.Life.{Begun, Ended, Formatted, Made, Ran, Stopped}
 
 -- The next open finds the view after all of these acts, which were answered so, and perhaps some of those behind them, from the first of these on: the file may be opened by
 -- this log, what was answered is there, and at the higher grade so is each block that is referenced.
@@ -73,3 +76,21 @@ abbrev pub HurtRunsKeep : Type 0
 HurtRunsKeep =
     (g : Grade) (file : DataFile) (view : View) (t : Told) (old new : Outside) (status : Status) (seed count : ℕ) (works : WorksThrough seed count file.layout t old new status) (had : FindsHad file view t works.replica) → had.found.checkpoint ≡ view.checkpoint
     → StandsFor g (unit_at file.layout file.cluster t.shown) had.found → KeepsOn file g (start_of file t.shown had.found) (begun t) works.mending.events (run_calls works.worked)
+
+-- ---- damage at any time of a life
+
+-- what the disk of a life held at first: as its making began, the start of the log
+abbrev pub began_with : (file : DataFile) (t : Told) (chapters : List Chapter) → Life file t chapters → Image
+began_with file _ _ (Made t n makable honest word) = t.log.start
+began_with file _ _ (Begun t n m status changes makable honest word wanting moment there loose chance held) = t.log.start
+began_with file _ _ (Ran t n chapters word life chance) = began_with file t chapters life
+began_with file _ _ (Ended t n m chapters word answered life chance moment honest had) = began_with file t chapters life
+began_with file _ _ (Formatted t n chapters layout cluster status life chance word) = began_with file t chapters life
+began_with file _ _ (Stopped t chapters changes life loose chance) = began_with file t chapters life
+
+-- A life that began with the empty disk may be hurt: whatever the disk shows at any time of it, no unit of it by chance, is what the promises over hurt disks speak of, with a view
+-- that the file may have come to.
+abbrev pub LifeMayBeHurt : Type 0
+LifeMayBeHurt =
+    (file : DataFile) (t : Told) (chapters : List Chapter) (shown : Image) (life : Life file t chapters) → began_with file t chapters life ≡ blank → NoChanceOf (format file) t.log (now t.log) → IsImage shown
+    → NoChanceOf (format file) (add Sync t.log) shown → (view : View) × MayHave file chapters view × MayBeHurt file view (record { log = t.log; shown = shown })

@@ -20,11 +20,12 @@ use Rattle.df_replica.specs.HeldBlocks.{AreInputs}
 use Rattle.df_replica.specs.Making.{MayMakeOn}
 use Rattle.df_replica.specs.Serving.{format}
 use Rattle.df_replica.specs.Session.{Act, answers_of, work_after}
-use Rattle.df_top.specs.Acknowledging.{CallsMade, WereAnswered, run_calls, script_calls}
+use Rattle.df_session.specs.Links.{CallsMade, list_of}
+use Rattle.df_session.specs.Acknowledging.{WereAnswered}
+use Rattle.df_top.specs.Acknowledging.{run_calls, script_calls}
 use Rattle.df_top.specs.Formats.{Formats, MakesFile}
 use Rattle.df_top.specs.Outside.{Outside}
-use Rattle.df_top.specs.Run.{DidNothing, Does, RefusesSuperblock, Runs, ServesOwn}
-use Rattle.df_top.specs.Session.{list_of}
+use Rattle.df_top.specs.Run.{DidNothing, Does, RefusesSuperblock, Runs, ServesIn, ServesOwn}
 use Rattle.df_top.specs.declared.mode.Mode.{Mode}
 use Rattle.df_top.specs.declared.mode.Mode.TheVariants.{Format, Run, Recover, Inspect, Scrub, Workload}
 use Rattle.df_top.specs.declared.status.Status.{Status}
@@ -111,14 +112,27 @@ calls_of (Workload seed count) layout t old new status (inl refuses) = None
 calls_of (Workload seed count) layout t old new status (inr (inl fails)) = None
 calls_of (Workload seed count) layout t old new status (inr (inr works)) = Some (run_calls works.worked)
 
--- what `run` promises of a word on a file
+-- a word on a file was carried out: by `run`, in rooms that it took, or by `serve`, in rooms of any layout
+abbrev pub IsCarried : Mode → Outside → Outside → Status → Type 0
+IsCarried mode old new status = Runs mode old new status ⊎ ((layout : Layout) × ServesIn mode layout old new status)
+
+-- what either promises of it
 abbrev pub Outcome : Mode → Told → Outside → Outside → Status → Type 0
-Outcome mode t old new status = DidNothing old new status ⊎ RefusesSuperblock t old new status ⊎ ServesOwn mode t old new status
+Outcome mode t old new status = DidNothing old new status ⊎ RefusesSuperblock t old new status ⊎ ((layout : Layout) × Does mode layout t old new status)
+
+abbrev pub did_of : (mode : Mode) (t : Told) (old new : Outside) (status : Status) → DidNothing old new status ⊎ RefusesSuperblock t old new status ⊎ ServesOwn mode t old new status → Outcome mode t old new status
+did_of mode t old new status (inl nothing) = inl nothing
+did_of mode t old new status (inr (inl refuses)) = inr (inl refuses)
+did_of mode t old new status (inr (inr own)) = inr (inr (own.layout, own.serves))
+
+abbrev pub outcome_of : (mode : Mode) (t : Told) (old new : Outside) (status : Status) → IsCarried mode old new status → old.told ≡ Some t → IsImage t.shown → Outcome mode t old new status
+outcome_of mode t old new status (inl runs) from whole = did_of mode t old new status (runs t from whole)
+outcome_of mode t old new status (inr serves) from whole = inr (inr (serves.0, serves.1 t from whole))
 
 abbrev pub calls_in : (mode : Mode) (t : Told) (old new : Outside) (status : Status) → Outcome mode t old new status → Option CallsMade
 calls_in mode t old new status (inl nothing) = None
 calls_in mode t old new status (inr (inl refuses)) = None
-calls_in mode t old new status (inr (inr own)) = calls_of mode own.layout t old new status own.serves
+calls_in mode t old new status (inr (inr does)) = calls_of mode does.0 t old new status does.1
 
 -- a word on a file, with its status, over a disk that told this before and that after it
 pub record Word (t n : Told) : Type 0 where
@@ -129,11 +143,11 @@ pub record Word (t n : Told) : Type 0 where
   pub from : old.told ≡ Some t
   pub to : new.told ≡ Some n
   pub whole : IsImage t.shown
-  pub runs : Runs mode old new status
+  pub carried : IsCarried mode old new status
 
 -- the calls of its session, if it is one
 abbrev pub calls_made : (t n : Told) → Word t n → Option CallsMade
-calls_made t n word = calls_in word.mode t word.old word.new word.status (word.runs t word.from word.whole)
+calls_made t n word = calls_in word.mode t word.old word.new word.status (outcome_of word.mode t word.old word.new word.status word.carried word.from word.whole)
 
 abbrev pub sessions_in : Extent → (t n : Told) → Word t n → List Chapter
 sessions_in extent t n word = chapters_of extent t.shown (calls_made t n word)

@@ -18,7 +18,7 @@ use Rattle.df_model.specs.Supply.{result}
 use Rattle.df_model.specs.Work.{opened}
 use Rattle.df_replica.specs.Below.{DataFile, shape}
 use Rattle.df_replica.specs.Reading.{shown_of}
-use Rattle.df_result.specs.Codec.{codec}
+use Rattle.df_session.specs.Below.{codec}
 use Rattle.df_workload.specs.Asking.{asks}
 use Rattle.df_workload.specs.Following.{Follows}
 use Rattle.df_workload.specs.Rounds.{start}

@@ -1,5 +1,5 @@
-// What sessions keep on a disk that was hurt before: laws, each the clause of a function that does nothing.
-ghost use Rattle.df_lifetime.specs.Hurt.{HurtRunsKeep, HurtScriptsKeep, RunsKeepOn, ScriptsKeepOn};
+// What sessions keep on a disk that was hurt, and that any life may be hurt: laws, each the clause of a function that does nothing.
+ghost use Rattle.df_lifetime.specs.Hurt.{HurtRunsKeep, HurtScriptsKeep, LifeMayBeHurt, RunsKeepOn, ScriptsKeepOn};
 
 /// A script that is served, or a generated run, keeps its file by each log that shows what the disk shows and by which the file may be
 /// opened, and the next open by that log finds what was answered. On a hurt disk the log begun anew at the open is one, where the
@@ -9,4 +9,10 @@ pub fn hurt_sessions_keep()
     ensures runs { RunsKeepOn }
     ensures hurt_scripts { HurtScriptsKeep }
     ensures hurt_runs { HurtRunsKeep }
+{}
+
+/// Whatever life a file has had whose disk was empty at first, it may be hurt: with whatever its disk shows then it meets the premise of
+/// what `run` promises over a disk that was hurt, for a view that the file may have come to.
+pub fn a_life_may_be_hurt()
+    ensures { LifeMayBeHurt }
 {}

@@ -6,7 +6,7 @@ mod life;
 mod printed;
 mod reads;
 
-pub use hurt::hurt_sessions_keep;
+pub use hurt::{a_life_may_be_hurt, hurt_sessions_keep};
 pub use life::sessions_compose;
 pub use printed::{a_front_is_written, a_run_has_one_result, a_word_has_one_text};
 pub use reads::what_is_kept_is_read;

@@ -5,5 +5,7 @@ pub use Rattle.df_lines.proofs.Meanings.{nothing_said}
 pub use Rattle.df_lines.proofs.Decimals.{one_number}
 -- And of lines of another grammar: where a word ends, and what the words behind a name say.
 pub use Rattle.df_lines.proofs.Cutting.{decimal_no_space, no_cut, one_cut, one_split}
+pub use Rattle.df_lines.proofs.Naming.{Begun, bare_name, cut_has_space, cut_name, one_name}
+pub use Rattle.df_lines.proofs.Meanings.{if_none}
 pub use Rattle.df_lines.proofs.Arguments.{NumberFirst, same_rest, no_number, bad_number, bad_body}
 pub use Rattle.df_lines.proofs.OneMeaning.{one_word, two_words}

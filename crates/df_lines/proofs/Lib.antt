@@ -1,6 +1,7 @@
 pub mod Decimals
 pub mod Cutting
 pub mod Meanings
+pub mod Naming
 pub mod Arguments
 pub mod OneMeaning
 pub mod Pieces

@@ -1,11 +1,11 @@
 -- What a line says, from its words.
-use Rattle.std.proofs.Common.{◌≡◌, ◌⊎◌, inl, inr, ℕ, ◌<◌, if◌then◌else◌, List, [], ◌∷◌, ◌++◌, length, take, refl, sym, ap, subst, ◌∙◌, arith, length-append}
+use Rattle.std.proofs.Common.{◌≡◌, inl, inr, ℕ, ◌<◌, if◌then◌else◌, List, [], ◌∷◌, ◌++◌, length, refl, sym, ap, subst, ◌∙◌, arith}
 use Rattle.std.specs.Prelude.{codes, Option, None, Some, IfNone}
 use Rattle.std.specs.Str.{bytes_eq}
-use Rattle.std.proofs.lemmas.List.{take_all}
 use Rattle.df_lines.specs.Grammar.{Said, Append, Reply, Block, Release, Checkpoint, Step, Prepare, Lookup, Read, Scrub, Recent, Says}
 use Rattle.df_lines.specs.Words.{HasNoSpace, Cuts}
-use Rattle.df_lines.proofs.Cutting.{no_cut, one_cut, one_split}
+use Rattle.df_lines.proofs.Cutting.{no_cut}
+use Rattle.df_lines.proofs.Naming.{Begun, bare_name, cut_has_space, cut_name, one_name}
 
 -- ---- the first word
 
@@ -77,56 +77,28 @@ as_named Recent = refl
 pub is_named : (said : Said) (name : List ℕ) → name ≡ name_of said → said ≡ line_named name (first_of said) (second_of said) (body_of said)
 is_named said name is = sym (as_named said) ∙ ap (λ (n : List ℕ). line_named n (first_of said) (second_of said) (body_of said)) (sym is)
 
--- the line is its name, or begins with it and a space
-pub record Begun (line : List ℕ) (said : Said) : Type 0 where
-  pub rest : List ℕ
-  pub is : (line ≡ name_of said) ⊎ (line ≡ name_of said ++ (32 ∷ rest))
-  pub name : HasNoSpace (name_of said)
-
-pub begun : (line : List ℕ) (said : Said) → Says line said → Begun line said
-begun line (Append client request body) says = record { rest = _; is = inr says.is; name = refl }
-begun line (Reply op body) says = record { rest = _; is = inr says.is; name = refl }
-begun line (Block kind body) says = record { rest = _; is = inr says.is; name = refl }
-begun line (Release address) says = record { rest = _; is = inr says.is; name = refl }
-begun line (Checkpoint body) says = record { rest = _; is = inr says.is; name = refl }
-begun line Step says = record { rest = []; is = inl says.is; name = refl }
-begun line (Prepare op) says = record { rest = _; is = inr says.is; name = refl }
-begun line (Lookup client) says = record { rest = _; is = inr says.is; name = refl }
-begun line (Read address) says = record { rest = _; is = inr says.is; name = refl }
-begun line Scrub says = record { rest = []; is = inl says.is; name = refl }
-begun line Recent says = record { rest = []; is = inl says.is; name = refl }
+pub begun : (line : List ℕ) (said : Said) → Says line said → Begun line (name_of said)
+begun line (Append client request body) says = record { rest = _; is = inr says.is; word = refl }
+begun line (Reply op body) says = record { rest = _; is = inr says.is; word = refl }
+begun line (Block kind body) says = record { rest = _; is = inr says.is; word = refl }
+begun line (Release address) says = record { rest = _; is = inr says.is; word = refl }
+begun line (Checkpoint body) says = record { rest = _; is = inr says.is; word = refl }
+begun line Step says = record { rest = []; is = inl says.is; word = refl }
+begun line (Prepare op) says = record { rest = _; is = inr says.is; word = refl }
+begun line (Lookup client) says = record { rest = _; is = inr says.is; word = refl }
+begun line (Read address) says = record { rest = _; is = inr says.is; word = refl }
+begun line Scrub says = record { rest = []; is = inl says.is; word = refl }
+begun line Recent says = record { rest = []; is = inl says.is; word = refl }
 
 -- a line of one word is its name
 pub alone_as : (line : List ℕ) → HasNoSpace line → (said : Said) → Says line said → line ≡ name_of said
-alone_as line none said says =
-    let b = begun line said says in
-    elim b.is [ inl bare ↦ bare | inr worded ↦ absurd (no_cut line (name_of said) b.rest none worded b.name) ]
-
--- a line that has a space isn't one without
-cut_has_space : (line name words : List ℕ) → Cuts line name words → HasNoSpace line → ⊥
-cut_has_space line name words cuts none =
-    let all : name ≡ line = cuts.front ∙ ap (λ (n : ℕ). take n line) none ∙ take_all (length line) line (omega arith) in
-    omega (arith, ap length cuts.whole, length-append name (32 ∷ words), ap length all)
+alone_as line none said says = bare_name line (name_of said) none (begun line said says)
 
 pub named_as : (line name words : List ℕ) → Cuts line name words → (said : Said) → Says line said → name ≡ name_of said
-named_as line name words cuts said says =
-    let b = begun line said says in
-    elim b.is [
-      | inl bare ↦ absurd (cut_has_space line name words cuts (subst HasNoSpace (sym bare) b.name))
-      | inr worded ↦ (one_cut line name words (name_of said) b.rest cuts worded b.name).0
-    ]
+named_as line name words cuts said says = cut_name line name words (name_of said) cuts (begun line said says)
 
 pub same_name : (line : List ℕ) (a b : Said) → Says line a → Says line b → name_of a ≡ name_of b
-same_name line a b one other =
-    let x = begun line a one in
-    let y = begun line b other in
-    elim x.is [
-      | inl bare ↦ sym bare ∙ alone_as line (subst HasNoSpace (sym bare) x.name) b other
-      | inr worded ↦ elim y.is [
-        | inl bare ↦ absurd (no_cut line (name_of a) x.rest (subst HasNoSpace (sym bare) y.name) worded x.name)
-        | inr words ↦ (one_split (name_of a) x.rest (name_of b) y.rest x.name y.name (sym worded ∙ words)).0
-      ]
-    ]
+same_name line a b one other = one_name line (name_of a) (name_of b) (begun line a one) (begun line b other)
 
 some_name : (said : Said) → 0 < length (name_of said)
 some_name (Append client request body) = omega arith

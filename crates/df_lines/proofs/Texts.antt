@@ -9,7 +9,7 @@ use Rattle.df_lines.specs.declared.next.Next.TheVariants as nexts
 use Rattle.df_lines.specs.Grammar.{Says, said_with}
 use Rattle.df_lines.specs.Reads.{GivesNext, Takes, text_after}
 use Rattle.df_lines.specs.Room.{Contents, Room, IsAtEnd, Tells}
-use Rattle.df_lines.specs.Text.{IsWithin, Reading, line_of, after_line, unread}
+use Rattle.df_lines.specs.Text.{line_of, after_line, unread}
 use Rattle.df_lines.specs.Text as text
 use Rattle.df_lines.specs.Window.{is_feed, line_end, IsWhole, IsOverfull}
 use Rattle.df_lines.proofs.Cutting.{position_past, position_within, position_le}

@@ -21,21 +21,11 @@ const BUDGET: u64 = 1 << 32;
 const WORDS: u64 = 64;
 
 /// The buffers of a reader, and what it has read of its script.
+#[derive(Drop)]
 pub struct LineRoom {
     window: Window,
     body: Vec<u8>,
     budget: u64,
-}
-
-// Its owner lets go of it in one call, and not field by field.
-impl Drop for LineRoom {
-    fn drop(self) {
-        let LineRoom {
-            window: _,
-            body: _,
-            budget: _,
-        } = self;
-    }
 }
 
 impl Model for LineRoom {

@@ -14,21 +14,11 @@ use std::marker::Model;
 
 /// A disk in memory that answers Ok to some writes without doing them. It hands every other call on to its memory disk,
 /// so a write that is lost is no device call of that disk. The count of writes stops at `u64::MAX`.
+#[derive(Drop)]
 pub struct DroppingDisk {
     disk: MemoryDisk,
     dropped: Vec<u64>,
     writes: u64,
-}
-
-// Its owner lets go of it in one call, and not field by field.
-impl Drop for DroppingDisk {
-    fn drop(self) {
-        let DroppingDisk {
-            disk: _,
-            dropped: _,
-            writes: _,
-        } = self;
-    }
 }
 
 impl Model for DroppingDisk {

@@ -1,7 +1,6 @@
 -- Answers and their order.
 use Rattle.std.proofs.Common.{◌≡◌, ℕ, ◌+◌, ◌-◌, ◌^◌, ◌<◌, ◌≤◌, ◌==◌, ◌&&◌, ◌||◌, not, nat_lt, nat_le, Bool, true, false, List, [], ◌∷◌, length, Option, Some, None, Result, Ok, Err, refl, sym, ◌∙◌, ap, arith, eq-eqb, ne_eqb, lt-ltb, le-ltb, le-leb}
 use Rattle.std.specs.List.{slice_get}
-use Rattle.std.proofs.lemmas.Bool.Decides.{nat_tests}
 use Rattle.std.proofs.lemmas.Bool.{lt-leb, and_right, and_left, and_from}
 use Rattle.df_theory.specs.Units.{Parts, Session}
 use Rattle.df_theory.specs.Shape.{Shape}
@@ -60,7 +59,7 @@ answer_from spell m given (ReadPrepare op) = ToReadPrepare (prepare_answer m giv
 answer_from spell m given (ReadReply client) = ToReadReply (lookup_answer m given.message client)
 answer_from spell m given (ReadBlock address) = ToReadBlock (read_answer m given.block address)
 answer_from spell m given Scrub = ToScrub (check_answer m given.verdict (to_check m))
-answer_from spell m given (Recent place) = ToRecent (slice_get m.findings place)
+answer_from spell m given Recent = ToRecent m.findings
 
 module _ (sh : Shape) (spell : Parts → List ℕ) (w : Work) (given : Given) where
   abbrev m : Memory
@@ -89,7 +88,7 @@ module _ (sh : Shape) (spell : Parts → List ℕ) (w : Work) (given : Given) wh
   answer_is (ReadReply client) = refl
   answer_is (ReadBlock address) = refl
   answer_is Scrub = ap ToScrub (check_is (to_check m))
-  answer_is (Recent place) = refl
+  answer_is Recent = refl
 
 pub memory_law : MemoryLaw
 memory_law sh spell w u given c same = answer_is sh spell w given c ∙ ap (λ (m : Memory). answer_from spell m given c) same ∙ sym (answer_is sh spell u given c)

@@ -5,8 +5,7 @@ use Rattle.std.proofs.lemmas.List.{take-append-le}
 use Rattle.std.proofs.lemmas.Bool.{or_parts, not-false, eqb-false}
 use Rattle.df_base.proofs.Laws.{and_false}
 use Rattle.df_theory.specs.Units.{Message, Session, Parts}
-use Rattle.df_theory.specs.Sessions.{MayAsk, sessions_after}
-use Rattle.df_theory.specs.Tails.{last_checksum}
+use Rattle.df_theory.specs.Sessions.{MayAsk}
 use Rattle.df_theory.specs.Shape.{Shape}
 use Rattle.df_theory.specs.View.{View, head, sessions}
 use Rattle.df_theory.specs.Next.{IsStamped, MayAppend, appended}
@@ -17,6 +16,7 @@ use Rattle.df_model.specs.Refusals.{append_refusals, first_refusal, is_new, last
 use Rattle.df_model.specs.After.{with_prepare}
 use Rattle.df_model.specs.Sense.{AreWaiting, IsCapture, IsWork}
 use Rattle.df_model.specs.Laws.{AppendMayLaw}
+use Rattle.df_model.proofs.Captures.{capture_on}
 use Rattle.df_model.proofs.Tests.{get_front, get_last, all_pass}
 use Rattle.df_model.proofs.Knows.{append_knows, one_fewer}
 use Rattle.df_model.proofs.Sessions.{known_asks, new_asks, noted_lawful}
@@ -113,20 +113,9 @@ module _ (sh : Shape) (spell : Parts → List ℕ) (w : Work) (sum client reques
   capture : (r : Running) → IsCapture sh spell v r → IsCapture sh spell (appended v (p ∷ [])) r
   capture r old =
       let same : take (r.op - v.checkpoint.content.op) (v.tail ++ p ∷ []) ≡ take (r.op - v.checkpoint.content.op) v.tail = take-append-le (r.op - v.checkpoint.content.op) v.tail (p ∷ []) (omega (arith, old.op_to, old.op_from)) in
-      record {
-        op_from = old.op_from;
-        op_to = omega (arith, old.op_to, head_is);
-        ends = λ q at low. elim (in_either q v.tail (p ∷ []) at) [ inl before ↦ old.ends q before low | inr new ↦ absurd (omega (arith, ap (λ (x : Message). x.header.op) (in_single q p new), old.op_to)) ];
-        op_checksum = old.op_checksum ∙ ap (last_checksum v.checkpoint.content.op_checksum) (sym same);
-        sessions = old.sessions ∙ ap (sessions_after v.checkpoint.parts.sessions) (sym same);
-        unspent = old.unspent;
-        lawful = old.lawful;
-        count = old.count;
-        links = old.links;
-        text = old.text;
-        written = old.written;
-        left = old.left;
-      }
+      capture_on sh spell v r old (v.tail ++ p ∷ []) v.replies (appended v (p ∷ [])).stored same
+      (λ q at low. elim (in_either q v.tail (p ∷ []) at) [ inl before ↦ old.ends q before low | inr new ↦ absurd (omega (arith, ap (λ (x : Message). x.header.op) (in_single q p new), old.op_to)) ])
+      (omega (arith, old.op_to, head_is))
 
   pub append_keeps : client < 2 ^ 128 → IsWork sh spell (with_prepare w p)
   append_keeps fits = record {

@@ -16,7 +16,7 @@ use Rattle.df_model.specs.declared.answers.Verdict.{Verdict}
 use Rattle.df_model.specs.declared.answers.Verdict.TheVariants.{Sound, Failing}
 use Rattle.df_model.proofs.Entries.{entry_at}
 use Rattle.df_model.proofs.Blocks.{next_free}
-use Rattle.df_model.proofs.Tours.{RisePairs, entries_rise}
+use Rattle.df_model.proofs.Rising.{RisePairs, entries_pairs}
 
 -- ---- a map that changes at one address
 
@@ -90,7 +90,7 @@ entered f a c s (suc n) from to = entered_case f a c s n (s == a) refl from (λ 
         ap (λ (o : Option ℕ). entry s o (entries (λ k. if k == a then Some c else f k) (range_with_len (s + 1) n))) (g_there f a (Some c) s same)
         ∙ ap (λ (k : ℕ). (k, c) ∷ entries (λ k. if k == a then Some c else f k) (range_with_len (s + 1) n)) same
         ∙ ap (λ (l : List (ℕ × ℕ)). (a, c) ∷ l) (later_same f a (Some c) (s + 1) n (omega arith))
-        ∙ here_case s a c (f s) (entries f (range_with_len (s + 1) n)) same (rise_at s a (entries f (range_with_len (s + 1) n)) same (entries_rise f (s + 1) n))
+        ∙ here_case s a c (f s) (entries f (range_with_len (s + 1) n)) same (rise_at s a (entries f (range_with_len (s + 1) n)) same (entries_pairs f (s + 1) n))
     entered_case f a c s n false is from more =
         let apart : s ≡ a → ⊥ = λ same. grind (arith, nat_tests) in
         ap (λ (o : Option ℕ). entry s o (entries (λ k. if k == a then Some c else f k) (range_with_len (s + 1) n))) (g_else f a (Some c) s apart)
@@ -121,7 +121,7 @@ removed_case f a s n true is more =
     let same : s ≡ a = grind (arith, nat_tests) in
     ap (λ (o : Option ℕ). entry s o (entries (λ k. if k == a then None else f k) (range_with_len (s + 1) n))) (g_there f a None s same)
     ∙ later_same f a None (s + 1) n (omega arith)
-    ∙ gone_case s a (f s) (entries f (range_with_len (s + 1) n)) same (rise_at s a (entries f (range_with_len (s + 1) n)) same (entries_rise f (s + 1) n))
+    ∙ gone_case s a (f s) (entries f (range_with_len (s + 1) n)) same (rise_at s a (entries f (range_with_len (s + 1) n)) same (entries_pairs f (s + 1) n))
 removed_case f a s n false is more =
     let apart : s ≡ a → ⊥ = λ same. grind (arith, nat_tests) in
     ap (λ (o : Option ℕ). entry s o (entries (λ k. if k == a then None else f k) (range_with_len (s + 1) n))) (g_else f a None s apart)
@@ -189,7 +189,7 @@ module _ (sh : Shape) (spell : Parts → List ℕ) (w : Work) (given : Given) wh
   blocks_is (ReadReply client) = refl
   blocks_is (ReadBlock address) = refl
   blocks_is Scrub = check_blocks given.verdict (to_check (memory_of sh spell w))
-  blocks_is (Recent place) = refl
+  blocks_is Recent = refl
 
 pub blocks_law : BlocksLaw
 blocks_law sh spell w given c = blocks_is sh spell w given c

@@ -202,4 +202,4 @@ command_law sh spell log w given Scrub steps input keeps does =
     let u = (after_check w given.verdict xs).0 in
     idle sh spell log w u steps (check_view w given.verdict xs) keeps (check_keeps sh spell w given.verdict xs keeps.sense) (λ r at. keeps.written r (sym (check_running w given.verdict xs) ∙ at))
     (checked log w u (check_view w given.verdict xs) (check_live w given.verdict xs) (check_running w given.verdict xs)) does
-command_law sh spell log w given (Recent place) steps input keeps does = stay sh spell log w steps keeps does
+command_law sh spell log w given Recent steps input keeps does = stay sh spell log w steps keeps does

@@ -14,7 +14,7 @@ use Rattle.df_model.specs.Sense.{RiseFrom, ShowsBlock}
 use Rattle.df_model.proofs.Entries.{EachPair, reference_is, within}
 use Rattle.df_model.proofs.Grid.{rise_lower}
 use Rattle.df_model.proofs.Kept.{block_shown}
-use Rattle.df_model.proofs.Tours.{RisePairs, entries_rise}
+use Rattle.df_model.proofs.Rising.{RisePairs, entries_pairs}
 use Rattle.df_model.specs.declared.answers.Verdict.{Verdict}
 use Rattle.df_model.specs.declared.answers.Verdict.TheVariants.{Sound, Failing}
 
@@ -111,7 +111,7 @@ failing_law sh codec shown w =
     let xs = entries f (addresses sh.layout) in
     let known = within (λ (x : ℕ × ℕ). InGrid sh.layout x.0 × (reference_of w x.0 ≡ Some x.1)) f 1 sh.layout.blocks (λ a c from to is. ((omega (arith, from), omega (arith, to)), sym (reference_is sh w a from to) ∙ is)) in
     record {
-      order = in_order shown 1 xs (entries_rise f 1 sh.layout.blocks);
+      order = in_order shown 1 xs (entries_pairs f 1 sh.layout.blocks);
       each = λ f at. let one = each_of (λ (x : ℕ × ℕ). InGrid sh.layout x.0 × (reference_of w x.0 ≡ Some x.1)) shown xs f known at in (one.1.0, (one.0, one.1.1, one.2), one.3);
       all = λ a c inside is hurt. all_of shown xs (a, c) (member f 1 sh.layout.blocks a c (omega (arith, inside.0)) (omega (arith, inside.1)) (reference_is sh w a (omega (arith, inside.0)) (omega (arith, inside.1)) ∙ is)) hurt;
     }

@@ -161,7 +161,7 @@ sense_law sh spell w given (ReadPrepare op) input work = work
 sense_law sh spell w given (ReadReply client) input work = work
 sense_law sh spell w given (ReadBlock address) input work = work
 sense_law sh spell w given Scrub input work = check_keeps sh spell w given.verdict (to_check (memory_of sh spell w)) work
-sense_law sh spell w given (Recent place) input work = work
+sense_law sh spell w given Recent input work = work
 
 pub next_law : NextLaw
 next_law sh spell w given (ToAppendOf client request body) work =
@@ -181,7 +181,7 @@ next_law sh spell w given (ReadPrepare op) work = Same
 next_law sh spell w given (ReadReply client) work = Same
 next_law sh spell w given (ReadBlock address) work = Same
 next_law sh spell w given Scrub work = subst (Next w.view) (sym (check_view w given.verdict (to_check (memory_of sh spell w)))) Same
-next_law sh spell w given (Recent place) work = Same
+next_law sh spell w given Recent work = Same
 
 -- ---- the start
 

@@ -24,3 +24,4 @@ pub use Rattle.df_model.proofs.Fails.{failing_law}
 pub use Rattle.df_model.proofs.Results.{result_law, writes_law}
 pub use Rattle.df_model.proofs.Tests.{all_pass}
 pub use Rattle.df_model.proofs.Grid.{known_none, rise_take}
+pub use Rattle.df_model.proofs.Rising.{Rise, above, all_above, entries_rise, is_next, rising_few}

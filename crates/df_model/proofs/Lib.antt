@@ -1,4 +1,5 @@
 pub mod Tests
+pub mod Captures
 pub mod Entries
 pub mod Sessions
 pub mod Appends
@@ -15,6 +16,7 @@ pub mod Runs
 pub mod Exact
 pub mod Disks
 pub mod Kept
+pub mod Rising
 pub mod Tours
 pub mod Fails
 pub mod Results

@@ -231,7 +231,7 @@ module _ (sh : Shape) (spell : Parts → List ℕ) (w : Work) (given : Given) (w
   change_is (ReadReply client) = refl
   change_is (ReadBlock address) = refl
   change_is Scrub = rightly (after_check w given.verdict (to_check m)).0 (checked_in m given.verdict (to_check m)) (blocks_after spell m given Scrub) (blocks_law sh spell w given Scrub) (check_memory given.verdict (to_check m) (blocks_after spell m given Scrub))
-  change_is (Recent place) = refl
+  change_is Recent = refl
 
 pub change_law : ChangeLaw
 change_law sh spell w given c work = change_is sh spell w given work c

@@ -11,6 +11,7 @@ use Rattle.df_model.specs.Refusals.{first_refusal, reply_refusals}
 use Rattle.df_model.specs.After.{with_reply}
 use Rattle.df_model.specs.Sense.{AreWaiting, IsWork}
 use Rattle.df_model.specs.Laws.{ReplyMayLaw}
+use Rattle.df_model.proofs.Captures.{capture_on}
 use Rattle.df_model.proofs.Tests.{all_pass}
 use Rattle.df_model.proofs.Knows.{one_fewer, reply_knows}
 use Rattle.df_model.proofs.Sessions.{IsAtOp, op_found}
@@ -63,20 +64,7 @@ module _ (sh : Shape) (spell : Parts → List ℕ) (w : Work) (sum op : ℕ) (bo
     waiting = waiting_of w.waiting work.waiting;
     running = λ q at.
         let old = work.running q at in
-        record {
-          op_from = old.op_from;
-          op_to = old.op_to;
-          ends = old.ends;
-          op_checksum = old.op_checksum;
-          sessions = old.sessions;
-          unspent = old.unspent;
-          lawful = old.lawful;
-          count = old.count;
-          links = old.links;
-          text = old.text;
-          written = old.written;
-          left = old.left;
-        };
+        capture_on sh spell v q old v.tail (v.replies + 1) (replied v (place_of_reply (memory_of sh spell w)) r).stored refl old.ends old.op_to;
     one = one_fewer w (with_reply w (place_of_reply (memory_of sh spell w)) r) (reply_knows w (place_of_reply (memory_of sh spell w)) r) work.one;
     sums = work.sums;
     few = work.few;

@@ -40,30 +40,13 @@ module _ (codec : Codec) (m : Memory) (image other : Units) (damage : Place → 
   block_same known a = ap (λ (u : Option AnyUnit). block_given known u (class_or u (damage (BlockPlace a)))) (agree.block a)
 
   message_same : (c : Command) → message_given s m c ≡ message_given t m c
-  message_same (Append client request body) = refl
-  message_same (Reply op body) = refl
-  message_same (WriteBlock kind body) = refl
-  message_same (Release address) = refl
-  message_same (Begin root) = refl
-  message_same Advance = refl
   message_same (ReadPrepare op) = prepare_same (prepare_sum m op) (op % m.layout.slots)
   message_same (ReadReply client) = reply_same (reply_sum m (place_of_client client m.sessions)) (place_of_client client m.sessions)
-  message_same (ReadBlock address) = refl
-  message_same Scrub = refl
-  message_same (Recent place) = refl
+  message_same c = refl
 
   read_same : (c : Command) → block_read s m c ≡ block_read t m c
-  read_same (Append client request body) = refl
-  read_same (Reply op body) = refl
-  read_same (WriteBlock kind body) = refl
-  read_same (Release address) = refl
-  read_same (Begin root) = refl
-  read_same Advance = refl
-  read_same (ReadPrepare op) = refl
-  read_same (ReadReply client) = refl
   read_same (ReadBlock address) = ap no_trailer (block_same (sum_at address m.blocks.live) address)
-  read_same Scrub = refl
-  read_same (Recent place) = refl
+  read_same c = refl
 
   check_same : (xs : List (ℕ × ℕ)) → first_check s xs ≡ first_check t xs
   check_same [] = refl
@@ -193,7 +176,7 @@ module _ (sh : Shape) (spell : Parts → List ℕ) (log : UnitLog) (w : Work) (g
   shows_next (ReadReply client) does = idle log steps under does agree
   shows_next (ReadBlock address) does = idle log steps under does agree
   shows_next Scrub does = idle log steps under does agree
-  shows_next (Recent place) does = idle log steps under does agree
+  shows_next Recent does = idle log steps under does agree
 
 agree_self : (image : Units) → AgreeReads image image
 agree_self image = record { prepare = λ s. refl; reply = λ k. refl; block = λ a. refl }

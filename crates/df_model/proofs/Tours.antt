@@ -1,19 +1,18 @@
 -- A tour of the scrubber, from its start to its end.
-use Rattle.std.proofs.Common.{◌≡◌, ℕ, zero, suc, ◌+◌, ◌-◌, ◌<◌, ◌≤◌, nat_lt, Bool, true, false, cond, List, [], ◌∷◌, ◌++◌, length, drop, Option, Some, None, refl, sym, ◌∙◌, ap, subst, arith, length-append, length-drop}
-use Rattle.std.specs.List.{filter, range_with_len}
+use Rattle.std.proofs.Common.{◌≡◌, ℕ, suc, ◌+◌, ◌-◌, ◌≤◌, List, [], ◌∷◌, ◌++◌, length, drop, refl, sym, ◌∙◌, ap, arith, length-append, length-drop}
 use Rattle.std.proofs.lemmas.List.{append-nil, append_assoc, drop-append-le, drop-drop}
-use Rattle.std.proofs.lemmas.Bool.Decides.{nat_tests}
 use Rattle.df_layout.specs.declared.damage.Finding.{Finding}
 use Rattle.df_theory.specs.Units.{Parts}
 use Rattle.df_theory.specs.Shape.{Shape}
 use Rattle.df_model.specs.Work.{Tour, Work, first_tour}
 use Rattle.df_model.specs.Memory.{referenced_of, Memory, memory_of}
-use Rattle.df_model.specs.Blocks.{blocks_of, reference_in, addresses, entries, entry}
+use Rattle.df_model.specs.Blocks.{blocks_of, reference_in, addresses, entries}
 use Rattle.df_model.specs.After.{after_check, newest, to_check, with_verdict}
 use Rattle.df_model.specs.Commands.{Answer, Scrub, ToScrub}
 use Rattle.df_model.specs.Supply.{Codec, Shown, check_of, first_check, last_work, result, shown_after}
 use Rattle.df_model.specs.Reading.{TourLaw, checks, failing, scrubs, with_finding}
 use Rattle.df_model.proofs.Keeps.{newest_few}
+use Rattle.df_model.proofs.Rising.{above, all_above, entries_rise, is_next}
 use Rattle.df_model.specs.declared.answers.Verdict.{Verdict}
 use Rattle.df_model.specs.declared.answers.Verdict.TheVariants.{Sound, Failing}
 use Rattle.df_model.specs.declared.answers.Scrubbed.{Scrubbed}
@@ -42,66 +41,6 @@ push_all fs (g ∷ gs) = push_all (newest (fs ++ g ∷ [])) gs
 pushed : (fs gs : List Finding) → length fs ≤ 64 → push_all fs gs ≡ newest (fs ++ gs)
 pushed fs [] short = sym (newest_short fs short) ∙ ap newest (sym (append-nil fs))
 pushed fs (g ∷ gs) short = pushed (newest (fs ++ g ∷ [])) gs (newest_few (fs ++ g ∷ [])) ∙ newest_keeps (fs ++ g ∷ []) gs ∙ ap newest (append_assoc fs (g ∷ []) gs)
-
--- ---- what is still to be checked
-
--- entries whose addresses rise, from this one on
-abbrev pub RisePairs : ℕ → List (ℕ × ℕ) → Type 0
-RisePairs a [] = Unit {0}
-RisePairs a (x ∷ xs) = (a ≤ x.0) × RisePairs (x.0 + 1) xs
-
-lower : (a b : ℕ) (xs : List (ℕ × ℕ)) → a ≤ b → RisePairs b xs → RisePairs a xs
-lower a b [] le rise = tt
-lower a b (x ∷ xs) le rise = (omega (arith, rise.0), rise.1)
-
-entry_rise : (a : ℕ) (o : Option ℕ) (rest : List (ℕ × ℕ)) → RisePairs (a + 1) rest → RisePairs a (entry a o rest)
-entry_rise a None rest rise = lower a (a + 1) rest (omega arith) rise
-entry_rise a (Some c) rest rise = (omega arith, rise)
-
-pub entries_rise : (f : ℕ → Option ℕ) (a n : ℕ) → RisePairs a (entries f (range_with_len a n))
-entries_rise f a zero = tt
-entries_rise f a (suc n) = entry_rise a (f a) (entries f (range_with_len (a + 1) n)) (entries_rise f (a + 1) n)
-
-abbrev pub above : ℕ → List (ℕ × ℕ) → List (ℕ × ℕ)
-above a xs = filter (λ x. nat_lt a x.0) xs
-
-pass_case : (a : ℕ) (x : ℕ × ℕ) (xs : List (ℕ × ℕ)) (b : Bool) → nat_lt a x.0 ≡ b → a < x.0 → above a xs ≡ xs → cond b (x ∷ above a xs) (above a xs) ≡ x ∷ xs
-pass_case a x xs true is less rest = ap (λ (l : List (ℕ × ℕ)). x ∷ l) rest
-pass_case a x xs false is less rest = absurd (grind (arith, nat_tests))
-
-all_above : (a b : ℕ) (xs : List (ℕ × ℕ)) → a < b → RisePairs b xs → above a xs ≡ xs
-all_above a b [] less rise = refl
-all_above a b (x ∷ xs) less rise = pass_case a x xs (nat_lt a x.0) refl (omega (arith, rise.0)) (all_above a (x.0 + 1) xs (omega (arith, rise.0)) rise.1)
-
--- once the first is checked, the rest is to be checked
-skip_case : (x y : ℕ × ℕ) (ys rest : List (ℕ × ℕ)) (b : Bool) → nat_lt x.0 y.0 ≡ b → y.0 ≤ x.0 → above x.0 ys ≡ rest → cond b (y ∷ above x.0 ys) (above x.0 ys) ≡ rest
-skip_case x y ys rest true is le same = absurd (grind (arith, nat_tests))
-skip_case x y ys rest false is le same = same
-
-first_above : (a : ℕ) (y : ℕ × ℕ) (ys : List (ℕ × ℕ)) (x : ℕ × ℕ) (rest : List (ℕ × ℕ)) (b : Bool) → nat_lt a y.0 ≡ b → cond b (y ∷ above a ys) (above a ys) ≡ x ∷ rest → (above a ys ≡ x ∷ rest → a < x.0) → a < x.0
-first_above a y ys x rest true less found more = subst (λ (z : ℕ × ℕ). a < z.0) (let e : y ≡ x = cc in e) (let l : a < y.0 = grind (arith, nat_tests) in l)
-first_above a y ys x rest false less found more = more found
-
-above_first : (a : ℕ) (ys : List (ℕ × ℕ)) (x : ℕ × ℕ) (rest : List (ℕ × ℕ)) → above a ys ≡ x ∷ rest → a < x.0
-above_first a [] x rest is = absurd (cc)
-above_first a (y ∷ ys) x rest is = first_above a y ys x rest (nat_lt a y.0) refl is (λ found. above_first a ys x rest found)
-
-next_case : (a b : ℕ) (y : ℕ × ℕ) (ys : List (ℕ × ℕ)) (x : ℕ × ℕ) (rest : List (ℕ × ℕ)) (e : Bool) → RisePairs b (y ∷ ys) → nat_lt a y.0 ≡ e → cond e (y ∷ above a ys) (above a ys) ≡ x ∷ rest
-    → (above a ys ≡ x ∷ rest → above x.0 ys ≡ rest) → above x.0 (y ∷ ys) ≡ rest
-next_case a b y ys x rest true rise is found more =
-    let less : a < y.0 = grind (arith, nat_tests) in
-    let first : y ≡ x = cc in
-    let same : above a ys ≡ rest = cc in
-    let at : y.0 ≡ x.0 = ap (λ (z : ℕ × ℕ). z.0) first in
-    skip_case x y ys rest (nat_lt x.0 y.0) refl (omega (arith, at)) (all_above x.0 (y.0 + 1) ys (omega (arith, at)) rise.1 ∙ sym (all_above a (y.0 + 1) ys (omega (arith, less)) rise.1) ∙ same)
-next_case a b y ys x rest false rise is found more =
-    let past : a < x.0 = above_first a ys x rest found in
-    let not_above : y.0 ≤ a = grind (arith, nat_tests) in
-    skip_case x y ys rest (nat_lt x.0 y.0) refl (omega (arith, past, not_above)) (more found)
-
-above_next : (a b : ℕ) (ys : List (ℕ × ℕ)) (x : ℕ × ℕ) (rest : List (ℕ × ℕ)) → RisePairs b ys → above a ys ≡ x ∷ rest → above x.0 ys ≡ rest
-above_next a b [] x rest rise is = absurd (cc)
-above_next a b (y ∷ ys) x rest rise is = next_case a b y ys x rest (nat_lt a y.0) rise refl is (λ found. above_next a (y.0 + 1) ys x rest rise.1 found)
 
 -- ---- the tour
 
@@ -138,7 +77,7 @@ module _ (sh : Shape) (codec : Codec) (shown : Shown) where
   tour_answers (x ∷ xs) w is =
       let v = check_of shown x in
       let u = with_verdict w x.0 v in
-      let rest : to_check (memory_of sh codec.spell u) ≡ xs = verdict_next sh codec.spell w x.0 v ∙ above_next w.tour.last 1 (entries (reference_in (blocks_of sh w)) (addresses sh.layout)) x xs (entries_rise (reference_in (blocks_of sh w)) 1 sh.layout.blocks) is in
+      let rest : to_check (memory_of sh codec.spell u) ≡ xs = verdict_next sh codec.spell w x.0 v ∙ (is_next w.tour.last 1 (1 + sh.layout.blocks) (entries (reference_in (blocks_of sh w)) (addresses sh.layout)) x xs (entries_rise (reference_in (blocks_of sh w)) 1 sh.layout.blocks (1 + sh.layout.blocks) (omega arith)) is).behind in
       ap (λ (ys : List (ℕ × ℕ)). ToScrub (checked w ys).1 ∷ result sh codec shown (checked w ys).0 (scrubs (suc (length xs)))) is
       ∙ ap (λ (l : List Answer). ToScrub (Checked x.0 v) ∷ l) (tour_answers xs u rest)
       ∙ ap (λ (n : ℕ). ToScrub (Checked x.0 v) ∷ (checks shown xs ++ ToScrub (TourEnd n (u.tour.failing + length (failing shown xs))) ∷ [])) (let e : u.tour.checked + length xs ≡ w.tour.checked + length (x ∷ xs) = omega (arith, verdict_checked w x.0 v) in e)
@@ -150,13 +89,13 @@ module _ (sh : Shape) (codec : Codec) (shown : Shown) where
   tour_after (x ∷ xs) w is =
       let v = check_of shown x in
       let u = with_verdict w x.0 v in
-      let rest : to_check (memory_of sh codec.spell u) ≡ xs = verdict_next sh codec.spell w x.0 v ∙ above_next w.tour.last 1 (entries (reference_in (blocks_of sh w)) (addresses sh.layout)) x xs (entries_rise (reference_in (blocks_of sh w)) 1 sh.layout.blocks) is in
+      let rest : to_check (memory_of sh codec.spell u) ≡ xs = verdict_next sh codec.spell w x.0 v ∙ (is_next w.tour.last 1 (1 + sh.layout.blocks) (entries (reference_in (blocks_of sh w)) (addresses sh.layout)) x xs (entries_rise (reference_in (blocks_of sh w)) 1 sh.layout.blocks (1 + sh.layout.blocks) (omega arith)) is).behind in
       ap (λ (ys : List (ℕ × ℕ)). last_work sh codec shown (checked w ys).0 (scrubs (suc (length xs)))) is ∙ tour_after xs u rest ∙ verdict_ends w x.0 v (failing shown xs)
 
 pub tour_law : TourLaw
 tour_law sh codec shown w start few =
     let xs = (referenced_of (memory_of sh codec.spell w)) in
-    let all : to_check (memory_of sh codec.spell w) ≡ xs = ap (λ (t : Tour). above t.last xs) start ∙ all_above 0 1 xs (omega arith) (entries_rise (reference_in (blocks_of sh w)) 1 sh.layout.blocks) in
+    let all : to_check (memory_of sh codec.spell w) ≡ xs = ap (λ (t : Tour). above t.last xs) start ∙ all_above 0 1 (1 + sh.layout.blocks) xs (omega arith) (entries_rise (reference_in (blocks_of sh w)) 1 sh.layout.blocks (1 + sh.layout.blocks) (omega arith)) in
     record {
       answers = tour_answers sh codec shown xs w all
           ∙ ap (λ (t : Tour). checks shown xs ++ ToScrub (TourEnd (t.checked + length xs) (t.failing + length (failing shown xs))) ∷ []) start

@@ -1,6 +1,5 @@
 -- Commands, what is supplied to them and what they answer, and the machine: one function for all.
-use Rattle.std.specs.Prelude.{ℕ, ◌<◌, ◌^◌, List, Option, Result}
-use Rattle.std.specs.List.{slice_get}
+use Rattle.std.specs.Prelude.{ℕ, ◌<◌, ◌^◌, List, Result}
 use Rattle.df_layout.specs.declared.damage.Class.{Class}
 use Rattle.df_layout.specs.declared.damage.Finding.{Finding}
 use Rattle.df_theory.specs.Units.{Block, Message, Parts}
@@ -33,7 +32,7 @@ pub data Command : Type 0 where
   ReadReply : (client : ℕ) → Command
   ReadBlock : (address : ℕ) → Command
   Scrub : Command
-  Recent : (place : ℕ) → Command
+  Recent : Command
 
 -- what the device and the codecs supply: the checksum of the unit that the command makes, and the unit that is wanted at the place that it reads, or the class of what is shown there
 pub record Given : Type 0 where
@@ -54,7 +53,7 @@ IsInRange (ReadPrepare op) = Unit {0}
 IsInRange (ReadReply client) = Unit {0}
 IsInRange (ReadBlock address) = Unit {0}
 IsInRange Scrub = Unit {0}
-IsInRange (Recent place) = Unit {0}
+IsInRange Recent = Unit {0}
 
 -- what is supplied is in range too
 pub record IsInput (given : Given) (command : Command) : Type 0 where
@@ -72,7 +71,7 @@ pub data Answer : Type 0 where
   ToReadReply : (answer : Result Message LookupError) → Answer
   ToReadBlock : (answer : Result Block ReadError) → Answer
   ToScrub : (answer : Scrubbed) → Answer
-  ToRecent : (answer : Option Finding) → Answer
+  ToRecent : (findings : List Finding) → Answer
 
 abbrev pub as_answer : {A : Type 0} → (A → Answer) → Work × A → Work × Answer
 as_answer answer pair = (pair.0, answer pair.1)
@@ -89,4 +88,4 @@ after sh spell w given (ReadPrepare op) = (w, ToReadPrepare (prepare_answer (mem
 after sh spell w given (ReadReply client) = (w, ToReadReply (lookup_answer (memory_of sh spell w) given.message client))
 after sh spell w given (ReadBlock address) = (w, ToReadBlock (read_answer (memory_of sh spell w) given.block address))
 after sh spell w given Scrub = as_answer ToScrub (after_scrub sh spell w given.verdict)
-after sh spell w given (Recent place) = (w, ToRecent (slice_get w.findings place))
+after sh spell w given Recent = (w, ToRecent w.findings)

@@ -155,7 +155,7 @@ Does sh spell image w given (ReadPrepare op) steps = DoesNothing steps
 Does sh spell image w given (ReadReply client) steps = DoesNothing steps
 Does sh spell image w given (ReadBlock address) steps = DoesNothing steps
 Does sh spell image w given Scrub steps = DoesNothing steps
-Does sh spell image w given (Recent place) steps = DoesNothing steps
+Does sh spell image w given Recent steps = DoesNothing steps
 
 -- the file is kept for the state: it is tidy with its view, and shows the running trailer as far as it is written. Its referenced blocks may be hurt
 pub record IsKeptBy (sh : Shape) (spell : Parts → List ℕ) (log : UnitLog) (w : Work) : Type 0 where

@@ -7,6 +7,7 @@ pub mod Making
 pub mod After
 pub mod Codec
 pub mod Commands
+pub mod Called
 pub mod Supply
 pub mod Sense
 pub mod Laws

@@ -5,7 +5,6 @@ use crate::{
 };
 use df_base::Check;
 use df_format::Reference;
-use df_layout::Finding;
 
 /// One call of a replica; bodies and roots are lent.
 #[derive(Clone, Copy, Debug, PartialEq, Eq)]
@@ -50,13 +49,11 @@ pub enum Command<'a> {
     },
     /// Checks the next referenced block.
     Scrub,
-    /// Asks for the finding at this place of the ring, the oldest at 0.
-    Recent {
-        place: u64,
-    },
+    /// Asks for the findings of the ring, the oldest first.
+    Recent,
 }
 
-/// What a call answers; the unit that was read is lent by the call itself.
+/// What a call answers; the unit that was read, and the findings of the ring, are lent by the call itself.
 #[derive(Clone, Copy, Debug, PartialEq, Eq)]
 pub enum Answer {
     Append(Result<Receipt, AppendError>),
@@ -71,6 +68,5 @@ pub enum Answer {
     ReadReply(Result<(), LookupError>),
     ReadBlock(Result<(), ReadError>),
     Scrub(Scrubbed),
-    /// None past the ring's end.
-    Recent(Option<Finding>),
+    Recent,
 }

@@ -1,4 +1,4 @@
--- The events of the write of a sound room's unit are steps of the model: the unit is put into its place, and synced.
+-- The events of the write of a sound room's unit are steps of the theory: the unit is put into its place, and synced.
 use Rattle.std.proofs.Common.{◌≡◌, ℕ, List, Some, refl, sym, ◌∙◌, ap, subst, take}
 use Rattle.std.proofs.lemmas.Option.{same_Some}
 use Rattle.df_layout.specs.declared.layout.Layout.{Layout}
@@ -27,7 +27,7 @@ use Rattle.df_places.specs.Units.{put_events, put_steps, unit_events, unit_steps
 one_place : (layout : Layout) (cluster : ℕ) (a b : Place) (u : Message) → a.zone ≡ b.zone → IsUnit layout cluster a u → IsUnit layout cluster b u → a ≡ b
 one_place layout cluster a b u zones at_a at_b = same_Some _ _ (sym at_a.own ∙ ap (λ (z : Zone). own_place layout z u.header) zones ∙ at_b.own)
 
--- bytes that bring a unit to a place of the model put it there
+-- bytes that bring a unit to a place of the theory put it there
 puts_at : (layout : Layout) (cluster : ℕ) (at : Units.Place) (u : Message) (x : AnyUnit) (bytes : List ℕ) → ((place_of at).zone ≡ WalHeaders → ⊥) → unit_of at u ≡ Some x → Brings layout cluster (place_of at) u bytes
     → IsPut (format_of layout cluster) (span_of layout (place_of at)).first bytes (put_one at x)
 puts_at layout cluster (CopyPlace n) u x bytes alone is brings = absurd (cc)

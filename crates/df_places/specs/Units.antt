@@ -21,7 +21,7 @@ use Rattle.df_theory.specs.Runs.{Puts, Step, Syncs}
 abbrev pub put_events : Layout → Place → Holding → List Event
 put_events layout place held = Write (span_of layout place).first (take (sectors_end held.unit.header.size) held.bytes) ∷ []
 
--- in the words of the model: the unit is put into its place
+-- in the words of the theory: the unit is put into its place
 abbrev pub put_steps : Units.Place → AnyUnit → List Step
 put_steps place x = Puts (put_one place x) ∷ []
 
@@ -29,7 +29,7 @@ put_steps place x = Puts (put_one place x) ∷ []
 abbrev pub unit_events : Layout → Place → Holding → List Event
 unit_events layout place held = Write (span_of layout place).first (take (sectors_end held.unit.header.size) held.bytes) ∷ Sync ∷ []
 
--- in the words of the model: the unit is put into its place, and synced
+-- in the words of the theory: the unit is put into its place, and synced
 abbrev pub unit_steps : Units.Place → AnyUnit → List Step
 unit_steps place x = Puts (put_one place x) ∷ Syncs ∷ []
 

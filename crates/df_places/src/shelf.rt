@@ -1,12 +1,6 @@
 // The room of a kind of unit, as it lies between two calls: with any bytes, or with a sound unit in it, which it lends.
 ghost use Rattle.std.specs.Prelude.{◌≡◌, ◌≤◌, ◌+◌, None, Some, length, IfOk, IsSome};
-ghost use Rattle.df_base.specs.Causes.{HasCause};
-ghost use Rattle.df_base.specs.Fields.{AreBytes};
-ghost use Rattle.df_layout.specs.Spans.{HasPlace};
-ghost use Rattle.df_format.specs.Making.{for_body};
-ghost use Rattle.df_format.specs.Own.{own_place};
-ghost use Rattle.df_format.specs.Rules.{ObeysRules};
-ghost use Rattle.df_format.specs.Whole.{greatest_size};
+ghost use Rattle.df_places.specs.Below.{HasCause, AreBytes, HasPlace, for_body, own_place, ObeysRules, greatest_size};
 ghost use Rattle.df_places.specs.Shelves.{HoldsFound, HoldsMade, IsRead, IsShelf};
 ghost use Rattle.df_places.specs.Units.{IsSeen};
 

@@ -1,19 +1,6 @@
 // A write is one call of the device and a sync, a read is one call; the unit has its whole place to itself.
 ghost use Rattle.std.specs.Prelude.{◌≡◌, ◌≢◌, IfOk, OnOk, Some, take};
-ghost use Rattle.df_base.specs.Causes.{HasCause};
-ghost use Rattle.df_disk.specs.Adds.{Adds};
-ghost use Rattle.df_disk.specs.Told.{Shows};
-ghost use Rattle.df_layout.specs.declared.places.Zone.{Zone as AnyZone};
-ghost use Rattle.df_layout.specs.Spans.{HasPlace, span_of};
-ghost use Rattle.df_format.specs.Brings.{Brings};
-ghost use Rattle.df_format.specs.Message.{sectors_end};
-ghost use Rattle.df_format.specs.Shown.{class_of, header_or_class, unit_in};
-ghost use Rattle.df_format.specs.Valid.{IsUnit};
-ghost use Rattle.df_buffers.specs.Rooms.{FillsRoom};
-ghost use Rattle.df_theory.specs.Device.{AreSteps};
-ghost use Rattle.df_theory.specs.Units.{AnyUnit, Place as ModelPlace};
-ghost use Rattle.df_units.specs.Format.{format_of};
-ghost use Rattle.df_units.specs.Meaning.{place_of, unit_of};
+ghost use Rattle.df_places.specs.Below.{HasCause, Adds, Shows, Zone as AnyZone, HasPlace, span_of, Brings, sectors_end, class_of, header_or_class, unit_in, IsUnit, FillsRoom, AreSteps, AnyUnit, Place as ModelPlace, format_of, place_of, unit_of};
 ghost use Rattle.df_places.specs.Units.{IsSeen, IsThere, put_events, put_steps, unit_events, unit_steps};
 
 use df_base::Failed;

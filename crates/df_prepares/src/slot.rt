@@ -1,18 +1,14 @@
-// The write of one slot of the ring. A prepare is durable before its writer answers.
+// The write of one slot of the ring: put alone, it is durable with the next sync; written, it is durable before its writer
+// answers.
 ghost use Rattle.std.specs.Prelude.{◌≡◌, take};
-ghost use Rattle.df_base.specs.Causes.{HasCause};
-ghost use Rattle.df_disk.specs.Adds.{Adds};
-ghost use Rattle.df_format.specs.Brings.{Brings};
-ghost use Rattle.df_format.specs.Message.{sectors_end};
-ghost use Rattle.df_prepares.specs.Slots.{slot_place, IsInOwnSlot, write_events, write_steps};
-ghost use Rattle.df_theory.specs.Device.{AreSteps};
-ghost use Rattle.df_places.specs.Below.{format_of};
+ghost use Rattle.df_prepares.specs.Below.{HasCause, Adds, Brings, sectors_end, AreSteps, format_of};
+ghost use Rattle.df_prepares.specs.Slots.{slot_place, IsInOwnSlot, put_events, put_steps, write_events, write_steps};
 
 use df_base::Failed;
 use df_buffers::{Prepare, Sound};
 use df_disk::Disk;
 use df_layout::{Layout, Place, Zone};
-use df_places::write_unit;
+use df_places::put_unit;
 
 // The place of a slot.
 fn slot_place(slot: u32) -> Place
@@ -22,6 +18,24 @@ fn slot_place(slot: u32) -> Place
         zone: Zone::WalPrepares,
         index: u64::from(slot),
     }
+}
+
+/// Writes the sectors of a prepare into its slot, without a sync: until the next one they may hold anything once the
+/// machine stops. The prepare's room is one of the layout.
+pub fn put_prepare<D: Disk>(
+    disk: &mut D,
+    layout: &Layout,
+    unit: &Sound<Prepare>,
+) -> Result<(), Failed>
+    requires layout { unit.now.layout ≡ layout.now }
+    ensures events { Adds (put_events layout.now unit.now) (D.told disk.old) (D.told disk.new) result }
+    ensures steps { AreSteps (format_of layout.now unit.now.unit.header.cluster) (put_events layout.now unit.now) (put_steps unit.now.unit) }
+    ensures own { IsInOwnSlot layout.now unit.now.unit }
+    ensures brings { Brings layout.now unit.now.unit.header.cluster (slot_place unit.now.unit.header.slot) unit.now.unit (take (sectors_end unit.now.unit.header.size) unit.now.bytes) }
+    ensures cause { HasCause (D.faults disk.old) (D.faults disk.new) result }
+{
+    let slot = unit.header().slot;
+    put_unit(disk, layout, slot_place(slot), unit)
 }
 
 /// Writes the sectors of a prepare into its slot, and makes them durable. After an error they may hold anything once
@@ -38,6 +52,6 @@ pub fn write_prepare<D: Disk>(
     ensures brings { Brings layout.now unit.now.unit.header.cluster (slot_place unit.now.unit.header.slot) unit.now.unit (take (sectors_end unit.now.unit.header.size) unit.now.bytes) }
     ensures cause { HasCause (D.faults disk.old) (D.faults disk.new) result }
 {
-    let slot = unit.header().slot;
-    write_unit(disk, layout, slot_place(slot), unit)
+    put_prepare(disk, layout, unit)?;
+    disk.sync()
 }

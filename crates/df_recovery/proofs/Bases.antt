@@ -35,8 +35,8 @@ use Rattle.df_checkpoint.specs.Waiting.{IsPending, IsUntracked}
 use Rattle.df_checkpoint.specs.declared.fault.TrailerFault.{TrailerFault}
 use Rattle.df_checkpoint.specs.declared.fault.TrailerFault.TheVariants.{BadField, Damaged, DiskFault}
 use Rattle.df_checkpoint.proofs.Laws.{its_text, some_chain}
-use Rattle.df_state.specs.State.{shape}
-use Rattle.df_state.specs.declared.file.DataFile.{DataFile}
+use Rattle.df_rooms.specs.State.{shape}
+use Rattle.df_rooms.specs.declared.file.DataFile.{DataFile}
 use Rattle.df_recovery.specs.Checkpoints.{Base, HasCheckpoint, HasText, RefusesTrailer, TellsCheckpoint, TellsText, error_of}
 use Rattle.df_recovery.proofs.Tracked.{has_is, has_not, sessions_back, tracked}
 
@@ -147,6 +147,7 @@ text_untracked file shown f base n text named lacking = record {
     shows = text.shown;
   };
   parts = text.parts;
+  spare = text.trailer.spare;
   says = its_text (shape file) f.op text.chain text.parts (some_chain (file.layout.block_size - 256) (content_in f) text.chain named text.trailer.links) text.trailer.says;
   above = lacking.above;
   reached = lacking.reached;

@@ -1,4 +1,4 @@
--- What was read of a file is so in the model's words.
+-- What was read of a file is so in the theory's words.
 use Rattle.std.proofs.Common.{◌≡◌, inl, inr, ℕ, zero, suc, ◌<◌, ◌≤◌, Bool, true, false, List, [], ◌∷◌, length, get_or, Option, Some, None, refl, sym, ◌∙◌, ap, subst, arith}
 use Rattle.std.specs.Prelude.{nat_lt}
 use Rattle.std.specs.List.{position, position_or_len}
@@ -30,8 +30,9 @@ use Rattle.df_replies.proofs.Laws.{scanned_shown as replies_shown}
 use Rattle.df_trailer.specs.Text.{parse_of}
 use Rattle.df_recovery.specs.Checkpoints.{Base, base_of}
 use Rattle.df_recovery.specs.Finding.{FileIsRead, IsOfFile, Read, lowest_of, or_first}
-use Rattle.df_state.specs.State.{shape}
-use Rattle.df_state.specs.declared.file.DataFile.{DataFile}
+use Rattle.df_rooms.specs.State.{shape}
+use Rattle.df_rooms.specs.declared.file.DataFile.{DataFile}
+use Rattle.df_recovery.proofs.Starts.{version_one}
 use Rattle.df_recovery.proofs.Written.{super_is_written}
 
 -- ---- the lowest member
@@ -57,7 +58,7 @@ member_inside (member ∷ members) (suc k) is = omega (arith, member_inside memb
 position_upto : (members : List Bool) (k : ℕ) → get_or members k false ≡ true → (n : ℕ) × (n ≤ k) × (position (λ member. member) members ≡ Some n)
 position_upto members k is = position_of members k (position (λ member. member) members) is (member_inside members k is) refl
 
--- ---- contents are told apart by what the model sees of them
+-- ---- contents are told apart by what the theory sees of them
 
 one_content : (layout : Layout) (cluster : ℕ) (named : 0 < cluster) (c d : Content) → HasChecks c → HasChecks d → AreFieldsOf layout cluster d.fields → IsSuper d.fields → content_of c ≡ content_of d → c ≡ d
 one_content layout cluster named c d one two of super same =
@@ -145,7 +146,7 @@ module _ (t : Told) (file : DataFile) (read : Read) (base : Base) (is : IsOfFile
 
 pub file_is_read : FileIsRead
 file_is_read t file read base is = record {
-  tells = subst (λ (image : Units.Units). Tells read.layout image read.slots) same (slots_shown read.layout t read.slots is.scanned.slots);
+  tells = subst (λ (image : Units.Units). Tells read.layout image read.slots) same (slots_shown read.layout t read.slots (version_one read.slots.start read.found.content is.start) is.scanned.slots);
   shows = subst (λ (image : Units.Units). ShowsReplies image read.replies) same (replies_shown read.layout read.slots.start.cluster t read.replies is.scanned.replies);
   slots_are = ap (λ (l : Layout). l.slots) (sym is.layout);
   clients_are = ap (λ (l : Layout). l.clients) (sym is.layout);

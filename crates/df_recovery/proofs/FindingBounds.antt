@@ -17,7 +17,7 @@ use Rattle.df_theory.specs.Units.{AnyUnit, BlockPlace, CopyPlace, HeaderPlace, H
 use Rattle.df_theory.specs.Found.{IsReplies, NotLost}
 use Rattle.df_theory.specs.Sessions.{MayAsk, Tracks, noted, sessions_after}
 use Rattle.df_theory.proofs.Laws.{noted_get, tracks_chain}
-use Rattle.df_state.specs.State.{AreAsked}
+use Rattle.df_rooms.specs.State.{AreAsked}
 use Rattle.df_theory.specs.Tails.{Chain, last_mark}
 use Rattle.df_theory.specs.Shape.{Shape}
 use Rattle.df_theory.specs.View.{Checkpoint}
@@ -25,9 +25,11 @@ use Rattle.df_units.specs.Format.{shape_of}
 use Rattle.df_units.specs.Meaning.{content_of, header_of}
 use Rattle.df_journal.specs.Shows.{ShowsHeader, ShowsPrepare, ShowsTable}
 use Rattle.df_journal.specs.Tail.{FindsTail, StartsAt}
+use Rattle.df_journal.specs.declared.table.Start.{Start}
 use Rattle.df_journal.specs.declared.tail.Tail.{Tail}
 use Rattle.df_replies.specs.Shown.{ShowsReplies, ShowsReply}
-use Rattle.df_state.proofs.Laws.{asked_noted}
+use Rattle.df_rooms.proofs.Laws.{asked_noted}
+use Rattle.df_recovery.specs.Starting.{start_of}
 
 -- ---- an image that shows what the tables say
 
@@ -95,15 +97,15 @@ any_shape layout = shape_of layout 1 (omega arith) (λ op text. None)
 abbrev pub any_base : SuperFields → List Session → Checkpoint
 any_base f ss = record { content = content_of (content_with f); chain = []; parts = record { root = []; sessions = sessions_of ss; references = λ a. None } }
 
-pub any_starts : (layout : Layout) (op : ℕ) (f g : SuperFields) (ss : List Session) → op ≡ g.op → f ≡ g → StartsAt (any_shape layout) (any_base f ss) layout op f.op_checksum ss
+pub any_starts : (layout : Layout) (start : Start) (f g : SuperFields) (ss : List Session) → start ≡ start_of g → f ≡ g → StartsAt (any_shape layout) (any_base f ss) layout start f.op_checksum ss
 unfolding any_shape
-any_starts layout op f g ss op_is same = record {
+any_starts layout start f g ss start_is same = record {
   slots_are = refl;
   clients_are = refl;
-  op_is = ap (λ (x : SuperFields). x.op) same ∙ sym op_is;
+  op_is = ap (λ (x : SuperFields). x.op) same ∙ sym (ap (λ (x : Start). x.op) start_is);
   checksum_is = refl;
-  boot = refl;
-  pin = refl;
+  boot = sym (ap (λ (x : Start). x.boot) start_is);
+  pin = ap (λ (x : SuperFields). x.op) same ∙ sym (ap (λ (x : Start). x.head) start_is);
   pin_checksum = refl;
   sessions_are = refl;
 }

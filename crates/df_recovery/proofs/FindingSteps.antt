@@ -1,4 +1,4 @@
--- Each step of what an open finds is the model's.
+-- Each step of what an open finds is the theory's.
 use Rattle.std.proofs.Common.{◌≡◌, ◌↔◌, ℕ, ◌+◌, ◌≤◌, List, [], length, Some, refl, sym, ◌∙◌, ap, subst, arith}
 use Rattle.std.specs.Prelude.{Result}
 use Rattle.std.specs.List.{slice_get}
@@ -18,31 +18,34 @@ use Rattle.df_theory.specs.Sessions.{sessions_after}
 use Rattle.df_theory.specs.Shape.{Shape}
 use Rattle.df_theory.specs.View.{Checkpoint, View}
 use Rattle.df_units.specs.Meaning.{content_of}
-use Rattle.df_journal.specs.Counts.{CountsAll, CountsRings, RepliesWithin, RingsWithin}
+use Rattle.df_journal.specs.Counts.{CountsAll, CountsRings, RepliesAreOf, RingsWithin}
+use Rattle.df_journal.specs.declared.table.Start.{Start}
 use Rattle.df_journal.specs.Tail.{FindsTail, StartsAt}
 use Rattle.df_journal.specs.declared.tail.Tail.{Tail}
 use Rattle.df_replies.specs.Answers.{AllAnswered, NamesNone, StoredAreFound, stored_by}
 use Rattle.df_replies.specs.Counts.{NoReplyIsAbove, NoReplyIsLater}
-use Rattle.df_replies.specs.Shown.{ShowsReplies}
+use Rattle.df_replies.specs.Shown.{AreOfBoot, ShowsReplies}
+use Rattle.df_replies.proofs.Laws.{replies_are_of}
 use Rattle.df_recovery.specs.Finding.{FindsView, IsReadFrom, Read, lowest_of}
+use Rattle.df_recovery.specs.Starting.{start_of}
 
 -- ---- the counters
 
 abbrev pub CountsLater : List (Result Header Class) → Counters → Counters → Type 0
-CountsLater replies rings seen = (image : Units.Units) (c : Content) → ShowsReplies image replies → c.boot ≡ 0 → (seen.checkpoint ≤ c.sequence) ↔ ((rings.checkpoint ≤ c.sequence) × NoReplyIsLater image c)
+CountsLater replies rings seen = (image : Units.Units) (c : Content) → ShowsReplies image replies → AreOfBoot c.boot replies → (seen.checkpoint ≤ c.sequence) ↔ ((rings.checkpoint ≤ c.sequence) × NoReplyIsLater image c)
 
 abbrev pub CountsAbove : List (Result Header Class) → Counters → Counters → Type 0
-CountsAbove replies rings seen = (image : Units.Units) (c : Content) (head : ℕ) → ShowsReplies image replies → c.boot ≡ 0 → (seen.reply_top ≤ head) ↔ ((rings.reply_top ≤ head) × NoReplyIsAbove image c head)
+CountsAbove replies rings seen = (image : Units.Units) (c : Content) (head : ℕ) → ShowsReplies image replies → AreOfBoot c.boot replies → (seen.reply_top ≤ head) ↔ ((rings.reply_top ≤ head) × NoReplyIsAbove image c head)
 
--- any content of this sequence, and of no boot
-abbrev content : ℕ → Content
-content n = record {
+-- any content of this sequence and boot
+abbrev content : (sequence boot : ℕ) → Content
+content n boot = record {
   checksum = 0;
   version = 1;
   cluster = 0;
   layout = record { slots = 0; message_size = 0; clients = 0; block_size = 0; blocks = 0 };
   sequence = n;
-  boot = 0;
+  boot = boot;
   op = 0;
   op_checksum = 0;
   head = 0;
@@ -58,26 +61,23 @@ content n = record {
 }
 
 -- the counters of the rings with those of the replies count both
-pub counts_all : (image : Units.Units) (replies : List (Result Header Class)) (rings seen : Counters) → CountsRings image rings → rings.reply_top ≡ 0 → seen.ring_op ≡ rings.ring_op
-    → CountsLater replies rings seen → CountsAbove replies rings seen → ShowsReplies image replies → CountsAll image seen
-counts_all image replies rings seen counts none ring_op later above shows = record {
+pub counts_all : (image : Units.Units) (replies : List (Result Header Class)) (rings seen : Counters) (boot : ℕ) → CountsRings image boot rings → rings.reply_top ≡ 0 → seen.ring_op ≡ rings.ring_op
+    → CountsLater replies rings seen → CountsAbove replies rings seen → ShowsReplies image replies → AreOfBoot boot replies → CountsAll image boot seen
+counts_all image replies rings seen boot counts none ring_op later above shows own = record {
   ring_op = λ n. subst (λ (x : ℕ). (x ≤ n) ↔ RingsWithin image (λ h. h.op) n) (sym ring_op) (counts.ring_op n);
   reply_top = λ n. (
-    λ le. let all = ((above image (content n) n shows refl).0 le).1 in (λ k r at. (all k r at (of_boot k r at)).0, λ k r at. (all k r at (of_boot k r at)).1),
-    λ both. (above image (content n) n shows refl).1 (omega (arith, none), λ k r at of. (both.0 k r at, both.1 k r at)),
+    λ le. let all = ((above image (content n boot) n shows own).0 le).1 in (λ k r at. (all k r at (boots k r at)).0, λ k r at. (all k r at (boots k r at)).1),
+    λ both. (above image (content n boot) n shows own).1 (omega (arith, none), λ k r at of. (both.0 k r at, both.1 k r at)),
   );
   checkpoint = λ n. (
-    λ le. let all = (later image (content n) shows refl).0 le in ((counts.checkpoint n).0 all.0, λ k r at. (all.1 k r at).0),
-    λ both. (later image (content n) shows refl).1 ((counts.checkpoint n).1 both.0, λ k r at. (both.1 k r at, boots k r at)),
+    λ le. let all = (later image (content n boot) shows own).0 le in ((counts.checkpoint n).0 all.0, λ k r at. (all.1 k r at).0),
+    λ both. (later image (content n boot) shows own).1 ((counts.checkpoint n).1 both.0, λ k r at. (both.1 k r at, (let same = boots k r at in omega (arith, same)))),
   );
-  boot = (counts.boot, boots);
+  boots = (counts.boots, boots);
 }
   where
-    boots : RepliesWithin image (λ h. h.boot) 0
-    boots k r at = (((later image (content seen.checkpoint) shows refl).0 (omega arith)).1 k r at).1
-
-    of_boot : (k : ℕ) (r : Message) → image (ReplyPlace k) ≡ Some (Units.ReplyUnit r) → r.header.boot ≡ 0
-    of_boot k r at = omega (arith, boots k r at)
+    boots : RepliesAreOf image boot
+    boots = replies_are_of image replies boot shows own
 
 -- ---- the steps
 
@@ -86,20 +86,28 @@ module _ (sh : Shape) (image : Units.Units) (b : Checkpoint) (read : Read) (is :
   pub content_same : (fields : SuperFields) → fields ≡ read.found.content → b.content ≡ content_of (content_with fields)
   content_same fields same = is.content_is ∙ ap (λ (f : SuperFields). content_of (content_with f)) (sym same)
 
-  pub boot_is : b.content.boot ≡ 0
-  boot_is = ap (λ (c : Content). c.boot) is.content_is
+  -- it is of the boot that the scan started from
+  pub boot_is : b.content.boot ≡ read.slots.start.boot
+  boot_is = ap (λ (c : Content). c.boot) is.content_is ∙ sym is.tells.version.boot
+
+  pub boot_low : read.slots.start.boot ≤ b.content.boot
+  boot_low = omega (arith, boot_is)
+
+  -- so are the replies
+  pub replies_of : AreOfBoot b.content.boot read.replies
+  replies_of k h at = sym (ap (λ (c : Content). c.boot) is.content_is)
 
   pub names_none : NamesNone b.content
-  names_none = record { boot = boot_is; answered = ap (λ (c : Content). c.answered) is.content_is }
+  names_none = record { answered = ap (λ (c : Content). c.answered) is.content_is }
 
-  pub starts : (op : ℕ) (fields : SuperFields) → op ≡ read.found.content.op → fields ≡ read.found.content → StartsAt sh b read.layout op fields.op_checksum read.sessions
-  starts op fields op_is same = record {
+  pub starts : (fields : SuperFields) → read.slots.start ≡ start_of read.found.content → fields ≡ read.found.content → StartsAt sh b read.layout read.slots.start fields.op_checksum read.sessions
+  starts fields start same = record {
     slots_are = is.slots_are;
     clients_are = is.clients_are;
-    op_is = ap (λ (c : Content). c.op) is.content_is ∙ sym op_is;
+    op_is = ap (λ (c : Content). c.op) is.content_is ∙ sym (ap (λ (x : Start). x.op) start);
     checksum_is = ap (λ (c : Content). c.op_checksum) (content_same fields same);
     boot = boot_is;
-    pin = ap (λ (c : Content). c.pin) is.content_is ∙ sym (ap (λ (c : Content). c.op) is.content_is);
+    pin = ap (λ (c : Content). c.pin) is.content_is ∙ sym (ap (λ (x : Start). x.head) start);
     pin_checksum = ap (λ (c : Content). c.pin_checksum) is.content_is ∙ sym (ap (λ (c : Content). c.op_checksum) is.content_is);
     sessions_are = is.sessions_are;
   }

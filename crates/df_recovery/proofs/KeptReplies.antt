@@ -18,7 +18,7 @@ use Rattle.df_model.specs.Memory
 use Rattle.df_units.specs.Meaning.{header_of}
 use Rattle.df_replies.specs.Shown.{ShowsReply}
 use Rattle.df_recovery.specs.Finding.{StoredIsKept, StoresTo, reply_in, with_stored}
-use Rattle.df_state.specs.State.{reply_sum, stored_sum}
+use Rattle.df_rooms.specs.State.{reply_sum, stored_sum}
 
 -- ---- one place
 
@@ -34,7 +34,7 @@ stored_now n s h reply is le =
 
 -- ---- place by place
 
--- ---- in the model
+-- ---- in the theory
 
 entry_of : (o : Option (Result Header Class)) (x : Option AnyUnit) (r : Message) (n : ℕ) (s : Session) → ((reply : Result Header Class) → o ≡ Some reply → ShowsReply x reply) → (o ≡ None → x ≡ None) → x ≡ Some (ReplyUnit r) → s.op ≤ n
     → reply_sum (reply_in n s o) ≡ Some r.header.checksum

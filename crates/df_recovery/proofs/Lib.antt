@@ -14,6 +14,8 @@ pub mod FindingBounds
 pub mod Tracked
 pub mod Bases
 pub mod Refusals
+pub mod Starts
+pub mod OneSurvey
 pub mod Waits
 pub mod Scans
 pub mod Laws

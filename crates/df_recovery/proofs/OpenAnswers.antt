@@ -14,13 +14,14 @@ use Rattle.df_units.specs.Meaning.{content_of, layout_of, number_of}
 use Rattle.df_checkpoint.specs.Reads.{blocks_read}
 use Rattle.df_journal.specs.Tail.{EndsAt}
 use Rattle.df_recovery.specs.Checkpoints.{base_of}
+use Rattle.df_journal.specs.declared.table.Start.{Start}
 use Rattle.df_recovery.specs.Waiting.{waiting_sum}
 use Rattle.df_recovery.specs.Finding.{Answers, HasHeaders, IsKept, IsOfFile, IsReadFrom, Keeps, KeptIsAnswer, Read, RefusedIsAnswer, StoresTo, base_with}
-use Rattle.df_state.specs.State.{State, shape}
+use Rattle.df_rooms.specs.State.{State, shape}
 use Rattle.df_recovery.specs.declared.finding.Traces.{Traces}
 use Rattle.df_disk.specs.Told.{Told}
 use Rattle.df_recovery.specs.Surveys.{HasFile, Surveys, class_there}
-use Rattle.df_state.specs.declared.file.DataFile.{DataFile}
+use Rattle.df_rooms.specs.declared.file.DataFile.{DataFile}
 use Rattle.df_recovery.proofs.KeptReplies.{stored_kept}
 use Rattle.df_recovery.proofs.FilesRead.{file_is_read}
 use Rattle.df_recovery.proofs.OpenedStates.{state_is_opened}
@@ -48,10 +49,10 @@ module _ (t : Told) (read : Read) (traces : Traces) (after : List Session) (s : 
   from : IsReadFrom (shape s.file) (unit_at s.file.layout s.file.cluster t.shown) (base_of read.found.content is.checkpoint.chain is.checkpoint.parts) read
   from = file_is_read t s.file read (base_with s read.sessions) is
 
-  -- the checksums that wait are the model's
+  -- the checksums that wait are the machine's
   waits : map number_of s.waiting ≡ map (waiting_sum s image) (range_with_len (s.replies + 1) (s.head - s.replies))
   waits =
-      let start : read.slots.start.op ≡ s.fields.op = is.op ∙ ap (λ (f : SuperFields). f.op) (sym kept.fields) in
+      let start : read.slots.start.op ≡ s.fields.op = ap (λ (x : Start). x.op) is.start ∙ ap (λ (f : SuperFields). f.op) (sym kept.fields) in
       ap (map number_of) kept.waiting ∙ waiting_known s image read.slots (range_with_len (s.replies + 1) (s.head - s.replies)) start from.tells.shows
 
   -- what is kept of the traces is what a state keeps of the view

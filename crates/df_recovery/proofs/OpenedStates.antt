@@ -21,7 +21,7 @@ use Rattle.df_model.specs.Memory.{sum_of_message}
 use Rattle.df_model.specs.Work.{checksum_of, checksum_of_op, opened, waiting_checksum}
 use Rattle.df_units.specs.Meaning.{layout_of, number_of}
 use Rattle.df_recovery.specs.Finding.{Keeps, StateIsOpened}
-use Rattle.df_state.specs.State.{State, course_in, memory, prepare_sum, shape, spelling, stored_sum, sum_of}
+use Rattle.df_rooms.specs.State.{State, course_in, memory, prepare_sum, shape, spelling, stored_sum, sum_of}
 use Rattle.df_recovery.specs.Waiting.{waiting_sum}
 
 -- ---- lists

@@ -59,11 +59,11 @@ shown_from sh image v cluster slot (Ok h) shows = inl shows
 shown_from sh image v cluster slot (Err class) shows = inr (inr (record { op = refl; checkpoint = refl; boot = refl }))
 
 module _ (layout : Layout) (sh : Shape) (image : Units.Units) (v : View) (scan : Scan) (is : IsScanOf layout sh image v scan) where
-  boot : v.checkpoint.content.boot ≡ 0
-  boot = (is.found.checkpoint.tests.of.one (is.found.checkpoint.tests.version ∙ is.version)).0
+  none : v.checkpoint.content.boot ≡ 0
+  none = is.boot ∙ is.tells.version.boot
 
   pin : v.checkpoint.content.pin ≡ v.checkpoint.content.op
-  pin = (is.found.checkpoint.tests.of.one (is.found.checkpoint.tests.version ∙ is.version)).1
+  pin = is.pin ∙ is.tells.version.head ∙ sym is.op
 
   chain : Chain (clients sh) (v.checkpoint.content.op + 1) v.checkpoint.content.op_checksum 0 v.checkpoint.parts.sessions v.tail
   chain = is.found.tail.chain
@@ -85,23 +85,23 @@ module _ (layout : Layout) (sh : Shape) (image : Units.Units) (v : View) (scan :
   module _ (slot o : ℕ) (below : slot < layout.slots) (high : head v < o) where
     no_header : (h : Units.Header) → image (HeaderPlace slot) ≡ Some (HeaderUnit h) → o ≤ h.op → ⊥
     no_header h shown le =
-        let le_head = is.found.not_lost.header slot h shown (shown_boot (image (HeaderPlace slot)) (entry scan slot).header h (shows slot below).header shown ∙ sym boot) in
+        let le_head = is.found.not_lost.header slot h shown (shown_boot (image (HeaderPlace slot)) (entry scan slot).header h (shows slot below).header shown ∙ sym none) in
         absurd (omega (arith, le_head, le, high))
 
     no_prepare : (q : Message) → image (PreparePlace slot) ≡ Some (PrepareUnit q) → o ≤ q.header.op → ⊥
     no_prepare q shown le =
-        let none = prepare_boot (image (PreparePlace slot)) (entry scan slot).prepare q (shows slot below).prepare shown in
-        elim (is.found.not_lost.prepare slot q shown (none ∙ sym boot)) [
+        let no_boot = prepare_boot (image (PreparePlace slot)) (entry scan slot).prepare q (shows slot below).prepare shown in
+        elim (is.found.not_lost.prepare slot q shown (no_boot ∙ sym none)) [
           | inl le_head ↦ omega (arith, le_head, le, high)
-          | inr cut ↦ omega (arith, cut.boot, none)
+          | inr cut ↦ omega (arith, cut.boot, no_boot)
         ]
 
   -- what the decision says of the slot
-  says : (slot o : ℕ) (d : Decision) → o % layout.slots ≡ slot → decision_of d ≡ decision layout.slots 0 image o → SaysOfSlot 0 o (image (HeaderPlace slot)) (image (PreparePlace slot)) (decision_of d)
-  says slot o d here decided = subst (λ (n : ℕ). SaysOfSlot 0 o (image (HeaderPlace n)) (image (PreparePlace n)) (decision_of d)) here (subst (SaysOfSlot 0 o (image (HeaderPlace (o % layout.slots))) (image (PreparePlace (o % layout.slots)))) (sym decided) (decision_law layout.slots 0 o image))
+  says : (slot o : ℕ) (d : Decision) → o % layout.slots ≡ slot → decision_of d ≡ decision layout.slots scan.start.boot image o → SaysOfSlot scan.start.boot o (image (HeaderPlace slot)) (image (PreparePlace slot)) (decision_of d)
+  says slot o d here decided = subst (λ (n : ℕ). SaysOfSlot scan.start.boot o (image (HeaderPlace n)) (image (PreparePlace n)) (decision_of d)) here (subst (SaysOfSlot scan.start.boot o (image (HeaderPlace (o % layout.slots))) (image (PreparePlace (o % layout.slots)))) (sym decided) (decision_law layout.slots scan.start.boot o image))
 
   -- the prepare of the tail with this op is taken from its slot
-  taken : (slot o : ℕ) (d : Decision) → IsOpOf layout.slots scan.start.op slot o → decision_of d ≡ decision layout.slots 0 image o → o ≤ head v
+  taken : (slot o : ℕ) (d : Decision) → IsOpOf layout.slots scan.start.op slot o → decision_of d ≡ decision layout.slots scan.start.boot image o → o ≤ head v
       → (q : Message) × In q v.tail × (q.header.op ≡ o) × (image (PreparePlace slot) ≡ Some (PrepareUnit q)) × Cases.IsTake (decision_of d)
   taken slot o d of decided low =
       let own = chain_at (clients sh) (v.checkpoint.content.op + 1) v.checkpoint.content.op_checksum 0 v.checkpoint.parts.sessions v.tail o chain (omega (arith, of.above, is.op)) (omega (arith, low)) in
@@ -110,7 +110,7 @@ module _ (layout : Layout) (sh : Shape) (image : Units.Units) (v : View) (scan :
       let here : own.0.header.op % slots sh ≡ slot = ap (λ (k : ℕ). k % slots sh) own.2 ∙ ap (λ (k : ℕ). o % k) n ∙ of.slot_is in
       let shown : image (PreparePlace slot) ≡ Some (PrepareUnit own.0) = subst (λ (k : ℕ). image (PreparePlace k) ≡ Some (PrepareUnit own.0)) here takes.shown in
       let take : Cases.IsTake (decision (slots sh) v.checkpoint.content.boot image own.0.header.op) = takes.take (omega (arith, pin, own.2, of.above, is.op)) in
-      let plain : Cases.IsTake (decision layout.slots 0 image o) = subst (λ (k : ℕ). Cases.IsTake (decision k 0 image o)) n (subst (λ (b : ℕ). Cases.IsTake (decision (slots sh) b image o)) boot (subst (λ (k : ℕ). Cases.IsTake (decision (slots sh) v.checkpoint.content.boot image k)) own.2 take)) in
+      let plain : Cases.IsTake (decision layout.slots scan.start.boot image o) = subst (λ (k : ℕ). Cases.IsTake (decision k scan.start.boot image o)) n (subst (λ (b : ℕ). Cases.IsTake (decision (slots sh) b image o)) is.boot (subst (λ (k : ℕ). Cases.IsTake (decision (slots sh) v.checkpoint.content.boot image k)) own.2 take)) in
       (own.0, own.1, own.2, shown, subst Cases.IsTake (sym decided) plain)
 
   -- ---- where the header comes from
@@ -121,14 +121,14 @@ module _ (layout : Layout) (sh : Shape) (image : Units.Units) (v : View) (scan :
   take_header slot cluster q Lost below shown take = absurd take
   take_header slot cluster q (Empty mend) below shown take = absurd take
 
-  empty_from : (slot o cluster : ℕ) (d : Decision) → slot < layout.slots → head v < o → SaysOfSlot 0 o (image (HeaderPlace slot)) (image (PreparePlace slot)) (decision_of d) → IsFromSlot sh image v slot (header_of (header_by cluster slot (entry scan slot) d))
+  empty_from : (slot o cluster : ℕ) (d : Decision) → slot < layout.slots → head v < o → SaysOfSlot scan.start.boot o (image (HeaderPlace slot)) (image (PreparePlace slot)) (decision_of d) → IsFromSlot sh image v slot (header_of (header_by cluster slot (entry scan slot) d))
   empty_from slot o cluster (Take mend) below high said = absurd (no_prepare slot o below high said.0 said.1 (omega (arith, said.2.0)))
   empty_from slot o cluster (Empty false) below high said = shown_from sh image v cluster slot (entry scan slot).header (shows slot below).header
   empty_from slot o cluster (Empty true) below high said = inr (inr (record { op = refl; checkpoint = refl; boot = refl }))
   empty_from slot o cluster Behind below high said = inr (inr (record { op = refl; checkpoint = refl; boot = refl }))
   empty_from slot o cluster Lost below high said = inr (inr (record { op = refl; checkpoint = refl; boot = refl }))
 
-  slot_header : (slot o cluster : ℕ) (d : Decision) → slot < layout.slots → IsOpOf layout.slots scan.start.op slot o → decision_of d ≡ decision layout.slots 0 image o → IsSlotHeader sh image v slot (header_of (header_by cluster slot (entry scan slot) d))
+  slot_header : (slot o cluster : ℕ) (d : Decision) → slot < layout.slots → IsOpOf layout.slots scan.start.op slot o → decision_of d ≡ decision layout.slots scan.start.boot image o → IsSlotHeader sh image v slot (header_of (header_by cluster slot (entry scan slot) d))
   slot_header slot o cluster d below of decided = elim (cases_lt (head v) o) [
     | inl high ↦ record {
       from = empty_from slot o cluster d below high (says slot o d of.slot_is decided);
@@ -165,7 +165,7 @@ module _ (layout : Layout) (sh : Shape) (image : Units.Units) (v : View) (scan :
 
   -- ---- slots that aren't listed
 
-  other_take : (slot o cluster : ℕ) (d : Decision) → slot < layout.slots → AreDistinct image → Cases.IsTake (decision_of d) → is_mended (decision_of d) ≡ false → SaysOfSlot 0 o (image (HeaderPlace slot)) (image (PreparePlace slot)) (decision_of d)
+  other_take : (slot o cluster : ℕ) (d : Decision) → slot < layout.slots → AreDistinct image → Cases.IsTake (decision_of d) → is_mended (decision_of d) ≡ false → SaysOfSlot scan.start.boot o (image (HeaderPlace slot)) (image (PreparePlace slot)) (decision_of d)
       → image (HeaderPlace slot) ≡ Some (HeaderUnit (header_of (header_by cluster slot (entry scan slot) d)))
   other_take slot o cluster (Take mend) below distinct take unlisted (q, shown, now, either) = elim either [
     | inl both ↦
@@ -178,7 +178,7 @@ module _ (layout : Layout) (sh : Shape) (image : Units.Units) (v : View) (scan :
   other_take slot o cluster Lost below distinct take unlisted said = absurd take
   other_take slot o cluster (Empty mend) below distinct take unlisted said = absurd take
 
-  other_empty : (slot o cluster : ℕ) (d : Decision) → slot < layout.slots → head v < o → is_mended (decision_of d) ≡ false → SaysOfSlot 0 o (image (HeaderPlace slot)) (image (PreparePlace slot)) (decision_of d)
+  other_empty : (slot o cluster : ℕ) (d : Decision) → slot < layout.slots → head v < o → is_mended (decision_of d) ≡ false → SaysOfSlot scan.start.boot o (image (HeaderPlace slot)) (image (PreparePlace slot)) (decision_of d)
       → image (HeaderPlace slot) ≡ Some (HeaderUnit (header_of (header_by cluster slot (entry scan slot) d)))
   other_empty slot o cluster (Take mend) below high unlisted said = absurd (no_prepare slot o below high said.0 said.1 (omega (arith, said.2.0)))
   other_empty slot o cluster (Empty false) below high unlisted said = elim said.2 [
@@ -192,7 +192,7 @@ module _ (layout : Layout) (sh : Shape) (image : Units.Units) (v : View) (scan :
   ]
   other_empty slot o cluster Lost below high unlisted said = absurd (no_header slot o below high said.0 said.1 (omega (arith, said.2.0)))
 
-  pub plan_whole : (cluster : ℕ) (table : List Header) → ArePlanned cluster scan layout.slots table → AreDistinct image → OthersAreShown layout scan.start.op image (headers_in table)
+  pub plan_whole : (cluster : ℕ) (table : List Header) → ArePlanned cluster scan layout.slots table → AreDistinct image → OthersAreShown layout scan.start image (headers_in table)
   plan_whole cluster table planned distinct slot below unlisted =
       let plan = planned slot below in
       let o = op_in layout.slots scan.start.op slot in

@@ -28,9 +28,10 @@ use Rattle.df_grid.specs.Reads.{shown_of, trailer_alone}
 use Rattle.df_checkpoint.specs.Chain.{asked, content_in}
 use Rattle.df_checkpoint.specs.Laws.{AllShown}
 use Rattle.df_checkpoint.proofs.Laws.{broken_shown, broken_unreadable, damage_missed, referenced_unreadable, text_unreadable, untracked_unreadable, whole_shown}
-use Rattle.df_state.specs.State.{shape}
-use Rattle.df_state.specs.declared.file.DataFile.{DataFile}
-use Rattle.df_recovery.specs.Checkpoints.{FailsTest, RefusesTrailer}
+use Rattle.df_rooms.specs.State.{shape}
+use Rattle.df_rooms.specs.declared.file.DataFile.{DataFile}
+use Rattle.df_checkpoint.specs.Tests.{FailsTest}
+use Rattle.df_recovery.specs.Checkpoints.{RefusesTrailer}
 use Rattle.df_recovery.specs.Surveys.{HasFile, Surveys}
 use Rattle.df_recovery.proofs.Written.{super_is_written}
 

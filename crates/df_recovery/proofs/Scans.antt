@@ -11,8 +11,8 @@ use Rattle.df_model.specs.declared.errors.OpenError.TheVariants.{DiskFault}
 use Rattle.df_journal.specs.Scanned as rings
 use Rattle.df_journal.specs.declared.table.Start.{Start}
 use Rattle.df_replies.specs.Shown as slots
-use Rattle.df_state.specs.declared.file.DataFile.{DataFile}
-use Rattle.df_state.specs.declared.rooms.Rooms.{Rooms}
+use Rattle.df_rooms.specs.declared.file.DataFile.{DataFile}
+use Rattle.df_rooms.specs.declared.rooms.Rooms.{Rooms}
 use Rattle.df_recovery.specs.Checkpoints.{Base, TellsCheckpoint}
 use Rattle.df_recovery.specs.Finding.{IsOfFile, read_of}
 use Rattle.df_recovery.specs.Found.{IsFound}
@@ -84,7 +84,7 @@ scanned_of_file t layout s whole found scan =
       chosen_is = found.content;
       layout = refl;
       cluster = cluster ∙ sym read.file.cluster_is;
-      op = ap (λ (x : Start). x.op) read.start;
+      start = read.start;
       scanned = record {
         slots = subst (λ (l : Layout). rings.IsScanned l (Some t) s.log.slots) (sym read.file.layout_is) read.tables.rings;
         replies = subst (λ (l : Layout). slots.IsScanned l s.log.slots.start.cluster (Some t) s.log.replies) (sym read.file.layout_is) (subst (λ (n : ℕ). slots.IsScanned layout n (Some t) s.log.replies) (sym cluster) read.tables.replies_are);

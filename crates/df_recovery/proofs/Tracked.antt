@@ -38,7 +38,7 @@ has_not op (t ∷ ss) is (zero, s, at, same) =
     cc
 has_not op (t ∷ ss) is (suc k, s, at, same) = has_not op ss (or_parts (t.op == op) (has_op op ss) is).1 (k, s, at, same)
 
--- a session of the model's list is one of the table
+-- a session of the theory's list is one of the table
 record IsOf (ss : List Session) (k : ℕ) (s : Units.Session) : Type 0 where
   from : Session
   at : slice_get ss k ≡ Some from

@@ -1,4 +1,4 @@
--- The checksums that wait, one more op at a time, and in the words of the model.
+-- The checksums that wait, one more op at a time, and in the words of the machine.
 use Rattle.std.proofs.Common.{◌≡◌, ◌∙◌, inl, inr, ℕ, ◌+◌, ◌-◌, ◌%◌, ◌==◌, ◌≤◌, ◌<◌, Bool, true, false, List, [], ◌∷◌, ◌++◌, length, map, Option, Some, None, refl, sym, ap, subst, arith}
 use Rattle.std.specs.Prelude.{Result, Ok, Err, nat_lt, if◌then◌else◌}
 use Rattle.std.specs.List.{range_with_len, slice_get}
@@ -18,7 +18,7 @@ use Rattle.df_buffers.specs.declared.slots.SlotSeen.{SlotSeen}
 use Rattle.df_journal.specs.Scan.{Scan, entry, or_blank}
 use Rattle.df_journal.specs.Seen.{header_of_seen}
 use Rattle.df_journal.specs.Shows.{ShowsPrepare, ShowsTable}
-use Rattle.df_state.specs.State.{State, prepare_sum, sum_of}
+use Rattle.df_rooms.specs.State.{State, prepare_sum, sum_of}
 use Rattle.df_recovery.specs.Waiting.{checksum_of, known_sum, shown_sum, waiting_at, waiting_in, waiting_sum}
 
 pub waiting_count : (n : ℕ) (scan : Scan) (headers : List Header) (replies head : ℕ) → length (waiting_in n scan headers replies head) ≡ head - replies
@@ -35,7 +35,7 @@ waiting_none n scan headers replies =
     let none : replies - replies ≡ 0 = omega arith in
     ap (λ (k : ℕ). map (waiting_at n scan headers) (range_with_len (replies + 1) k)) none
 
--- ---- in the words of the model
+-- ---- in the words of the machine
 
 known_is : (header : Option Header) → number_of (checksum_of header) ≡ sum_of header
 unfolding field_at
@@ -70,7 +70,7 @@ rule_is s image scan op start shows = ap (λ (n : ℕ). number_of (if nat_lt n o
     pick true = known_is (slice_get s.headers (op % s.file.layout.slots))
     pick false = entry_shown image scan (op % s.file.layout.slots) op shows
 
--- the rule of the tables is the model's
+-- the rule of the tables is the machine's
 pub waiting_known : (s : State) (image : Units.Units) (scan : Scan) (ops : List ℕ) → scan.start.op ≡ s.fields.op → ShowsTable image scan.slots → map number_of (map (waiting_at s.file.layout.slots scan s.headers) ops) ≡ map (waiting_sum s image) ops
 waiting_known s image scan [] start shows = refl
 waiting_known s image scan (op ∷ ops) start shows =

@@ -1,34 +1,30 @@
 -- The checkpoint that a superblock names, as an open reads it: what its trailer says, or why the trailer is refused.
-use Rattle.std.specs.Prelude.{◌≡◌, ◌⊎◌, ◌<◌, ℕ, List, Option, Some, None, Result, Ok, Err}
+use Rattle.std.specs.Prelude.{◌≡◌, ◌<◌, ℕ, List, Option, Some, None, Result, Ok, Err}
 use Rattle.df_base.specs.Image.{Image}
 use Rattle.df_disk.specs.Told.{Told}
-use Rattle.df_layout.specs.declared.fields.Field.{Field}
-use Rattle.df_layout.specs.declared.fields.Field.TheVariants.{Pending, TrailerChain}
 use Rattle.df_layout.specs.declared.places.Zone.TheVariants.{Grid}
 use Rattle.df_format.specs.Own.{place_in}
 use Rattle.df_format.specs.declared.superblock.SuperFields.{SuperFields}
 use Rattle.df_sessions.specs.Requests.{sessions_of}
 use Rattle.df_sessions.specs.declared.session.Session.{Session}
-use Rattle.df_theory.specs.Units.{Block, BlockPlace, BlockUnit, Content, Parts, Units}
+use Rattle.df_theory.specs.Units.{Block, BlockPlace, BlockUnit, Parts, Units}
 use Rattle.df_theory.specs.Sessions.{Tracks}
-use Rattle.df_theory.specs.Shape.{Shape}
 use Rattle.df_theory.specs.Trailer.{InChain, IsTrailer}
 use Rattle.df_theory.specs.View.{Checkpoint}
 use Rattle.df_model.specs.Blocks.{Blocks}
-use Rattle.df_model.specs.Supply.{Shown}
 use Rattle.df_model.specs.declared.errors.OpenError.{OpenError}
 use Rattle.df_model.specs.declared.errors.OpenError.TheVariants.{BadField, Damaged, DiskFault}
 use Rattle.df_units.specs.Bytes.{unit_at}
 use Rattle.df_units.specs.Meaning.{layout_of}
 use Rattle.df_journal.specs.Tail.{AreNumbered, AreUnstored}
 use Rattle.df_grid.specs.Reads.{shown_of}
-use Rattle.df_checkpoint.specs.Chain.{IsBroken, IsLacking, content_in}
-use Rattle.df_checkpoint.specs.Reads.{IsBadText, IsReferenced, blocks_read}
-use Rattle.df_checkpoint.specs.Waiting.{IsUntracked}
+use Rattle.df_checkpoint.specs.Chain.{IsLacking, content_in}
+use Rattle.df_checkpoint.specs.Reads.{blocks_read}
+use Rattle.df_checkpoint.specs.Tests.{FailsTest}
 use Rattle.df_checkpoint.specs.declared.fault.TrailerFault.{TrailerFault}
 use Rattle.df_checkpoint.specs.declared.fault.TrailerFault.TheVariants as trailer
-use Rattle.df_state.specs.State.{AreAsked, shape}
-use Rattle.df_state.specs.declared.file.DataFile.{DataFile}
+use Rattle.df_rooms.specs.State.{AreAsked, shape}
+use Rattle.df_rooms.specs.declared.file.DataFile.{DataFile}
 
 -- what is kept of a checkpoint: its root, its sessions, and what the grid holds
 pub record Base : Type 0 where
@@ -69,11 +65,6 @@ pub record AreOfCheckpoint (f : SuperFields) (sessions : List Session) : Type 0 
   pub tracks : Tracks f.replies f.op (sessions_of sessions)
 
 -- ---- why a trailer is refused
-
--- the first test that the trailer fails: of a link, of the text, of the addresses of the chain, or of the ops that wait
-abbrev pub FailsTest : Shape → Shown → Content → Field → ℕ → Type 0
-FailsTest sh shown c field value =
-    ((field ≡ TrailerChain) × IsBroken sh shown c value) ⊎ (IsBadText sh shown c field value ⊎ (((field ≡ TrailerChain) × IsReferenced sh shown c value) ⊎ ((field ≡ Pending) × IsUntracked sh shown c value)))
 
 -- the refusal names the first block of the chain that isn't shown, or the first test that fails
 abbrev pub RefusesTrailer : DataFile → Image → SuperFields → OpenError → Type 0

@@ -29,13 +29,14 @@ use Rattle.df_journal.specs.Shows.{Tells}
 use Rattle.df_journal.specs.Tail.{AreUnstored, EndsAt}
 use Rattle.df_replies.specs.Shown
 use Rattle.df_replies.specs.Shown.{ShowsReplies}
-use Rattle.df_state.specs.State.{Represents, State, shape, stored_sum}
+use Rattle.df_rooms.specs.State.{Represents, State, shape, stored_sum}
 use Rattle.df_checkpoint.specs.Reads.{blocks_read}
 use Rattle.df_recovery.specs.Checkpoints.{Base, HasCheckpoint, base_of}
 use Rattle.df_recovery.specs.Waiting.{waiting_in, waiting_sum}
 use Rattle.df_recovery.specs.Found.{IsChoiceOf}
+use Rattle.df_recovery.specs.Starting.{start_of}
 use Rattle.df_recovery.specs.Surveys.{HasFile, Surveys, class_there}
-use Rattle.df_state.specs.declared.file.DataFile.{DataFile}
+use Rattle.df_rooms.specs.declared.file.DataFile.{DataFile}
 use Rattle.df_recovery.specs.declared.superblock.Found.{Found}
 use Rattle.df_recovery.specs.declared.finding.Traces.{Traces}
 use Rattle.df_recovery.specs.declared.scanned.Scanned.{Scanned}
@@ -48,7 +49,7 @@ or_first (Some number) = number
 abbrev pub lowest_of : List Bool → ℕ
 lowest_of members = or_first (position (λ member. member) members)
 
--- the refusal that names a place of the model
+-- the refusal that names a place of the theory
 abbrev pub damage : Units.Place → Class → OpenError
 damage at class = Damaged (place_of at) class
 
@@ -93,7 +94,7 @@ pub record FindsView (sh : Shape) (image : Units.Units) (b : Checkpoint) (traces
   pub replies : view.replies ≡ traces.replies
   pub found : Found.IsFound sh image view
 
--- the open ends with this refusal: of each image that was read the model blames the place, and of a disk that was scanned the class is what stands there
+-- the open ends with this refusal: of each image that was read the theory blames the place, and of a disk that was scanned the class is what stands there
 pub record IsRefused (read : Read) (e : OpenError) : Type 0 where
   pub at : Units.Place
   pub class : Class
@@ -144,12 +145,12 @@ pub record IsOfFile (t : Told) (file : DataFile) (read : Read) (base : Base) : T
   pub chosen_is : read.found.content ≡ read.found.chosen.content
   pub layout : read.layout ≡ file.layout
   pub cluster : read.slots.start.cluster ≡ file.cluster
-  pub op : read.slots.start.op ≡ read.found.content.op
+  pub start : read.slots.start ≡ start_of read.found.content
   pub scanned : IsScannedFrom t read
   pub checkpoint : HasCheckpoint file (unit_at file.layout file.cluster t.shown) read.found.content base
   pub sessions : base.sessions ≡ read.sessions
 
--- it was read from the image in the model's words
+-- it was read from the image in the theory's words
 abbrev pub FileIsRead : Type 0
 FileIsRead =
     (t : Told) (file : DataFile) (read : Read) (base : Base) (is : IsOfFile t file read base)

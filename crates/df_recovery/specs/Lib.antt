@@ -4,6 +4,8 @@ pub mod OpeningLaws
 pub mod Checkpoints
 pub mod Waiting
 pub mod Surveys
+pub mod Starting
+pub mod SurveyLaws
 pub mod Scanning
 pub mod Finding
 pub mod Plan

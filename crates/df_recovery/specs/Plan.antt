@@ -20,11 +20,12 @@ use Rattle.df_theory.specs.Cases.{decision}
 use Rattle.df_theory.specs.Chance.{Distinct}
 use Rattle.df_theory.specs.Found.{IsFound}
 use Rattle.df_theory.specs.Shape.{Shape, slots}
-use Rattle.df_theory.specs.View.{View}
+use Rattle.df_theory.specs.View.{View, boot_of}
 use Rattle.df_units.specs.Meaning.{header_of}
 use Rattle.df_cases.specs.Cases.{decision_of}
 use Rattle.df_units.specs.Sample.{reserved_header}
 use Rattle.df_buffers.specs.declared.slots.SlotSeen.{SlotSeen}
+use Rattle.df_journal.specs.declared.table.Start.{Start}
 use Rattle.df_journal.specs.Scan.{Scan, entry}
 use Rattle.df_journal.specs.Seen.{IsOpOf, class_of, header_of_seen}
 use Rattle.df_journal.specs.Shows.{Tells}
@@ -35,9 +36,9 @@ use Rattle.df_journal.specs.Shows.{Tells}
 abbrev pub op_in : ℕ → ℕ → ℕ → ℕ
 op_in n op slot = op + 1 + (slot + n - (op + 1) % n) % n
 
--- what is decided of a slot behind a checkpoint with this op
-abbrev pub decision_at : Layout → ℕ → Units.Units → ℕ → Cases.Decision
-decision_at layout op image slot = decision layout.slots 0 image (op_in layout.slots op slot)
+-- what is decided of a slot behind where a scan starts
+abbrev pub decision_at : Layout → Start → Units.Units → ℕ → Cases.Decision
+decision_at layout start image slot = decision layout.slots start.boot image (op_in layout.slots start.op slot)
 
 -- whether its header is to be written again
 abbrev pub is_mended : Cases.Decision → Bool
@@ -46,8 +47,8 @@ is_mended (Cases.Empty mend) = mend
 is_mended Cases.Behind = false
 is_mended Cases.Lost = false
 
-abbrev pub needs_header : Layout → ℕ → Units.Units → ℕ → Bool
-needs_header layout op image slot = is_mended (decision_at layout op image slot)
+abbrev pub needs_header : Layout → Start → Units.Units → ℕ → Bool
+needs_header layout start image slot = is_mended (decision_at layout start image slot)
 
 -- ---- the list of what is to be written again
 
@@ -76,7 +77,7 @@ shown_class scan slot = class_of (entry scan slot).header
 
 -- the copies first, then the slots whose decision says so
 abbrev pub mend_list : Layout → Scan → Units.Units → List Slot → List Bool → List Mend
-mend_list layout scan image copies members = copy_mends copies members ++ slot_mends (needs_header layout scan.start.op image) (shown_class scan) layout.slots
+mend_list layout scan image copies members = copy_mends copies members ++ slot_mends (needs_header layout scan.start image) (shown_class scan) layout.slots
 
 -- ---- the table of headers
 
@@ -88,17 +89,18 @@ abbrev pub header_or_none : Option Header → Units.Header
 header_or_none None = no_header
 header_or_none (Some h) = header_of h
 
--- a table of headers in the words of the model
+-- a table of headers in the words of the theory
 abbrev pub headers_in : List Header → ℕ → Units.Header
 headers_in table slot = header_or_none (slice_get table slot)
 
 -- ---- what is found
 
--- the scan says what the rings of an image show, and this view is found in the image, behind the checkpoint that the scan started from
+-- the scan says what the rings of an image show, and this view is found in the image, behind the superblock that the scan started from
 pub record IsScanOf (layout : Layout) (sh : Shape) (image : Units.Units) (v : View) (scan : Scan) : Type 0 where
-  pub version : sh.version ≡ 1
   pub slots_are : slots sh ≡ layout.slots
   pub op : v.checkpoint.content.op ≡ scan.start.op
+  pub pin : v.checkpoint.content.pin ≡ scan.start.head
+  pub boot : boot_of v ≡ scan.start.boot
   pub tells : Tells layout image scan
   pub found : IsFound sh image v
 
@@ -107,8 +109,8 @@ abbrev pub AreDistinct : Units.Units → Type 0
 AreDistinct image = (place other : Place) (x y : AnyUnit) → image place ≡ Some x → image other ≡ Some y → Distinct x y
 
 -- each slot that isn't to be written again shows what it is to show
-abbrev pub OthersAreShown : Layout → ℕ → Units.Units → (ℕ → Units.Header) → Type 0
-OthersAreShown layout op image table = (slot : ℕ) → slot < layout.slots → needs_header layout op image slot ≡ false → image (HeaderPlace slot) ≡ Some (HeaderUnit (table slot))
+abbrev pub OthersAreShown : Layout → Start → Units.Units → (ℕ → Units.Header) → Type 0
+OthersAreShown layout start image table = (slot : ℕ) → slot < layout.slots → needs_header layout start image slot ≡ false → image (HeaderPlace slot) ≡ Some (HeaderUnit (table slot))
 
 -- ---- one slot
 
@@ -124,7 +126,7 @@ header_by cluster slot seen d = reserved_header cluster slot
 
 -- this is decided of a slot, whatever image shows what was scanned
 abbrev pub IsDecided : Scan → ℕ → Decision → Type 0
-IsDecided scan slot d = (layout : Layout) (image : Units.Units) (o : ℕ) → Tells layout image scan → IsOpOf layout.slots scan.start.op slot o → decision_of d ≡ decision layout.slots 0 image o
+IsDecided scan slot d = (layout : Layout) (image : Units.Units) (o : ℕ) → Tells layout image scan → IsOpOf layout.slots scan.start.op slot o → decision_of d ≡ decision layout.slots scan.start.boot image o
 
 -- the table with the header that the decision says, in the slot
 abbrev pub PutsHeader : ℕ → Scan → ℕ → List Header → List Header → Type 0

@@ -13,6 +13,7 @@ use Rattle.df_model.specs.declared.errors.OpenError.TheVariants.{LayoutDiffers}
 use Rattle.df_replies.specs.Shown
 use Rattle.df_recovery.specs.Found.{IsFound}
 use Rattle.df_recovery.specs.Opening.{IsLayoutOf}
+use Rattle.df_recovery.specs.Starting.{start_of}
 use Rattle.df_recovery.specs.Surveys.{Surveys}
 use Rattle.df_recovery.specs.declared.superblock.Found.{Found}
 use Rattle.df_recovery.specs.declared.scanning.Copies.{Copies}
@@ -25,9 +26,9 @@ use Rattle.df_superblock.specs.Calls.{ShowsCopies, ShowsSlots}
 use Rattle.df_trailer.specs.Sessions.{AreRead}
 use Rattle.df_grid.specs.Grid.{GridState}
 use Rattle.df_grid.specs.Table.{IsIdle, no_blocks}
-use Rattle.df_state.specs.declared.file.DataFile.{DataFile}
-use Rattle.df_state.specs.declared.grid_rooms.GridRooms.{GridRooms}
-use Rattle.df_state.specs.declared.trailer_rooms.TrailerRooms.{TrailerRooms}
+use Rattle.df_rooms.specs.declared.file.DataFile.{DataFile}
+use Rattle.df_rooms.specs.declared.grid_rooms.GridRooms.{GridRooms}
+use Rattle.df_rooms.specs.declared.trailer_rooms.TrailerRooms.{TrailerRooms}
 
 -- the rooms of a layout serve the file of a superblock: it is of their layout
 pub record IsServed (layout : Layout) (f : SuperFields) : Type 0 where
@@ -158,8 +159,8 @@ pub record IsReadBehind (layout : Layout) (told : Option Told) (s : Scanned) : T
   pub places : s.sessions.max ≡ layout.clients
   -- no checkpoint runs
   pub idle : IsIdle s.grid.blocks
-  -- the scan started from the superblock's op
-  pub start : s.log.slots.start ≡ record { cluster = s.copies.found.content.cluster; op = s.copies.found.content.op }
+  -- the scan started behind the superblock
+  pub start : s.log.slots.start ≡ start_of s.copies.found.content
   -- the tables have what the rings and the reply slots show
   pub tables : AreScanned layout s.copies.found.content.cluster told s.log.slots s.log.replies
 

@@ -22,10 +22,10 @@ use Rattle.df_units.specs.Meaning.{place_of}
 use Rattle.df_units.specs.Wanted.{class_at}
 use Rattle.df_grid.specs.Reads.{shown_of}
 use Rattle.df_checkpoint.specs.Chain.{content_in}
-use Rattle.df_recovery.specs.Checkpoints.{FailsTest}
-use Rattle.df_state.specs.declared.file.DataFile.{DataFile}
+use Rattle.df_checkpoint.specs.Tests.{FailsTest}
+use Rattle.df_rooms.specs.declared.file.DataFile.{DataFile}
 use Rattle.df_recovery.specs.Opening.{HasFault, HasNoQuorum, HasSuper, IsLayoutOf, IsUnformatted, Refuses}
-use Rattle.df_state.specs.State.{Represents, State, shape}
+use Rattle.df_rooms.specs.State.{Represents, State, shape}
 
 -- the image's superblock can be used, and is of a file of this layout and cluster
 pub record HasFile (image : Image) (file : DataFile) (f : SuperFields) : Type 0 where
@@ -33,7 +33,7 @@ pub record HasFile (image : Image) (file : DataFile) (f : SuperFields) : Type 0 
   pub layout : IsLayoutOf file.layout f
   pub cluster : f.cluster ≡ file.cluster
 
--- the superblock can be used, its layout is the rooms', and the trailer that it names fails this test first; by the model the open ends with a bad field
+-- the superblock can be used, its layout is the rooms', and the trailer that it names fails this test first; by the theory the open ends with a bad field
 pub record FailsTrailer (layout : Layout) (image : Image) (field : Field) (value : ℕ) : Type 0 where
   pub file : DataFile
   pub fields : SuperFields
@@ -56,7 +56,7 @@ abbrev pub class_there : Layout → ℕ → Image → Units.Place → Class
 class_there layout cluster image (CopyPlace n) = Stale
 class_there layout cluster image place = class_at layout cluster image place
 
--- an open ends with this place, by the model, and this is what it shows
+-- an open ends with this place, by the theory, and this is what it shows
 pub record IsDamaged (layout : Layout) (image : Image) (place : Place) (class : Class) : Type 0 where
   pub file : DataFile
   pub fields : SuperFields

@@ -7,7 +7,7 @@ use Rattle.df_theory.specs.Units.{PreparePlace, Units}
 use Rattle.df_model.specs.Work.{checksum_of_op}
 use Rattle.df_journal.specs.Scan.{Scan, entry}
 use Rattle.df_journal.specs.Seen.{header_of_seen}
-use Rattle.df_state.specs.State.{State, prepare_sum}
+use Rattle.df_rooms.specs.State.{State, prepare_sum}
 
 -- the checksum of a header
 abbrev pub checksum_of : Option Header → List ℕ
@@ -30,6 +30,6 @@ waiting_at n scan headers op = if nat_lt scan.start.op op then known_sum headers
 abbrev pub waiting_in : ℕ → Scan → List Header → (replies head : ℕ) → List (List ℕ)
 waiting_in n scan headers replies head = map (waiting_at n scan headers) (range_with_len (replies + 1) (head - replies))
 
--- the same rule in the words of the model, of the image that was read
+-- the same rule in the words of the machine, of the image that was read
 abbrev pub waiting_sum : State → Units → ℕ → ℕ
 waiting_sum s image op = if nat_lt s.fields.op op then prepare_sum s op else checksum_of_op op (image (PreparePlace (op % s.file.layout.slots)))

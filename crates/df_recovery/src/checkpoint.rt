@@ -1,8 +1,6 @@
 // The checkpoint that a superblock names is read: its trailer's chain and text into the grid and the table of sessions.
 ghost use Rattle.std.specs.Prelude.{◌≡◌, ◌≢◌, ◌/◌, IfErr, IfOk, vec_len};
-ghost use Rattle.df_base.specs.Causes.{IsBlamed};
-ghost use Rattle.df_units.specs.Superblocks.{AreFieldsOf};
-ghost use Rattle.df_model.specs.Faults.{is_open_fault};
+ghost use Rattle.df_recovery.specs.Below.{IsBlamed, AreFieldsOf, is_open_fault};
 ghost use Rattle.df_recovery.specs.Checkpoints.{error_of};
 ghost use Rattle.df_recovery.specs.Scanning.{AreRoomsOf, FitsFile, IsCheckpoint, IsEmpty, IsText, IsUnread, error_in};
 
@@ -14,8 +12,8 @@ use df_disk::Disk;
 use df_format::Super;
 use df_grid::Grid;
 use df_layout::{Field, Place, ROOT, Zone};
+use df_rooms::{DataFile, GridRooms, TrailerRooms};
 use df_sessions::{Session, SessionTable};
-use df_state::{DataFile, GridRooms, TrailerRooms};
 use df_trailer::{Parts, Reader};
 
 /// The checkpoint that a superblock names, in the rooms that it was read into.

@@ -1,18 +1,10 @@
 // What an open finds behind a superblock, from what a scan saw of the slots and of the replies: the state, or the first
 // damage in the order of open.
 ghost use Rattle.std.specs.Prelude.{◌≡◌, ◌≤◌, ◌<◌, ◌+◌, ◌^◌, length, position, IfOk, IfErr};
-ghost use Rattle.df_format.specs.Spelling.{IsCheck};
-ghost use Rattle.df_sessions.specs.Requests.{sessions_of};
-ghost use Rattle.df_theory.specs.Sessions.{Tracks};
-ghost use Rattle.df_theory.specs.Units.{CopyPlace, PreparePlace, ReplyPlace, Units};
-ghost use Rattle.df_journal.specs.Counts.{CountsAll};
-ghost use Rattle.df_journal.specs.Scan.{entry};
-ghost use Rattle.df_journal.specs.Seen.{class_of};
-ghost use Rattle.df_journal.specs.Tail.{AreNumbered, AreUnstored};
-ghost use Rattle.df_journal.specs.Shows.{IsTable, ShowsTable};
-ghost use Rattle.df_replies.specs.Shown.{ShowsReplies};
+ghost use Rattle.df_recovery.specs.Below.{IsCheck, sessions_of, Tracks, CopyPlace, PreparePlace, ReplyPlace, Units, CountsAll, IsOfVersionOne, entry, class_of, AreNumbered, AreUnstored, ShowsTable, ShowsReplies, AreAsked};
+ghost use Rattle.df_journal.specs.Shows.{IsTable};
 ghost use Rattle.df_recovery.specs.Finding.{Answers, FileIsRead, IsDamage, KeptIsAnswer, RefusedIsAnswer, StateIsOpened, damage, lowest_of};
-ghost use Rattle.df_state.specs.State.{AreAsked};
+ghost use Rattle.df_recovery.specs.Starting.{start_of};
 
 use crate::{Found, OpenError};
 use df_journal::{SlotTable, Tail, count_rings, find_tail, is_behind, is_lost, slot_behind};
@@ -80,9 +72,9 @@ fn reply_damage(lacking: &Lacking) -> OpenError
     damage(Zone::ClientReplies, lacking.place, lacking.class)
 }
 
-// The counters of all units, in the rings and in the reply slots.
+// The counters of all units, in the rings and in the reply slots, of a file of version 1.
 fn count_all(slots: &SlotTable, replies: &ReplyTable) -> Counters
-    ensures { (image : Units) → ShowsTable image slots.now.slots → ShowsReplies image replies.now → CountsAll image result }
+    ensures { (image : Units) → IsOfVersionOne slots.now.start → ShowsTable image slots.now.slots → ShowsReplies image replies.now → CountsAll image slots.now.start.boot result }
 {
     replies.count(&count_rings(slots))
 }
@@ -98,7 +90,7 @@ pub fn find_state(
     sessions: &mut SessionTable,
 ) -> Result<Traces, OpenError>
     requires table { IsTable layout.now slots.now.start.cluster slots.now.slots }
-    requires start { slots.now.start.op ≡ found.now.content.op }
+    requires start { slots.now.start ≡ start_of found.now.content }
     requires replies { length replies.now ≡ layout.now.clients }
     requires places { sessions.old.max ≡ layout.now.clients }
     ensures answer { Answers (record { layout = layout.now; found = found.now; slots = slots.now; replies = replies.now; sessions = sessions.old.sessions })
@@ -140,7 +132,7 @@ pub fn state_is_opened()
     ensures { StateIsOpened }
 {}
 
-/// What was read of a file was read from the image in the words of the model.
+/// What was read of a file was read from the image in the words of the theory.
 pub fn file_is_read()
     ensures { FileIsRead }
 {}

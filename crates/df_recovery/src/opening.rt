@@ -1,7 +1,6 @@
 // How the superblock of a file is found: with the barrier that an open begins with, and without.
 ghost use Rattle.std.specs.Prelude.{◌≡◌, IfErr, IfOk};
-ghost use Rattle.df_base.specs.Causes.{IsBlamed};
-ghost use Rattle.df_model.specs.Faults.{is_open_fault};
+ghost use Rattle.df_recovery.specs.Below.{IsBlamed, is_open_fault};
 ghost use Rattle.df_recovery.specs.Found.{IsOfCopies, Syncs, TellsFound, TellsLayout};
 
 use crate::superblock::superblock_of;

@@ -1,15 +1,10 @@
 // What an open plans of a file that it finds: which header each slot of the header ring is to have, and what is to be
 // written again. Nothing is written here.
 ghost use Rattle.std.specs.Prelude.{◌≡◌, ◌<◌, ◌≤◌, ◌+◌, ◌++◌, false, not, get_or, length, vec_len, vec_capacity};
+ghost use Rattle.df_recovery.specs.Below.{Shape, Units, View, Layout as AnyLayout, entry, Tells, decision_of};
 ghost use Rattle.df_theory.specs.MendLaws.{IsTable as IsSlotTable};
-ghost use Rattle.df_theory.specs.Shape.{Shape};
-ghost use Rattle.df_theory.specs.Units.{Units};
-ghost use Rattle.df_theory.specs.View.{View};
 ghost use Rattle.df_headers.specs.Ring.{IsTable};
-ghost use Rattle.df_layout.specs.declared.layout.Layout.{Layout as AnyLayout};
-ghost use Rattle.df_journal.specs.Scan.{entry};
-ghost use Rattle.df_journal.specs.Shows.{IsTable as AreSlots, Tells};
-ghost use Rattle.df_cases.specs.Cases.{decision_of};
+ghost use Rattle.df_journal.specs.Shows.{IsTable as AreSlots};
 ghost use Rattle.df_recovery.specs.Plan.{AreDistinct, IsScanOf, OthersAreShown, PutsHeader, class_of_slot, copy_mend, copy_mends, header_by, header_or_reserved, headers_in, if_wanted, is_mended, mend_list, needs_header, shown_class, slot_mend};
 
 use df_cases::Decision;
@@ -132,7 +127,7 @@ fn plan_slot(
     requires room { vec_len mends.old < vec_capacity mends.old }
     ensures header { PutsHeader cluster found.now slot headers.old headers.new }
     ensures list { (layout : AnyLayout) (image : Units) → Tells layout image found.now
-        → mends.new.items ≡ mends.old.items ++ if_wanted (needs_header layout found.now.start.op image slot) (slot_mend (shown_class found.now) slot) }
+        → mends.new.items ≡ mends.old.items ++ if_wanted (needs_header layout found.now.start image slot) (slot_mend (shown_class found.now) slot) }
     ensures len { vec_len mends.new ≤ vec_len mends.old + 1 }
     ensures room { vec_capacity mends.new ≡ vec_capacity mends.old }
 {
@@ -161,7 +156,7 @@ pub fn plan(
     requires room { layout.now.slots + 4 ≤ vec_capacity mends.old }
     ensures table { IsTable layout.now cluster headers.new }
     ensures tells { (sh : Shape) (image : Units) (v : View) → IsScanOf layout.now sh image v found.now → IsSlotTable sh image v (headers_in headers.new) }
-    ensures whole { (sh : Shape) (image : Units) (v : View) → IsScanOf layout.now sh image v found.now → AreDistinct image → OthersAreShown layout.now found.now.start.op image (headers_in headers.new) }
+    ensures whole { (sh : Shape) (image : Units) (v : View) → IsScanOf layout.now sh image v found.now → AreDistinct image → OthersAreShown layout.now found.now.start image (headers_in headers.new) }
     ensures lists { (image : Units) → Tells layout.now image found.now → mends.new.items ≡ mend_list layout.now found.now image copies.now members.now }
     ensures room { vec_capacity mends.new ≡ vec_capacity mends.old }
 {

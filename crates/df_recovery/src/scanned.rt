@@ -5,8 +5,8 @@ use crate::Copies;
 use arrayvec::ArrayVec;
 use df_grid::Grid;
 use df_layout::ROOT;
+use df_rooms::{DataFile, LogRooms, ScrubRooms, TrailerRooms};
 use df_sessions::SessionTable;
-use df_state::{DataFile, LogRooms, ScrubRooms, TrailerRooms};
 
 /// What was read of a file: its superblock, in the tables of the rooms what the rings and the reply slots show, in the grid the
 /// blocks that the checkpoint holds, and the checkpoint's root and sessions.

@@ -1,7 +1,6 @@
 // What an open reads of a file: after the barrier the four copies of the superblock, the trailer, both rings and the reply slots.
 ghost use Rattle.std.specs.Prelude.{◌≡◌, IfOk, IfErr, Ok, OnOk};
-ghost use Rattle.df_base.specs.Causes.{IsBlamed};
-ghost use Rattle.df_model.specs.Faults.{is_open_fault};
+ghost use Rattle.df_recovery.specs.Below.{IsBlamed, is_open_fault};
 ghost use Rattle.df_recovery.specs.Found.{Syncs, TellsFound};
 ghost use Rattle.df_recovery.specs.Scanning.{AreCopies, IsCheckpoint, IsFileOf, IsReadBehind, IsScan, IsServed, IsUnserved, RefusesBase, TellsRead, found_in, without_rooms};
 
@@ -15,7 +14,7 @@ use df_format::Super;
 use df_journal::Start;
 use df_layout::Layout;
 use df_quorum::Slot;
-use df_state::{DataFile, GridRooms, LogRooms, Rooms, ScrubRooms};
+use df_rooms::{DataFile, GridRooms, LogRooms, Rooms, ScrubRooms};
 use df_superblock::read_all;
 
 /// The superblock of a file, and what the four places of its copies show.
@@ -110,9 +109,12 @@ fn scan_log<D: Disk>(
     ensures cause { IsBlamed is_open_fault (D.faults disk.old) (D.faults disk.new) (without_rooms result) }
 {
     let fields = copies.found.content.fields();
+    // The superblock of a file of version 1 names no head above its op, and no boot.
     let start = Start {
         cluster: fields.cluster,
         op: fields.op,
+        head: fields.op,
+        boot: 0,
     };
     let (log, done) = scan_zones(disk, &start, log);
     let Checkpoint {

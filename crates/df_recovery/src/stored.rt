@@ -1,8 +1,7 @@
 // The stored replies of a state: each session's checksum of the reply in its slot, as an open keeps it.
 ghost use Rattle.std.specs.Prelude.{◌≡◌, ◌≢◌, ◌<◌, ℕ, Some, length, slice_get};
 ghost use Rattle.df_recovery.specs.Finding.{StoredIsKept, StoresTo, with_stored};
-ghost use Rattle.df_sessions.specs.Requests.{sessions_of};
-ghost use Rattle.df_sessions.specs.declared.session.Session.{Session as AnySession};
+ghost use Rattle.df_recovery.specs.Below.{sessions_of, Session as AnySession};
 
 use df_format::Header;
 use df_layout::Class;
@@ -40,7 +39,7 @@ pub fn store_replies(sessions: &mut SessionTable, stored: u64, replies: &ReplyTa
     }
 }
 
-/// Where the replies of the sessions are stored so, each is the one that counts as stored in the model.
+/// Where the replies of the sessions are stored so, each is the one that counts as stored in the theory.
 pub fn stored_is_kept()
     ensures { StoredIsKept }
 {}

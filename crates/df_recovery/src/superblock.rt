@@ -1,9 +1,7 @@
 // What four copies of the superblock say, once they are read.
 ghost use Rattle.std.specs.Prelude.{◌≡◌, Option, IfOk, IfErr, Ok, None};
-ghost use Rattle.df_disk.specs.Told.{Told};
-ghost use Rattle.df_format.specs.SuperRules.{fault_of};
+ghost use Rattle.df_recovery.specs.Below.{Told, fault_of, ShowsSlots, ShowsCopies};
 ghost use Rattle.df_recovery.specs.Found.{TellsChoice, TellsFound, HasFaultOf, IsRefusal, fault_error};
-ghost use Rattle.df_superblock.specs.Calls.{ShowsSlots, ShowsCopies};
 
 use crate::OpenError;
 use df_format::{Super, SuperFault, test_fields};

@@ -1,9 +1,7 @@
 // The checksums of the prepares that wait for their replies, as an open knows them.
 ghost use Rattle.std.specs.Prelude.{◌≡◌, ◌<◌, ◌≤◌, ◌+◌, if◌then◌else◌, length};
-ghost use Rattle.df_format.specs.Spelling.{no_checksum};
+ghost use Rattle.df_recovery.specs.Below.{no_checksum, entry, header_of_seen};
 ghost use Rattle.df_recovery.specs.Waiting.{known_sum, shown_sum, waiting_at, waiting_in};
-ghost use Rattle.df_journal.specs.Scan.{entry};
-ghost use Rattle.df_journal.specs.Seen.{header_of_seen};
 
 use arrayvec::ArrayVec;
 use df_base::Check;

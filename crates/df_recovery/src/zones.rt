@@ -1,6 +1,6 @@
 // Both rings and the reply slots are scanned into the tables of the rooms.
 ghost use Rattle.std.specs.Prelude.{◌≡◌, ◌≤◌, ◌^◌, OnOk};
-ghost use Rattle.df_base.specs.Causes.{HasCause};
+ghost use Rattle.df_recovery.specs.Below.{HasCause};
 ghost use Rattle.df_journal.specs.Scanned.{IsScanned};
 ghost use Rattle.df_replies.specs.Shown.{IsScanned as AreReplies};
 ghost use Rattle.df_recovery.specs.Scanning.{AreScanned};
@@ -9,7 +9,7 @@ use df_base::Failed;
 use df_disk::Disk;
 use df_journal::{Start, scan};
 use df_places::Shelf;
-use df_state::LogRooms;
+use df_rooms::LogRooms;
 
 // Scans both rings into the table of the rooms.
 fn scan_rings<D: Disk>(

@@ -39,7 +39,7 @@ use Rattle.df_model.specs.Supply.{puts_of, unless}
 use Rattle.df_model.specs.Work.{Work}
 use Rattle.df_model.specs.declared.errors.AppendError.{AppendError}
 use Rattle.df_model.proofs.Laws.{append_may_law}
-use Rattle.df_state.specs.State.{IsState, Represents, State, memory, shape, spelling}
+use Rattle.df_rooms.specs.State.{IsState, Represents, State, memory, shape, spelling}
 use Rattle.df_replica.specs.Appending.{append_events, next_unit}
 use Rattle.df_replica.specs.Serving.{Grade, IsKept, format}
 use Rattle.df_replica.proofs.Calls.{AreCalls, firmly}
@@ -47,7 +47,7 @@ use Rattle.df_replica.proofs.Leaves.{Makes, makes_nothing}
 use Rattle.df_replica.proofs.Makes.{OfMade, Unless}
 use Rattle.df_replica.proofs.WritesOn.{StandsIn, steps_stand}
 
--- ---- a header sector with one new header, in the words of the model
+-- ---- a header sector with one new header, in the words of the theory
 
 module _ (layout : Layout) (cluster : ℕ) (sh : Shape) (u : Message) (sector : ℕ) (headers : List Header) (image : Image) (slot : u.header.slot ≡ u.header.op % sh.layout.slots) (is : IsNextSector layout cluster image u.header sector headers) where
   is_header_sector : IsHeaderSector sh (unit_at layout cluster image) (message_of u) (put_headers sector headers)

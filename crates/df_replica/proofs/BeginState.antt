@@ -5,12 +5,12 @@ use Rattle.df_sessions.specs.Table.{IsTable}
 use Rattle.df_theory.specs.Trailer.{IsCount}
 use Rattle.df_model.specs.Blocks.{Blocks}
 use Rattle.df_model.specs.Memory.{free_of}
-use Rattle.df_state.specs.State.{Capture, IsCourse, IsRunning, IsState, State, memory}
+use Rattle.df_rooms.specs.State.{RunningState, IsCourse, IsRunning, IsState, State, memory}
 use Rattle.df_replica.specs.declared.begin.Plan.{Plan}
 use Rattle.df_replica.specs.Beginning.{MayBegin, begun, captured, needed}
 
 -- a state makes sense with other blocks and another course, where those do
-pub with_course : (s : State) (b : Blocks) (r : Option Capture) → IsState s → IsCourse s.file s.fields s.head b r → IsState (record s { blocks = b; running = r })
+pub with_course : (s : State) (b : Blocks) (r : Option RunningState) → IsState s → IsCourse s.file s.fields s.head b r → IsState (record s { blocks = b; running = r })
 with_course s b r is course = record {
   cluster = is.cluster;
   parent = is.parent;

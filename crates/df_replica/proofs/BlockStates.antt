@@ -11,8 +11,8 @@ use Rattle.df_model.specs.Refusals.{block_refusals, first_refusal}
 use Rattle.df_model.specs.Work.{is_known}
 use Rattle.df_model.proofs.Laws.{all_pass, known_none, without_none}
 use Rattle.df_model.specs.declared.errors.BlockError.{BlockError}
-use Rattle.df_state.specs.declared.file.DataFile.{DataFile}
-use Rattle.df_state.specs.State.{Capture, IsCourse, IsState, State, course_in, grid_with, memory}
+use Rattle.df_rooms.specs.declared.file.DataFile.{DataFile}
+use Rattle.df_rooms.specs.State.{RunningState, IsCourse, IsState, State, course_in, grid_with, memory}
 use Rattle.df_replica.specs.Blocks.{MayWriteNext, address_or, with_blocks}
 use Rattle.df_replica.proofs.BeginState.{with_course}
 
@@ -22,14 +22,14 @@ use Rattle.df_replica.proofs.BeginState.{with_course}
 abbrev pub lives : Blocks → List (ℕ × ℕ) → Blocks
 lives b live = record b { live = live }
 
-course_kept : (file : DataFile) (b : Blocks) (live : List (ℕ × ℕ)) (r : Option Capture) → course_in file (lives b live) r ≡ course_in file b r
+course_kept : (file : DataFile) (b : Blocks) (live : List (ℕ × ℕ)) (r : Option RunningState) → course_in file (lives b live) r ≡ course_in file b r
 course_kept file b live None = refl
 course_kept file b live (Some r) = refl
 
 pub blocks_memory : (s : State) (live : List (ℕ × ℕ)) → memory (with_blocks s (lives s.blocks live)) ≡ record (memory s) { blocks = lives s.blocks live }
 blocks_memory s live = ap (λ (r : Option Course). record (memory s) { blocks = lives s.blocks live; running = r }) (course_kept s.file s.blocks live s.running)
 
-course_live : (file : DataFile) (f : SuperFields) (head : ℕ) (b : Blocks) (live : List (ℕ × ℕ)) (r : Option Capture) → IsCourse file f head b r → IsCourse file f head (lives b live) r
+course_live : (file : DataFile) (f : SuperFields) (head : ℕ) (b : Blocks) (live : List (ℕ × ℕ)) (r : Option RunningState) → IsCourse file f head b r → IsCourse file f head (lives b live) r
 course_live file f head b live None idle = record { captured = idle.captured; written = idle.written; left = idle.left }
 course_live file f head b live (Some r) is = record {
   op_from = is.op_from;

@@ -22,7 +22,7 @@ use Rattle.df_model.specs.Memory.{Course, block_room}
 use Rattle.df_model.specs.Supply.{puts_of}
 use Rattle.df_model.specs.Work.{Work}
 use Rattle.df_model.specs.declared.answers.Progress.TheVariants.{Working}
-use Rattle.df_state.specs.State.{Capture, IsCourse, IsRunning, IsState, Represents, State, course_in, course_of, memory, shape, spelling}
+use Rattle.df_rooms.specs.State.{RunningState, IsCourse, IsRunning, IsState, Represents, State, course_in, course_of, memory, shape, spelling}
 use Rattle.df_replica.specs.Answering.{Serves}
 use Rattle.df_replica.specs.Serving.{Grade, IsCall, IsKept, format, next}
 use Rattle.df_replica.specs.Stepping.{OfRunning, advanced, block_events, block_sum, block_to_write, made_by, made_for, trailer_unit}
@@ -34,7 +34,7 @@ use Rattle.df_replica.proofs.StepAnswers.{does_step, fault_call, makes_step, nex
 use Rattle.df_replica.proofs.StepMemory.{block_memory, step_memory}
 use Rattle.df_replica.proofs.WritesOn.{StandsIn, steps_stand}
 
-module _ (s : State) (r : Capture) (a : ℕ) (more : List ℕ) (given : Given) (is : IsRunning s.file s.fields s.head s.blocks r) (running : s.running ≡ Some r) (left : s.blocks.left ≡ a ∷ more)
+module _ (s : State) (r : RunningState) (a : ℕ) (more : List ℕ) (given : Given) (is : IsRunning s.file s.fields s.head s.blocks r) (running : s.running ≡ Some r) (left : s.blocks.left ≡ a ∷ more)
     (unit : block_of (trailer_unit s r) ≡ block_to_write s r (block_sum s r)) (steps : AreSteps (format_of s.file.layout s.file.cluster) (block_events s r) (block_steps (trailer_unit s r)))
     (sum : given.checksum ≡ made_by s s.running) where
   abbrev given_steps : List Step
@@ -132,17 +132,17 @@ first_in (a ∷ more) some = (a, more, refl)
 module _ (s : State) (is : IsState s) (live : s.live ≡ true) (some : s.blocks.left ≢ [])
     (unit : OfRunning s.running (λ r. block_of (trailer_unit s r) ≡ block_to_write s r (block_sum s r)))
     (steps : OfRunning s.running (λ r. AreSteps (format_of s.file.layout s.file.cluster) (block_events s r) (block_steps (trailer_unit s r)))) where
-  abbrev Unit_of : Option Capture → Type 0
+  abbrev Unit_of : Option RunningState → Type 0
   Unit_of o = OfRunning o (λ r. block_of (trailer_unit s r) ≡ block_to_write s r (block_sum s r))
 
-  abbrev Steps_of : Option Capture → Type 0
+  abbrev Steps_of : Option RunningState → Type 0
   Steps_of o = OfRunning o (λ r. AreSteps (format_of s.file.layout s.file.cluster) (block_events s r) (block_steps (trailer_unit s r)))
 
   pub block_serves : (t : State) (left : ℕ) (old new : Option Told) → left ≡ length s.blocks.left → OfRunning s.running (λ r. t ≡ advanced s r) → OfRunning s.running (λ r. new ≡ after_all (block_events s r) old)
       → Serves Advance s t old new (Some (ToAdvance (Ok (Working left))))
   block_serves t left old new count next all = go s.running refl is.course unit steps next all
     where
-      go : (o : Option Capture) → s.running ≡ o → IsCourse s.file s.fields s.head s.blocks o → Unit_of o → Steps_of o → OfRunning o (λ r. t ≡ advanced s r) → OfRunning o (λ r. new ≡ after_all (block_events s r) old)
+      go : (o : Option RunningState) → s.running ≡ o → IsCourse s.file s.fields s.head s.blocks o → Unit_of o → Steps_of o → OfRunning o (λ r. t ≡ advanced s r) → OfRunning o (λ r. new ≡ after_all (block_events s r) old)
           → Serves Advance s t old new (Some (ToAdvance (Ok (Working left))))
       go None running course unit_is steps_are next_is all_are = absurd unit_is
       go (Some r) running course unit_is steps_are next_is all_are = λ given supplied.
@@ -154,7 +154,7 @@ module _ (s : State) (is : IsState s) (live : s.live ≡ true) (some : s.blocks.
   pub block_fault_serves : (t : State) (old new : Option Told) → t.live ≡ false → OfRunning s.running (λ r. AddsPart (block_events s r) old new) → Serves Advance s t old new None
   block_fault_serves t old new dead part = go s.running refl is.course unit steps part
     where
-      go : (o : Option Capture) → s.running ≡ o → IsCourse s.file s.fields s.head s.blocks o → Unit_of o → Steps_of o → OfRunning o (λ r. AddsPart (block_events s r) old new) → Serves Advance s t old new None
+      go : (o : Option RunningState) → s.running ≡ o → IsCourse s.file s.fields s.head s.blocks o → Unit_of o → Steps_of o → OfRunning o (λ r. AddsPart (block_events s r) old new) → Serves Advance s t old new None
       go None running course unit_is steps_are part_is = absurd unit_is
       go (Some r) running course unit_is steps_are part_is = λ given supplied.
           let first = first_in s.blocks.left some in

@@ -17,20 +17,20 @@ use Rattle.df_theory.specs.Shape.{Shape}
 use Rattle.df_theory.specs.UnitLog.{UnitLog}
 use Rattle.df_theory.specs.Units.{AnyUnit, BlockPlace, BlockUnit, Parts, Place}
 use Rattle.df_theory.specs.View.{View}
-use Rattle.df_units.proofs.Laws.{all_added, is_format, part_moments}
+use Rattle.df_units.proofs.Laws.{all_added, is_format, part_moments, steps_within}
 use Rattle.df_model.specs.Commands.{Answer, Command, Given, IsInput}
 use Rattle.df_model.specs.Laws.{IsKeptBy}
 use Rattle.df_model.specs.OnDisk.{BacksOnDisk, DoesOnDisk, LeadsOnDisk}
 use Rattle.df_model.specs.Sense.{IsBacked, IsWork}
 use Rattle.df_model.specs.Work.{Work, kept}
 use Rattle.df_model.proofs.Laws.{disk_command_law, sense_law}
-use Rattle.df_state.specs.declared.file.DataFile.{DataFile}
-use Rattle.df_state.specs.State.{Represents, State, shape, spelling}
+use Rattle.df_rooms.specs.declared.file.DataFile.{DataFile}
+use Rattle.df_rooms.specs.State.{Represents, State, shape, spelling}
 use Rattle.df_replica.specs.Leaving.{writes_to}
 use Rattle.df_replica.specs.Serving.{EachIsGood, Firm, GoesOnTo, Grade, IsCall, IsGoodFor, IsKept, Keeps, KeptFor, Whole, format, next}
 use Rattle.df_replica.specs.Supply.{IsSupplied}
 use Rattle.df_replica.specs.WrittenFor.{IsWrittenFor, WritesOn}
-use Rattle.df_replica.proofs.Fronts.{FrontSteps, no_front, one_more}
+use Rattle.df_replica.proofs.Fronts.{FrontSteps, all_front, no_front, one_more, others_spared}
 use Rattle.df_replica.proofs.Leaves.{Makes, leaves_copies, leaves_shown, settles_on, spares_held}
 use Rattle.df_replica.proofs.Makes.{HasEach, OfMade, after_has, made_weaker}
 use Rattle.df_replica.proofs.WritesOn.{StandsIn, brought_is_written, stays_written}
@@ -154,6 +154,7 @@ module _ (given : Given) (command : Command) (s : State) (events : List Event) (
   pub stopped_call : Makes given command s events → (t : State) (old new : Option Told) → IsSupplied s old command given → t.live ≡ false → AddsPart events old new → IsCall given command s t old new None
   stopped_call makes t old new supplied dead part =
       let front = front_of events old new part in
+      let done = front.steps (format s.file) makes.steps makes.are in
       record {
         file = tt;
         input = input;
@@ -161,9 +162,11 @@ module _ (given : Given) (command : Command) (s : State) (events : List Event) (
         live = dead;
         events = front.part;
         told = front.is;
+        within = steps_within s.file.layout s.file.cluster front.part done.steps done.are;
         answers = λ g w k. tt;
         keeps = λ g w base k. (good_part base (after_all front.part base) (front.again base) g w k, tt);
         leaves = tt;
+        others = others_spared given command s events makes front.part done;
         copies = λ w k. tt;
         spares = λ w k a held other sector here. front.dry sector (spares_held given command s events makes w k a held other sector here);
         settles = λ w log k settled. tt;
@@ -227,9 +230,11 @@ module _ (given : Given) (command : Command) (s : State) (events : List Event) (
       live = call.live;
       events = events;
       told = all;
+      within = steps_within s.file.layout s.file.cluster events makes.steps makes.are;
       answers = λ g w k. alone g w k;
       keeps = λ g w base k. (good_part base (after_all events base) (all_is_part events base (after_all events base) refl) g w k, goes_on base (after_all events base) refl g w k);
       leaves = λ image whole. leaves_shown given command s events makes image whole;
+      others = others_spared given command s events makes events (all_front (format s.file) events makes.steps makes.are);
       copies = λ w k image whole. leaves_copies given command s events makes w k image whole;
       spares = λ w k. spares_held given command s events makes w k;
       settles = λ w log k settled. settles_on given command s events makes w log k settled;

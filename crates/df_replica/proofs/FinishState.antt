@@ -10,7 +10,7 @@ use Rattle.df_format.specs.SuperRules.{IsSuper, fault_of}
 use Rattle.df_grid.specs.Table.{last_of}
 use Rattle.df_grid.specs.Writes.{first_address, first_sum}
 use Rattle.df_units.specs.Meaning.{number_of}
-use Rattle.df_state.specs.State.{Capture, IsRunning, IsState, State}
+use Rattle.df_rooms.specs.State.{RunningState, IsRunning, IsState, State}
 use Rattle.df_replica.specs.Stepping.{next_fields}
 
 -- the last trailer block is the first of those that are listed
@@ -21,7 +21,7 @@ first_pair (x ∷ xs) [] address sum done is =
     let same : (address, sum) ≡ x = same_Some _ _ is in
     (ap (λ (y : ℕ × ℕ). y.0) (sym same), ap (λ (y : ℕ × ℕ). y.1) (sym same))
 
-module _ (s : State) (r : Capture) (is : IsState s) (runs : IsRunning s.file s.fields s.head s.blocks r) (some : 1 ≤ first_address s.blocks.written) (inside : first_address s.blocks.written ≤ s.file.layout.blocks) where
+module _ (s : State) (r : RunningState) (is : IsState s) (runs : IsRunning s.file s.fields s.head s.blocks r) (some : 1 ≤ first_address s.blocks.written) (inside : first_address s.blocks.written ≤ s.file.layout.blocks) where
   is_super : IsSuper (next_fields s r)
   is_super = record {
     version = refl;

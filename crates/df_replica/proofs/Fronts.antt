@@ -1,10 +1,16 @@
 -- A front of a call's device calls: which steps it is, and what it leaves as it was.
-use Rattle.std.proofs.Common.{◌≡◌, List, [], ◌∷◌, Option, Some, None, refl, sym, ◌∙◌, ap}
+use Rattle.std.proofs.Common.{◌≡◌, List, [], ◌∷◌, Option, Some, None, refl, ◌∙◌, ap}
+use Rattle.df_base.specs.Image.{Image, IsImage}
 use Rattle.df_base.specs.Log.{Event, Stop, Sync, Write}
 use Rattle.df_theory.specs.Device.{AreSteps, Format}
 use Rattle.df_theory.specs.Runs.{Puts, Step, Syncs}
 use Rattle.df_theory.specs.Units.{AnyUnit, Place, Units, or_else}
-use Rattle.df_replica.proofs.Leaves.{some_stays, unit_after}
+use Rattle.df_units.specs.Bytes.{unit_at}
+use Rattle.df_model.specs.Commands.{Command, Given}
+use Rattle.df_rooms.specs.State.{State, memory}
+use Rattle.df_replica.specs.Leaving.{SparesOthers, image_after}
+use Rattle.df_replica.specs.Serving.{format}
+use Rattle.df_replica.proofs.Leaves.{Makes, none_put, same_class, same_sector, shown_by, some_stays, unit_after, unwritten}
 
 -- it is a front of the steps, and puts nothing where these put nothing
 pub record FrontSteps (f : Format) (part : List Event) (whole : List Step) : Type 0 where
@@ -55,3 +61,18 @@ module _ (f : Format) (es part : List Event) (rest : (ss : List Step) → AreSte
   one_more Sync [] are = absurd are
   one_more Sync ((Puts put) ∷ ss) are = absurd are
   one_more (Stop changes) ss are = absurd are
+
+-- what a front of a call's device calls leaves of the places at which its command puts nothing
+module _ (given : Given) (command : Command) (s : State) (events : List Event) (makes : Makes given command s events) (part : List Event) (front : FrontSteps (format s.file) part makes.steps) (image : Image) (whole : IsImage image) where
+  pub others_spared : SparesOthers s.file (memory s) given.checksum command image (image_after part image)
+  others_spared =
+      let layout = s.file.layout in
+      let cluster = s.file.cluster in
+      record {
+        units = λ place read none.
+            shown_by layout cluster part front.steps image front.are whole place ∙ front.aside place (unit_at layout cluster image place) (none_put given command s events makes place read none);
+        classes = λ place read none.
+            let aside = front.aside place None (none_put given command s events makes place read none) in
+            same_class layout cluster (image_after part image) image place read
+            (λ sector here. same_sector layout cluster part front.steps front.are image sector (unwritten layout cluster part front.steps front.are place aside sector here));
+      }

@@ -27,8 +27,8 @@ use Rattle.df_model.specs.Work.{Running, Work, is_captured, is_held, is_known}
 use Rattle.df_model.specs.declared.answers.Verdict.{Verdict}
 use Rattle.df_model.specs.declared.answers.Verdict.TheVariants.{Sound, Failing}
 use Rattle.df_model.proofs.Laws.{block_may_law, entry_at, sense_law}
-use Rattle.df_state.specs.declared.file.DataFile.{DataFile}
-use Rattle.df_state.specs.State.{State, shape, spelling}
+use Rattle.df_rooms.specs.declared.file.DataFile.{DataFile}
+use Rattle.df_rooms.specs.State.{State, shape, spelling}
 use Rattle.df_replica.specs.HeldBlocks.{AreInputs, HeldBlocksAreShown, HoldsBlock, IsCaptured, IsDurable, IsLive, ShowsHeld, StaysHeld}
 use Rattle.df_replica.specs.Reading.{shown_of}
 use Rattle.df_replica.specs.Serving.{IsKept, Keeps, Whole, format, next}
@@ -135,7 +135,7 @@ module _ (file : DataFile) (w : Work) (a : ℕ) where
   held_before given (ReadReply client) d inside holds = inl holds
   held_before given (ReadBlock address) d inside holds = inl holds
   held_before given Scrub d inside holds = after_look given.verdict (to_check (memory_of (shape file) (spelling file) w)) d holds
-  held_before given (Recent place) d inside holds = inl holds
+  held_before given Recent d inside holds = inl holds
 
 -- ---- one checksum an address
 

@@ -7,7 +7,7 @@ use Rattle.df_layout.specs.declared.layout.Layout.{Layout}
 use Rattle.df_model.specs.declared.errors.OpenError.{OpenError}
 use Rattle.df_recovery.specs.Scanning.{TellsRead}
 use Rattle.df_recovery.specs.declared.scanned.Scanned.{Scanned}
-use Rattle.df_state.specs.State.{State}
+use Rattle.df_rooms.specs.State.{State}
 use Rattle.df_replica.specs.Surveying.{TellsSurvey}
 
 pub tells_hurt : (layout : Layout) (told : Option Told) (result : Result State OpenError) → TellsSurvey layout told result → TellsHurt layout told result

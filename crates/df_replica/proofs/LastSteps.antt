@@ -30,7 +30,7 @@ use Rattle.df_model.specs.Work.{Work}
 use Rattle.df_model.specs.declared.answers.Progress.TheVariants.{Done}
 use Rattle.df_model.specs.declared.errors.StepError.{StepError}
 use Rattle.df_model.specs.declared.errors.StepError.TheVariants as step
-use Rattle.df_state.specs.State.{Capture, IsCourse, IsRunning, IsState, Represents, State, course_of, memory, shape, spelling}
+use Rattle.df_rooms.specs.State.{RunningState, IsCourse, IsRunning, IsState, Represents, State, course_of, memory, shape, spelling}
 use Rattle.df_replica.specs.Answering.{Serves, answer_of, is_step_unanswered}
 use Rattle.df_replica.specs.Serving.{Grade, IsCall, IsKept, format, next}
 use Rattle.df_replica.specs.Stepping.{IsMade, OfRunning, finished, last_events, made_by, made_for, next_fields}
@@ -47,7 +47,7 @@ zero_rest : (boot : ℕ) (o : Option ℕ) → ((i : ℕ) → slice_index (boot �
 zero_rest boot None zeros = ap (λ (n : ℕ). n ∷ []) (zeros 0)
 zero_rest boot (Some n) zeros = absurd (let one : suc n ≡ 0 = zeros 1 in omega arith)
 
-module _ (s : State) (r : Capture) (given : Given) (is : IsState s) (course : IsRunning s.file s.fields s.head s.blocks r) (running : s.running ≡ Some r) (left : s.blocks.left ≡ [])
+module _ (s : State) (r : RunningState) (given : Given) (is : IsState s) (course : IsRunning s.file s.fields s.head s.blocks r) (running : s.running ≡ Some r) (left : s.blocks.left ≡ [])
     (number : number_of (spelled 16 (first_sum s.blocks.written)) ≡ first_sum s.blocks.written) (steps : AreStepsOfCopies (update_events (next_fields s r)) (update_steps (put_copies (next_fields s r))))
     (sum : given.checksum ≡ made_by s s.running) where
   abbrev f : SuperFields
@@ -163,7 +163,7 @@ module _ (s : State) (is : IsState s) (live : s.live ≡ true) (left : s.blocks.
   pub last_serves : (t : State) (sequence : ℕ) → sequence ≡ f.sequence → OfRunning s.running (λ r. t ≡ finished s r) → IsMade {T = Unit {0}} f old new (Ok tt) → Serves Advance s t old new (Some (ToAdvance (Ok (Done sequence))))
   last_serves t sequence same next all = go s.running refl is.course fields next
     where
-      go : (o : Option Capture) → s.running ≡ o → IsCourse s.file s.fields s.head s.blocks o → OfRunning o (λ r. f ≡ next_fields s r) → OfRunning o (λ r. t ≡ finished s r) → Serves Advance s t old new (Some (ToAdvance (Ok (Done sequence))))
+      go : (o : Option RunningState) → s.running ≡ o → IsCourse s.file s.fields s.head s.blocks o → OfRunning o (λ r. f ≡ next_fields s r) → OfRunning o (λ r. t ≡ finished s r) → Serves Advance s t old new (Some (ToAdvance (Ok (Done sequence))))
       go None running course fields_are next_is = absurd fields_are
       go (Some r) running course fields_are next_is = λ given supplied.
           subst (λ (x : State). IsCall given Advance s x old new (Some (ToAdvance (Ok (Done sequence))))) (sym next_is)
@@ -173,7 +173,7 @@ module _ (s : State) (is : IsState s) (live : s.live ≡ true) (left : s.blocks.
   stopped : (t : State) → t.live ≡ false → AddsPart (last_of f) old new → Serves Advance s t old new None
   stopped t dead part = go s.running refl is.course fields
     where
-      go : (o : Option Capture) → s.running ≡ o → IsCourse s.file s.fields s.head s.blocks o → OfRunning o (λ r. f ≡ next_fields s r) → Serves Advance s t old new None
+      go : (o : Option RunningState) → s.running ≡ o → IsCourse s.file s.fields s.head s.blocks o → OfRunning o (λ r. f ≡ next_fields s r) → Serves Advance s t old new None
       go None running course fields_are = absurd fields_are
       go (Some r) running course fields_are = λ given supplied.
           last_fault s r given is course running left number (subst StepsOf fields_are steps) supplied old new t dead (subst (λ (g : SuperFields). AddsPart (last_of g) old new) fields_are part)

@@ -33,8 +33,8 @@ use Rattle.df_model.specs.Work.{Running, Work, is_captured, is_held, is_known, i
 use Rattle.df_model.specs.declared.answers.Verdict.{Verdict}
 use Rattle.df_model.specs.declared.answers.Verdict.TheVariants.{Sound, Failing}
 use Rattle.df_model.proofs.Laws.{block_may_law, some_of}
-use Rattle.df_state.specs.declared.file.DataFile.{DataFile}
-use Rattle.df_state.specs.State.{Represents, State, memory, shape, spelling}
+use Rattle.df_rooms.specs.declared.file.DataFile.{DataFile}
+use Rattle.df_rooms.specs.State.{Represents, State, memory, shape, spelling}
 use Rattle.df_replica.specs.Leaving.{AreSettled, IsReadPlace, LeavesCopies, LeavesShown, SparesHeld, SparesReads, WritesNext, image_after, is_durable, writes_to}
 use Rattle.df_replica.specs.Serving.{Firm, Keeps, format, next}
 
@@ -131,7 +131,7 @@ module _ (layout : Layout) (cluster : ℕ) where
   unwritten ((Stop cs) ∷ es) ss are place none sector here = absurd are
 
   -- a sector that isn't written stays
-  same_sector : (events : List Event) (steps : List Step) → AreSteps (format_of layout cluster) events steps → (image : Image) (sector : ℕ) → writes_to events sector ≡ false → image_after events image sector ≡ image sector
+  pub same_sector : (events : List Event) (steps : List Step) → AreSteps (format_of layout cluster) events steps → (image : Image) (sector : ℕ) → writes_to events sector ≡ false → image_after events image sector ≡ image sector
   same_sector [] [] are image sector dry = refl
   same_sector [] (p ∷ ss) are image sector dry = absurd are
   same_sector ((Write at bytes) ∷ es) ((Puts put) ∷ ss) are image sector dry =
@@ -161,7 +161,7 @@ module _ (layout : Layout) (cluster : ℕ) where
     abbrev AreSame : Place → Type 0
     AreSame place = (sector : ℕ) → has layout place sector ≡ true → a sector ≡ b sector
 
-    same_class : (place : Place) → IsReadPlace layout place → AreSame place → class_at layout cluster a place ≡ class_at layout cluster b place
+    pub same_class : (place : Place) → IsReadPlace layout place → AreSame place → class_at layout cluster a place ≡ class_at layout cluster b place
     same_class (CopyPlace n) there same = absurd there
     same_class (HeaderPlace n) there same = absurd there
     same_class (PreparePlace n) there same =
@@ -236,7 +236,7 @@ module _ (file : DataFile) (w : Work) (work : IsWork (shape file) (spelling file
   held_unput (ReadReply client) other = refl
   held_unput (ReadBlock address) other = refl
   held_unput Scrub other = refl
-  held_unput (Recent place) other = refl
+  held_unput Recent other = refl
 
 -- ---- what is durable behind a command
 
@@ -296,7 +296,7 @@ module _ (file : DataFile) (w : Work) (a : ℕ) where
   was_durable given (ReadReply client) is = inl is
   was_durable given (ReadBlock address) is = inl is
   was_durable given Scrub is = inl (checked_was given.verdict (to_check (memory_of (shape file) (spelling file) w)) is)
-  was_durable given (Recent place) is = inl is
+  was_durable given Recent is = inl is
 
 -- what is durable is held
 pub durable_held : (w : Work) (a : ℕ) → is_durable w a ≡ true → is_held w a ≡ true
@@ -329,7 +329,7 @@ next_aside w a clear is (ReadPrepare op) never = never
 next_aside w a clear is (ReadReply client) never = never
 next_aside w a clear is (ReadBlock address) never = never
 next_aside w a clear is Scrub never = never
-next_aside w a clear is (Recent place) never = never
+next_aside w a clear is Recent never = never
 
 -- nor does the last step write one
 last_aside : (w : Work) (a : ℕ) (r : Running) → w.running ≡ Some r → r.left ≡ [] → (command : Command) → WritesNext command w a → ⊥
@@ -346,7 +346,7 @@ last_aside w a r running left (ReadPrepare op) never = never
 last_aside w a r running left (ReadReply client) never = never
 last_aside w a r running left (ReadBlock address) never = never
 last_aside w a r running left Scrub never = never
-last_aside w a r running left (Recent place) never = never
+last_aside w a r running left Recent never = never
 
 -- ---- a call whose steps put what its command makes
 
@@ -409,7 +409,7 @@ module _ (given : Given) (command : Command) (s : State) (events : List Event) (
   abbrev cluster : ℕ
   cluster = s.file.cluster
 
-  none_put : (place : Place) → IsReadPlace layout place → puts_of (memory s) given.checksum command place ≡ None → unit_after makes.steps place None ≡ None
+  pub none_put : (place : Place) → IsReadPlace layout place → puts_of (memory s) given.checksum command place ≡ None → unit_after makes.steps place None ≡ None
   none_put (CopyPlace k) read none = absurd read
   none_put (HeaderPlace k) read none = absurd read
   none_put (PreparePlace k) read none = makes.prepare k None ∙ ap (λ (p : Option AnyUnit). or_else p None) none
@@ -447,7 +447,7 @@ module _ (given : Given) (command : Command) (s : State) (events : List Event) (
   ends_last w a (ReadReply client) never = absurd never
   ends_last w a (ReadBlock address) never = absurd never
   ends_last w a Scrub never = absurd never
-  ends_last w a (Recent place) never = absurd never
+  ends_last w a Recent never = absurd never
 
   ends_held : (w : Work) (a : ℕ) (c : Command) → EndsWith c w a → (is_held w a ≡ true) × (WritesNext c w a → ⊥)
   ends_held w a Advance (r, running, left, taken) = (taken_held w r a running taken, last_aside w a r running left Advance)
@@ -460,7 +460,7 @@ module _ (given : Given) (command : Command) (s : State) (events : List Event) (
   ends_held w a (ReadReply client) never = absurd never
   ends_held w a (ReadBlock address) never = absurd never
   ends_held w a Scrub never = absurd never
-  ends_held w a (Recent place) never = absurd never
+  ends_held w a Recent never = absurd never
 
   firm_then : (w : Work) (log : Log) (k : Keeps Firm s w None) → AreSettled s.file log w → (a sector : ℕ) → has layout (BlockPlace a) sector ≡ true → WasDurable s.file w a command → loose (adds events log) sector ≡ false
   firm_then w log k settled a sector here (inl was) =

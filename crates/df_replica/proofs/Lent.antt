@@ -26,7 +26,7 @@ use Rattle.df_replica.specs.BlockReads.{IsReadBlock}
 use Rattle.df_replica.specs.Lookups.{IsReadReply, place_for}
 use Rattle.df_replica.specs.Reading.{IsReadPrepare}
 use Rattle.df_replica.specs.Serving.{format}
-use Rattle.df_state.specs.State.{Represents, State, memory, shape, spelling}
+use Rattle.df_rooms.specs.State.{Represents, State, memory, shape, spelling}
 use Rattle.df_replica.specs.Lending.{BlockIsLent, BlockIsTheOne, IsReplyTo, LendsWrittenBlock, LendsWrittenPrepare, LendsWrittenReply, PrepareIsLent, PrepareIsTheOne, ReplyIsLent, ReplyIsTheOne}
 use Rattle.df_replica.proofs.LentFinds.{block_in, chain_get, client_at, joined_at, mapped, prepare_in, reply_in, stored_in}
 

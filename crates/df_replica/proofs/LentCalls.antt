@@ -13,8 +13,8 @@ use Rattle.df_theory.specs.Units.{Block, Message}
 use Rattle.df_replica.specs.BlockReads.{IsBlockFound, IsReadBlock}
 use Rattle.df_replica.specs.Reading.{IsFoundBy, IsReadPrepare}
 use Rattle.df_replica.specs.Serving.{Firm, IsCall, Keeps, format, next}
-use Rattle.df_state.specs.declared.file.DataFile.{DataFile}
-use Rattle.df_state.specs.State.{State, shape, spelling}
+use Rattle.df_rooms.specs.declared.file.DataFile.{DataFile}
+use Rattle.df_rooms.specs.State.{State, shape, spelling}
 use Rattle.df_replica.specs.Lending.{AnswersOwn, CallIsOwn, CallIsTheOne}
 use Rattle.df_replica.specs.Lookups.{IsReadReply}
 use Rattle.df_replica.specs.Striking.{StruckReadsAreOwn}
@@ -76,7 +76,7 @@ call_is_the_one given (ReadPrepare op) s u w t new answer call keeps chance = λ
 call_is_the_one given (ReadReply client) s u w t new answer call keeps chance = λ r is. reply_is_the_one s t client r chance (reply_read given s u w t new answer keeps client call r is)
 call_is_the_one given (ReadBlock address) s u w t new answer call keeps chance = λ b is. block_is_the_one s t address b chance (block_read given s u w t new answer keeps address call b is)
 call_is_the_one given Scrub s u w t new answer call keeps chance = tt
-call_is_the_one given (Recent place) s u w t new answer call keeps chance = tt
+call_is_the_one given Recent s u w t new answer call keeps chance = tt
 
 pub call_is_own : CallIsOwn
 call_is_own given (Append client request body) s u w t new answer call keeps written chance = tt
@@ -89,7 +89,7 @@ call_is_own given (ReadPrepare op) s u w t new answer call keeps written chance 
 call_is_own given (ReadReply client) s u w t new answer call keeps written chance = reply_own given s u w t new answer keeps written chance client call
 call_is_own given (ReadBlock address) s u w t new answer call keeps written chance = block_own given s u w t new answer keeps written chance address call
 call_is_own given Scrub s u w t new answer call keeps written chance = tt
-call_is_own given (Recent place) s u w t new answer call keeps written chance = tt
+call_is_own given Recent s u w t new answer call keeps written chance = tt
 
 -- ---- calls one after the other, between which sectors may be struck
 

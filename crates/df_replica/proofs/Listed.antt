@@ -9,6 +9,7 @@ use Rattle.df_layout.specs.declared.places.Zone.TheVariants.{Superblock, WalHead
 use Rattle.df_format.specs.Own.{place_in}
 use Rattle.df_format.specs.Shown.{class_at}
 use Rattle.df_format.specs.declared.superblock.SuperFields.{SuperFields}
+use Rattle.df_journal.specs.declared.table.Start.{Start}
 use Rattle.df_journal.specs.Scan.{Scan}
 use Rattle.df_journal.specs.Shows.{Tells}
 use Rattle.df_journal.proofs.Laws.{class_shown, scanned_shown}
@@ -22,11 +23,12 @@ use Rattle.df_recovery.specs.Scanning.{IsScan, TellsRead}
 use Rattle.df_recovery.specs.Surveys.{Surveys}
 use Rattle.df_recovery.specs.declared.scanned.Scanned.{Scanned}
 use Rattle.df_replica.specs.Mending.{ArePlannedFrom, IsSettledFrom}
+use Rattle.df_recovery.specs.Starting.{start_of}
 use Rattle.df_replica.specs.Surveying.{IsMendable, IsReadOf, TellsMends, TellsSurvey, copy_mend_at, mends_of}
 use Rattle.df_model.specs.declared.errors.OpenError.{OpenError}
-use Rattle.df_state.specs.declared.file.DataFile.{DataFile}
-use Rattle.df_state.specs.State.{State}
-use Rattle.df_recovery.proofs.Laws.{scanned_of_file}
+use Rattle.df_rooms.specs.declared.file.DataFile.{DataFile}
+use Rattle.df_rooms.specs.State.{State}
+use Rattle.df_recovery.proofs.Laws.{scanned_of_file, version_one}
 
 -- what two functions make of the numbers that are wanted is the same where they agree
 listed_case : (b : Bool) (f g : ℕ → Mend) (a : ℕ) (xs ys : List ℕ) → f a ≡ g a → map f xs ≡ map g ys → map f (cond b (a ∷ xs) xs) ≡ map g (cond b (a ∷ ys) ys)
@@ -55,19 +57,19 @@ module _ (t : Told) (x : Scanned) (is : IsReadOf t x) (shows : ShowsSlots (Some 
   copies_listed members = listed (copy_mend x.copies.slots) (copy_mend_at t.shown) (λ n. not (get_or members n false)) 0 4
       (λ k from to. ap (λ (slot : Slot). record { place = place_in Superblock k; class = class_of_slot slot }) (shows k to))
 
-  slots_listed : slot_mends (needs_header layout scan.start.op (unit_at layout f.cluster t.shown)) (shown_class scan) layout.slots
-      ≡ slot_mends (needs_header layout f.op (unit_at layout f.cluster t.shown)) (λ s. class_at layout f.cluster t.shown (place_in WalHeaders s)) layout.slots
+  slots_listed : slot_mends (needs_header layout scan.start (unit_at layout f.cluster t.shown)) (shown_class scan) layout.slots
+      ≡ slot_mends (needs_header layout (start_of f) (unit_at layout f.cluster t.shown)) (λ s. class_at layout f.cluster t.shown (place_in WalHeaders s)) layout.slots
   slots_listed =
-      ap (λ (op : ℕ). slot_mends (needs_header layout op (unit_at layout f.cluster t.shown)) (shown_class scan) layout.slots) is.op
-      ∙ listed (slot_mend (shown_class scan)) (slot_mend (λ s. class_at layout f.cluster t.shown (place_in WalHeaders s))) (needs_header layout f.op (unit_at layout f.cluster t.shown)) 0 layout.slots
+      ap (λ (start : Start). slot_mends (needs_header layout start (unit_at layout f.cluster t.shown)) (shown_class scan) layout.slots) is.start
+      ∙ listed (slot_mend (shown_class scan)) (slot_mend (λ s. class_at layout f.cluster t.shown (place_in WalHeaders s))) (needs_header layout (start_of f) (unit_at layout f.cluster t.shown)) 0 layout.slots
       (λ k from to. ap (λ (class : Class). record { place = place_in WalHeaders k; class = class }) ((class_shown layout t scan k is.scanned.slots (omega (arith, to))).0 ∙ ap (λ (n : ℕ). class_at layout n t.shown (place_in WalHeaders k)) cluster))
 
   pub mendable : (s : Survey) → IsSettledFrom x s → IsMendable layout t.shown s
   mendable s settled =
       let planned = subst (λ (file : DataFile). ArePlannedFrom file.layout file.cluster scan x.copies.slots s.chosen.members s.state.headers s.mends) settled.file_is settled.planned in
       let image = unit_at layout f.cluster t.shown in
-      let tells = subst (λ (n : ℕ). Tells layout (unit_at layout n t.shown) scan) cluster (scanned_shown layout t scan is.scanned.slots) in
-      let both = ap (λ (xs : List Mend). xs ++ slot_mends (needs_header layout scan.start.op image) (shown_class scan) layout.slots) (copies_listed s.chosen.members) ∙ ap (λ (xs : List Mend). map (copy_mend_at t.shown) (filter (λ n. not (get_or s.chosen.members n false)) (range_with_len 0 4)) ++ xs) slots_listed in
+      let tells = subst (λ (n : ℕ). Tells layout (unit_at layout n t.shown) scan) cluster (scanned_shown layout t scan (version_one scan.start f is.start) is.scanned.slots) in
+      let both = ap (λ (xs : List Mend). xs ++ slot_mends (needs_header layout scan.start image) (shown_class scan) layout.slots) (copies_listed s.chosen.members) ∙ ap (λ (xs : List Mend). map (copy_mend_at t.shown) (filter (λ n. not (get_or s.chosen.members n false)) (range_with_len 0 4)) ++ xs) slots_listed in
       record {
         choice = subst (IsChoiceOf t.shown) (sym settled.chosen_is) is.choice;
         mends = planned.list image tells ∙ both ∙ ap (λ (g : SuperFields). mends_of layout t.shown g s.chosen.members) (sym settled.fields_are);

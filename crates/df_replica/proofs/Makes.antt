@@ -51,7 +51,7 @@ OfMade sh spell P w given (ReadPrepare op) = Unit {0}
 OfMade sh spell P w given (ReadReply client) = Unit {0}
 OfMade sh spell P w given (ReadBlock address) = Unit {0}
 OfMade sh spell P w given Scrub = Unit {0}
-OfMade sh spell P w given (Recent place) = Unit {0}
+OfMade sh spell P w given Recent = Unit {0}
 
 -- a weaker fact of it
 module _ (sh : Shape) (spell : Parts → List ℕ) (P Q : Place → AnyUnit → Type 0) (weaker : (place : Place) (x : AnyUnit) → P place x → Q place x) (w : Work) where
@@ -78,7 +78,7 @@ module _ (sh : Shape) (spell : Parts → List ℕ) (P Q : Place → AnyUnit → 
   made_weaker given (ReadReply client) is = tt
   made_weaker given (ReadBlock address) is = tt
   made_weaker given Scrub is = tt
-  made_weaker given (Recent place) is = tt
+  made_weaker given Recent is = tt
 
 -- ---- what a state needs
 
@@ -202,4 +202,4 @@ module _ (sh : Shape) (spell : Parts → List ℕ) (P : Place → AnyUnit → Ty
   after_has given (ReadReply client) made = has
   after_has given (ReadBlock address) made = has
   after_has given Scrub made = checked_has given.verdict (to_check (memory_of sh spell w))
-  after_has given (Recent place) made = has
+  after_has given Recent made = has

@@ -1,24 +1,17 @@
 -- The device calls of a mending, sector by sector.
-use Rattle.std.proofs.Common.{◌≡◌, inl, ℕ, zero, suc, ◌+◌, ◌-◌, ◌<◌, ◌||◌, List, [], ◌∷◌, ◌++◌, Bool, true, false, Option, refl, sym, ◌∙◌, ap, subst, append-nil, append_assoc, arith}
-use Rattle.std.specs.Prelude.{Result, Ok, Err, OnOk, OnErr}
+use Rattle.std.proofs.Common.{◌≡◌, ℕ, zero, suc, ◌+◌, ◌-◌, ◌<◌, ◌||◌, List, [], ◌∷◌, ◌++◌, Bool, true, false, Option, refl, sym, ◌∙◌, ap, subst, append-nil, append_assoc, arith}
 use Rattle.std.specs.List.{filter, range_with_len}
 use Rattle.df_base.specs.Log.{Event, Sync}
-use Rattle.df_disk.specs.Told.{Told, after}
-use Rattle.df_disk.specs.Adds.{Adds, AddsPart, after_all}
+use Rattle.df_disk.specs.Told.{Told}
+use Rattle.df_disk.specs.Adds.{AddsPart, after_all}
 use Rattle.df_disk.proofs.Laws.{all_then, part_then, after_append}
 use Rattle.df_layout.specs.declared.damage.Mend.{Mend}
 use Rattle.df_layout.specs.declared.layout.Layout.{Layout}
 use Rattle.df_format.specs.declared.header.Header.{Header}
-use Rattle.df_headers.specs.Ring.{sector_events}
-use Rattle.df_replica.specs.Mending.{header_events, needs_sector, sector_writes, sectors_to, some_of, wanted_writes}
+use Rattle.df_headers.specs.Ring.{sector_events, sector_writes}
+use Rattle.df_replica.specs.Mending.{header_events, needs_sector, sectors_to, some_of, wanted_writes}
 use Rattle.df_recovery.specs.Plan.{if_wanted}
 use Rattle.df_recovery.proofs.Laws.{filter_more}
-
--- ---- calls one after the other
-
-pub sync_adds : {T E : Type 0} → (old new : Option Told) (result : Result T E) → OnOk result (new ≡ after Sync old) → OnErr result (new ≡ old) → Adds (Sync ∷ []) old new result
-sync_adds old new (Ok x) ok err = ok
-sync_adds old new (Err e) ok err = inl err
 
 -- ---- sectors
 

@@ -1,4 +1,4 @@
--- The device calls of a mending are the model's steps, and what they leave is the model's.
+-- The device calls of a mending are the theory's steps, and what they leave is the theory's.
 use Rattle.std.proofs.Common.{◌≡◌, ◌⊎◌, inl, inr, ℕ, zero, suc, ◌+◌, ◌/◌, ◌<◌, ◌≤◌, List, [], ◌∷◌, ◌++◌, length, Bool, true, false, Option, Some, None, refl, sym, ◌∙◌, ap, subst, append_assoc, arith}
 use Rattle.std.specs.Prelude.{Result, Ok, Err, OnOk}
 use Rattle.std.proofs.lemmas.Option.{slice_get_within}
@@ -32,15 +32,15 @@ use Rattle.df_theory.proofs.Laws.{clear_law, now_units, steps_join_law, tidy_men
 use Rattle.df_units.specs.Format.{format_of}
 use Rattle.df_units.specs.Calls.{IsCall}
 use Rattle.df_units.proofs.Laws.{call_ends, call_good, call_whole, copy_put, headers_put, is_format}
-use Rattle.df_headers.specs.Ring.{IsTable, in_sector}
+use Rattle.df_headers.specs.Ring.{IsTable, in_sector, sector_writes}
 use Rattle.df_headers.proofs.Laws.{table_written}
 use Rattle.df_superblock.specs.Events.{repair_events}
 use Rattle.df_superblock.specs.Steps.{repaired}
-use Rattle.df_state.specs.declared.file.DataFile.{DataFile}
+use Rattle.df_rooms.specs.declared.file.DataFile.{DataFile}
 use Rattle.df_recovery.specs.Plan.{header_or_none, headers_in, if_wanted}
-use Rattle.df_replica.specs.Mending.{IsMended, MayMendOn, header_events, mending_events, mending_steps, needs_sector, sector_puts, sector_writes, sectors_of, sectors_to}
+use Rattle.df_replica.specs.Mending.{IsMended, MayMendOn, header_events, mending_events, mending_steps, needs_sector, sector_puts, sectors_of, sectors_to}
 use Rattle.df_replica.specs.Serving.{Firm, Grade, IsGoodFor, StandingFor, Whole, format}
-use Rattle.df_state.specs.State.{shape}
+use Rattle.df_rooms.specs.State.{shape}
 use Rattle.df_superblock.proofs.Laws.{repair_from}
 use Rattle.df_replica.proofs.MendEvents.{sectors_more}
 
@@ -141,7 +141,7 @@ slot_ends table (put ∷ puts) f members log s all either =
 
 -- ---- moments and end
 
--- the mending as a command of the model
+-- the mending as a command of the theory
 abbrev mending_command : DataFile → List Header → List Mend → SuperFields → List Bool → View → Command
 mending_command file table mends f members v = mend_command v (sector_puts table (sectors_of file.layout mends)) (repaired f 0 members)
 

@@ -32,13 +32,14 @@ use Rattle.df_units.proofs.Laws.{choice_chosen, sector_puts as sector_puts_law}
 use Rattle.df_headers.specs.Ring.{in_sector}
 use Rattle.df_headers.proofs.Laws.{sector_at, sector_has}
 use Rattle.df_superblock.specs.Steps.{repaired}
+use Rattle.df_journal.specs.declared.table.Start.{Start}
 use Rattle.df_journal.specs.Shows.{Tells}
-use Rattle.df_state.specs.declared.file.DataFile.{DataFile}
+use Rattle.df_rooms.specs.declared.file.DataFile.{DataFile}
 use Rattle.df_replica.specs.Mending.{IsPlanned, PlannedMayMend, RestsOnDisk, lies_in, needs_sector, sector_put, sector_puts, sectors_of, sectors_to}
 use Rattle.df_recovery.specs.Plan.{AreDistinct, IsScanOf, copy_mends, header_or_none, headers_in, if_wanted, needs_header, shown_class, slot_mend, slot_mends}
 use Rattle.df_replica.specs.Serving.{Grade, format}
 use Rattle.df_replica.proofs.Followed.{in_pools}
-use Rattle.df_state.specs.State.{shape}
+use Rattle.df_rooms.specs.State.{shape}
 use Rattle.df_replica.proofs.MendEvents.{sectors_more}
 use Rattle.df_recovery.proofs.Laws.{slot_mends_more, super_is_written, written_is}
 
@@ -156,9 +157,10 @@ module _ (g : Grade) (file : DataFile) (v : View) (table : List Header) (mends :
 
   is_scan : IsScanOf file.layout (shape file) (now (units_log (format file) t.log)) v plan.scan
   is_scan = record {
-    version = refl;
     slots_are = refl;
-    op = ap (λ (c : Units.Content). c.op) content_is ∙ sym plan.op;
+    op = ap (λ (c : Units.Content). c.op) content_is ∙ sym (ap (λ (x : Start). x.op) plan.start);
+    pin = ap (λ (c : Units.Content). c.pin) content_is ∙ sym (ap (λ (x : Start). x.head) plan.start);
+    boot = ap (λ (c : Units.Content). c.boot) content_is ∙ sym (ap (λ (x : Start). x.boot) plan.start);
     tells = tells;
     found = (found_law (shape file) (now (units_log (format file) t.log)) v).0 on.rests.holds;
   }
@@ -185,13 +187,13 @@ module _ (g : Grade) (file : DataFile) (v : View) (table : List Header) (mends :
       let no : false ≡ true = sym off ∙ is in
       cc
 
-  needed : (s : ℕ) → s < file.layout.slots → needs_header file.layout plan.scan.start.op (now (units_log (format file) t.log)) s ≡ true → Reaches (sector_puts table (sectors_of file.layout mends)) (HeaderPlace s)
+  needed : (s : ℕ) → s < file.layout.slots → needs_header file.layout plan.scan.start (now (units_log (format file) t.log)) s ≡ true → Reaches (sector_puts table (sectors_of file.layout mends)) (HeaderPlace s)
   needed s below needs =
-      let op = plan.scan.start.op in
+      let start = plan.scan.start in
       let image = now (units_log (format file) t.log) in
       let classes = shown_class plan.scan in
-      let slots_list = slot_mends (needs_header file.layout op image) classes file.layout.slots in
-      let inside : list_any (lies_in (s / 16)) slots_list ≡ true = listed (lies_in (s / 16)) (needs_header file.layout op image) classes s file.layout.slots below needs (lies classes s) in
+      let slots_list = slot_mends (needs_header file.layout start image) classes file.layout.slots in
+      let inside : list_any (lies_in (s / 16)) slots_list ≡ true = listed (lies_in (s / 16)) (needs_header file.layout start image) classes s file.layout.slots below needs (lies classes s) in
       let all : needs_sector mends (s / 16) ≡ true =
       ap (list_any (lies_in (s / 16))) (plan.planned.list image tells) ∙ list_any-append (lies_in (s / 16)) (copy_mends plan.copies members) slots_list ∙ or_right (list_any (lies_in (s / 16)) (copy_mends plan.copies members)) (list_any (lies_in (s / 16)) slots_list) inside in
       let at = slice_get-get_or table s (reserved_header file.cluster 0) (omega (arith, below, plan.planned.is_table.count)) in
@@ -215,7 +217,7 @@ planned_may_mend g file v table mends f members t four plan on =
       };
       puts_copies = subst (λ (c : Units.Content). AllPutCopy c agreed.first agreed.second (repaired f 0 members)) (sym (content_is g file v table mends f members t four plan on))
           (all_put f agreed.first agreed.second 0 members (member_of g file v table mends f members t four plan on agreed.first (omega (arith, agreed.apart, agreed.inside)) agreed.at_first) (member_of g file v table mends f members t four plan on agreed.second agreed.inside agreed.at_second));
-      each_slot = λ s below. elim (cases_Bool (needs_header file.layout plan.scan.start.op (now (units_log (format file) t.log)) s)) [
+      each_slot = λ s below. elim (cases_Bool (needs_header file.layout plan.scan.start (now (units_log (format file) t.log)) s)) [
         | inl needs ↦ inr (needed g file v table mends f members t four plan on s below needs)
         | inr unlisted ↦ inl (plan.planned.others (shape file) (now (units_log (format file) t.log)) v (is_scan g file v table mends f members t four plan on) (distinct g file v table mends f members t four plan on) s below unlisted)
       ];

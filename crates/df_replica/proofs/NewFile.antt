@@ -1,4 +1,4 @@
--- A new file is made by writes of reserved headers and of four copies: these are the model's making, at every moment and at its end.
+-- A new file is made by writes of reserved headers and of four copies: these are the theory's making, at every moment and at its end.
 use Rattle.std.proofs.Common.{◌≡◌, inl, ℕ, zero, suc, ◌+◌, ◌*◌, ◌/◌, ◌^◌, ◌<◌, ◌≤◌, List, [], ◌∷◌, length, Option, Some, None, refl, sym, ◌∙◌, ap, subst, arith, Result, Ok, Err}
 use Rattle.std.specs.Prelude.{slice_get}
 use Rattle.std.proofs.lemmas.List.{ext_get_or}
@@ -20,7 +20,7 @@ use Rattle.df_theory.proofs.Laws.{steps_join_law}
 use Rattle.df_units.specs.Format.{format_of}
 use Rattle.df_units.specs.Meaning.{layout_of}
 use Rattle.df_trailer.specs.Text.{parse_of}
-use Rattle.df_state.specs.State.{shape}
+use Rattle.df_rooms.specs.State.{shape}
 use Rattle.df_units.specs.Making.{AreReserved, IsMadeOnDisk, first_view, header_puts, header_writes}
 use Rattle.df_units.specs.Sample.{reserved_header}
 use Rattle.df_units.proofs.Laws.{all_added, copy_put, format_on_disk, headers_put, part_moments, headers_are_steps}

@@ -40,13 +40,13 @@ use Rattle.df_replica.proofs.Calls.{Front, front_of, good_safe}
 use Rattle.df_replica.proofs.Leaves.{stays_firm, unit_after, unwritten}
 use Rattle.df_replica.specs.Leaving.{AreSettled}
 use Rattle.df_superblock.specs.Steps.{repaired}
-use Rattle.df_state.specs.declared.file.DataFile.{DataFile}
+use Rattle.df_rooms.specs.declared.file.DataFile.{DataFile}
 use Rattle.df_layout.specs.declared.layout.Layout.{Layout}
 use Rattle.df_replica.specs.Surveying.{TellsSurvey}
 use Rattle.df_replica.specs.Following.{MayOpen}
 use Rattle.df_replica.specs.Mending.{IsMended, IsPlanned, live_state, mending_events, mending_steps, sector_puts, sectors_of}
 use Rattle.df_replica.specs.Serving.{Firm, Grade, IsGoodFor, IsKept, Keeps, KeptFor, StandingFor, Whole, format}
-use Rattle.df_state.specs.State.{Represents, State, shape, spelling}
+use Rattle.df_rooms.specs.State.{Represents, State, shape, spelling}
 use Rattle.df_recovery.specs.Surveys.{IsOpened}
 
 -- ---- no step of a mending puts a prepare
@@ -196,7 +196,7 @@ planned_same file table mends f members t base same plan =
       copies = plan.copies;
       super = plan.super;
       members_are = plan.members_are;
-      op = plan.op;
+      start = plan.start;
       scanned = plan.scanned;
       planned = plan.planned;
     } in

@@ -12,7 +12,7 @@ use Rattle.df_theory.specs.Units.{Session}
 use Rattle.df_model.specs.Making.{place_of_op}
 use Rattle.df_model.specs.Refusals.{first_refusal, reply_refusals}
 use Rattle.df_model.proofs.Laws.{all_pass, op_found}
-use Rattle.df_state.specs.State.{IsState, State, memory}
+use Rattle.df_rooms.specs.State.{IsState, State, memory}
 use Rattle.df_replica.specs.Replying.{MayReplyNext, place_waiting, session_waiting}
 
 -- ---- where an op's session is found
@@ -39,7 +39,7 @@ no_place op (x ∷ ss) none =
 
 -- ---- the session that waits
 
--- a session in the model's words
+-- a session in the theory's words
 pub session_told : (ss : List told.Session) (k : ℕ) (r : told.Session) → slice_get ss k ≡ Some r → slice_get (sessions_of ss) k ≡ Some (session_of r)
 session_told ss k r at = slice_get-map session_of ss k ∙ ap (option_map session_of) at
 

@@ -1,6 +1,6 @@
 -- Each step of the scrubber is the machine's: it does nothing to the disk, and what it found is what it was supplied with.
 use Rattle.std.proofs.Common.{◌≡◌, ◌∙◌, ℕ, true, false, List, [], ◌∷◌, Option, Some, None, refl, sym, ap, subst}
-use Rattle.std.specs.Prelude.{Ok, Err, slice_get}
+use Rattle.std.specs.Prelude.{Ok, Err}
 use Rattle.std.proofs.lemmas.Option.{same_Some}
 use Rattle.df_base.specs.Log.{now}
 use Rattle.df_base.specs.declared.Failed.{Failed}
@@ -16,8 +16,8 @@ use Rattle.df_model.proofs.Laws.{change_law}
 use Rattle.df_model.specs.declared.answers.Scrubbed.{Scrubbed}
 use Rattle.df_model.specs.declared.answers.Verdict.{Verdict}
 use Rattle.df_model.specs.declared.answers.Verdict.TheVariants.{Sound, Failing}
-use Rattle.df_state.specs.Below.{IsMachineStep, IsMachines, ScrubState, verdict_in}
-use Rattle.df_state.specs.State.{Represents, State, grid_with, memory, shape, spelling}
+use Rattle.df_rooms.specs.Below.{IsMachineStep, IsMachines, ScrubState, verdict_in}
+use Rattle.df_rooms.specs.State.{Represents, State, grid_with, memory, shape, spelling}
 use Rattle.df_replica.specs.Answering.{GivesVerdict, Serves, ServesScrub}
 use Rattle.df_replica.specs.Scrubbing.{scrub_of, with_scrub}
 use Rattle.df_replica.specs.Serving.{next}
@@ -83,19 +83,19 @@ module _ (s : State) (live : s.live ≡ true) where
 
 -- ---- what was found last
 
-module _ (s : State) (place : ℕ) (live : s.live ≡ true) where
-  recent_calls : (given : Given) → AreCalls given (Recent place) s []
+module _ (s : State) (live : s.live ≡ true) where
+  recent_calls : (given : Given) → AreCalls given Recent s []
   recent_calls given g w t k = record { steps = []; are = tt; does = refl }
 
-  recent_answered : (given : Given) → Answered given (Recent place) s s [] (ToRecent (slice_get s.findings place))
+  recent_answered : (given : Given) → Answered given Recent s s [] (ToRecent s.findings)
   recent_answered given = record {
     file = refl;
     live = live;
-    stands = λ w work rep. (ap (λ (m : Memory). ToRecent (slice_get m.findings place)) rep, rep);
+    stands = λ w work rep. (ap (λ (m : Memory). ToRecent m.findings) rep, rep);
     made = λ w work rep. tt;
     ring = λ g w a b k all. subst (λ (x : Told). ShowsRing s.file.layout s.file.cluster (now x.log) s.headers) (sym (same_Some _ _ all)) k.ring;
   }
 
-  pub recent_serves : (told : Option Told) → Serves (Recent place) s s told told (Some (ToRecent (slice_get s.findings place)))
+  pub recent_serves : (told : Option Told) → Serves Recent s s told told (Some (ToRecent s.findings))
   recent_serves told given supplied =
-      answered_call given (Recent place) s [] (record { checksum = zero_sum given supplied; fields = tt }) (recent_calls given) (makes_nothing given (Recent place) s (λ place. refl) (λ no. no)) s (ToRecent (slice_get s.findings place)) (recent_answered given) told told supplied refl
+      answered_call given Recent s [] (record { checksum = zero_sum given supplied; fields = tt }) (recent_calls given) (makes_nothing given Recent s (λ place. refl) (λ no. no)) s (ToRecent s.findings) (recent_answered given) told told supplied refl

@@ -13,8 +13,8 @@ use Rattle.df_theory.specs.Device.{NoChanceOf}
 use Rattle.df_model.specs.Commands.{Answer, Given, Recent}
 use Rattle.df_model.specs.declared.answers.Verdict.TheVariants.{Sound}
 use Rattle.df_model.specs.Work.{Work, kept}
-use Rattle.df_state.specs.declared.file.DataFile.{DataFile}
-use Rattle.df_state.specs.State.{State, shape}
+use Rattle.df_rooms.specs.declared.file.DataFile.{DataFile}
+use Rattle.df_rooms.specs.State.{State, shape}
 use Rattle.df_replica.specs.Leaving.{AreSettled}
 use Rattle.df_replica.specs.Serving.{EachIsGood, Firm, Grade, IsGoodFor, IsKept, Keeps, Whole, format, next}
 use Rattle.df_replica.specs.Session.{Act, AnsweredIsThere, EachIsMidway, FaultStopsThem, HasView, HoldsFor, HoldsSome, IsMidway, LeavesEither, LeavesView, NothingIsServed, OneMoreIsServed, answers_of, work_after}
@@ -102,7 +102,7 @@ looks = record { checksum = 0; message = Err Blank; block = Err Blank; verdict =
 
 -- what is kept is good where it stands
 good_now : (g : Grade) (s : State) (w : Work) (t : Told) → IsKept g s w t.log → EachMoment t.log t.log (IsGoodFor g (format s.file) (shape s.file) (kept w) (kept w))
-good_now g s w t k = moments looks (Recent 0) s [] (record { checksum = omega arith; fields = tt }) (λ known x told there. record { steps = []; are = tt; does = refl }) g w t k t refl
+good_now g s w t k = moments looks Recent s [] (record { checksum = omega arith; fields = tt }) (λ known x told there. record { steps = []; are = tt; does = refl }) g w t k t refl
 
 view_now : (g : Grade) (s : State) (w : Work) (t : Told) → IsKept g s w t.log → LeavesView s.file g w (Some t)
 view_now g s w t k image left chance =

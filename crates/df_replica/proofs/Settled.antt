@@ -1,6 +1,7 @@
 -- A state that keeps what was read and found is the answer to an open, and so is a refusal.
 use Rattle.std.proofs.Common.{◌≡◌, ◌∙◌, ℕ, List, length, Ok, Err, refl, sym, ap, subst}
 use Rattle.df_disk.specs.Told.{Told}
+use Rattle.df_journal.specs.declared.table.Start.{Start}
 use Rattle.df_journal.specs.Shows.{Tells}
 use Rattle.df_journal.specs.Tail.{AreUnstored}
 use Rattle.df_model.specs.declared.errors.OpenError.{OpenError}
@@ -21,8 +22,8 @@ use Rattle.df_recovery.specs.Waiting.{waiting_in}
 use Rattle.df_recovery.specs.declared.finding.Traces.{Traces}
 use Rattle.df_recovery.specs.declared.scanned.Scanned.{Scanned}
 use Rattle.df_recovery.proofs.Laws.{file_is_read, kept_is_answer, refused_is_answer}
-use Rattle.df_state.specs.declared.file.DataFile.{DataFile}
-use Rattle.df_state.specs.State.{State, shape}
+use Rattle.df_rooms.specs.declared.file.DataFile.{DataFile}
+use Rattle.df_rooms.specs.State.{State, shape}
 use Rattle.df_replica.specs.Mending.{IsSettledFrom}
 use Rattle.df_replica.specs.Replica.{Survey}
 use Rattle.df_replica.specs.Surveying.{IsReadOf, IsSettled}
@@ -68,9 +69,10 @@ module _ (t : Told) (x : Scanned) (is : IsReadOf t x) where
         let content : v.checkpoint.content ≡ base.content = one_chosen_law image v.checkpoint.content base.content is_found.chosen read.readable.chosen in
         let tells = subst (λ (file : DataFile). Tells file.layout image x.log.slots) (sym keeps.file) read.tells in
         let here = plan.planned.from (shape s.file) image v (record {
-          version = refl;
           slots_are = refl;
-          op = ap (λ (c : Content). c.op) content ∙ sym is.op;
+          op = ap (λ (c : Content). c.op) content ∙ sym (ap (λ (y : Start). y.op) is.start);
+          pin = ap (λ (c : Content). c.pin) content ∙ sym (ap (λ (y : Start). y.head) is.start);
+          boot = ap (λ (c : Content). c.boot) content ∙ sym (ap (λ (y : Start). y.boot) is.start);
           tells = tells;
           found = is_found;
         }) slot in

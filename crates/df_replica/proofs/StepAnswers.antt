@@ -23,8 +23,8 @@ use Rattle.df_model.specs.Work.{Running, Work}
 use Rattle.df_model.proofs.Laws.{change_law}
 use Rattle.df_model.specs.declared.answers.Progress.{Progress}
 use Rattle.df_model.specs.declared.errors.StepError.TheVariants as step
-use Rattle.df_state.specs.declared.file.DataFile.{DataFile}
-use Rattle.df_state.specs.State.{Capture, Represents, State, course_in, course_of, memory, shape, spelling}
+use Rattle.df_rooms.specs.declared.file.DataFile.{DataFile}
+use Rattle.df_rooms.specs.State.{RunningState, Represents, State, course_in, course_of, memory, shape, spelling}
 use Rattle.df_replica.specs.Serving.{Grade, IsCall, IsKept, format, next}
 use Rattle.df_replica.specs.Stepping.{made_by, made_for, next_fields, pending, trailer_unit}
 use Rattle.df_replica.specs.Supply.{IsSupplied}
@@ -35,11 +35,11 @@ use Rattle.df_replica.proofs.WritesOn.{StandsIn}
 use Rattle.df_replica.proofs.StepMemory.{step_memory}
 
 -- what is made has a checksum
-made_small : (s : State) (r : Capture) (l : List ℕ) → IsChecksum (made_for s r l)
+made_small : (s : State) (r : RunningState) (l : List ℕ) → IsChecksum (made_for s r l)
 made_small s r [] = field_at-lt 16 0 (content_with (next_fields s r)).checksum (AreBytes-check_of (covered_bytes (next_fields s r)))
 made_small s r (a ∷ more) = field_at-lt 16 0 (trailer_unit s r).header.checksum (AreBytes-check_of _)
 
-made_is : (s : State) (o : Option Capture) → IsChecksum (made_by s o)
+made_is : (s : State) (o : Option RunningState) → IsChecksum (made_by s o)
 made_is s None = omega arith
 made_is s (Some r) = made_small s r s.blocks.left
 
@@ -52,7 +52,7 @@ none_runs : (spell : theory.Parts → List ℕ) (o : Option Running) → None �
 none_runs spell None same = refl
 none_runs spell (Some r) same = absurd (cc)
 
-pub none_pending : (o : Option Capture) (left : List ℕ) → pending o left ≡ None → o ≡ None
+pub none_pending : (o : Option RunningState) (left : List ℕ) → pending o left ≡ None → o ≡ None
 none_pending None left none = refl
 none_pending (Some r) left none = absurd (cc)
 
@@ -89,7 +89,7 @@ module _ (s : State) (given : Given) (live : s.live ≡ true) (idle : s.running 
 
 -- ---- where one does
 
-module _ (s : State) (r : Capture) (given : Given) (running : s.running ≡ Some r) (sum : given.checksum ≡ made_by s s.running) where
+module _ (s : State) (r : RunningState) (given : Given) (running : s.running ≡ Some r) (sum : given.checksum ≡ made_by s s.running) where
   abbrev spell : theory.Parts → List ℕ
   spell = spelling s.file
 

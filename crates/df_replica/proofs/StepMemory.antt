@@ -9,14 +9,14 @@ use Rattle.df_model.specs.Changing.{after_step_in, course_on, step_in, trailer_s
 use Rattle.df_model.specs.Making as making
 use Rattle.df_model.specs.Memory.{Course, Memory}
 use Rattle.df_grid.specs.Table.{written_of}
-use Rattle.df_state.specs.State.{Capture, State, course_in, course_of, memory, prepare_sum}
+use Rattle.df_rooms.specs.State.{RunningState, State, course_in, course_of, memory, prepare_sum}
 use Rattle.df_replica.specs.Stepping.{advanced, block_sum, finished, next_fields}
 
 -- what a step makes of the memory
 abbrev pub step_memory : Memory → (sum : ℕ) → Memory
 step_memory m sum = record (step_in m sum m.running) { blocks = after_step_in m.blocks sum m.running }
 
-module _ (s : State) (r : Capture) (running : s.running ≡ Some r) where
+module _ (s : State) (r : RunningState) (running : s.running ≡ Some r) where
   abbrev pub course : Course
   course = course_of s.file s.blocks r
 
@@ -34,7 +34,7 @@ module _ (s : State) (r : Capture) (running : s.running ≡ Some r) where
   pub block_memory : (a : ℕ) (more : List ℕ) → s.blocks.left ≡ a ∷ more → memory (advanced s r) ≡ step_memory (memory s) (block_sum s r)
   block_memory a more left =
       let sum : ℕ = block_sum s r in
-      let on : Capture = record r { written = r.written + 1 } in
+      let on : RunningState = record r { written = r.written + 1 } in
       let M : Blocks → Option Course → Memory = λ b o. record (memory s) { blocks = b; running = o } in
       let one : suc (length s.blocks.written) ≡ length s.blocks.written + 1 = omega arith in
       ap (λ (l : List ℕ). M (written_of s.blocks sum l) (Some (course_of s.file (written_of s.blocks sum l) on))) left
@@ -60,7 +60,7 @@ dropped f (suc k) a (suc n) within = (λ i. map f (range_with_len (from i) (all 
     all : suc n - suc k ≡ n - k
     all = omega arith
 
-module _ (s : State) (r : Capture) (running : s.running ≡ Some r) (from : s.fields.op ≤ r.op) (to : r.op ≤ s.head) where
+module _ (s : State) (r : RunningState) (running : s.running ≡ Some r) (from : s.fields.op ≤ r.op) (to : r.op ≤ s.head) where
   prepares_are : map (prepare_sum s) (range_with_len (r.op + 1) (s.head - r.op)) ≡ drop (r.op - s.fields.op) (memory s).prepares
   prepares_are =
       let start : r.op + 1 ≡ s.fields.op + 1 + (r.op - s.fields.op) = omega (arith, from) in

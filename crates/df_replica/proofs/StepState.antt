@@ -4,27 +4,27 @@ use Rattle.df_format.specs.declared.superblock.SuperFields.{SuperFields}
 use Rattle.df_model.specs.Blocks.{Blocks}
 use Rattle.df_grid.specs.Grid.{GridState}
 use Rattle.df_grid.specs.Table.{next_written, written_of}
-use Rattle.df_state.specs.declared.captured.Captured.{Captured}
-use Rattle.df_state.specs.declared.file.DataFile.{DataFile}
-use Rattle.df_state.specs.Captures.{capture_of, running_of}
-use Rattle.df_state.specs.State.{Capture, IsCourse, IsRunning, State, grid_with}
+use Rattle.df_rooms.specs.declared.running.RunningCheckpoint.{RunningCheckpoint}
+use Rattle.df_rooms.specs.declared.file.DataFile.{DataFile}
+use Rattle.df_rooms.specs.Courses.{running_state, running_of}
+use Rattle.df_rooms.specs.State.{RunningState, IsCourse, IsRunning, State, grid_with}
 use Rattle.df_replica.specs.Stepping.{OfRunning}
 
 -- the checkpoint that runs is the one that was taken
-pub of_running : (P : State → Capture → Type 0) (s x : State) (o : Option Captured) (running : Captured) → o ≡ Some running → s.running ≡ running_of o → s ≡ x → P s (capture_of running) → OfRunning x.running (P x)
+pub of_running : (P : State → RunningState → Type 0) (s x : State) (o : Option RunningCheckpoint) (running : RunningCheckpoint) → o ≡ Some running → s.running ≡ running_of o → s ≡ x → P s (running_state running) → OfRunning x.running (P x)
 of_running P s x o running at of same is =
     subst (λ (y : State). OfRunning y.running (P y)) same
-    (subst (λ (q : Option Capture). OfRunning q (P s)) (sym (of ∙ ap running_of at)) is)
+    (subst (λ (q : Option RunningState). OfRunning q (P s)) (sym (of ∙ ap running_of at)) is)
 
-pub taken_runs : (file : DataFile) (f : SuperFields) (head : ℕ) (b : Blocks) (o : Option Captured) (running : Captured) → o ≡ Some running → IsCourse file f head b (running_of o) → IsRunning file f head b (capture_of running)
-taken_runs file f head b o running at is = subst (λ (q : Option Captured). IsCourse file f head b (running_of q)) at is
+pub taken_runs : (file : DataFile) (f : SuperFields) (head : ℕ) (b : Blocks) (o : Option RunningCheckpoint) (running : RunningCheckpoint) → o ≡ Some running → IsCourse file f head b (running_of o) → IsRunning file f head b (running_state running)
+taken_runs file f head b o running at is = subst (λ (q : Option RunningCheckpoint). IsCourse file f head b (running_of q)) at is
 
 -- the grid of the file
 pub grid_is : (file : DataFile) (grid : GridState) → grid.layout ≡ file.layout → grid.cluster ≡ file.cluster → grid ≡ grid_with file grid.blocks
 grid_is file grid layout cluster = λ i. record { layout = layout i; cluster = cluster i; blocks = grid.blocks }
 
 -- a trailer block more
-pub running_on : (file : DataFile) (f : SuperFields) (head : ℕ) (b : Blocks) (r : Capture) (sum : ℕ) → IsRunning file f head b r → (b.left ≡ [] → ⊥) → IsRunning file f head (next_written b sum) (record r { written = r.written + 1 })
+pub running_on : (file : DataFile) (f : SuperFields) (head : ℕ) (b : Blocks) (r : RunningState) (sum : ℕ) → IsRunning file f head b r → (b.left ≡ [] → ⊥) → IsRunning file f head (next_written b sum) (record r { written = r.written + 1 })
 running_on file f head b r sum is some = go b.left refl
   where
     go : (l : List ℕ) → b.left ≡ l → IsRunning file f head (written_of b sum l) (record r { written = r.written + 1 })

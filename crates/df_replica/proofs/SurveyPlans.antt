@@ -13,13 +13,15 @@ use Rattle.df_quorum.specs.Quorum.{AreMembers}
 use Rattle.df_units.specs.Bytes.{unit_at}
 use Rattle.df_journal.specs.Shows.{IsTable as AreSlots, Tells}
 use Rattle.df_journal.specs.declared.table.Start.{Start}
+use Rattle.df_recovery.specs.Starting.{start_of}
+use Rattle.df_recovery.proofs.Laws.{version_one}
 use Rattle.df_journal.proofs.Laws.{scanned_shown}
 use Rattle.df_recovery.specs.Found.{IsFound}
 use Rattle.df_recovery.specs.Scanning.{IsReadBehind, IsScan, TellsRead}
 use Rattle.df_recovery.specs.Surveys.{IsOpened}
 use Rattle.df_recovery.specs.declared.scanned.Scanned.{Scanned}
-use Rattle.df_state.specs.declared.file.DataFile.{DataFile}
-use Rattle.df_state.specs.State.{State}
+use Rattle.df_rooms.specs.declared.file.DataFile.{DataFile}
+use Rattle.df_rooms.specs.State.{State}
 use Rattle.df_replica.specs.Mending.{IsPlanned, IsSettledFrom, live_state}
 use Rattle.df_replica.specs.Replica.{Survey}
 use Rattle.df_replica.specs.Surveying.{IsLawful, TellsSurvey}
@@ -45,7 +47,7 @@ module _ (x : Scanned) (s : Survey) (layout : Layout) (settled : IsSettledFrom x
   shown_planned t is read =
       let scan = x.log.slots in
       let own : scan.start.cluster ≡ x.file.cluster = ap (λ (y : Start). y.cluster) read.start ∙ sym read.file.cluster_is in
-      let tells : Tells layout (unit_at layout scan.start.cluster t.shown) scan = scanned_shown layout t scan read.tables.rings in
+      let tells : Tells layout (unit_at layout scan.start.cluster t.shown) scan = scanned_shown layout t scan (version_one scan.start x.copies.found.content read.start) read.tables.rings in
       let of_file = subst (λ (c : ℕ). Tells x.file.layout (unit_at x.file.layout c t.shown) scan) own (subst (λ (l : Layout). Tells l (unit_at l scan.start.cluster t.shown) scan) (sym read.file.layout_is) tells) in
       record {
         scan = scan;
@@ -57,7 +59,7 @@ module _ (x : Scanned) (s : Survey) (layout : Layout) (settled : IsSettledFrom x
           usable = ap fault_of settled.fields_are ∙ is.super.usable;
         };
         members_are = subst (λ (c : Chosen). AreMembers (content_at t.shown) is.choice.content c.members) (sym settled.chosen_is) is.choice.members;
-        op = ap (λ (y : Start). y.op) read.start ∙ ap (λ (f : SuperFields). f.op) (sym settled.fields_are);
+        start = read.start ∙ ap start_of (sym settled.fields_are);
         scanned = subst (λ (f : DataFile). Tells f.layout (unit_at f.layout f.cluster t.shown) scan) (sym settled.file_is) of_file;
         planned = settled.planned;
       }

@@ -7,7 +7,7 @@ use Rattle.df_model.specs.Making.{needed_of, parts_of}
 use Rattle.df_model.specs.Memory.{free_of}
 use Rattle.df_model.specs.Refusals.{begin_refusals, first_refusal}
 use Rattle.df_model.specs.declared.errors.BeginError.{BeginError}
-use Rattle.df_state.specs.State.{Capture, State, memory, spelling}
+use Rattle.df_rooms.specs.State.{RunningState, State, memory, spelling}
 use Rattle.df_replica.specs.declared.begin.Plan.{Plan}
 
 -- the text of the trailer of a checkpoint that is begun now, and how many blocks it needs
@@ -22,7 +22,7 @@ abbrev pub begin_refusal : State → List ℕ → Option BeginError
 begin_refusal s root = first_refusal (begin_refusals (memory s) (needed s root) root)
 
 -- it captures the head and the sessions, and the grid the live blocks; its trailer takes the least addresses that are free
-abbrev pub captured : State → List ℕ → Capture
+abbrev pub captured : State → List ℕ → RunningState
 captured s root = record {
   op = s.head;
   op_checksum = s.head_checksum;

@@ -2,7 +2,7 @@
 use Rattle.df_base.specs.Image.{IsImage}
 use Rattle.df_disk.specs.Told.{Told}
 use Rattle.df_damage.specs.Unrefused.{IsNotRefused}
-use Rattle.df_state.specs.declared.file.DataFile.{DataFile}
+use Rattle.df_rooms.specs.declared.file.DataFile.{DataFile}
 use Rattle.df_theory.specs.View.{View}
 use Rattle.df_replica.specs.Following.{MayOpen}
 

@@ -10,8 +10,8 @@ use Rattle.df_theory.specs.Holds.{Held}
 use Rattle.df_theory.specs.TidyLaws.{IsTidy}
 use Rattle.df_theory.specs.View.{View}
 use Rattle.df_units.specs.Bytes.{unit_at}
-use Rattle.df_state.specs.declared.file.DataFile.{DataFile}
-use Rattle.df_state.specs.State.{shape}
+use Rattle.df_rooms.specs.declared.file.DataFile.{DataFile}
+use Rattle.df_rooms.specs.State.{shape}
 use Rattle.df_replica.specs.Serving.{format}
 
 -- a disk that is safe to open: this view is found in what its log leaves, it shows that, and none of its units came about by chance

@@ -11,7 +11,7 @@ use Rattle.df_model.specs.Memory.{Memory}
 use Rattle.df_model.specs.Result.{AgreeReads}
 use Rattle.df_model.specs.Supply.{puts_of}
 use Rattle.df_model.specs.Work.{Running, Work, is_held, is_known, is_of}
-use Rattle.df_state.specs.declared.file.DataFile.{DataFile}
+use Rattle.df_rooms.specs.declared.file.DataFile.{DataFile}
 
 -- ---- what is shown
 
@@ -31,6 +31,11 @@ IsReadPlace layout place = ⊥
 pub record LeavesShown (file : DataFile) (m : Memory) (sum : ℕ) (command : Command) (before after : Image) : Type 0 where
   pub whole : IsImage after
   pub units : AgreeReads (unit_at file.layout file.cluster after) (overlay (puts_of m sum command) (unit_at file.layout file.cluster before))
+  pub classes : (place : Place) → IsReadPlace file.layout place → puts_of m sum command place ≡ None → class_at file.layout file.cluster after place ≡ class_at file.layout file.cluster before place
+
+-- a call leaves each place as it was that calls read and at which its command puts nothing, with its unit and its class; so does one that wasn't answered
+pub record SparesOthers (file : DataFile) (m : Memory) (sum : ℕ) (command : Command) (before after : Image) : Type 0 where
+  pub units : (place : Place) → IsReadPlace file.layout place → puts_of m sum command place ≡ None → unit_at file.layout file.cluster after place ≡ unit_at file.layout file.cluster before place
   pub classes : (place : Place) → IsReadPlace file.layout place → puts_of m sum command place ≡ None → class_at file.layout file.cluster after place ≡ class_at file.layout file.cluster before place
 
 -- and of the superblock's copies it leaves what it makes of them

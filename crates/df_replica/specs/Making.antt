@@ -1,4 +1,4 @@
--- The making of a whole file: its device calls, what they are in the words of the model, and on what disk a file may be made.
+-- The making of a whole file: its device calls, what they are in the words of the theory, and on what disk a file may be made.
 use Rattle.std.specs.Prelude.{◌≡◌, ◌<◌, ◌+◌, ◌/◌, ℕ, zero, suc, List, [], ◌∷◌, ◌++◌, map, Option, Some, Result, OnOk}
 use Rattle.std.specs.List.{range_with_len}
 use Rattle.df_base.specs.Log.{Event, IsLog, Sync}
@@ -20,8 +20,8 @@ use Rattle.df_units.specs.Puts.{put_copies}
 use Rattle.df_units.specs.Sample.{reserved_header}
 use Rattle.df_headers.specs.Ring.{in_sector}
 use Rattle.df_model.specs.declared.errors.FormatError.{FormatError}
-use Rattle.df_state.specs.declared.file.DataFile.{DataFile}
-use Rattle.df_state.specs.State.{shape}
+use Rattle.df_rooms.specs.declared.file.DataFile.{DataFile}
+use Rattle.df_rooms.specs.State.{shape}
 use Rattle.df_replica.specs.Formatting.{AddsFormat, RefusesCluster, TellsBlank}
 
 -- n sectors of a table, from this one on
@@ -49,7 +49,7 @@ file_events layout table f = header_writes layout 0 (sectors_in layout table) ++
 abbrev pub making_events : Layout → ℕ → List Event
 making_events layout cluster = file_events layout (reserved_table layout cluster) (first_super layout cluster)
 
--- in the words of the model
+-- in the words of the theory
 abbrev pub making_steps : Layout → ℕ → List Step
 making_steps layout cluster = format_steps (header_puts 0 (sectors_in layout (reserved_table layout cluster))) (put_copies (first_super layout cluster))
 
@@ -75,7 +75,7 @@ pub record Formats {T : Type 0} (layout : Layout) (cluster : ℕ) (old new : Opt
   pub blank : TellsBlank old result
   -- the device calls that are made
   pub events : AddsFormat (making_events layout cluster) old new result
-  -- these are the model's making
+  -- these are the theory's making
   pub steps : AreSteps (format_of layout cluster) (making_events layout cluster) (making_steps layout cluster)
   -- the disk is safe at each moment, and has the first view at the end
   pub makes : (before after : Told) → old ≡ Some before → new ≡ Some after → (may : MayMakeOn layout cluster before) → Makes layout cluster before may after result

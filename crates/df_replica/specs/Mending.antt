@@ -1,4 +1,4 @@
--- The mending of a file: which sectors of the header ring are written, its device calls, what they are in the words of the model, and what they leave.
+-- The mending of a file: which sectors of the header ring are written, its device calls, what they are in the words of the theory, and what they leave.
 use Rattle.std.specs.Prelude.{◌≡◌, ◌/◌, ◌==◌, ◌&&◌, ℕ, Bool, true, false, List, [], ◌∷◌, ◌++◌, length, map}
 use Rattle.std.specs.List.{filter, list_any, range_with_len}
 use Rattle.df_base.specs.Log.{Event, IsLog, Sync, now}
@@ -22,20 +22,21 @@ use Rattle.df_theory.specs.Runs.{Step}
 use Rattle.df_theory.specs.TidyLaws.{IsTidy}
 use Rattle.df_units.specs.Bytes.{unit_at}
 use Rattle.df_units.specs.Puts.{put_headers}
-use Rattle.df_headers.specs.Ring.{IsTable, in_sector, sector_events}
+use Rattle.df_headers.specs.Ring.{IsTable, in_sector, sector_writes}
 use Rattle.df_journal.specs.Scan.{Scan}
 use Rattle.df_journal.specs.Shows.{Tells}
 use Rattle.df_journal.specs.Append.{ShowsRing}
 use Rattle.df_superblock.specs.Events.{repair_events}
 use Rattle.df_superblock.specs.Steps.{repaired}
-use Rattle.df_state.specs.declared.file.DataFile.{DataFile}
+use Rattle.df_rooms.specs.declared.file.DataFile.{DataFile}
 use Rattle.df_recovery.specs.Opening.{HasSuper}
 use Rattle.df_recovery.specs.Plan.{AreDistinct, IsScanOf, OthersAreShown, headers_in, if_wanted, mend_list}
+use Rattle.df_recovery.specs.Starting.{start_of}
 use Rattle.df_replica.specs.Following.{MayOpen}
 use Rattle.df_replica.specs.Serving.{Grade, StandingFor, StandsFor, format}
 use Rattle.df_recovery.specs.declared.scanned.Scanned.{Scanned}
 use Rattle.df_replica.specs.Replica.{Survey}
-use Rattle.df_state.specs.State.{State, shape}
+use Rattle.df_rooms.specs.State.{State, shape}
 
 -- ---- sectors
 
@@ -60,11 +61,6 @@ sectors_of layout mends = sectors_to (layout.slots / 16) mends
 
 -- ---- device calls
 
--- the writes of sectors of the table
-abbrev pub sector_writes : Layout → List Header → List ℕ → List Event
-sector_writes layout table [] = []
-sector_writes layout table (sector ∷ sectors) = sector_events layout sector table ++ sector_writes layout table sectors
-
 -- the write of a sector, if the list has a slot of it
 abbrev pub wanted_writes : Layout → List Header → List Mend → ℕ → List Event
 wanted_writes layout table mends sector = sector_writes layout table (if_wanted (needs_sector mends sector) sector)
@@ -82,7 +78,7 @@ header_events layout table (sector ∷ sectors) = sector_writes layout table (se
 abbrev pub mending_events : Layout → List Header → List Mend → SuperFields → List Bool → List Event
 mending_events layout table mends f members = header_events layout table (sectors_of layout mends) ++ repair_events f 0 members
 
--- ---- in the words of the model
+-- ---- in the words of the theory
 
 abbrev pub sector_put : List Header → ℕ → Units
 sector_put table sector = put_headers sector (in_sector sector table)
@@ -113,7 +109,7 @@ pub record IsMended (g : Grade) (file : DataFile) (view : View) (table : List He
 pub record ArePlannedFrom (layout : Layout) (cluster : ℕ) (scan : Scan) (copies : List Slot) (members : List Bool) (table : List Header) (mends : List Mend) : Type 0 where
   pub is_table : IsTable layout cluster table
   pub from : (sh : Shape) (image : Units) (v : View) → IsScanOf layout sh image v scan → IsSlotTable sh image v (headers_in table)
-  pub others : (sh : Shape) (image : Units) (v : View) → IsScanOf layout sh image v scan → AreDistinct image → OthersAreShown layout scan.start.op image (headers_in table)
+  pub others : (sh : Shape) (image : Units) (v : View) → IsScanOf layout sh image v scan → AreDistinct image → OthersAreShown layout scan.start image (headers_in table)
   pub list : (image : Units) → Tells layout image scan → mends ≡ mend_list layout scan image copies members
 
 -- what a survey hands out is planned from what was read
@@ -129,7 +125,7 @@ pub record IsPlanned (file : DataFile) (table : List Header) (mends : List Mend)
   pub copies : List Slot
   pub super : HasSuper t.shown f
   pub members_are : AreMembers (content_at t.shown) super.content members
-  pub op : scan.start.op ≡ f.op
+  pub start : scan.start ≡ start_of f
   pub scanned : Tells file.layout (unit_at file.layout file.cluster t.shown) scan
   pub planned : ArePlannedFrom file.layout file.cluster scan copies members table mends
 

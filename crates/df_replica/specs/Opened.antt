@@ -9,9 +9,10 @@ use Rattle.df_layout.specs.declared.layout.Layout.{Layout}
 use Rattle.df_damage.specs.Anew.{told_after}
 use Rattle.df_theory.specs.View.{View}
 use Rattle.df_units.specs.Bytes.{unit_at}
+use Rattle.df_units.specs.Within.{AreWithin}
 use Rattle.df_model.specs.Work.{opened as first_work}
-use Rattle.df_state.specs.declared.file.DataFile.{DataFile}
-use Rattle.df_state.specs.State.{State, shape}
+use Rattle.df_rooms.specs.declared.file.DataFile.{DataFile}
+use Rattle.df_rooms.specs.State.{State, shape}
 use Rattle.df_recovery.specs.Surveys.{IsOpened}
 use Rattle.df_replica.specs.Following.{MayOpen}
 use Rattle.df_replica.specs.Leaving.{AreSettled, SparesReads, image_after}
@@ -30,10 +31,12 @@ pub record OpensOver (g : Grade) (view : View) (s : State) (base n : Told) : Typ
   pub kept_for : IsKept g s (first_work (shape s.file) (unit_at s.file.layout s.file.cluster base.shown) view) n.log
   pub settled : AreSettled s.file n.log (first_work (shape s.file) (unit_at s.file.layout s.file.cluster base.shown) view)
 
--- a mending of a file, or as much of it as was done: what is told changed by these events alone, and whatever is shown they leave each place that a call reads as it was
+-- A mending of a file, or as much of it as was done: what is told changed by these events alone, whose writes lie within the zones of the file, and whatever is shown they
+-- leave each place that a call reads as it was.
 pub record Mends (file : DataFile) (old new : Option Told) : Type 0 where
   pub events : List Event
   pub told : new ≡ after_all events old
+  pub within : AreWithin file.layout events
   pub spares : (image : Image) → IsImage image → SparesReads file image (image_after events image)
 
 -- The file was found and mended: so it is by each log that shows what the disk showed, and by which the file may be opened, the told one or one that is begun anew there.

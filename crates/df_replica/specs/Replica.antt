@@ -3,7 +3,7 @@ use Rattle.std.specs.Prelude.{List, length}
 use Rattle.df_layout.specs.declared.damage.Mend.{Mend}
 use Rattle.df_model.specs.declared.answers.Summary.{Summary}
 use Rattle.df_quorum.specs.declared.choice.Chosen.{Chosen}
-use Rattle.df_state.specs.State.{State}
+use Rattle.df_rooms.specs.State.{State}
 
 -- what a survey found: the state, which copies of the superblock say so, and what is to be mended
 pub record Survey : Type 0 where

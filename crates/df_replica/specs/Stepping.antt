@@ -4,13 +4,17 @@ use Rattle.df_base.specs.Fields.{spelled}
 use Rattle.df_base.specs.Log.{Event, Sync}
 use Rattle.df_disk.specs.Told.{Told}
 use Rattle.df_disk.specs.Adds.{AddsPart, after_all}
+use Rattle.df_layout.specs.declared.damage.Class.{Class}
+use Rattle.df_layout.specs.declared.places.Place.{Place}
 use Rattle.df_format.specs.declared.superblock.SuperFields.{SuperFields}
 use Rattle.df_format.specs.Copies.{content_with}
 use Rattle.df_format.specs.First.{blank_super}
 use Rattle.df_format.specs.Message.{Message}
 use Rattle.df_theory.specs.Units
 use Rattle.df_units.specs.Meaning.{number_of}
+use Rattle.df_superblock.specs.Calls.{ReadsBack}
 use Rattle.df_superblock.specs.Events.{update_events}
+use Rattle.df_superblock.specs.declared.updates.UpdateError.TheVariants as update
 use Rattle.df_trailer.specs.Writing.{piece_of}
 use Rattle.df_grid.specs.Table.{next_written}
 use Rattle.df_grid.specs.Writes.{first_address, first_sum, made_events, next_block, next_unit}
@@ -19,40 +23,40 @@ use Rattle.df_model.specs.declared.answers.Progress.{Progress}
 use Rattle.df_model.specs.declared.answers.Progress.TheVariants.{Working, Done}
 use Rattle.df_model.specs.declared.errors.StepError.{StepError}
 use Rattle.df_model.specs.declared.errors.StepError.TheVariants as step
-use Rattle.df_state.specs.declared.file.DataFile.{DataFile}
-use Rattle.df_state.specs.State.{Capture, State, captured_text, grid_with}
+use Rattle.df_rooms.specs.declared.file.DataFile.{DataFile}
+use Rattle.df_rooms.specs.State.{RunningState, State, captured_text, grid_with}
 use Rattle.df_replica.specs.Stopping.{stopped}
 
 -- a fact of the running checkpoint
-abbrev pub OfRunning : Option Capture → (Capture → Type 0) → Type 0
+abbrev pub OfRunning : Option RunningState → (RunningState → Type 0) → Type 0
 OfRunning None P = ⊥
 OfRunning (Some r) P = P r
 
 -- ---- a trailer block
 
 -- the next one, over the next piece of the text
-abbrev pub trailer_unit : State → Capture → Message
+abbrev pub trailer_unit : State → RunningState → Message
 trailer_unit s r = next_unit (grid_with s.file s.blocks) r.sequence (piece_of (s.file.layout.block_size - 256) r.written (captured_text s.file s.blocks r))
 
 -- it is written, without a sync
-abbrev pub block_events : State → Capture → List Event
+abbrev pub block_events : State → RunningState → List Event
 block_events s r = made_events s.file.layout (trailer_unit s r)
 
-abbrev pub block_sum : State → Capture → ℕ
+abbrev pub block_sum : State → RunningState → ℕ
 block_sum s r = number_of (trailer_unit s r).header.checksum
 
 -- in the machine's words, with this checksum
-abbrev pub block_to_write : State → Capture → (sum : ℕ) → Units.Block
+abbrev pub block_to_write : State → RunningState → (sum : ℕ) → Units.Block
 block_to_write s r sum = next_block (grid_with s.file s.blocks) r.sequence (piece_of (s.file.layout.block_size - 256) r.written (captured_text s.file s.blocks r)) sum
 
 -- the state with a trailer block more
-abbrev pub advanced : State → Capture → State
+abbrev pub advanced : State → RunningState → State
 advanced s r = record s { blocks = next_written s.blocks (block_sum s r); running = Some (record r { written = r.written + 1 }) }
 
 -- ---- the last step
 
 -- what a superblock says of a checkpoint, where its trailer ends with this block
-abbrev pub fields_for : DataFile → Capture → (head replies address : ℕ) → List ℕ → SuperFields
+abbrev pub fields_for : DataFile → RunningState → (head replies address : ℕ) → List ℕ → SuperFields
 fields_for file r head replies address checksum = record (blank_super file.layout file.cluster) {
   sequence = r.sequence;
   op = r.op;
@@ -65,33 +69,33 @@ fields_for file r head replies address checksum = record (blank_super file.layou
 }
 
 -- what the one that ends it says: the checkpoint reaches the op that was captured, and the head and the replies are those of the moment
-abbrev pub next_fields : State → Capture → SuperFields
+abbrev pub next_fields : State → RunningState → SuperFields
 next_fields s r = fields_for s.file r s.head s.replies (first_address s.blocks.written) (spelled 16 (first_sum s.blocks.written))
 
 -- a sync, which makes all that was written durable, and then the four copies
-abbrev pub last_events : State → Capture → List Event
+abbrev pub last_events : State → RunningState → List Event
 last_events s r = Sync ∷ update_events (next_fields s r)
 
 -- the state in which it is the durable checkpoint
-abbrev pub finished : State → Capture → State
+abbrev pub finished : State → RunningState → State
 finished s r = record s { fields = next_fields s r; root = r.root; blocks = capture_finished s.blocks; running = None }
 
 -- ---- any step
 
 -- the checksum of what it makes, where these addresses are to come: of the trailer block, or of the superblock
-abbrev pub made_for : State → Capture → List ℕ → ℕ
+abbrev pub made_for : State → RunningState → List ℕ → ℕ
 made_for s r [] = number_of (content_with (next_fields s r)).checksum
 made_for s r (a ∷ more) = block_sum s r
 
-abbrev pub made_by : State → Option Capture → ℕ
+abbrev pub made_by : State → Option RunningState → ℕ
 made_by s None = 0
 made_by s (Some r) = made_for s r s.blocks.left
 
-abbrev pub events_for : State → Capture → List ℕ → List Event
+abbrev pub events_for : State → RunningState → List ℕ → List Event
 events_for s r [] = last_events s r
 events_for s r (a ∷ more) = block_events s r
 
-abbrev pub step_events : State → Capture → List Event
+abbrev pub step_events : State → RunningState → List Event
 step_events s r = events_for s r s.blocks.left
 
 -- a disk that tells what it shows
@@ -99,18 +103,22 @@ abbrev pub Tells : Option Told → Type 0
 Tells None = ⊥
 Tells (Some t) = Unit {0}
 
+-- two of the four copies or more weren't read back as they were written: the place is that of the first of them, with the class of what was seen there
+abbrev pub IsReadWrong : Option Told → SuperFields → Place → Class → Type 0
+IsReadWrong told f place class = ReadsBack {T = Unit {0}} told f (Err (update.Damaged place class))
+
 -- what a step answers, with the state after it and what the disk then tells: exact for each answer; after a fault, or where copies of the new superblock were not read back, the replica isn't live, and nothing else in memory moved
 abbrev pub IsStep : (s t : State) → (old new : Option Told) → Result Progress StepError → Type 0
 IsStep s t old new (Ok (Working left)) = OfRunning s.running (λ r. (s.blocks.left ≢ []) × (left ≡ length s.blocks.left) × (t ≡ advanced s r) × (new ≡ after_all (block_events s r) old))
 IsStep s t old new (Ok (Done sequence)) = OfRunning s.running (λ r. (s.blocks.left ≡ []) × (sequence ≡ r.sequence) × (t ≡ finished s r) × (new ≡ after_all (last_events s r) old))
 IsStep s t old new (Err step.NotRunning) = (s.running ≡ None) × (t ≡ s) × (new ≡ old)
-IsStep s t old new (Err (step.Damaged place kind)) = OfRunning s.running (λ r. (s.blocks.left ≡ []) × (t ≡ stopped s) × (new ≡ after_all (last_events s r) old) × (Tells new → ⊥))
+IsStep s t old new (Err (step.Damaged place class)) = OfRunning s.running (λ r. (s.blocks.left ≡ []) × (t ≡ stopped s) × (new ≡ after_all (last_events s r) old) × (Tells new → ⊥) × IsReadWrong new (next_fields s r) place class)
 IsStep s t old new (Err step.DiskFault) = OfRunning s.running (λ r. (t ≡ stopped s) × AddsPart (step_events s r) old new)
 
 -- ---- its parts
 
 -- how many trailer blocks are to come, where a checkpoint runs
-abbrev pub pending : Option Capture → List ℕ → Option ℕ
+abbrev pub pending : Option RunningState → List ℕ → Option ℕ
 pending None left = None
 pending (Some r) left = Some (length left)
 
@@ -128,5 +136,5 @@ pub record MayFinish (s : State) : Type 0 where
 abbrev pub IsMade : {T : Type 0} → SuperFields → (old new : Option Told) → Result T StepError → Type 0
 IsMade f old new (Ok x) = new ≡ after_all (Sync ∷ update_events f) old
 IsMade f old new (Err step.NotRunning) = ⊥
-IsMade f old new (Err (step.Damaged place kind)) = (new ≡ after_all (Sync ∷ update_events f) old) × (Tells new → ⊥)
+IsMade f old new (Err (step.Damaged place class)) = (new ≡ after_all (Sync ∷ update_events f) old) × (Tells new → ⊥) × IsReadWrong new f place class
 IsMade f old new (Err step.DiskFault) = AddsPart (Sync ∷ update_events f) old new

@@ -3,7 +3,7 @@ use Rattle.std.specs.Prelude.{◌≡◌, Option}
 use Rattle.df_disk.specs.Told.{Told}
 use Rattle.df_units.specs.Meaning.{number_of}
 use Rattle.df_model.specs.Commands.{Advance, Append, Begin, Command, Given, ReadBlock, ReadPrepare, ReadReply, Recent, Release, Reply, Scrub, WriteBlock}
-use Rattle.df_state.specs.State.{State}
+use Rattle.df_rooms.specs.State.{State}
 use Rattle.df_replica.specs.Appending.{next_unit}
 use Rattle.df_replica.specs.Blocks.{next_block}
 use Rattle.df_replica.specs.BlockReads.{IsBlockFound}
@@ -24,4 +24,4 @@ IsSupplied s told (ReadPrepare op) given = (given.checksum ≡ 0) × IsFoundBy s
 IsSupplied s told (ReadReply client) given = (given.checksum ≡ 0) × IsFoundBy s (ReadReply client) told given.message
 IsSupplied s told (ReadBlock address) given = (given.checksum ≡ 0) × IsBlockFound s address told given.block
 IsSupplied s told Scrub given = (given.checksum ≡ 0) × IsCheckFound s told given.verdict
-IsSupplied s told (Recent place) given = given.checksum ≡ 0
+IsSupplied s told Recent given = given.checksum ≡ 0

@@ -24,12 +24,13 @@ use Rattle.df_recovery.specs.Finding.{IsOfFile, IsStarting, read_of}
 use Rattle.df_recovery.specs.Found.{IsChoiceOf}
 use Rattle.df_recovery.specs.Plan.{class_of_slot, needs_header, slot_mends}
 use Rattle.df_recovery.specs.Scanning.{base_scanned}
+use Rattle.df_recovery.specs.Starting.{start_of}
 use Rattle.df_recovery.specs.Surveys.{Surveys}
 use Rattle.df_recovery.specs.Waiting.{waiting_in}
 use Rattle.df_recovery.specs.declared.finding.Traces.{Traces}
 use Rattle.df_recovery.specs.declared.scanned.Scanned.{Scanned}
 use Rattle.df_replica.specs.Replica.{Survey}
-use Rattle.df_state.specs.State.{AreAsked, State}
+use Rattle.df_rooms.specs.State.{AreAsked, State}
 
 -- what was read is of the file that a disk shows
 abbrev pub IsReadOf : Told → Scanned → Type 0
@@ -39,8 +40,8 @@ IsReadOf t scanned = IsOfFile t scanned.file (read_of scanned) (base_scanned sca
 pub record IsLawful (s : Scanned) : Type 0 where
   -- the file has the superblock's cluster
   pub named : s.file.cluster ≡ s.copies.found.content.cluster
-  -- the scan started from the superblock's op
-  pub start : s.log.slots.start ≡ record { cluster = s.copies.found.content.cluster; op = s.copies.found.content.op }
+  -- the scan started behind the superblock
+  pub start : s.log.slots.start ≡ start_of s.copies.found.content
   -- each slot has units that may stand there
   pub slots : AreSlots s.file.layout s.file.cluster s.log.slots.slots
   -- there are as many places for sessions as the layout has clients
@@ -96,7 +97,7 @@ copy_mend_at image number = record { place = place_in Superblock number; class =
 abbrev pub mends_of : Layout → Image → SuperFields → List Bool → List Mend
 mends_of layout image f members =
     map (copy_mend_at image) (filter (λ n. not (get_or members n false)) (range_with_len 0 4))
-    ++ slot_mends (needs_header layout f.op (unit_at layout f.cluster image)) (λ s. class_at layout f.cluster image (place_in WalHeaders s)) layout.slots
+    ++ slot_mends (needs_header layout (start_of f) (unit_at layout f.cluster image)) (λ s. class_at layout f.cluster image (place_in WalHeaders s)) layout.slots
 
 -- the choice is the image's, and the list is what is to be mended of it
 pub record IsMendable (layout : Layout) (image : Image) (s : Survey) : Type 0 where

@@ -1,24 +1,12 @@
 // The append of a replica: the next prepare is made in its room, and is durable, with its header, before anything in memory
 // moves on.
 ghost use Rattle.std.specs.Prelude.{◌≡◌, ◌+◌, ℕ, List, length, true, IsSome, IfOk, OnErr, OnOk};
-ghost use Rattle.df_base.specs.Causes.{HasCause, IsBlamed};
-ghost use Rattle.df_disk.specs.Adds.{Adds};
-ghost use Rattle.df_layout.specs.declared.places.Zone.TheVariants.{WalPrepares};
-ghost use Rattle.df_format.specs.declared.kind.Kind.TheVariants.{Prepare as AsPrepare};
-ghost use Rattle.df_format.specs.Making.{for_body};
-ghost use Rattle.df_format.specs.Own.{own_place, place_in};
-ghost use Rattle.df_format.specs.Rules.{ObeysRules};
-ghost use Rattle.df_format.specs.Spelling.{IsCheck};
+ghost use Rattle.df_replica.specs.Below.{HasCause, IsBlamed, Adds, WalPrepares, Prepare as AsPrepare, for_body, own_place, place_in, ObeysRules, IsCheck, with_header as table_with, Append, is_append_fault, append_refusals, first_refusal, IsState, memory};
 ghost use Rattle.df_journal.specs.Below.{IsInOwnSlot};
-ghost use Rattle.df_journal.specs.Append.{with_header as table_with};
 ghost use Rattle.df_sessions.specs.Table.{IsTable as IsSessions};
-ghost use Rattle.df_model.specs.Commands.{Append};
-ghost use Rattle.df_model.specs.Faults.{is_append_fault};
-ghost use Rattle.df_model.specs.Refusals.{append_refusals, first_refusal};
 ghost use Rattle.df_replica.specs.Answering.{Serves, answer_of, as_append};
 ghost use Rattle.df_replica.specs.Held.{AreRoomsOf};
 ghost use Rattle.df_replica.specs.Refusing.{AreCounters};
-ghost use Rattle.df_state.specs.State.{IsState, memory};
 ghost use Rattle.df_replica.specs.Appending.{IsAppend, IsMadeUnit, MayBeMade, MayNext, MayNote, append_events, appended, header_given, next_unit, noted, receipt_of, unit_events, unit_of, with_header};
 
 use crate::refusing::{Counters, append_refusal, session_of};
@@ -28,7 +16,7 @@ use df_disk::Disk;
 use df_format::{Header, Kind};
 use df_journal::append;
 use df_model::{AppendError, Receipt};
-use df_state::LogRooms;
+use df_rooms::LogRooms;
 
 // Makes a prepare in its room, and makes it durable, with its header.
 fn append_in<D: Disk>(
@@ -70,16 +58,16 @@ impl Replica {
         ensures rules { ObeysRules (for_body result body.now) }
         ensures own { IsSome (own_place self.now.file.layout WalPrepares result) }
     {
-        let parent = self.head_checksum;
+        let parent = self.parts.head_checksum;
         Header {
             parent,
             client,
-            op: self.head + 1,
+            op: self.parts.head + 1,
             request,
-            mark: self.replies,
-            checkpoint: self.content.fields().sequence,
-            slot: ((self.head + 1) % u64::from(self.file.layout.slots)) as u32,
-            ..Header::of(Kind::Prepare, self.file.cluster)
+            mark: self.parts.replies,
+            checkpoint: self.parts.content.fields().sequence,
+            slot: ((self.parts.head + 1) % u64::from(self.parts.file.layout.slots)) as u32,
+            ..Header::of(Kind::Prepare, self.parts.file.cluster)
         }
     }
 
@@ -88,13 +76,13 @@ impl Replica {
         ensures { AreCounters (memory self.now) result }
     {
         Counters {
-            op: self.content.fields().op,
-            head: self.head,
-            replies: self.replies,
-            sessions: self.sessions.len(),
-            places: u64::from(self.file.layout.clients),
-            slots: u64::from(self.file.layout.slots),
-            message_room: u64::from(self.file.layout.message_size) - 256,
+            op: self.parts.content.fields().op,
+            head: self.parts.head,
+            replies: self.parts.replies,
+            sessions: self.parts.sessions.len(),
+            places: u64::from(self.parts.file.layout.clients),
+            slots: u64::from(self.parts.file.layout.slots),
+            message_room: u64::from(self.parts.file.layout.message_size) - 256,
         }
     }
 
@@ -105,8 +93,8 @@ impl Replica {
         ensures table { IsSessions self.now.table }
     {
         // The table is one.
-        let _count = self.sessions.len();
-        let last = session_of(&self.sessions, client);
+        let _count = self.parts.sessions.len();
+        let last = session_of(&self.parts.sessions, client);
         append_refusal(&self.counters(), last, client, request, size)
     }
 
@@ -126,7 +114,8 @@ impl Replica {
         ensures cause { HasCause (D.faults disk.old) (D.faults disk.new) result }
     {
         let header = self.header_given(client, request, body);
-        append_in(disk, &self.file, header, body, &mut self.rooms)
+        let parts = &mut self.parts;
+        append_in(disk, &parts.file, header, body, &mut parts.rooms)
     }
 
     // Notes a prepare that is durable.
@@ -136,10 +125,12 @@ impl Replica {
         requires sum { IsCheck made.now.checksum }
         ensures { self.new ≡ noted self.old made.now }
     {
-        self.head = made.op;
-        self.head_checksum = made.checksum;
-        self.waiting.push(made.checksum);
-        self.sessions.apply(made.client, made.request, made.op);
+        self.parts.head = made.op;
+        self.parts.head_checksum = made.checksum;
+        self.parts.waiting.push(made.checksum);
+        self.parts
+            .sessions
+            .apply(made.client, made.request, made.op);
     }
 
     // Appends the next prepare.

@@ -1,11 +1,8 @@
 // The begin of a checkpoint: the root, the sessions, the head and the live blocks are captured, and the addresses of the trailer's
 // blocks are set aside. It touches no disk.
 ghost use Rattle.std.specs.Prelude.{◌≡◌, ◌≤◌, ◌+◌, ◌-◌, true, Option, length};
-ghost use Rattle.df_base.specs.Fields.{AreBytes};
-ghost use Rattle.df_disk.specs.Told.{Told};
-ghost use Rattle.df_model.specs.Commands.{Begin};
+ghost use Rattle.df_replica.specs.Below.{AreBytes, Told, Begin, IsState};
 ghost use Rattle.df_sessions.specs.Table.{IsTable};
-ghost use Rattle.df_state.specs.State.{IsState};
 ghost use Rattle.df_replica.specs.Answering.{Serves, begin_answer};
 ghost use Rattle.df_replica.specs.Beginning.{IsBegin, IsPlan, IsTested, MayBegin, begun};
 
@@ -15,8 +12,8 @@ use arrayvec::ArrayVec;
 use df_checkpoint::Capture;
 use df_layout::ROOT;
 use df_model::BeginError;
+use df_rooms::RunningCheckpoint;
 use df_sessions::{Session, SessionTable};
-use df_state::Captured;
 use df_trailer::{blocks_needed, trailer_size};
 
 // The greatest sequence.
@@ -58,7 +55,7 @@ fn root_of(root: &[u8]) -> ArrayVec<u8, ROOT>
 }
 
 // How many steps of a running checkpoint are still to come: one for each block of its trailer, and the last.
-pub(crate) fn steps_left(running: &Captured) -> u64
+pub(crate) fn steps_left(running: &RunningCheckpoint) -> u64
     requires written { running.now.written ≤ running.now.blocks }
     requires few { running.now.blocks ≤ 70 }
     ensures { result ≡ running.now.blocks - running.now.written + 1 }
@@ -73,11 +70,11 @@ impl Replica {
         ensures { IsPlan self.now root.now result }
     {
         let root = root.len() as u64;
-        let sessions = self.sessions.len();
-        let blocks = self.grid.live_blocks();
+        let sessions = self.parts.sessions.len();
+        let blocks = self.parts.grid.live_blocks();
         Plan {
-            size: trailer_size(&self.file.layout, root, sessions, blocks),
-            blocks: blocks_needed(&self.file.layout, root, sessions, blocks),
+            size: trailer_size(&self.parts.file.layout, root, sessions, blocks),
+            blocks: blocks_needed(&self.parts.file.layout, root, sessions, blocks),
         }
     }
 
@@ -87,7 +84,7 @@ impl Replica {
         ensures state { IsState self.now }
         ensures bytes { AreBytes root.now }
     {
-        if let Some(running) = &self.running {
+        if let Some(running) = &self.parts.running {
             return Err(BeginError::Running {
                 left: steps_left(running),
             });
@@ -96,14 +93,14 @@ impl Replica {
             return Err(BeginError::RootTooLong { max: ROOT as u64 });
         }
         let plan = self.plan(root);
-        let free = self.grid.free();
+        let free = self.parts.grid.free();
         if free < plan.blocks {
             return Err(BeginError::GridFull {
                 needed: plan.blocks,
                 free,
             });
         }
-        if self.content.fields().sequence == GREATEST {
+        if self.parts.content.fields().sequence == GREATEST {
             return Err(BeginError::SequenceSpent);
         }
         Ok(plan)
@@ -116,13 +113,13 @@ impl Replica {
     {
         let capture = Capture {
             root: root_of(root),
-            sessions: sessions_in(&self.sessions),
-            sequence: self.content.fields().sequence + 1,
+            sessions: sessions_in(&self.parts.sessions),
+            sequence: self.parts.content.fields().sequence + 1,
         };
-        self.grid.capture(plan.blocks);
-        self.running = Some(Captured {
-            op: self.head,
-            op_checksum: self.head_checksum,
+        self.parts.grid.capture(plan.blocks);
+        self.parts.running = Some(RunningCheckpoint {
+            op: self.parts.head,
+            op_checksum: self.parts.head_checksum,
             capture,
             size: plan.size,
             blocks: plan.blocks,

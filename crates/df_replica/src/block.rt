@@ -1,24 +1,7 @@
 // The calls that write a block and let one go. A block is made in its own room and written to the least address that isn't held,
 // without a sync: the next checkpoint makes it durable.
 ghost use Rattle.std.specs.Prelude.{◌≡◌, ◌<◌, ℕ, List, Option, length, slice_get, true, Some, IfOk, IsSome, OnErr, OnOk};
-ghost use Rattle.df_base.specs.Causes.{HasCause, IsBlamed};
-ghost use Rattle.df_disk.specs.Adds.{Adds};
-ghost use Rattle.df_disk.specs.Told.{Told};
-ghost use Rattle.df_layout.specs.declared.places.Zone.TheVariants.{Grid as InGrid};
-ghost use Rattle.df_format.specs.Making.{for_body};
-ghost use Rattle.df_format.specs.Own.{own_place, place_in};
-ghost use Rattle.df_format.specs.Rules.{ObeysRules};
-ghost use Rattle.df_units.specs.Meaning.{number_of};
-ghost use Rattle.df_trailer.specs.Rooms.{number_in};
-ghost use Rattle.df_grid.specs.Grid.{IsUnheld, with_blocks as grid_of};
-ghost use Rattle.df_grid.specs.Writes.{made_events};
-ghost use Rattle.df_model.specs.Blocks.{block_written, sum_at};
-ghost use Rattle.df_model.specs.Commands.{Release, WriteBlock};
-ghost use Rattle.df_model.specs.Faults.{is_block_fault};
-ghost use Rattle.df_model.specs.Making.{next_address};
-ghost use Rattle.df_model.specs.Memory.{Memory, block_room, free_of};
-ghost use Rattle.df_model.specs.Refusals.{block_refusals, first_refusal};
-ghost use Rattle.df_state.specs.State.{IsState, grid_with, memory};
+ghost use Rattle.df_replica.specs.Below.{HasCause, IsBlamed, Adds, Told, Grid as InGrid, for_body, own_place, place_in, ObeysRules, number_of, number_in, IsUnheld, with_blocks as grid_of, made_events, block_written, sum_at, Release, WriteBlock, is_block_fault, next_address, Memory, block_room, free_of, block_refusals, first_refusal, IsState, grid_with, memory};
 ghost use Rattle.df_replica.specs.Answering.{Serves, answer_of, as_write_block, release_answer};
 ghost use Rattle.df_replica.specs.Appending.{IsMadeUnit, unit_of};
 ghost use Rattle.df_replica.specs.Blocks.{IsRelease, IsWriteBlock, MayPut, MayWriteNext, address_or, block_events, block_given, next_block, written};
@@ -86,7 +69,7 @@ impl Replica {
     pub fn reference(&self, address: u64) -> Option<Check>
         ensures { number_in result ≡ sum_at address self.now.blocks.live }
     {
-        self.grid.live(address)
+        self.parts.grid.live(address)
     }
 
     // The address of the next block, or why none is written.
@@ -95,9 +78,9 @@ impl Replica {
         ensures free { IfOk result (IsUnheld (grid_with self.now.file self.now.blocks)) }
         ensures state { IsState self.now }
     {
-        let layout = &self.file.layout;
+        let layout = &self.parts.file.layout;
         let room = u64::from(layout.block_size) - HEADER as u64;
-        let next = self.grid.next();
+        let next = self.parts.grid.next();
         address_or_refusal(kind, size, room, next, u64::from(layout.blocks))
     }
 
@@ -113,7 +96,7 @@ impl Replica {
         Header {
             op: address,
             block_kind: kind,
-            ..Header::of(Kind::Block, self.file.cluster)
+            ..Header::of(Kind::Block, self.parts.file.cluster)
         }
     }
 
@@ -134,7 +117,14 @@ impl Replica {
         ensures cause { HasCause (D.faults disk.old) (D.faults disk.new) result }
     {
         let header = self.block_given(address, kind, body);
-        put_block(&mut self.grid, &mut self.trailer.block, disk, header, body)
+        let parts = &mut self.parts;
+        put_block(
+            &mut parts.grid,
+            &mut parts.trailer.block,
+            disk,
+            header,
+            body,
+        )
     }
 
     /// Writes a block of this kind at the least address that isn't held, by one write and without a sync: it is live then, and the next
@@ -175,7 +165,7 @@ impl Replica {
         ensures exact { IsRelease address self.old self.new result }
         ensures call { (told : Option Told) → Serves (Release address) self.old self.new told told (release_answer result) }
     {
-        if !self.grid.release(address) {
+        if !self.parts.grid.release(address) {
             return Err(NotLive);
         }
         Ok(())

@@ -2,14 +2,7 @@
 ghost use Rattle.std.specs.Prelude.{◌≡◌, true, IfOk};
 ghost use Rattle.std.specs.Borrow.{sem};
 ghost use Rattle.std.specs.Io.BufRead.{Rests};
-ghost use Rattle.df_base.specs.Causes.{IsBlamed};
-ghost use Rattle.df_format.specs.declared.kind.Kind.TheVariants.{Block as AsBlock};
-ghost use Rattle.df_format.specs.Own.{place_in};
-ghost use Rattle.df_layout.specs.declared.places.Zone.TheVariants.{Grid as InGrid};
-ghost use Rattle.df_grid.specs.Grid.{IsKnownUnit};
-ghost use Rattle.df_model.specs.Blocks.{sum_at};
-ghost use Rattle.df_model.specs.Commands.{ReadBlock, ToReadBlock};
-ghost use Rattle.df_model.specs.Faults.{is_read_fault};
+ghost use Rattle.df_replica.specs.Below.{IsBlamed, Block as AsBlock, place_in, Grid as InGrid, IsKnownUnit, sum_at, ReadBlock, ToReadBlock, is_read_fault};
 ghost use Rattle.df_replica.specs.Answering.{ServesBlockRead, answer_of};
 ghost use Rattle.df_replica.specs.BlockReads.{IsReadBlock, block_words, what_block};
 ghost use Rattle.df_replica.specs.Lending.{LendsWrittenBlock};
@@ -51,13 +44,14 @@ impl Replica {
         ensures same { D.told disk.new ≡ D.told disk.old }
         ensures cause { IsBlamed is_read_fault (D.faults disk.old) (D.faults disk.new) result }
     {
-        if self.grid.live(address).is_none() {
+        if self.parts.grid.live(address).is_none() {
             return Err(ReadError::NotLive);
         }
-        let wrong = match self.grid.load(&mut self.trailer.block, disk, address) {
+        let parts = &mut self.parts;
+        let wrong = match parts.grid.load(&mut parts.trailer.block, disk, address) {
             Ok(wrong) => wrong,
             Err(_) => {
-                end_calls(&mut self.live);
+                end_calls(&mut self.parts.live);
                 return Err(ReadError::DiskFault);
             }
         };
@@ -66,7 +60,7 @@ impl Replica {
                 place: block_place(address),
                 class,
             }),
-            None => Ok(self.trailer.block.unit()),
+            None => Ok(self.parts.trailer.block.unit()),
         }
     }
 }

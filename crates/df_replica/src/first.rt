@@ -1,6 +1,6 @@
 // The superblock of a new file.
 ghost use Rattle.std.specs.Prelude.{◌≡◌, ◌<◌, IfSome, IfNone};
-ghost use Rattle.df_format.specs.First.{first_super};
+ghost use Rattle.df_replica.specs.Below.{first_super};
 
 use df_format::{Super, SuperFields, test_fields};
 use df_layout::Layout;

@@ -15,6 +15,7 @@ mod making;
 mod mended;
 mod mending;
 mod opened;
+mod parts;
 mod reading;
 mod refusing;
 mod replica;
@@ -36,7 +37,7 @@ pub use df_recovery::{
     Found, file_is_read, found_is_answer, one_answer, probe, read_superblock, state_is_opened,
     stored_is_kept, super_is_written, survey_superblock,
 };
-pub use df_state::{DataFile, Rooms};
+pub use df_rooms::{DataFile, Rooms};
 pub use following::what_is_left_may_be_opened;
 pub use lending::what_is_lent_was_written;
 pub use making::format;

@@ -2,17 +2,10 @@
 ghost use Rattle.std.specs.Prelude.{◌≡◌, ◌<◌, true, Option, None, Some, IfErr, IfOk};
 ghost use Rattle.std.specs.Borrow.{sem};
 ghost use Rattle.std.specs.Io.BufRead.{Rests};
-ghost use Rattle.df_base.specs.Causes.{HasCause, IsBlamed};
-ghost use Rattle.df_layout.specs.declared.places.Zone.TheVariants.{ClientReplies};
+ghost use Rattle.df_replica.specs.Below.{HasCause, IsBlamed, ClientReplies, place_in, Holding, number_of, ReadReply, ToReadReply, is_lookup_fault, first_refusal, lookup_refusals, memory};
 ghost use Rattle.df_format.specs.declared.kind.Kind.TheVariants.{Reply as AsReply};
-ghost use Rattle.df_format.specs.Own.{place_in};
-ghost use Rattle.df_buffers.specs.Sounds.{Holding};
-ghost use Rattle.df_units.specs.Meaning.{number_of};
-ghost use Rattle.df_model.specs.Commands.{ReadReply, ToReadReply};
-ghost use Rattle.df_model.specs.Faults.{is_lookup_fault};
 ghost use Rattle.df_model.specs.Memory.{reply_sum};
-ghost use Rattle.df_model.specs.Refusals.{first_refusal, lookup_refusals};
-ghost use Rattle.df_state.specs.State.{memory, reply_sum as known_sum};
+ghost use Rattle.df_rooms.specs.State.{reply_sum as known_sum};
 ghost use Rattle.df_replica.specs.Answering.{ServesRead, answer_of};
 ghost use Rattle.df_replica.specs.Lending.{LendsWrittenReply};
 ghost use Rattle.df_replica.specs.Lookups.{HoldsKnown, IsReadReply, IsStoredFor, Tells, place_for, reply_found, reply_shown};
@@ -124,14 +117,14 @@ impl Replica {
         ensures stored { IfOk result (IsStoredFor self.now client) }
     {
         // The table is one.
-        let _count = self.sessions.len();
-        let Some(place) = self.sessions.place_of(client) else {
+        let _count = self.parts.sessions.len();
+        let Some(place) = self.parts.sessions.place_of(client) else {
             return Err(LookupError::NoClient);
         };
-        let Some(session) = self.sessions.get(place) else {
+        let Some(session) = self.parts.sessions.get(place) else {
             unreachable!()
         };
-        if self.replies < session.op {
+        if self.parts.replies < session.op {
             return Err(LookupError::ReplyPending { op: session.op });
         }
         let reply = session.reply;
@@ -159,10 +152,11 @@ impl Replica {
             Ok(stored) => stored,
             Err(error) => return Err(error),
         };
-        let wrong = match load_reply(disk, &self.file, &stored, &mut self.rooms.reply) {
+        let parts = &mut self.parts;
+        let wrong = match load_reply(disk, &parts.file, &stored, &mut parts.rooms.reply) {
             Ok(wrong) => wrong,
             Err(_) => {
-                end_calls(&mut self.live);
+                end_calls(&mut self.parts.live);
                 return Err(LookupError::DiskFault);
             }
         };
@@ -171,7 +165,7 @@ impl Replica {
                 place: reply_place(stored.place),
                 class,
             }),
-            None => Ok(self.rooms.reply.unit()),
+            None => Ok(self.parts.rooms.reply.unit()),
         }
     }
 }

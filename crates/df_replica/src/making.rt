@@ -1,17 +1,7 @@
 // How a file is made: reserved headers in each sector of the header ring, a sync, and the four copies of the first superblock, on
 // a disk that is blank where the copies stand. A header ring without a superblock is no file, so the copies come last.
 ghost use Rattle.std.specs.Prelude.{◌≡◌, ◌<◌, ◌∷◌, length, Some};
-ghost use Rattle.df_base.specs.Causes.{HasCause, IsBlamed};
-ghost use Rattle.df_base.specs.Log.{Sync};
-ghost use Rattle.df_disk.specs.Told.{Told};
-ghost use Rattle.df_disk.specs.Adds.{Adds};
-ghost use Rattle.df_format.specs.First.{first_super};
-ghost use Rattle.df_format.specs.SuperRules.{IsUsable};
-ghost use Rattle.df_superblock.specs.Events.{update_events};
-ghost use Rattle.df_theory.specs.Device.{AreSteps};
-ghost use Rattle.df_units.specs.Format.{format_of};
-ghost use Rattle.df_units.specs.Making.{header_writes};
-ghost use Rattle.df_model.specs.Faults.{is_format_fault};
+ghost use Rattle.df_replica.specs.Below.{HasCause, IsBlamed, Sync, Told, Adds, first_super, IsUsable, update_events, AreSteps, format_of, header_writes, is_format_fault};
 ghost use Rattle.df_replica.specs.Formatting.{AddsFormat, RefusesCluster, TellsBlank};
 ghost use Rattle.df_replica.specs.Making.{AreWritable, Formats, Makes, MayMakeOn, file_events, making_events, making_steps, sectors_in};
 
@@ -23,7 +13,7 @@ use df_disk::Disk;
 use df_format::Super;
 use df_headers::HeaderTable;
 use df_layout::{Layout, SECTOR_HEADERS};
-use df_state::LogRooms;
+use df_rooms::LogRooms;
 use df_superblock::{first_written, read_all, write_copy};
 
 // Whether the sectors of the copies hold zeros alone.

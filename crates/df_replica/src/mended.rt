@@ -1,22 +1,22 @@
-// What the rooms of a surveyed file list is mended in them.
-ghost use Rattle.std.specs.Prelude.{◌≡◌, length};
-ghost use Rattle.df_base.specs.Causes.{HasCause};
-ghost use Rattle.df_disk.specs.Adds.{Adds};
-ghost use Rattle.df_theory.specs.Device.{AreSteps};
+// What the rooms of a surveyed file list is mended; then calls may go on.
+ghost use Rattle.std.specs.Prelude.{◌≡◌, length, OnErr, OnOk};
+ghost use Rattle.df_replica.specs.Below.{HasCause, Adds, AreSteps};
 ghost use Rattle.df_replica.specs.Held.{AreAsBefore, AreRoomsOf};
-ghost use Rattle.df_replica.specs.Mending.{mending_events, mending_steps};
+ghost use Rattle.df_replica.specs.Mending.{live_state, mending_events, mending_steps};
+ghost use Rattle.df_replica.specs.Parts.{AreWhole, state_in};
 ghost use Rattle.df_replica.specs.Serving.{format};
 
 use crate::DataFile;
 use crate::mending::{are_four, write_mends};
+use crate::parts::Parts;
 use df_base::Failed;
 use df_disk::Disk;
 use df_format::Super;
 use df_quorum::Chosen;
-use df_state::LogRooms;
+use df_rooms::LogRooms;
 
 // Writes what the rooms list, from the table that they have.
-pub(crate) fn mend_rooms<D: Disk>(
+fn mend_rooms<D: Disk>(
     disk: &mut D,
     file: &DataFile,
     content: &Super,
@@ -45,4 +45,23 @@ pub(crate) fn mend_rooms<D: Disk>(
         &chosen,
         content,
     )
+}
+
+impl Parts {
+    // Mends the file of a survey, of whose superblock these copies are members.
+    pub(crate) fn mend<D: Disk>(&mut self, disk: &mut D, members: [bool; 4]) -> Result<(), Failed>
+        requires whole { AreWhole self.old }
+        ensures state { OnOk result (state_in self.new ≡ live_state (state_in self.old)) }
+        ensures kept { OnErr result (state_in self.new ≡ state_in self.old) }
+        ensures whole { AreWhole self.new }
+        ensures events { Adds (mending_events self.old.file.layout self.old.rooms.headers self.old.rooms.mends.items self.old.content members) (D.told disk.old) (D.told disk.new) result }
+        ensures steps { AreSteps (format self.old.file) (mending_events self.old.file.layout self.old.rooms.headers self.old.rooms.mends.items self.old.content members)
+            (mending_steps self.old.file.layout self.old.rooms.headers self.old.rooms.mends.items self.old.content members) }
+        ensures size { length members ≡ 4 }
+        ensures cause { HasCause (D.faults disk.old) (D.faults disk.new) result }
+    {
+        mend_rooms(disk, &self.file, &self.content, members, &mut self.rooms)?;
+        self.live = true;
+        Ok(())
+    }
 }

@@ -1,11 +1,9 @@
 // The writes of a mending: header sectors, one sync, then the copies of the superblock that aren't members of the choice.
 // A header sector is durable before a copy is written.
 ghost use Rattle.std.specs.Prelude.{◌≡◌, ◌<◌, ◌/◌, IfOk, length};
-ghost use Rattle.df_base.specs.Causes.{HasCause};
-ghost use Rattle.df_disk.specs.Adds.{Adds};
-ghost use Rattle.df_theory.specs.Device.{AreSteps};
+ghost use Rattle.df_replica.specs.Below.{HasCause, Adds, AreSteps, sector_writes};
 ghost use Rattle.df_headers.specs.Ring.{IsTable};
-ghost use Rattle.df_replica.specs.Mending.{header_events, lies_in, mending_events, mending_steps, needs_sector, sector_writes, sectors_of, some_of, wanted_writes};
+ghost use Rattle.df_replica.specs.Mending.{header_events, lies_in, mending_events, mending_steps, needs_sector, sectors_of, some_of, wanted_writes};
 ghost use Rattle.df_replica.specs.Serving.{format};
 
 use crate::DataFile;

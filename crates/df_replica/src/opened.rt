@@ -1,12 +1,6 @@
 // An open: a survey, and then the mending of what it lists.
 ghost use Rattle.std.specs.Prelude.{◌≡◌, IfOk, IfErr, Some, true};
-ghost use Rattle.df_base.specs.Causes.{IsBlamed};
-ghost use Rattle.df_base.specs.Image.{IsImage};
-ghost use Rattle.df_base.specs.Log.{Sync};
-ghost use Rattle.df_disk.specs.Told.{Told, after};
-ghost use Rattle.df_model.specs.Faults.{is_open_fault};
-ghost use Rattle.df_damage.specs.Answers.{TellsHurt};
-ghost use Rattle.df_recovery.specs.Scanning.{without_rooms};
+ghost use Rattle.df_replica.specs.Below.{IsBlamed, IsImage, Sync, Told, after, is_open_fault, TellsHurt, without_rooms};
 ghost use Rattle.df_replica.specs.Opened.{MendsAll, StopsOpening, ToldBy};
 ghost use Rattle.df_replica.specs.Surveying.{TellsSurvey};
 

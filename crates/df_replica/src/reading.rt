@@ -2,17 +2,8 @@
 ghost use Rattle.std.specs.Prelude.{◌≡◌, ◌<◌, ◌%◌, true, slice_get, IfOk};
 ghost use Rattle.std.specs.Borrow.{sem};
 ghost use Rattle.std.specs.Io.BufRead.{Rests};
-ghost use Rattle.df_base.specs.Causes.{HasCause, IsBlamed};
-ghost use Rattle.df_layout.specs.declared.places.Zone.TheVariants.{WalPrepares};
-ghost use Rattle.df_format.specs.declared.kind.Kind.TheVariants.{Prepare as AsPrepare};
-ghost use Rattle.df_format.specs.Own.{place_in};
-ghost use Rattle.df_format.specs.Spelling.{IsCheck};
+ghost use Rattle.df_replica.specs.Below.{HasCause, IsBlamed, WalPrepares, Prepare as AsPrepare, place_in, IsCheck, ReadPrepare, ToReadPrepare, is_prepare_fault, prepare_sum, first_refusal, prepare_refusals, IsState, memory};
 ghost use Rattle.df_headers.specs.Ring.{IsTable};
-ghost use Rattle.df_model.specs.Commands.{ReadPrepare, ToReadPrepare};
-ghost use Rattle.df_model.specs.Faults.{is_prepare_fault};
-ghost use Rattle.df_model.specs.Memory.{prepare_sum};
-ghost use Rattle.df_model.specs.Refusals.{first_refusal, prepare_refusals};
-ghost use Rattle.df_state.specs.State.{IsState, memory};
 ghost use Rattle.df_replica.specs.Answering.{ServesRead, answer_of};
 ghost use Rattle.df_replica.specs.Held.{AreAsBefore, AreRoomsOf};
 ghost use Rattle.df_replica.specs.Lending.{LendsWrittenPrepare};
@@ -29,7 +20,7 @@ use df_disk::Disk;
 use df_headers::HeaderTable;
 use df_layout::{Class, Layout, Place, Zone};
 use df_model::PrepareError;
-use df_state::LogRooms;
+use df_rooms::LogRooms;
 
 // The place of the prepare of an op.
 fn prepare_place(layout: &Layout, op: u64) -> Place
@@ -82,7 +73,7 @@ impl Replica {
         ensures state { IsState self.now }
     {
         // The state makes sense.
-        let _file = &self.file;
+        let _file = &self.parts.file;
         prepare_refusal(&self.counters(), op)
     }
 
@@ -107,19 +98,20 @@ impl Replica {
         if let Some(error) = self.prepare_refusal(op) {
             return Err(error);
         }
-        let wrong = match load_prepare(disk, &self.file, op, &mut self.rooms) {
+        let parts = &mut self.parts;
+        let wrong = match load_prepare(disk, &parts.file, op, &mut parts.rooms) {
             Ok(wrong) => wrong,
             Err(_) => {
-                end_calls(&mut self.live);
+                end_calls(&mut self.parts.live);
                 return Err(PrepareError::DiskFault);
             }
         };
         match wrong {
             Some(class) => Err(PrepareError::Damaged {
-                place: prepare_place(&self.file.layout, op),
+                place: prepare_place(&self.parts.file.layout, op),
                 class,
             }),
-            None => Ok(self.rooms.prepare.unit()),
+            None => Ok(self.parts.rooms.prepare.unit()),
         }
     }
 }

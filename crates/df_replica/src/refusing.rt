@@ -1,10 +1,7 @@
 // Why a call is refused, from the numbers of what is in memory; the first reason of the order is the answer.
 ghost use Rattle.std.specs.Prelude.{◌≡◌, ◌≤◌, ◌^◌, ℕ, List, length, option_map, IfSome};
 ghost use Rattle.std.specs.List.{position};
-ghost use Rattle.df_sessions.specs.Requests.{session_of};
-ghost use Rattle.df_sessions.specs.Table.{has_client};
-ghost use Rattle.df_model.specs.Memory.{Memory};
-ghost use Rattle.df_model.specs.Refusals.{append_refusals, first_refusal, prepare_refusals, reply_refusals, session_of_client};
+ghost use Rattle.df_replica.specs.Below.{session_of, has_client, Memory, append_refusals, first_refusal, prepare_refusals, reply_refusals, session_of_client};
 ghost use Rattle.df_replica.specs.Refusing.{AreCounters, session_at};
 
 use df_model::{AppendError, PrepareError, ReplyError};

@@ -1,25 +1,14 @@
 // The reply of a replica: the next reply is made in its room, and is durable in its client's slot before anything in memory
 // moves on. Replies are stored in order of op.
 ghost use Rattle.std.specs.Prelude.{◌≡◌, ◌<◌, ◌+◌, ◌^◌, ℕ, List, length, slice_get, true, Some, IsSome, IfOk, OnErr, OnOk};
-ghost use Rattle.df_base.specs.Causes.{HasCause, IsBlamed};
-ghost use Rattle.df_disk.specs.Adds.{Adds};
-ghost use Rattle.df_layout.specs.declared.places.Zone.TheVariants.{ClientReplies};
+ghost use Rattle.df_replica.specs.Below.{HasCause, IsBlamed, Adds, ClientReplies, for_body, own_place, place_in, ObeysRules, IsCheck, sessions_of, is_reply_fault, place_of_op, first_refusal, reply_refusals, IsState, memory};
 ghost use Rattle.df_format.specs.declared.kind.Kind.TheVariants.{Reply as AsReply};
-ghost use Rattle.df_format.specs.Making.{for_body};
-ghost use Rattle.df_format.specs.Own.{own_place, place_in};
-ghost use Rattle.df_format.specs.Rules.{ObeysRules};
-ghost use Rattle.df_format.specs.Spelling.{IsCheck};
 ghost use Rattle.df_replies.specs.Slots.{IsInOwnSlot};
-ghost use Rattle.df_sessions.specs.Requests.{sessions_of};
 ghost use Rattle.df_sessions.specs.Table.{IsTable};
 ghost use Rattle.df_model.specs.Commands.{Reply as Replies};
-ghost use Rattle.df_model.specs.Faults.{is_reply_fault};
-ghost use Rattle.df_model.specs.Making.{place_of_op};
-ghost use Rattle.df_model.specs.Refusals.{first_refusal, reply_refusals};
 ghost use Rattle.df_replica.specs.Answering.{Serves, answer_of, as_reply};
 ghost use Rattle.df_replica.specs.Appending.{IsMadeUnit, MayBeMade, unit_of};
 ghost use Rattle.df_replica.specs.Replying.{IsReply, MayReplyNext, first_check, next_reply, replied, reply_calls, reply_events, reply_given};
-ghost use Rattle.df_state.specs.State.{IsState, memory};
 
 use crate::refusing::reply_refusal;
 use crate::{DataFile, Replica};
@@ -107,7 +96,7 @@ impl Replica {
         ensures value { result ≡ first_check self.now.waiting }
         ensures check { IsCheck result }
     {
-        let first = self.waiting[0];
+        let first = self.parts.waiting[0];
         as_check(first)
     }
 
@@ -119,19 +108,19 @@ impl Replica {
         ensures rules { ObeysRules (for_body result body.now) }
         ensures own { IsSome (own_place self.now.file.layout ClientReplies result) }
     {
-        let place = place_of_op(&self.sessions, self.replies + 1);
-        let session = session_in(&self.sessions, place);
+        let place = place_of_op(&self.parts.sessions, self.parts.replies + 1);
+        let session = session_in(&self.parts.sessions, place);
         let client = client_of(&session);
         let parent = self.first_waiting();
         Header {
             parent,
             client,
-            op: self.replies + 1,
+            op: self.parts.replies + 1,
             request: session.request,
-            mark: self.head,
-            checkpoint: self.content.fields().sequence,
+            mark: self.parts.head,
+            checkpoint: self.parts.content.fields().sequence,
             slot: place as u32,
-            ..Header::of(Kind::Reply, self.file.cluster)
+            ..Header::of(Kind::Reply, self.parts.file.cluster)
         }
     }
 
@@ -141,7 +130,7 @@ impl Replica {
         ensures state { IsState self.now }
     {
         // The state makes sense.
-        let _count = self.sessions.len();
+        let _count = self.parts.sessions.len();
         reply_refusal(&self.counters(), op, size)
     }
 
@@ -154,7 +143,8 @@ impl Replica {
         ensures cause { HasCause (D.faults disk.old) (D.faults disk.new) result }
     {
         let header = self.reply_given(body);
-        reply_in(disk, &self.file, header, body, &mut self.rooms.reply)
+        let parts = &mut self.parts;
+        reply_in(disk, &parts.file, header, body, &mut parts.rooms.reply)
     }
 
     // Notes a reply that is durable.
@@ -163,10 +153,10 @@ impl Replica {
         requires place { made.now.slot < length self.old.table.sessions }
         ensures { self.new ≡ replied self.old made.now }
     {
-        self.replies += 1;
-        self.waiting.remove(0);
+        self.parts.replies += 1;
+        self.parts.waiting.remove(0);
         let checksum = made.checksum;
-        self.sessions.store(u64::from(made.slot), checksum);
+        self.parts.sessions.store(u64::from(made.slot), checksum);
     }
 
     // Stores the next reply.

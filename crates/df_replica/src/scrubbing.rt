@@ -2,12 +2,7 @@
 ghost use Rattle.std.specs.Prelude.{◌≡◌, ◌≤◌, true, Option, Some, IfOk, length, slice_get};
 ghost use Rattle.std.specs.Borrow.{sem};
 ghost use Rattle.std.specs.Io.BufRead.{Rests};
-ghost use Rattle.df_base.specs.Causes.{HasCause};
-ghost use Rattle.df_disk.specs.Told.{Told};
-ghost use Rattle.df_model.specs.Commands.{Recent, ToRecent};
-ghost use Rattle.df_model.specs.Memory.{referenced_of};
-ghost use Rattle.df_state.specs.Below.{ListsFailing};
-ghost use Rattle.df_state.specs.State.{grid_with, memory};
+ghost use Rattle.df_replica.specs.Below.{HasCause, Told, Recent, ToRecent, referenced_of, ListsFailing, grid_with, memory};
 ghost use Rattle.df_replica.specs.Answering.{Serves, ServesScrub, ServesTour};
 ghost use Rattle.df_replica.specs.Scrubbing.{IsScrub, LeavesTour};
 ghost use Rattle.df_replica.specs.contracts.replica.Replica.{the_row};
@@ -31,7 +26,8 @@ impl Replica {
         ensures same { D.told disk.new ≡ D.told disk.old }
         ensures cause { HasCause (D.faults disk.old) (D.faults disk.new) result }
     {
-        match self.scrub.scrubber.step(disk, &mut self.grid) {
+        let parts = &mut self.parts;
+        match parts.scrub.scrubber.step(disk, &mut parts.grid) {
             Ok(scrubbed) => Ok(scrubbed),
             Err(failed) => {
                 self.stop();
@@ -50,32 +46,34 @@ impl Replica {
         ensures same { D.told disk.new ≡ D.told disk.old }
         ensures cause { HasCause (D.faults disk.old) (D.faults disk.new) result }
     {
-        let done = self
-            .scrub
+        let parts = &mut self.parts;
+        let scrub = &mut parts.scrub;
+        let done = scrub
             .scrubber
-            .scrub(disk, &mut self.grid, &mut self.scrub.report);
+            .scrub(disk, &mut parts.grid, &mut scrub.report);
         match done {
-            Ok(()) => Ok(self.scrub.report.as_slice()),
+            Ok(()) => Ok(self.parts.scrub.report.as_slice()),
             Err(failed) => {
-                end_calls(&mut self.live);
+                end_calls(&mut self.parts.live);
                 Err(failed)
             }
         }
     }
 
-    /// The finding at a place of the ring of at most 64, the oldest at place 0; None exactly past the last one.
+    /// The finding at a place of the ring of at most 64, the oldest at place 0; None exactly past the last one. So the machine's call, which
+    /// answers the whole ring, is a look at each place in turn.
     pub fn recent(&self, place: u64) -> Option<Finding>
         ensures value { result ≡ slice_get self.now.findings place }
         ensures few { length self.now.findings ≤ 64 }
-        ensures call { self.now.live ≡ true → (told : Option Told) → Serves (Recent place) self.now self.now told told (Some (ToRecent result)) }
+        ensures call { self.now.live ≡ true → (told : Option Told) → Serves Recent self.now self.now told told (Some (ToRecent self.now.findings)) }
     {
-        self.scrub.scrubber.recent(place)
+        self.parts.scrub.scrubber.recent(place)
     }
 
     /// How many blocks are referenced: so many a whole tour checks.
     pub fn referenced(&self) -> u64
         ensures { result ≡ length (referenced_of (memory self.now)) }
     {
-        self.grid.referenced()
+        self.parts.grid.referenced()
     }
 }

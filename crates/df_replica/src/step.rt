@@ -1,23 +1,7 @@
 // The steps of a running checkpoint: each writes a block of its trailer, without a sync, and the last one syncs once and writes the
 // superblock that makes the checkpoint durable.
 ghost use Rattle.std.specs.Prelude.{◌≡◌, true, length, OnErr, OnOk};
-ghost use Rattle.df_base.specs.Causes.{HasCause, IsBlamed};
-ghost use Rattle.df_base.specs.Fields.{spelled};
-ghost use Rattle.df_disk.specs.Adds.{Adds};
-ghost use Rattle.df_format.specs.Spelling.{IsCheck};
-ghost use Rattle.df_format.specs.SuperRules.{fault_of};
-ghost use Rattle.df_superblock.specs.Events.{update_events};
-ghost use Rattle.df_superblock.specs.Steps.{AreStepsOfCopies};
-ghost use Rattle.df_theory.specs.CopyPuts.{update_steps};
-ghost use Rattle.df_theory.specs.Device.{AreSteps};
-ghost use Rattle.df_grid.specs.Writes.{block_steps, first_sum};
-ghost use Rattle.df_units.specs.Format.{format_of};
-ghost use Rattle.df_units.specs.Meaning.{block_of, number_of};
-ghost use Rattle.df_units.specs.Puts.{put_copies};
-ghost use Rattle.df_model.specs.Commands.{Advance, ToAdvance};
-ghost use Rattle.df_model.specs.Faults.{is_step_fault};
-ghost use Rattle.df_state.specs.Captures.{capture_of};
-ghost use Rattle.df_state.specs.State.{IsState};
+ghost use Rattle.df_replica.specs.Below.{HasCause, IsBlamed, spelled, Adds, IsCheck, fault_of, update_events, AreStepsOfCopies, update_steps, AreSteps, block_steps, first_sum, format_of, block_of, number_of, put_copies, Advance, ToAdvance, is_step_fault, running_state, IsState};
 ghost use Rattle.df_replica.specs.Answering.{Serves, answer_of, is_step_unanswered};
 ghost use Rattle.df_replica.specs.Stepping.{IsMade, IsStep, MayAdvance, MayFinish, OfRunning, advanced, block_events, block_sum, block_to_write, fields_for, finished, trailer_unit, next_fields, pending};
 
@@ -29,18 +13,18 @@ use df_checkpoint::{Capture, write_piece};
 use df_disk::Disk;
 use df_format::{Reference, Super, SuperFields, test_fields};
 use df_model::{Progress, StepError};
-use df_state::{Captured, DataFile};
+use df_rooms::{DataFile, RunningCheckpoint};
 use df_superblock::{UpdateError, update};
 
 // What a superblock says of a checkpoint whose trailer ends with a block.
 fn fields_for(
     file: &DataFile,
-    running: &Captured,
+    running: &RunningCheckpoint,
     last: Reference,
     head: u64,
     replies: u64,
 ) -> SuperFields
-    ensures fields { result ≡ fields_for file.now (capture_of running.now) head replies last.address last.checksum }
+    ensures fields { result ≡ fields_for file.now (running_state running.now) head replies last.address last.checksum }
     ensures check { IsCheck last.checksum }
 {
     let trailer_checksum = as_check(last.checksum);
@@ -86,7 +70,7 @@ impl Replica {
         ensures pending { result ≡ pending self.now.running self.now.blocks.left }
         ensures state { IsState self.now }
     {
-        match &self.running {
+        match &self.parts.running {
             Some(running) => Some(running.blocks - running.written),
             None => None,
         }
@@ -102,24 +86,25 @@ impl Replica {
         ensures kept { OnErr result (self.new ≡ self.old) }
         ensures cause { HasCause (D.faults disk.old) (D.faults disk.new) result }
     {
-        let Some(mut running) = self.running.take() else {
+        let Some(mut running) = self.parts.running.take() else {
             unreachable!()
         };
+        let parts = &mut self.parts;
         let done = write_piece(
             disk,
-            &mut self.grid,
+            &mut parts.grid,
             &running.capture,
-            &mut self.trailer.piece,
+            &mut parts.trailer.piece,
             running.written,
         );
         match done {
             Ok(()) => {
                 running.written += 1;
-                self.running = Some(running);
+                self.parts.running = Some(running);
                 Ok(())
             }
             Err(failed) => {
-                self.running = Some(running);
+                self.parts.running = Some(running);
                 Err(failed)
             }
         }
@@ -151,13 +136,19 @@ impl Replica {
         ensures rules { fault_of result ≡ None }
         ensures sum { number_of (spelled 16 (first_sum self.now.blocks.written)) ≡ first_sum self.now.blocks.written }
     {
-        let Some(running) = &self.running else {
+        let Some(running) = &self.parts.running else {
             unreachable!()
         };
-        let Some(last) = self.grid.trailer() else {
+        let Some(last) = self.parts.grid.trailer() else {
             unreachable!()
         };
-        fields_for(&self.file, running, last, self.head, self.replies)
+        fields_for(
+            &self.parts.file,
+            running,
+            last,
+            self.parts.head,
+            self.parts.replies,
+        )
     }
 
     // The superblock that ends the checkpoint.
@@ -179,7 +170,7 @@ impl Replica {
         ensures kept { self.new ≡ self.old }
         ensures cause { IsBlamed is_step_fault (D.faults disk.old) (D.faults disk.new) result }
     {
-        make_durable(disk, &mut self.rooms.superblock, content)
+        make_durable(disk, &mut self.parts.rooms.superblock, content)
     }
 
     // The checkpoint is the durable one.
@@ -188,14 +179,14 @@ impl Replica {
         requires content { OfRunning self.old.running (λ r. content ≡ next_fields self.old r) }
         ensures { OfRunning self.old.running (λ r. self.new ≡ finished self.old r) }
     {
-        let Some(running) = self.running.take() else {
+        let Some(running) = self.parts.running.take() else {
             unreachable!()
         };
-        let Captured { capture, .. } = running;
+        let RunningCheckpoint { capture, .. } = running;
         let Capture { root, .. } = capture;
-        self.root = root;
-        self.content = content;
-        self.grid.finish();
+        self.parts.root = root;
+        self.parts.content = content;
+        self.parts.grid.finish();
     }
 
     // The step that ends the checkpoint.
@@ -225,7 +216,8 @@ impl Replica {
     /// Does the next step of the running checkpoint. While blocks of its trailer are to come, it writes the next one, without a
     /// sync, and answers how many steps are left. The last step syncs once, writes the superblock's four copies, each durable
     /// before the next, and answers the new sequence: the checkpoint is durable then. Without a running checkpoint nothing is
-    /// done. After a fault, and where fewer than three copies were read back as they were written, no call may follow.
+    /// done. Where fewer than three copies were read back as they were written it is refused with the first that wasn't, and the class
+    /// of what was seen there. After that, and after a fault, no call may follow.
     pub fn checkpoint_step<D: Disk>(&mut self, disk: &mut D) -> Result<Progress, StepError>
         requires live { self.old.live ≡ true }
         ensures exact { IsStep self.old self.new (D.told disk.old) (D.told disk.new) result }

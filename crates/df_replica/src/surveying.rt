@@ -1,19 +1,11 @@
 // The survey of a file: what it shows is read, its state is found, and what is to be mended is listed. Nothing is written.
 ghost use Rattle.std.specs.Prelude.{◌≡◌, ◌≤◌, ◌+◌, length, Some, IfOk, IfErr};
-ghost use Rattle.df_base.specs.Causes.{IsBlamed};
-ghost use Rattle.df_disk.specs.Told.{Told};
+ghost use Rattle.df_replica.specs.Below.{IsBlamed, Told, is_open_fault, TellsHurt, AreOfCheckpoint, IsDamage, Syncs, Surveys, waiting_in};
 ghost use Rattle.df_journal.specs.Shows.{IsTable as AreSlots};
-ghost use Rattle.df_model.specs.Faults.{is_open_fault};
-ghost use Rattle.df_damage.specs.Answers.{TellsHurt};
-ghost use Rattle.df_recovery.specs.Checkpoints.{AreOfCheckpoint};
-ghost use Rattle.df_recovery.specs.Finding.{IsDamage};
-ghost use Rattle.df_recovery.specs.Found.{Syncs};
-ghost use Rattle.df_recovery.specs.Surveys.{Surveys};
-ghost use Rattle.df_recovery.specs.Waiting.{waiting_in};
 ghost use Rattle.df_replica.specs.Mending.{ArePlannedFrom, IsPlanned, IsSettledFrom};
 ghost use Rattle.df_replica.specs.Surveying.{AreAfter, EndsBehind, IsLawful, IsReadOf, IsSettled, TellsMends, TellsSurvey, state_of};
 
-use crate::replica::rooms_of;
+use crate::parts::{Parts, rooms_of};
 use crate::{DataFile, OpenError, Rooms, Surveyed};
 use arrayvec::ArrayVec;
 use df_base::Check;
@@ -22,7 +14,7 @@ use df_layout::ROOT;
 use df_recovery::{
     Copies, Scanned, Traces, find_state, plan, scan_file, store_replies, waiting_of,
 };
-use df_state::LogRooms;
+use df_rooms::LogRooms;
 
 // Plans the mending in the rooms: the header that each slot is to have, and the list.
 fn plan_rooms(file: &DataFile, copies: &Copies, rooms: &mut LogRooms)
@@ -103,21 +95,23 @@ fn surveyed(traces: &Traces, scanned: Scanned) -> Surveyed
     let head_checksum = traces.tail.checksum;
     let waiting = waiting_in(&file, &rooms, content.fields().op, traces.replies, head);
     root_fits(&root);
-    Surveyed {
+    let parts = Parts {
         file,
         content,
-        chosen,
         root,
         head,
         head_checksum,
         replies: traces.replies,
         sessions,
         waiting,
+        live: false,
         rooms,
         grid,
+        running: None,
         trailer,
         scrub,
-    }
+    };
+    Surveyed { parts, chosen }
 }
 
 // The survey of a file that was read: its state is found, and the mending planned.

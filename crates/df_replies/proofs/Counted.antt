@@ -1,4 +1,4 @@
--- The greatest numbers of the replies, turn by turn, and what they say of the model's image.
+-- The greatest numbers of the replies, turn by turn, and what they say of the theory's image.
 use Rattle.std.proofs.Common.{◌≡◌, ◌⊎◌, ◌↔◌, inl, inr, ℕ, ◌+◌, ◌<◌, ◌≤◌, List, length, get_or, max, Option, Some, None, refl, sym, ◌∙◌, ap, subst, arith}
 use Rattle.std.specs.Prelude.{Result, Ok, Err}
 use Rattle.std.specs.List.{slice_get}
@@ -12,7 +12,7 @@ use Rattle.df_theory.specs.Units.{AnyUnit, Content, Message, ReplyPlace, ReplyUn
 use Rattle.df_theory.specs.Found.{IsReplies}
 use Rattle.df_theory.specs.Tails.{last_mark}
 use Rattle.df_units.specs.Meaning.{header_of}
-use Rattle.df_replies.specs.Shown.{ShowsReplies, ShowsReply}
+use Rattle.df_replies.specs.Shown.{AreOfBoot, ShowsReplies, ShowsReply}
 use Rattle.df_replies.specs.Counts.{AreWithin, CountsSome, IsGreatest, NoReplyIsAbove, NoReplyIsLater, checkpoint_in, mark_in, op_in, with_reply}
 
 -- ---- numbers of the first entries
@@ -76,7 +76,7 @@ greatest_more start replies k top new d within is old =
       reached = greatest_next start replies k top r at old.reached;
     })
 
--- ---- in the model
+-- ---- in the theory
 
 -- the reply that an entry is, where the image shows one there
 entry_is : (x : Option AnyUnit) (r : Result Header Class) (m : Message) → ShowsReply x r → x ≡ Some (ReplyUnit m) → (h : Header) × (r ≡ Ok h) × (m.header ≡ header_of h)
@@ -97,11 +97,11 @@ reply_there image replies k m shows shown = elim (slice_get_cases replies k).1 [
 pub entry_shown : (image : Units.Units) (replies : List (Result Header Class)) (k : ℕ) (h : Header) → ShowsReplies image replies → slice_get replies k ≡ Some (Ok h) → (m : Message) × (image (ReplyPlace k) ≡ Some (ReplyUnit m)) × (m.header ≡ header_of h)
 entry_shown image replies k h shows at = shows.each k (Ok h) at
 
-later_of : (image : Units.Units) (replies : List (Result Header Class)) (c : Content) (n : ℕ) → n ≡ c.sequence → ShowsReplies image replies → c.boot ≡ 0 → AreWithin checkpoint_in n (length replies) replies → NoReplyIsLater image c
-later_of image replies c n is shows boot all k r shown =
+later_of : (image : Units.Units) (replies : List (Result Header Class)) (c : Content) (n : ℕ) → n ≡ c.sequence → ShowsReplies image replies → AreOfBoot c.boot replies → AreWithin checkpoint_in n (length replies) replies → NoReplyIsLater image c
+later_of image replies c n is shows own all k r shown =
     let there = reply_there image replies k r shows shown in
     let le = all k (Ok there.0) there.1 there.2 in
-    (omega (arith, le, is, ap (λ (h : Units.Header). h.checkpoint) there.3), omega (arith, boot, ap (λ (h : Units.Header). h.boot) there.3))
+    (omega (arith, le, is, ap (λ (h : Units.Header). h.checkpoint) there.3), omega (arith, own k there.0 there.2, ap (λ (h : Units.Header). h.boot) there.3))
 
 of_later : (image : Units.Units) (replies : List (Result Header Class)) (c : Content) → ShowsReplies image replies → NoReplyIsLater image c → AreWithin checkpoint_in c.sequence (length replies) replies
 of_later image replies c shows none k (Err class) less at = omega arith
@@ -109,10 +109,10 @@ of_later image replies c shows none k (Ok h) less at =
     let there = entry_shown image replies k h shows at in
     omega (arith, (none k there.0 there.1).0, ap (λ (x : Units.Header). x.checkpoint) there.2)
 
-pub counts_later : (start seen : Counters) (replies : List (Result Header Class)) (image : Units.Units) (c : Content) → CountsSome start replies (length replies) seen → ShowsReplies image replies → c.boot ≡ 0
+pub counts_later : (start seen : Counters) (replies : List (Result Header Class)) (image : Units.Units) (c : Content) → CountsSome start replies (length replies) seen → ShowsReplies image replies → AreOfBoot c.boot replies
     → (seen.checkpoint ≤ c.sequence) ↔ ((start.checkpoint ≤ c.sequence) × NoReplyIsLater image c)
-counts_later start seen replies image c counts shows boot = (
-  λ le. let both = (counts.checkpoint c.sequence).0 le in (both.0, later_of image replies c c.sequence refl shows boot both.1),
+counts_later start seen replies image c counts shows own = (
+  λ le. let both = (counts.checkpoint c.sequence).0 le in (both.0, later_of image replies c c.sequence refl shows own both.1),
   λ both. (counts.checkpoint c.sequence).1 (both.0, of_later image replies c shows both.1),
 )
 
@@ -123,32 +123,38 @@ above_of image replies c n shows ops marks k r shown of_boot =
     let mark = marks k (Ok there.0) there.1 there.2 in
     (omega (arith, op, ap (λ (h : Units.Header). h.op) there.3), omega (arith, mark, ap (λ (h : Units.Header). h.mark) there.3))
 
-of_boot : (c : Content) (h : Header) (m : Message) → c.boot ≡ 0 → m.header ≡ header_of h → m.header.boot ≡ c.boot
-of_boot c h m boot is = ap (λ (x : Units.Header). x.boot) is ∙ sym boot
+of_boot : (c : Content) (h : Header) (m : Message) → (header_of h).boot ≡ c.boot → m.header ≡ header_of h → m.header.boot ≡ c.boot
+of_boot c h m own is = ap (λ (x : Units.Header). x.boot) is ∙ own
 
-ops_of_above : (image : Units.Units) (replies : List (Result Header Class)) (c : Content) (n : ℕ) → ShowsReplies image replies → c.boot ≡ 0 → NoReplyIsAbove image c n → AreWithin op_in n (length replies) replies
-ops_of_above image replies c n shows boot none k (Err class) less at = omega arith
-ops_of_above image replies c n shows boot none k (Ok h) less at =
+-- each reply that the image shows is of that boot
+pub replies_are_of : (image : Units.Units) (replies : List (Result Header Class)) (boot : ℕ) → ShowsReplies image replies → AreOfBoot boot replies → (k : ℕ) (r : Message) → image (ReplyPlace k) ≡ Some (ReplyUnit r) → r.header.boot ≡ boot
+replies_are_of image replies boot shows own k r shown =
+    let there = reply_there image replies k r shows shown in
+    ap (λ (h : Units.Header). h.boot) there.3 ∙ own k there.0 there.2
+
+ops_of_above : (image : Units.Units) (replies : List (Result Header Class)) (c : Content) (n : ℕ) → ShowsReplies image replies → AreOfBoot c.boot replies → NoReplyIsAbove image c n → AreWithin op_in n (length replies) replies
+ops_of_above image replies c n shows own none k (Err class) less at = omega arith
+ops_of_above image replies c n shows own none k (Ok h) less at =
     let there = entry_shown image replies k h shows at in
-    omega (arith, (none k there.0 there.1 (of_boot c h there.0 boot there.2)).0, ap (λ (x : Units.Header). x.op) there.2)
+    omega (arith, (none k there.0 there.1 (of_boot c h there.0 (own k h at) there.2)).0, ap (λ (x : Units.Header). x.op) there.2)
 
-marks_of_above : (image : Units.Units) (replies : List (Result Header Class)) (c : Content) (n : ℕ) → ShowsReplies image replies → c.boot ≡ 0 → NoReplyIsAbove image c n → AreWithin mark_in n (length replies) replies
-marks_of_above image replies c n shows boot none k (Err class) less at = omega arith
-marks_of_above image replies c n shows boot none k (Ok h) less at =
+marks_of_above : (image : Units.Units) (replies : List (Result Header Class)) (c : Content) (n : ℕ) → ShowsReplies image replies → AreOfBoot c.boot replies → NoReplyIsAbove image c n → AreWithin mark_in n (length replies) replies
+marks_of_above image replies c n shows own none k (Err class) less at = omega arith
+marks_of_above image replies c n shows own none k (Ok h) less at =
     let there = entry_shown image replies k h shows at in
-    omega (arith, (none k there.0 there.1 (of_boot c h there.0 boot there.2)).1, ap (λ (x : Units.Header). x.mark) there.2)
+    omega (arith, (none k there.0 there.1 (of_boot c h there.0 (own k h at) there.2)).1, ap (λ (x : Units.Header). x.mark) there.2)
 
-pub counts_above : (start seen : Counters) (replies : List (Result Header Class)) (image : Units.Units) (c : Content) (n : ℕ) → CountsSome start replies (length replies) seen → ShowsReplies image replies → c.boot ≡ 0
+pub counts_above : (start seen : Counters) (replies : List (Result Header Class)) (image : Units.Units) (c : Content) (n : ℕ) → CountsSome start replies (length replies) seen → ShowsReplies image replies → AreOfBoot c.boot replies
     → (seen.reply_top ≤ n) ↔ ((start.reply_top ≤ n) × NoReplyIsAbove image c n)
-counts_above start seen replies image c n counts shows boot = (
+counts_above start seen replies image c n counts shows own = (
   λ le. let all = (counts.reply_top n).0 le in (all.0, above_of image replies c n shows all.1 all.2),
-  λ both. (counts.reply_top n).1 (both.0, ops_of_above image replies c n shows boot both.1, marks_of_above image replies c n shows boot both.1),
+  λ both. (counts.reply_top n).1 (both.0, ops_of_above image replies c n shows own both.1, marks_of_above image replies c n shows own both.1),
 )
 
--- the greatest of the superblock's number, the mark and the ops is the model's number of replies
+-- the greatest of the superblock's number, the mark and the ops is the theory's number of replies
 pub greatest_is_replies : (superblock mark top : ℕ) (replies : List (Result Header Class)) (image : Units.Units) (c : Content) (tail : List Message) → IsGreatest (max superblock mark) replies (length replies) top → ShowsReplies image replies
-    → c.boot ≡ 0 → c.replies ≡ superblock → last_mark 0 tail ≡ mark → IsReplies image c tail top
-greatest_is_replies superblock mark top replies image c tail is shows boot replies_is mark_is = record {
+    → AreOfBoot c.boot replies → c.replies ≡ superblock → last_mark 0 tail ≡ mark → IsReplies image c tail top
+greatest_is_replies superblock mark top replies image c tail is shows own replies_is mark_is = record {
   superblock = omega (arith, is.from, replies_is);
   mark = omega (arith, is.from, mark_is);
   reply = λ k m shown of.
@@ -158,6 +164,6 @@ greatest_is_replies superblock mark top replies image c tail is shows boot repli
     | inl same ↦ elim (cases_lt superblock mark) [ inl less ↦ inr (inl (omega arith)) | inr more ↦ inl (omega arith) ]
     | inr there ↦
         let shown = entry_shown image replies there.0 there.1 shows there.2 in
-        inr (inr (there.0, shown.0, shown.1, ap (λ (h : Units.Header). h.op) shown.2 ∙ there.3, of_boot c there.1 shown.0 boot shown.2))
+        inr (inr (there.0, shown.0, shown.1, ap (λ (h : Units.Header). h.op) shown.2 ∙ there.3, of_boot c there.1 shown.0 (own there.0 there.1 there.2) shown.2))
   ];
 }

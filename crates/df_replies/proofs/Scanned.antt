@@ -1,4 +1,4 @@
--- What was scanned is what the model's image shows, and the class of a slot that doesn't answer is the shown one.
+-- What was scanned is what the theory's image shows, and the class of a slot that doesn't answer is the shown one.
 use Rattle.std.proofs.Common.{◌≡◌, ℕ, ◌<◌, ◌≤◌, List, Option, Some, None, refl, sym, ◌∙◌, ap, subst, arith}
 use Rattle.std.specs.Prelude.{Result}
 use Rattle.std.specs.List.{slice_get}

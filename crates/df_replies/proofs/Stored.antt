@@ -1,4 +1,4 @@
--- Which sessions are answered in the model, where those of the table are; and which replies are found stored.
+-- Which sessions are answered in the theory, where those of the table are; and which replies are found stored.
 use Rattle.std.proofs.Common.{◌≡◌, ◌↔◌, inl, inr, ℕ, ◌<◌, ◌≤◌, List, length, Option, Some, None, refl, sym, ◌∙◌, ap, subst, arith}
 use Rattle.std.specs.Prelude.{Result, Ok, Err, IfSome}
 use Rattle.std.specs.List.{slice_get}
@@ -18,26 +18,26 @@ use Rattle.df_theory.specs.Found.{IsStored}
 use Rattle.df_theory.specs.View.{View, sessions}
 use Rattle.df_units.specs.Meaning.{header_of}
 use Rattle.df_replies.specs.declared.answers.Lacking.{Lacking}
-use Rattle.df_replies.specs.Shown.{ShowsReplies, ShowsReply}
+use Rattle.df_replies.specs.Shown.{AreOfBoot, ShowsReplies, ShowsReply}
 use Rattle.df_replies.proofs.Scanned.{has_class}
 use Rattle.df_replies.specs.Answers.{AnsweredTo, AnswersIn, FoundAreStored, HasClass, IsFirstLacking, Lacks, LacksHere, NamesNone, StoredAreFound, stored_by}
 
--- ---- in the model
+-- ---- in the theory
 
--- a content that names no reply is answered by any reply of version 1
-named : (c : Content) (k : ℕ) (h : Header) (r : Message) → NamesNone c → r.header ≡ header_of h → IsNamed c k r
-named c k h r names is = record {
+-- a content that names no reply is answered by any reply of its boot
+named : (c : Content) (k : ℕ) (h : Header) (r : Message) → NamesNone c → (header_of h).boot ≡ c.boot → r.header ≡ header_of h → IsNamed c k r
+named c k h r names own is = record {
   old = λ less. absurd (omega (arith, less, names.answered));
-  new = λ from. ap (λ (x : Units.Header). x.boot) is ∙ sym names.boot;
+  new = λ from. ap (λ (x : Units.Header). x.boot) is ∙ own;
 }
 
-answers_shown : (image : Units.Units) (c : Content) (k : ℕ) (s : Session) (reply : Result Header Class) → NamesNone c → ShowsReply (image (ReplyPlace k)) reply → AnswersIn s reply ↔ IsAnswered image c k (session_of s)
-answers_shown image c k s (Ok h) names (q, is, same) = (
+answers_shown : (image : Units.Units) (c : Content) (k : ℕ) (s : Session) (reply : Result Header Class) → NamesNone c → ((h : Header) → reply ≡ Ok h → (header_of h).boot ≡ c.boot) → ShowsReply (image (ReplyPlace k)) reply → AnswersIn s reply ↔ IsAnswered image c k (session_of s)
+answers_shown image c k s (Ok h) names own (q, is, same) = (
   λ of. (
     q,
     is,
     record { client = ap (λ (x : Units.Header). x.client) same ∙ of.client; request = ap (λ (x : Units.Header). x.request) same ∙ of.request; op = ap (λ (x : Units.Header). x.op) same ∙ of.op },
-    named c k h q names same,
+    named c k h q names (own h refl) same,
   ),
   λ there.
       let both : Some (ReplyUnit there.0) ≡ Some (ReplyUnit q) = sym there.1 ∙ is in
@@ -45,12 +45,12 @@ answers_shown image c k s (Ok h) names (q, is, same) = (
       let header : there.0.header ≡ header_of h = ap (λ (m : Message). m.header) one ∙ same in
       record { client = sym (ap (λ (x : Units.Header). x.client) header) ∙ there.2.client; request = sym (ap (λ (x : Units.Header). x.request) header) ∙ there.2.request; op = sym (ap (λ (x : Units.Header). x.op) header) ∙ there.2.op },
 )
-answers_shown image c k s (Err class) names none = (λ no. absurd no, λ there. let both : None ≡ Some (ReplyUnit there.0) = sym none ∙ there.1 in absurd (cc))
+answers_shown image c k s (Err class) names own none = (λ no. absurd no, λ there. let both : None ≡ Some (ReplyUnit there.0) = sym none ∙ there.1 in absurd (cc))
 
 session_at : (ss : List Session) (k : ℕ) (s : Session) → slice_get ss k ≡ Some s → slice_get (sessions_of ss) k ≡ Some (session_of s)
 session_at ss k s at = slice_get-map session_of ss k ∙ ap (option_map session_of) at
 
--- a session of the model's list is one of the table
+-- a session of the theory's list is one of the table
 session_there : (ss : List Session) (k : ℕ) (s : Units.Session) → slice_get (sessions_of ss) k ≡ Some s → (t : Session) × (slice_get ss k ≡ Some t) × (s ≡ session_of t)
 session_there ss k s at = elim (slice_get_cases ss k).1 [
   | inl there ↦
@@ -59,19 +59,19 @@ session_there ss k s at = elim (slice_get_cases ss k).1 [
   | inr past ↦ absurd (omega (arith, past.0, slice_get_within (sessions_of ss) k s at, length-map ss session_of))
 ]
 
-module _ (image : Units.Units) (c : Content) (replies : List (Result Header Class)) (ss : List Session) (n : ℕ) (shows : ShowsReplies image replies) (names : NamesNone c) where
+module _ (image : Units.Units) (c : Content) (replies : List (Result Header Class)) (ss : List Session) (n : ℕ) (shows : ShowsReplies image replies) (own : AreOfBoot c.boot replies) (names : NamesNone c) where
   answered_before : (k : ℕ) → AnsweredTo ss n replies k → (j : ℕ) (s : Units.Session) → j < k → slice_get (sessions_of ss) j ≡ Some s → s.op ≤ n → IsAnswered image c j s
   answered_before k before j s less at stored =
       let t = session_there ss j s at in
       let answer = before j t.0 less t.1 (subst (λ (x : Units.Session). x.op ≤ n) t.2 stored) in
-      subst (IsAnswered image c j) (sym t.2) ((answers_shown image c j t.0 answer.0 names (shows.each j answer.0 answer.1)).0 answer.2)
+      subst (IsAnswered image c j) (sym t.2) ((answers_shown image c j t.0 answer.0 names (λ h is. own j h (answer.1 ∙ ap Some is)) (shows.each j answer.0 answer.1)).0 answer.2)
 
   first_lacks : (lacking : Lacking) → IsFirstLacking ss n replies lacking → LacksReply image c (sessions_of ss) n lacking.place
   first_lacks lacking is = record {
     session = session_of is.session;
     at = session_at ss lacking.place is.session is.at;
     stored = is.stored;
-    lacks = λ answered. is.lacks ((answers_shown image c lacking.place is.session is.reply names (shows.each lacking.place is.reply is.there)).1 answered);
+    lacks = λ answered. is.lacks ((answers_shown image c lacking.place is.session is.reply names (λ h same. own lacking.place h (is.there ∙ ap Some same)) (shows.each lacking.place is.reply is.there)).1 answered);
     first = answered_before lacking.place is.first;
   }
 

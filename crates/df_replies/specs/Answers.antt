@@ -63,11 +63,10 @@ abbrev pub LacksHere : List Session → ℕ → List (Result Header Class) → O
 LacksHere ss n replies None = AnsweredTo ss n replies (length ss)
 LacksHere ss n replies (Some lacking) = IsFirstLacking ss n replies lacking
 
--- ---- in the model
+-- ---- in the theory
 
 -- the content names no reply, as in version 1: whatever answers a session's last request will do
 pub record NamesNone (c : Content) : Type 0 where
-  pub boot : c.boot ≡ 0
   pub answered : c.answered ≡ 0
 
 -- each stored reply is shown

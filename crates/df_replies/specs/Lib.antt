@@ -2,3 +2,4 @@ pub mod Slots
 pub mod Shown
 pub mod Counts
 pub mod Answers
+pub mod Below

@@ -1,4 +1,4 @@
--- What a table of replies says of a disk, and of the model's image: the reply slots, place by place.
+-- What a table of replies says of a disk, and of the theory's image: the reply slots, place by place.
 use Rattle.std.specs.Prelude.{◌≡◌, ◌<◌, ◌≤◌, ℕ, List, length, slice_get, Option, Some, None, Result, Ok, Err}
 use Rattle.df_disk.specs.Told.{Told}
 use Rattle.df_layout.specs.declared.damage.Class.{Class}
@@ -20,7 +20,7 @@ pub record IsScanned (layout : Layout) (cluster : ℕ) (told : Option Told) (rep
   pub size : length replies ≡ layout.clients
   pub seen : AreSeen layout cluster told layout.clients replies
 
--- a place of the model shows a reply with this header, or no unit
+-- a place of the theory shows a reply with this header, or no unit
 abbrev pub ShowsReply : Option AnyUnit → Result Header Class → Type 0
 ShowsReply x (Ok h) = (r : Units.Message) × (x ≡ Some (ReplyUnit r)) × (r.header ≡ header_of h)
 ShowsReply x (Err class) = x ≡ None
@@ -30,7 +30,11 @@ pub record ShowsReplies (image : Units.Units) (replies : List (Result Header Cla
   pub each : (k : ℕ) (reply : Result Header Class) → slice_get replies k ≡ Some reply → ShowsReply (image (ReplyPlace k)) reply
   pub no_more : (k : ℕ) → length replies ≤ k → image (ReplyPlace k) ≡ None
 
--- what was scanned is what the model sees
+-- each reply of the table is of this boot
+abbrev pub AreOfBoot : ℕ → List (Result Header Class) → Type 0
+AreOfBoot boot replies = (k : ℕ) (h : Header) → slice_get replies k ≡ Some (Ok h) → (header_of h).boot ≡ boot
+
+-- what was scanned is what the theory sees
 abbrev pub ScannedIsShown : Type 0
 ScannedIsShown =
     (layout : Layout) (cluster : ℕ) (t : Told) (replies : List (Result Header Class)) → IsScanned layout cluster (Some t) replies → ShowsReplies (unit_at layout cluster t.shown) replies

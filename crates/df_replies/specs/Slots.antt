@@ -30,6 +30,6 @@ IsInOwnSlot layout u = IsUnit layout u.header.cluster (reply_place u.header.slot
 abbrev pub write_events : Layout → Holding → List Event
 write_events layout held = unit_events layout (reply_place held.unit.header.slot) held
 
--- in the words of the model: the reply is put into its session's place, and synced
+-- in the words of the theory: the reply is put into its session's place, and synced
 abbrev pub write_steps : Message → List Step
 write_steps u = unit_steps (ReplyPlace u.header.slot) (ReplyUnit (message_of u))

@@ -1,6 +1,6 @@
 // The reads of all reply slots, each once, into one room.
 ghost use Rattle.std.specs.Prelude.{◌≡◌, ◌<◌, length, OnOk};
-ghost use Rattle.df_base.specs.Causes.{HasCause};
+ghost use Rattle.df_replies.specs.Below.{HasCause};
 ghost use Rattle.df_replies.specs.Slots.{reply_place};
 ghost use Rattle.df_replies.specs.Shown.{AreSeen};
 

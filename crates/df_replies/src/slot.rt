@@ -1,11 +1,6 @@
 // Writes and reads of one reply slot. A reply is durable before its writer answers, and no other place is written.
 ghost use Rattle.std.specs.Prelude.{◌≡◌, ◌<◌, OnOk};
-ghost use Rattle.df_base.specs.Causes.{HasCause};
-ghost use Rattle.df_disk.specs.Told.{Shows};
-ghost use Rattle.df_disk.specs.Adds.{Adds};
-ghost use Rattle.df_buffers.specs.Rooms.{FillsRoom};
-ghost use Rattle.df_theory.specs.Device.{AreSteps};
-ghost use Rattle.df_units.specs.Format.{format_of};
+ghost use Rattle.df_replies.specs.Below.{HasCause, Shows, Adds, FillsRoom, AreSteps, format_of};
 ghost use Rattle.df_replies.specs.Slots.{IsInOwnSlot, reply_place, slot_first, write_events, write_steps};
 
 use df_base::Failed;

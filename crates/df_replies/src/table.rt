@@ -1,13 +1,9 @@
 // The table of replies: what the slots show, place by place, for an open to look at.
 ghost use Rattle.std.specs.Prelude.{◌≡◌, ◌↔◌, ◌<◌, ◌≤◌, List, ℕ, Some, Err, length, replicate, slice_get, IfOk, IfSome, OnOk};
-ghost use Rattle.df_base.specs.Causes.{HasCause};
-ghost use Rattle.df_layout.specs.declared.damage.Class.TheVariants.{Blank};
+ghost use Rattle.df_replies.specs.Below.{HasCause, Blank, IsReplies, last_mark, Content, Message, Units};
 ghost use Rattle.df_replies.specs.Answers.{HasClass, Lacks, NamesNone};
 ghost use Rattle.df_replies.specs.Counts.{NoReplyIsAbove, NoReplyIsLater};
-ghost use Rattle.df_replies.specs.Shown.{IsScanned, ShowsReplies};
-ghost use Rattle.df_theory.specs.Found.{IsReplies};
-ghost use Rattle.df_theory.specs.Tails.{last_mark};
-ghost use Rattle.df_theory.specs.Units.{Content, Message, Units};
+ghost use Rattle.df_replies.specs.Shown.{AreOfBoot, IsScanned, ShowsReplies};
 
 use crate::Lacking;
 use crate::answers::{first_lacking, greatest_op};
@@ -81,9 +77,9 @@ impl ReplyTable {
     /// The counters of the rings with those of the replies: none is above a number exactly where no reply is.
     pub fn count(&self, rings: &Counters) -> Counters
         ensures rings { result.ring_op ≡ rings.now.ring_op }
-        ensures behind { (image : Units) (c : Content) → ShowsReplies image self.now → c.boot ≡ 0
+        ensures behind { (image : Units) (c : Content) → ShowsReplies image self.now → AreOfBoot c.boot self.now
             → (result.checkpoint ≤ c.sequence) ↔ ((rings.now.checkpoint ≤ c.sequence) × NoReplyIsLater image c) }
-        ensures lost { (image : Units) (c : Content) (head : ℕ) → ShowsReplies image self.now → c.boot ≡ 0
+        ensures lost { (image : Units) (c : Content) (head : ℕ) → ShowsReplies image self.now → AreOfBoot c.boot self.now
             → (result.reply_top ≤ head) ↔ ((rings.now.reply_top ≤ head) × NoReplyIsAbove image c head) }
     {
         count_replies(rings, &self.replies)
@@ -91,7 +87,7 @@ impl ReplyTable {
 
     /// The number of replies: the greatest of the superblock's, the mark of the tail's last prepare, and the ops of the replies.
     pub fn replies(&self, superblock: u64, mark: u64) -> u64
-        ensures { (image : Units) (c : Content) (tail : List Message) → ShowsReplies image self.now → c.boot ≡ 0 → c.replies ≡ superblock → last_mark 0 tail ≡ mark
+        ensures { (image : Units) (c : Content) (tail : List Message) → ShowsReplies image self.now → AreOfBoot c.boot self.now → c.replies ≡ superblock → last_mark 0 tail ≡ mark
             → IsReplies image c tail result }
     {
         greatest_op(superblock.max(mark), &self.replies)
@@ -100,7 +96,7 @@ impl ReplyTable {
     /// The first session, by place, whose op is at most `stored` and whose slot doesn't show the reply to its last request.
     pub fn first_lacking(&self, sessions: &SessionTable, stored: u64) -> Option<Lacking>
         requires { sessions.now.max ≡ length self.now }
-        ensures lacks { (image : Units) (c : Content) → ShowsReplies image self.now → NamesNone c → Lacks image c sessions.now.sessions stored result }
+        ensures lacks { (image : Units) (c : Content) → ShowsReplies image self.now → AreOfBoot c.boot self.now → NamesNone c → Lacks image c sessions.now.sessions stored result }
         ensures class { IfSome result (HasClass self.now) }
         ensures within { IfSome result (λ lacking. lacking.place < length self.now) }
     {

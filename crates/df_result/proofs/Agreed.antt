@@ -158,7 +158,7 @@ module _ (file : DataFile) (one other : Shown) (agree : AgreeShown file.layout o
   next_agrees (ReadReply client) = reply_agrees client
   next_agrees (ReadBlock address) = block_agrees address
   next_agrees Scrub = scrub_agrees
-  next_agrees (Recent place) = refl
+  next_agrees Recent = refl
 
 pub next_same : NextAgrees
 next_same file one other w command agree work = next_agrees file one other agree w work command

@@ -46,7 +46,7 @@ module _ (file : DataFile) (m : Memory) where
   given_small (ReadReply client) = omega arith
   given_small (ReadBlock address) = omega arith
   given_small Scrub = omega arith
-  given_small (Recent place) = omega arith
+  given_small Recent = omega arith
 
 -- ---- what is shown then
 

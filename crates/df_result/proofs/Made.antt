@@ -88,4 +88,4 @@ module _ (file : DataFile) (m : Memory) (sum : ℕ) (before after : Image) where
   sum_made (ReadReply client) of none leaves copies = none
   sum_made (ReadBlock address) of none leaves copies = none
   sum_made Scrub of none leaves copies = none
-  sum_made (Recent place) of none leaves copies = none
+  sum_made Recent of none leaves copies = none

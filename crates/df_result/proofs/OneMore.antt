@@ -10,8 +10,8 @@ use Rattle.df_model.specs.Commands.{Advance, Answer, Append, Begin, Command, Giv
 use Rattle.df_model.specs.Memory.{Memory, memory_of}
 use Rattle.df_model.specs.Supply.{Shown, checksum_given, next as over, puts_of, shown_after}
 use Rattle.df_model.specs.Work.{Work}
-use Rattle.df_state.specs.State.{course_in}
-use Rattle.df_replica.specs.Below.{Capture, DataFile, State, memory, shape, spelling, told_after}
+use Rattle.df_rooms.specs.State.{course_in}
+use Rattle.df_replica.specs.Below.{RunningState, DataFile, State, memory, shape, spelling, told_after}
 use Rattle.df_replica.specs.Leaving.{IsReadPlace, LeavesShown, image_after}
 use Rattle.df_replica.specs.Reading.{shown_of}
 use Rattle.df_replica.specs.Serving.{Firm, IsCall, Keeps, next}
@@ -72,9 +72,9 @@ found_in s t given (ReadPrepare op) is = is.1
 found_in s t given (ReadReply client) is = is.1
 found_in s t given (ReadBlock address) is = is.1
 found_in s t given Scrub is = is.1
-found_in s t given (Recent place) is = tt
+found_in s t given Recent is = tt
 
-idle_sum : (s : State) (sum : ℕ) (o : Option Capture) → s.running ≡ o → sum ≡ made_by s o → (memory s).running ≡ None → sum ≡ 0
+idle_sum : (s : State) (sum : ℕ) (o : Option RunningState) → s.running ≡ o → sum ≡ made_by s o → (memory s).running ≡ None → sum ≡ 0
 idle_sum s sum None running is none = is
 idle_sum s sum (Some r) running is none = let no = sym (ap (course_in s.file s.blocks) running) ∙ none in absurd (cc)
 
@@ -89,7 +89,7 @@ no_sum s told given (ReadPrepare op) is = is.0
 no_sum s told given (ReadReply client) is = is.0
 no_sum s told given (ReadBlock address) is = is.0
 no_sum s told given Scrub is = is.0
-no_sum s told given (Recent place) is = is
+no_sum s told given Recent is = is
 
 pub supplied_is_result : SuppliedIsResult
 supplied_is_result s w t command given rep supplied sum =

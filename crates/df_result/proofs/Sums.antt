@@ -1,4 +1,4 @@
--- Each unit that an image shows has the codec's checksum: what the model says of it, and its place, are all that its header says.
+-- Each unit that an image shows has the codec's checksum: what the theory says of it, and its place, are all that its header says.
 use Rattle.std.proofs.Common.{◌≡◌, inl, inr, ℕ, suc, ◌%◌, ◌==◌, Bool, true, false, if◌then◌else◌, List, [], ◌∷◌, ◌++◌, length, Option, Some, None, refl, sym, ◌∙◌, ap, subst, arith}
 use Rattle.std.specs.Prelude.{slice_index}
 use Rattle.std.proofs.lemmas.Bool.Decides.{nat_tests}

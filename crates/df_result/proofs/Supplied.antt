@@ -39,7 +39,7 @@ module _ (codec : Codec) (m : Memory) (sum : ℕ) where
   puts_are (ReadReply client) is = refl
   puts_are (ReadBlock address) is = refl
   puts_are Scrub is = refl
-  puts_are (Recent place) is = refl
+  puts_are Recent is = refl
 
 module _ (sh : Shape) (codec : Codec) (shown : Shown) (w : Work) (given : Given) where
   abbrev m : Memory
@@ -62,4 +62,4 @@ module _ (sh : Shape) (codec : Codec) (shown : Shown) (w : Work) (given : Given)
   next_is (ReadReply client) is found = ap (λ (x : Result Message Class). let y : Work × Answer = (w, ToReadReply (lookup_answer m x client)) in y) found
   next_is (ReadBlock address) is found = ap (λ (x : Result Block Class). let y : Work × Answer = (w, ToReadBlock (read_answer m x address)) in y) found
   next_is Scrub is found = ap (λ (v : Verdict). as_answer ToScrub (after_check w v (to_check m))) found
-  next_is (Recent place) is found = refl
+  next_is Recent is found = refl

@@ -1,4 +1,4 @@
--- The checksum that each unit of a file gets, as a function of what it says in the words of the model and of its place: the header, or the superblock, that has these
+-- The checksum that each unit of a file gets, as a function of what it says in the words of the theory and of its place: the header, or the superblock, that has these
 -- words is built and sealed as the maker of a unit does. It is the dictionary of units and bytes, read the other way.
 use Rattle.std.specs.Prelude.{◌≡◌, ◌%◌, ◌==◌, ℕ, if◌then◌else◌, List, Some, None, slice_index}
 use Rattle.df_base.specs.Fields.{spelled}
@@ -17,7 +17,7 @@ use Rattle.df_units.specs.Meaning.{layout_of, number_of}
 use Rattle.df_model.specs.Supply.{Codec}
 use Rattle.df_replica.specs.Below.{DataFile, spelling}
 
--- ---- what is made of the words of the model
+-- ---- what is made of the words of the theory
 
 -- the header of a prepare, in the slot of its op; what follows from the body, and the checksum, come as it is sealed
 abbrev pub prepare_header : DataFile → Units.Header → Header

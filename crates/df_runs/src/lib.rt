@@ -6,13 +6,15 @@ mod long;
 mod runs;
 mod scripts;
 mod served;
+mod summaries;
 
 pub use copies::{FRONT, copy};
 pub use df_top::{Status, words_have_one_meaning};
 pub use long::long_session;
 pub use runs::{
-    FORMAT_CALLS, FORMAT_EVENTS, Ran, WordList, blank, made_file, printed, run_failing, run_in,
-    run_script, run_words, small_file, word, words,
+    FORMAT_CALLS, FORMAT_EVENTS, Ran, WordList, blank, disk_behind, made_file, printed,
+    run_failing, run_in, run_script, run_words, small_file, word, words,
 };
 pub use scripts::{lines, ops_of_one};
 pub use served::serve_failing;
+pub use summaries::small_summary;

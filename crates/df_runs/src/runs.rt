@@ -7,22 +7,12 @@ use std::alloc::Global;
 use std::test::Fail;
 
 /// What a run answered.
+#[derive(Drop)]
 pub struct Ran {
     pub status: Status,
     pub text: Vec<u8>,
     /// Growths that the sink was refused.
     pub refused: u64,
-}
-
-// Its owner lets go of it in one call, and not field by field.
-impl Drop for Ran {
-    fn drop(self) {
-        let Ran {
-            status: _,
-            text: _,
-            refused: _,
-        } = self;
-    }
 }
 
 impl Ran {
@@ -107,6 +97,16 @@ pub fn run_failing<D: Disk>(
 pub fn run_script<D: Disk>(alloc: Global, disk: &mut D, script: &[u8]) -> Result<Ran, Fail> {
     let words = word(alloc, "run")?;
     run_failing(alloc, disk, &words, script, &[], &[])
+}
+
+/// The disk behind a script that ends as done.
+pub fn disk_behind(alloc: Global, disk: MemoryDisk, script: &[u8]) -> Result<MemoryDisk, Fail> {
+    let mut disk = disk;
+    let ran = run_script(alloc, &mut disk, script)?;
+    if ran.status != Status::Done {
+        return Err("the script isn't served".into());
+    }
+    Ok(disk)
 }
 
 /// Runs words that read no script.

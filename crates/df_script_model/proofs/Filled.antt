@@ -10,14 +10,14 @@ use Rattle.df_model.specs.Memory.{memory_of}
 use Rattle.df_model.specs.Making.{block_of}
 use Rattle.df_model.specs.Commands.{Advance, Begin, Command, ToWriteBlock, WriteBlock}
 use Rattle.df_model.specs.Supply.{Codec, Shown, last_shown, last_work, next, nothing, shown_after}
-use Rattle.df_script_model.specs.Script.{answer_text, calls, printed}
+use Rattle.df_script_model.specs.Script.{answer_text, printed}
 use Rattle.df_script_model.specs.Sessions.{FillLaw, LongTrailer, blank, blocks_of, file, first_work, is_among, plain, with_blocks, with_units, wrote_from}
 use Rattle.df_script_model.proofs.Fills.{line_is, puts_are, units_over}
 
 -- ---- lines after lines
 
 -- what follows some lines is printed over what they leave
-pub printed_after : (sh : Shape) (codec : Codec) (cs ds : List Command) (shown : Shown) (w : Work) → printed sh codec shown w (calls (cs ++ ds)) ≡ printed sh codec shown w (calls cs) ++ printed sh codec (last_shown sh codec shown w cs) (last_work sh codec shown w cs) (calls ds)
+pub printed_after : (sh : Shape) (codec : Codec) (cs ds : List Command) (shown : Shown) (w : Work) → printed sh codec shown w (cs ++ ds) ≡ printed sh codec shown w cs ++ printed sh codec (last_shown sh codec shown w cs) (last_work sh codec shown w cs) ds
 printed_after sh codec [] ds shown w = refl
 printed_after sh codec (c ∷ cs) ds shown w = ap (λ (more : List (List ℕ)). answer_text c (next sh codec shown w c).1 ∷ more) (printed_after sh codec cs ds (shown_after codec shown (memory_of sh codec.spell w) c) (next sh codec shown w c).0)
 
@@ -28,7 +28,7 @@ shown_of n = record { units = with_units n; damage = λ place. Blank }
 
 -- n lines more, from k live blocks on
 record FillsOn (sh : Shape) (k n : ℕ) : Type 0 where
-  pub prints : printed sh (plain sh) (shown_of k) (with_blocks sh k) (calls (blocks_of [] n)) ≡ wrote_from (k + 1) n
+  pub prints : printed sh (plain sh) (shown_of k) (with_blocks sh k) (blocks_of [] n) ≡ wrote_from (k + 1) n
   pub leads : last_work sh (plain sh) (shown_of k) (with_blocks sh k) (blocks_of [] n) ≡ with_blocks sh (k + n)
   pub shows : last_shown sh (plain sh) (shown_of k) (with_blocks sh k) (blocks_of [] n) ≡ shown_of (k + n)
 
@@ -43,7 +43,7 @@ fill_on sh (suc n) k fits =
     let room : k < sh.layout.blocks = omega (arith, fits) in
     let count : k + 1 + n ≡ k + suc n = omega arith in
     record {
-      prints = (λ i. answer_text (WriteBlock 1 []) (line_is sh k room (shown_of k) i).1 ∷ printed sh (plain sh) (shown_is sh k room i) (line_is sh k room (shown_of k) i).0 (calls (blocks_of [] n))) ∙ ap (λ (texts : List (List ℕ)). answer_text (WriteBlock 1 []) (ToWriteBlock (Ok (k + 1, 3000))) ∷ texts) more.prints;
+      prints = (λ i. answer_text (WriteBlock 1 []) (line_is sh k room (shown_of k) i).1 ∷ printed sh (plain sh) (shown_is sh k room i) (line_is sh k room (shown_of k) i).0 (blocks_of [] n)) ∙ ap (λ (texts : List (List ℕ)). answer_text (WriteBlock 1 []) (ToWriteBlock (Ok (k + 1, 3000))) ∷ texts) more.prints;
       leads = (λ i. last_work sh (plain sh) (shown_is sh k room i) (line_is sh k room (shown_of k) i).0 (blocks_of [] n)) ∙ more.leads ∙ ap (with_blocks sh) count;
       shows = (λ i. last_shown sh (plain sh) (shown_is sh k room i) (line_is sh k room (shown_of k) i).0 (blocks_of [] n)) ∙ more.shows ∙ ap shown_of count;
     }
@@ -69,7 +69,7 @@ fill_law sh n fits =
     let all = fill_on sh n 0 (omega (arith, fits)) in
     let count : 0 + n ≡ n = omega arith in
     record {
-      prints = (λ i. printed sh (plain sh) (blank_is i) (first_is sh i) (calls (blocks_of [] n))) ∙ all.prints;
+      prints = (λ i. printed sh (plain sh) (blank_is i) (first_is sh i) (blocks_of [] n)) ∙ all.prints;
       leads = (λ i. last_work sh (plain sh) (blank_is i) (first_is sh i) (blocks_of [] n)) ∙ all.leads ∙ ap (with_blocks sh) count;
       shows = (λ i. (last_shown sh (plain sh) (blank_is i) (first_is sh i) (blocks_of [] n)).units) ∙ ap (λ (shown : Shown). shown.units) all.shows ∙ ap with_units count;
     }
@@ -77,16 +77,16 @@ fill_law sh n fits =
 -- ---- a long trailer
 
 -- what is printed after the lines that fill the grid so far
-rest_is : (sh : Shape) (n : ℕ) (ds : List Command) → n ≤ sh.layout.blocks → printed sh (plain sh) blank (first_work sh) (calls (blocks_of [] n ++ ds)) ≡ wrote_from 1 n ++ printed sh (plain sh) (last_shown sh (plain sh) blank (first_work sh) (blocks_of [] n)) (with_blocks sh n) (calls ds)
+rest_is : (sh : Shape) (n : ℕ) (ds : List Command) → n ≤ sh.layout.blocks → printed sh (plain sh) blank (first_work sh) (blocks_of [] n ++ ds) ≡ wrote_from 1 n ++ printed sh (plain sh) (last_shown sh (plain sh) blank (first_work sh) (blocks_of [] n)) (with_blocks sh n) ds
 rest_is sh n ds fits =
     let fill = fill_law sh n fits in
-    printed_after sh (plain sh) (blocks_of [] n) ds blank (first_work sh) ∙ (λ i. fill.prints i ++ printed sh (plain sh) (last_shown sh (plain sh) blank (first_work sh) (blocks_of [] n)) (fill.leads i) (calls ds))
+    printed_after sh (plain sh) (blocks_of [] n) ds blank (first_work sh) ∙ (λ i. fill.prints i ++ printed sh (plain sh) (last_shown sh (plain sh) blank (first_work sh) (blocks_of [] n)) (fill.leads i) ds)
 
-one_block : (named : 0 < 7) (some : 0 < 16) (shown : Shown) → let sh = file 16 4096 1 4096 1024 named some in printed sh (plain sh) shown (with_blocks sh 231) (calls (Begin [] ∷ [])) ≡ codes "begun 1\n" ∷ []
+one_block : (named : 0 < 7) (some : 0 < 16) (shown : Shown) → let sh = file 16 4096 1 4096 1024 named some in printed sh (plain sh) shown (with_blocks sh 231) (Begin [] ∷ []) ≡ codes "begun 1\n" ∷ []
 unfolding digits
 one_block named some shown = refl
 
-two_blocks : (named : 0 < 7) (some : 0 < 16) (shown : Shown) → let sh = file 16 4096 1 4096 1024 named some in printed sh (plain sh) shown (with_blocks sh 232) (calls (Begin [] ∷ Advance ∷ Advance ∷ Advance ∷ [])) ≡ codes "begun 2\n" ∷ codes "working 2\n" ∷ codes "working 1\n" ∷ codes "done 2\n" ∷ []
+two_blocks : (named : 0 < 7) (some : 0 < 16) (shown : Shown) → let sh = file 16 4096 1 4096 1024 named some in printed sh (plain sh) shown (with_blocks sh 232) (Begin [] ∷ Advance ∷ Advance ∷ Advance ∷ []) ≡ codes "begun 2\n" ∷ codes "working 2\n" ∷ codes "working 1\n" ∷ codes "done 2\n" ∷ []
 unfolding digits
 two_blocks named some shown = refl
 

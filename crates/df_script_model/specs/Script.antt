@@ -1,16 +1,11 @@
 -- What a script prints: a fold of the machine over its lines.
-use Rattle.std.specs.Prelude.{◌≡◌, ℕ, List, [], ◌∷◌, codes, Some, None}
+use Rattle.std.specs.Prelude.{◌≡◌, ℕ, List, [], ◌∷◌, codes}
 use Rattle.df_theory.specs.Shape.{Shape}
 use Rattle.df_model.specs.Work.{Work}
 use Rattle.df_model.specs.Memory.{memory_of}
 use Rattle.df_model.specs.Commands.{Answer, Command, ReadBlock, Release, Reply, ToAdvance, ToAppend, ToBegin, ToReadBlock, ToReadPrepare, ToReadReply, ToRecent, ToRelease, ToReply, ToScrub, ToWriteBlock}
 use Rattle.df_model.specs.Supply.{Codec, Shown, next, result, shown_after}
-use Rattle.df_script_model.specs.Texts.{append_refusal, begin_refusal, block_refusal, block_text, findings_text, line_of, lookup_refusal, message_text, numbered, prepare_refusal, progress_text, read_refusal, recent_text, reply_refusal, scrubbed_text, step_refusal, text_or}
-
--- a line calls the replica once, or prints its whole ring of findings
-pub data Line : Type 0 where
-  Call : (command : Command) → Line
-  Ring : Line
+use Rattle.df_script_model.specs.Texts.{append_refusal, begin_refusal, block_refusal, block_text, line_of, lookup_refusal, message_text, numbered, prepare_refusal, progress_text, read_refusal, recent_text, reply_refusal, scrubbed_text, step_refusal, text_or}
 
 -- the number that a line names: a line `release ADDRESS` or `read ADDRESS` is answered with its address
 abbrev pub address_in : Command → ℕ
@@ -35,18 +30,12 @@ answer_text c (ToReadPrepare answer) = text_or prepare_refusal (message_text (co
 answer_text c (ToReadReply answer) = text_or lookup_refusal (message_text (codes "reply")) answer
 answer_text c (ToReadBlock answer) = text_or read_refusal (block_text (address_in c)) answer
 answer_text c (ToScrub answer) = scrubbed_text answer
-answer_text c (ToRecent None) = []
-answer_text c (ToRecent (Some f)) = line_of (findings_text (f ∷ []))
+answer_text c (ToRecent findings) = recent_text findings
 
--- the lines that a script prints, one for each of its own
-abbrev pub printed : Shape → Codec → Shown → Work → List Line → List (List ℕ)
+-- the lines that a script prints, one for each of its commands
+abbrev pub printed : Shape → Codec → Shown → Work → List Command → List (List ℕ)
 printed sh codec shown w [] = []
-printed sh codec shown w ((Call c) ∷ more) = answer_text c (next sh codec shown w c).1 ∷ printed sh codec (shown_after codec shown (memory_of sh codec.spell w) c) (next sh codec shown w c).0 more
-printed sh codec shown w (Ring ∷ more) = recent_text w.findings ∷ printed sh codec shown w more
-
-abbrev pub calls : List Command → List Line
-calls [] = []
-calls (c ∷ cs) = Call c ∷ calls cs
+printed sh codec shown w (c ∷ more) = answer_text c (next sh codec shown w c).1 ∷ printed sh codec (shown_after codec shown (memory_of sh codec.spell w) c) (next sh codec shown w c).0 more
 
 -- the texts of these answers
 abbrev pub texts : List Command → List Answer → List (List ℕ)
@@ -54,6 +43,6 @@ texts [] answers = []
 texts (c ∷ cs) [] = []
 texts (c ∷ cs) (a ∷ more) = answer_text c a ∷ texts cs more
 
--- a script of calls prints the texts of the machine's answers
+-- a script prints the texts of the machine's answers
 abbrev pub PrintedLaw : Type 0
-PrintedLaw = (sh : Shape) (codec : Codec) (shown : Shown) (w : Work) (cs : List Command) → printed sh codec shown w (calls cs) ≡ texts cs (result sh codec shown w cs)
+PrintedLaw = (sh : Shape) (codec : Codec) (shown : Shown) (w : Work) (cs : List Command) → printed sh codec shown w cs ≡ texts cs (result sh codec shown w cs)

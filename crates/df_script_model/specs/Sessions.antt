@@ -9,9 +9,9 @@ use Rattle.df_theory.specs.View.{View}
 use Rattle.df_model.specs.Work.{Work, kept, opened}
 use Rattle.df_model.specs.Blocks.{entries}
 use Rattle.df_model.specs.Making.{block_of}
-use Rattle.df_model.specs.Commands.{Advance, Append, Begin, Command, ReadBlock, ReadPrepare, ReadReply, Release, Reply, Scrub, WriteBlock}
+use Rattle.df_model.specs.Commands.{Advance, Append, Begin, Command, ReadBlock, ReadPrepare, ReadReply, Recent, Release, Reply, Scrub, WriteBlock}
 use Rattle.df_model.specs.Supply.{Codec, Shown, last_shown, last_work, nothing}
-use Rattle.df_script_model.specs.Script.{Line, Ring, calls, printed}
+use Rattle.df_script_model.specs.Script.{printed}
 
 -- ---- the file
 
@@ -74,7 +74,7 @@ plain sh = record {
   content = λ c. c.sequence;
 }
 
-abbrev pub session : Shape → List Line → List (List ℕ)
+abbrev pub session : Shape → List Command → List (List ℕ)
 session sh lines = printed sh (plain sh) blank (first_work sh) lines
 
 -- ---- sessions
@@ -82,10 +82,10 @@ session sh lines = printed sh (plain sh) blank (first_work sh) lines
 abbrev pub FirstSession : Type 0
 FirstSession =
     (named : 0 < 7) (some : 0 < 32)
-    → session (small named some) (calls (
+    → session (small named some) (
     Append 5 1 [] ∷ Reply 1 (170 ∷ []) ∷ ReadReply 5 ∷ Append 5 1 [] ∷ Append 5 3 (0 ∷ []) ∷ Append 5 2 (1 ∷ 2 ∷ []) ∷ Append 5 2 (1 ∷ 2 ∷ [])
     ∷ ReadReply 5 ∷ ReadReply 6 ∷ ReadPrepare 2 ∷ ReadPrepare 3 ∷ Reply 1 [] ∷ Append 0 1 [] ∷ []
-    ))
+    )
     ≡ codes "appended 1\n" ∷ codes "replied 1\n" ∷ codes "reply 1 client 5 request 1 mark 1 checkpoint 1 body aa\n" ∷ codes "refused Repeated op 1\n" ∷ codes "refused RequestOrder expected 2\n" ∷ codes "appended 2\n" ∷ codes "refused ReplyPending op 2\n"
     ∷ codes "refused ReplyPending op 2\n" ∷ codes "refused NoClient\n" ∷ codes "prepare 2 client 5 request 2 mark 1 checkpoint 1 body 0102\n" ∷ codes "refused NotKept first 1 last 2\n" ∷ codes "refused ReplyOrder expected 2\n" ∷ codes "refused ClientZero\n" ∷ []
 
@@ -98,7 +98,7 @@ requests_from k (suc n) = Append 1 k [] ∷ Reply k [] ∷ requests_from (k + 1)
 abbrev pub RingSession : Type 0
 RingSession =
     (named : 0 < 7) (some : 0 < 32)
-    → drop 64 (session (small named some) (calls (requests_from 1 32 ++ (Append 1 33 [] ∷ Begin [] ∷ Append 1 33 [] ∷ Advance ∷ Advance ∷ Append 1 33 [] ∷ ReadPrepare 32 ∷ Advance ∷ ReadPrepare 33 ∷ []))))
+    → drop 64 (session (small named some) (requests_from 1 32 ++ (Append 1 33 [] ∷ Begin [] ∷ Append 1 33 [] ∷ Advance ∷ Advance ∷ Append 1 33 [] ∷ ReadPrepare 32 ∷ Advance ∷ ReadPrepare 33 ∷ [])))
     ≡ codes "refused WalFull op 33 checkpoint_op 0\n" ∷ codes "begun 1\n" ∷ codes "refused WalFull op 33 checkpoint_op 0\n" ∷ codes "working 1\n" ∷ codes "done 2\n" ∷ codes "appended 33\n" ∷ codes "refused NotKept first 33 last 33\n" ∷ codes "refused NotRunning\n" ∷ codes "prepare 33 client 1 request 33 mark 32 checkpoint 2 body -\n" ∷ []
 
 -- the first request of n clients, from this one on
@@ -108,18 +108,18 @@ clients_from k (suc n) = Append k 1 [] ∷ clients_from (k + 1) n
 
 -- a table that is full of sessions, and a pipeline that is full of prepares
 abbrev pub FullTable : Type 0
-FullTable = (named : 0 < 7) (some : 0 < 32) → drop 4 (session (small named some) (calls (clients_from 1 5))) ≡ codes "refused ClientsFull max 4\n" ∷ []
+FullTable = (named : 0 < 7) (some : 0 < 32) → drop 4 (session (small named some) (clients_from 1 5)) ≡ codes "refused ClientsFull max 4\n" ∷ []
 
 abbrev pub FullPipeline : Type 0
-FullPipeline = (named : 0 < 7) (some : 0 < 32) → drop 8 (session (file 32 8192 16 16384 64 named some) (calls (clients_from 1 9))) ≡ codes "refused PipelineFull waiting 8\n" ∷ []
+FullPipeline = (named : 0 < 7) (some : 0 < 32) → drop 8 (session (file 32 8192 16 16384 64 named some) (clients_from 1 9)) ≡ codes "refused PipelineFull waiting 8\n" ∷ []
 
 -- blocks, and when their addresses are given out again
 abbrev pub BlockSession : Type 0
 BlockSession =
     (named : 0 < 7) (some : 0 < 32)
-    → session (small named some) (calls (
+    → session (small named some) (
     WriteBlock 1 (170 ∷ []) ∷ Begin [] ∷ Advance ∷ Advance ∷ Release 1 ∷ Release 1 ∷ Begin [] ∷ Begin [] ∷ WriteBlock 1 (187 ∷ []) ∷ Advance ∷ Advance ∷ WriteBlock 1 (204 ∷ []) ∷ ReadBlock 4 ∷ WriteBlock 0 [] ∷ []
-    ))
+    )
     ≡ codes "wrote 1\n" ∷ codes "begun 1\n" ∷ codes "working 1\n" ∷ codes "done 2\n" ∷ codes "released 1\n" ∷ codes "refused NotLive\n" ∷ codes "begun 1\n" ∷ codes "refused Running left 2\n" ∷ codes "wrote 4\n" ∷ codes "working 1\n" ∷ codes "done 3\n"
     ∷ codes "wrote 1\n" ∷ codes "block 4 kind 1 body bb\n" ∷ codes "refused KindZero\n" ∷ []
 
@@ -137,7 +137,7 @@ wrote_from k (suc n) = (codes "wrote " ++ (decimal k ++ 10 ∷ [])) ∷ wrote_fr
 abbrev pub FullGrid : Type 0
 FullGrid =
     (named : 0 < 7) (some : 0 < 32)
-    → session (small named some) (calls (blocks_of [] 64 ++ (WriteBlock 1 [] ∷ Begin [] ∷ []))) ≡ wrote_from 1 64 ++ (codes "refused GridFull blocks 64\n" ∷ codes "refused GridFull needed 1 free 0\n" ∷ [])
+    → session (small named some) (blocks_of [] 64 ++ (WriteBlock 1 [] ∷ Begin [] ∷ [])) ≡ wrote_from 1 64 ++ (codes "refused GridFull blocks 64\n" ∷ codes "refused GridFull needed 1 free 0\n" ∷ [])
 
 -- ---- a grid that fills
 
@@ -156,7 +156,7 @@ with_units n place = None
 
 -- n lines that write a block, on a file that was just made: each is answered with the least address that isn't held, which is the next number, and they lead to the state with n live blocks
 pub record Fills (sh : Shape) (n : ℕ) : Type 0 where
-  pub prints : session sh (calls (blocks_of [] n)) ≡ wrote_from 1 n
+  pub prints : session sh (blocks_of [] n) ≡ wrote_from 1 n
   pub leads : last_work sh (plain sh) blank (first_work sh) (blocks_of [] n) ≡ with_blocks sh n
   pub shows : (last_shown sh (plain sh) blank (first_work sh) (blocks_of [] n)).units ≡ with_units n
 
@@ -169,8 +169,8 @@ abbrev pub LongTrailer : Type 0
 LongTrailer =
     (named : 0 < 7) (some : 0 < 16)
     → let sh = file 16 4096 1 4096 1024 named some in
-    (session sh (calls (blocks_of [] 231 ++ (Begin [] ∷ []))) ≡ wrote_from 1 231 ++ (codes "begun 1\n" ∷ []))
-    × (session sh (calls (blocks_of [] 232 ++ (Begin [] ∷ Advance ∷ Advance ∷ Advance ∷ []))) ≡ wrote_from 1 232 ++ (codes "begun 2\n" ∷ codes "working 2\n" ∷ codes "working 1\n" ∷ codes "done 2\n" ∷ []))
+    (session sh (blocks_of [] 231 ++ (Begin [] ∷ [])) ≡ wrote_from 1 231 ++ (codes "begun 1\n" ∷ []))
+    × (session sh (blocks_of [] 232 ++ (Begin [] ∷ Advance ∷ Advance ∷ Advance ∷ [])) ≡ wrote_from 1 232 ++ (codes "begun 2\n" ∷ codes "working 2\n" ∷ codes "working 1\n" ∷ codes "done 2\n" ∷ []))
 
 -- five blocks, of which the second and the fourth are overwritten at rest, and a block that nothing references
 abbrev pub hurt : Units → Units
@@ -187,5 +187,5 @@ ScrubSession =
     let codec = plain sh in
     let shown : Shown = record { units = hurt (last_shown sh codec blank (first_work sh) five_blocks).units; damage = λ place. Garbled } in
     let w = opened sh shown.units (kept (last_work sh codec blank (first_work sh) five_blocks)) in
-    printed sh codec shown w (calls (Scrub ∷ Scrub ∷ Scrub ∷ Scrub ∷ Scrub ∷ Scrub ∷ Scrub ∷ []) ++ Ring ∷ [])
+    printed sh codec shown w (Scrub ∷ Scrub ∷ Scrub ∷ Scrub ∷ Scrub ∷ Scrub ∷ Scrub ∷ Recent ∷ [])
     ≡ codes "checked 1 Sound\n" ∷ codes "checked 2 Garbled\n" ∷ codes "checked 3 Sound\n" ∷ codes "checked 4 Garbled\n" ∷ codes "checked 5 Sound\n" ∷ codes "checked 6 Sound\n" ∷ codes "tour 6 2\n" ∷ codes "recent 2 2 Garbled 4 Garbled\n" ∷ []

@@ -23,7 +23,7 @@ use Rattle.df_grid.specs.Reads.{Tests, class_in, shown_of}
 use Rattle.df_grid.specs.Table.{pair_in}
 use Rattle.df_scrub.specs.Scrubber.{IsStep, IsVerdict, ScrubState, after_step, judged, left_in, verdict_in, with_check}
 use Rattle.df_scrub.specs.Machine.{IsMachines, IsOver, with_scrub}
-use Rattle.df_scrub.proofs.Addresses.{Rise, entries_rise, is_next}
+use Rattle.df_model.proofs.Laws.{Rise, entries_rise, is_next}
 
 pub referenced_rise : (g : GridState) → Rise 1 (1 + g.layout.blocks) (referenced_of g)
 referenced_rise g = entries_rise (reference_in g.blocks) 1 g.layout.blocks (1 + g.layout.blocks) (omega arith)

@@ -1,6 +1,6 @@
 -- A tour on its way: what is listed so far, with what is left, is all that fails.
-use Rattle.std.proofs.Common.{◌≡◌, ℕ, ◌+◌, ◌-◌, ◌<◌, ◌≤◌, List, [], ◌∷◌, ◌++◌, length, drop, Option, Some, None, refl, sym, ◌∙◌, ap, subst, arith, length-append, length-drop}
-use Rattle.std.proofs.lemmas.List.{append-nil, append_assoc, drop-append-le, drop-drop}
+use Rattle.std.proofs.Common.{◌≡◌, ℕ, ◌+◌, ◌-◌, ◌<◌, ◌≤◌, List, [], ◌∷◌, ◌++◌, length, Option, Some, None, refl, sym, ◌∙◌, ap, subst, arith}
+use Rattle.std.proofs.lemmas.List.{append-nil, append_assoc}
 use Rattle.df_disk.specs.Told.{Told}
 use Rattle.df_layout.specs.declared.damage.Finding.{Finding}
 use Rattle.df_model.specs.Work.{first_tour}
@@ -10,11 +10,10 @@ use Rattle.df_model.specs.declared.answers.Scrubbed.{Scrubbed}
 use Rattle.df_model.specs.declared.answers.Scrubbed.TheVariants.{Checked, TourEnd}
 use Rattle.df_model.specs.declared.answers.Verdict.{Verdict}
 use Rattle.df_model.specs.declared.answers.Verdict.TheVariants.{Sound, Failing}
-use Rattle.df_model.proofs.Laws.{newest_keeps, newest_short}
+use Rattle.df_model.proofs.Laws.{above, all_above, is_next, newest_keeps, newest_short, rising_few}
 use Rattle.df_grid.specs.Grid.{GridState, referenced_of}
 use Rattle.df_scrub.specs.Scrubber.{IsStep, IsVerdict, ScrubState, after_step, left_in, with_check}
 use Rattle.df_scrub.specs.Tours.{ListsSoFar, failing_among}
-use Rattle.df_scrub.proofs.Addresses.{above, all_above, few, is_next}
 use Rattle.df_scrub.proofs.Checks.{referenced_rise}
 
 -- so far: the tour counts what it checked, the ring took what is listed, and no more is listed than was checked
@@ -113,7 +112,7 @@ fewer g told s t a v step =
 pub has_room : (g : GridState) (told : Option Told) (start : List Finding) (s t : ScrubState) (report : List Finding) (size a : ℕ) (v : Verdict) → IsTouring g told start s report size → IsStep g s t told (Checked a v) → size < g.layout.blocks
 has_room g told start s t report size a v so step =
     let is = (one_checked g told s t a v step).3 in
-    omega (arith, so.counted, so.listed, ap length is.left, few 1 (1 + g.layout.blocks) (referenced_of g) (omega arith) (referenced_rise g))
+    omega (arith, so.counted, so.listed, ap length is.left, rising_few 1 (1 + g.layout.blocks) (referenced_of g) (omega arith) (referenced_rise g))
 
 lists_on : (g : GridState) (told : Option Told) (s t : ScrubState) (report : List Finding) (x : ℕ × ℕ) (more : List (ℕ × ℕ)) (v : Verdict) → ListsSoFar g told s report → IsChecked g told s t x more v → ListsSoFar g told t (report ++ with_finding x.0 v [])
 lists_on g None s t report x more v lists is = tt

@@ -1,3 +1,4 @@
 pub mod Scrubber
 pub mod Machine
 pub mod Tours
+pub mod Below

@@ -1,9 +1,6 @@
 // The scrubber over a grid: one block after the other, each tested by one read, and a whole tour.
 ghost use Rattle.std.specs.Prelude.{◌≡◌, ◌≤◌, ◌<◌, ◌+◌, ◌++◌, [], vec_len, vec_capacity, IfOk, OnOk, OnErr};
-ghost use Rattle.df_base.specs.Causes.{HasCause};
-ghost use Rattle.df_model.specs.After.{newest};
-ghost use Rattle.df_model.specs.Reading.{with_finding};
-ghost use Rattle.df_model.specs.Work.{first_tour};
+ghost use Rattle.df_scrub.specs.Below.{HasCause, newest, with_finding, first_tour};
 ghost use Rattle.df_scrub.specs.Machine.{IsMachines};
 ghost use Rattle.df_scrub.specs.Scrubber.{IsStep};
 ghost use Rattle.df_scrub.specs.Tours.{ListsFailing, ListsSoFar};

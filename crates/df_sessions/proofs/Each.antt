@@ -1,6 +1,6 @@
 -- What holds of each session, and the ops of the sessions.
-use Rattle.std.proofs.Common.{◌≡◌, ℕ, zero, suc, ◌<◌, Bool, true, false, inl, inr, Some, List, [], ◌∷◌, refl, ap, arith, IsTrue}
-use Rattle.std.specs.Prelude.{◌&&◌, nat_eq}
+use Rattle.std.proofs.Common.{◌≡◌, ℕ, zero, suc, ◌<◌, Bool, false, inl, inr, Some, List, [], ◌∷◌, refl, ap, arith, IsTrue}
+use Rattle.std.specs.Prelude.{nat_eq}
 use Rattle.std.specs.List.{AllByRecursion, IsDistinct, list_all}
 use Rattle.std.proofs.lemmas.Bool.{cases_Bool, eqb-true, and_parts}
 use Rattle.df_sessions.specs.declared.session.Session.{Session}

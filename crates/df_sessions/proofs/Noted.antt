@@ -1,4 +1,4 @@
--- The table is the model's list of sessions after the same requests, and changes in turn are one list of changes.
+-- The table is the theory's list of sessions after the same requests, and changes in turn are one list of changes.
 use Rattle.std.proofs.Common.{◌≡◌, ℕ, zero, suc, inl, inr, List, [], ◌∷◌, ◌++◌, refl, sym, ap, ◌∙◌}
 use Rattle.std.proofs.lemmas.Bool.{cases_Bool}
 use Rattle.df_theory.specs.Units

@@ -1,4 +1,4 @@
--- A table of sessions as the model's list: each client's latest request, whatever replies are stored.
+-- A table of sessions as the theory's list: each client's latest request, whatever replies are stored.
 use Rattle.std.specs.Prelude.{List, [], ◌∷◌, map}
 use Rattle.df_theory.specs.Units
 use Rattle.df_theory.specs.Sessions
@@ -6,11 +6,11 @@ use Rattle.df_sessions.specs.declared.session.Session.{Session}
 use Rattle.df_sessions.specs.Changes.{Change}
 use Rattle.df_sessions.specs.Changes.Change.{Request, Reply}
 
--- the model's session
+-- the theory's session
 abbrev pub session_of : Session → Units.Session
 session_of s = record { client = s.client; request = s.request; op = s.op }
 
--- the model's list
+-- the theory's list
 abbrev pub sessions_of : List Session → List Units.Session
 sessions_of sessions = map session_of sessions
 

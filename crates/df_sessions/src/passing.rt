@@ -1,4 +1,4 @@
-// What the layers above rest on: the table is the model's list of sessions, and what stays so of each session.
+// What the layers above rest on: the table is the theory's list of sessions, and what stays so of each session.
 ghost use Rattle.std.specs.Prelude.{◌≡◌, ◌<◌, ℕ, Bool, [], List, nat_eq, Some, IsTrue};
 ghost use Rattle.std.specs.List.{AllByRecursion, IsDistinct, list_all};
 ghost use Rattle.df_sessions.specs.Changes.{Change, changed_by, sessions_after};
@@ -8,7 +8,7 @@ ghost use Rattle.df_sessions.specs.Requests.{requests_in, requests_of, sessions_
 ghost use Rattle.df_sessions.specs.Table.{ops_of, requested, with_request, with_reply};
 ghost use Rattle.df_sessions.specs.declared.session.Session.{Session};
 
-/// After a list of changes the table is the model's list of sessions after prepares that ask for the same, whatever replies were stored.
+/// After a list of changes the table is the theory's list of sessions after prepares that ask for the same, whatever replies were stored.
 pub fn requests_of_a_table()
     ensures whole { (changes : List Change) (prepares : List Message) → requests_in changes ≡ requests_of prepares
         → sessions_of (sessions_after changes) ≡ Sessions.sessions_after [] prepares }

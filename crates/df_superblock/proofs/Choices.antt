@@ -3,10 +3,9 @@ use Rattle.std.proofs.Common.{◌≡◌, ◌⊎◌, inl, inr, ℕ, ◌<◌, Bool
 use Rattle.std.proofs.lemmas.Bool.{cases_eq}
 use Rattle.std.proofs.lemmas.Slice.Eq.{bytes_eq-Decides}
 use Rattle.std.specs.Str.{bytes_eq}
-use Rattle.df_format.specs.Copies.{Content, rank_of}
+use Rattle.df_format.specs.Copies.{Content}
 use Rattle.df_format.specs.declared.superblock.SuperFields.{SuperFields}
-use Rattle.df_quorum.proofs.Laws.{two_law}
-use Rattle.df_quorum.specs.Quorum.{Copies, Agree, IsChosen}
+use Rattle.df_quorum.specs.Quorum.{Copies, Agree}
 
 -- another one of two copies that agree
 pub partner : (copies : Copies) (c : Content) → Agree copies c → (i : ℕ) → (j : ℕ) × (j < 4) × (i ≡ j → ⊥) × (copies j ≡ Some c)

@@ -1,5 +1,5 @@
 -- What the places of the copies show after a write of one copy, and what a stop leaves of them.
-use Rattle.std.proofs.Common.{◌≡◌, ℕ, false, ◌||◌, List, Some, refl, ap}
+use Rattle.std.proofs.Common.{◌≡◌, ℕ, false, ◌||◌, List, Some, ap}
 use Rattle.df_base.specs.Image.{Image, covers, written}
 use Rattle.df_base.specs.Log.{Write, Log, add, loose, now}
 use Rattle.df_base.proofs.Laws.{written_else}

@@ -1,4 +1,4 @@
--- The events of the writers of copies are steps of the model.
+-- The events of the writers of copies are steps of the theory.
 use Rattle.std.proofs.Common.{ℕ, ◌+◌, ◌<◌, ◌≤◌, Bool, true, false, List, [], ◌∷◌, length, arith}
 use Rattle.df_base.specs.Log.{Sync}
 use Rattle.df_layout.specs.declared.layout.Layout.{Layout}

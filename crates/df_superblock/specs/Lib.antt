@@ -4,3 +4,4 @@ pub mod Calls
 pub mod Steps
 pub mod Misleading
 pub mod Blank
+pub mod Below

@@ -1,4 +1,4 @@
--- What the writers of copies do, in the words of the model: which steps their events are, on a file of any layout and cluster.
+-- What the writers of copies do, in the words of the theory: which steps their events are, on a file of any layout and cluster.
 use Rattle.std.specs.Prelude.{◌+◌, ℕ, true, false, Bool, List, [], ◌∷◌}
 use Rattle.df_base.specs.Log.{Event}
 use Rattle.df_layout.specs.declared.layout.Layout.{Layout}

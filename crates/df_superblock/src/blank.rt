@@ -1,6 +1,6 @@
 // Which of the four places of the superblock holds a byte other than zero.
 ghost use Rattle.std.specs.Prelude.{◌≡◌, ◌<◌, ◌↔◌, IsTrue, get_or, IfSome, IfNone};
-ghost use Rattle.df_quorum.specs.Quorum.{nothing};
+ghost use Rattle.df_superblock.specs.Below.{nothing};
 ghost use Rattle.df_superblock.specs.Blank.{AreBlank, IsFirstWrittenOf};
 
 use df_layout::Class;

@@ -1,9 +1,6 @@
 // Reads and writes of single copies. A copy is durable before its writer answers.
 ghost use Rattle.std.specs.Prelude.{◌≡◌, ◌<◌, [], ◌∷◌, length, IfOk, OnOk};
-ghost use Rattle.df_base.specs.Causes.{HasCause};
-ghost use Rattle.df_base.specs.Log.{Sync};
-ghost use Rattle.df_disk.specs.Adds.{Adds};
-ghost use Rattle.df_format.specs.Copies.{own_copy};
+ghost use Rattle.df_superblock.specs.Below.{HasCause, Sync, Adds, own_copy};
 ghost use Rattle.df_superblock.specs.Calls.{ShowsSector, ShowsSlot, ShowsSlots, ShowsCopies, slot_of};
 ghost use Rattle.df_superblock.specs.Events.{copy_written};
 ghost use Rattle.df_superblock.specs.Steps.{AreStepsOfCopies, write_steps};

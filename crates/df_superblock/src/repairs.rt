@@ -1,7 +1,6 @@
 // Repairs: the copies that don't show the chosen content are written anew, one after the other, and no other one.
 ghost use Rattle.std.specs.Prelude.{◌≡◌, ◌<◌, length, OnOk};
-ghost use Rattle.df_base.specs.Causes.{HasCause};
-ghost use Rattle.df_disk.specs.Adds.{Adds};
+ghost use Rattle.df_superblock.specs.Below.{HasCause, Adds};
 ghost use Rattle.df_superblock.specs.Calls.{KeepsMembers, RepairsUnlessMisled, EndsRepaired};
 ghost use Rattle.df_superblock.specs.Events.{mend_events, repair_events};
 ghost use Rattle.df_superblock.specs.Steps.{AreStepsOfCopies, repair_steps};

@@ -1,12 +1,9 @@
 // Updates: the four copies in order, each durable before the next one is written, and a look at what became of them.
 ghost use Rattle.std.specs.Prelude.{◌≡◌, ◌<◌, ◌≤◌, ℕ, IsTrue, ◌↔◌, IfSome, IfNone, OnOk};
-ghost use Rattle.df_base.specs.Causes.{HasCause, IsBlamed};
-ghost use Rattle.df_disk.specs.Adds.{Adds};
+ghost use Rattle.df_superblock.specs.Below.{HasCause, IsBlamed, Adds, update_steps, put_copies};
 ghost use Rattle.df_superblock.specs.Calls.{Holds, IsRead, IsFirstMissing, IsVerdict, IsJudged, IsUndamaged, AddsUpdate, UpdatesSafely, ShowsEqual, EndsEqual, class_of_slot, is_update_fault};
 ghost use Rattle.df_superblock.specs.Events.{update_events};
 ghost use Rattle.df_superblock.specs.Steps.{AreStepsOfCopies};
-ghost use Rattle.df_theory.specs.CopyPuts.{update_steps};
-ghost use Rattle.df_units.specs.Puts.{put_copies};
 
 use crate::copies::{read_all, write_copy};
 use df_base::{BlamesDisk, Failed};

@@ -1,6 +1,6 @@
 // Five blocks and their checkpoint: how many events they add, and stops before they are durable.
 use crate::cut::{stopped_behind, stopped_within};
-use crate::left::{Left, Numbers, is_left};
+use crate::left::{Left, is_left};
 use df_images::Fate;
 use df_runs::{printed, run_script, small_file};
 use std::test::Fail;
@@ -19,12 +19,7 @@ const BLOCKS: [(u16, Fate); 6] = [
 // Nothing of it is found, and the addresses are free.
 const NEW: Left = Left {
     mends: &[],
-    found: Numbers {
-        sequence: 1,
-        checkpoint_op: 0,
-        head: 0,
-        replies: 0,
-    },
+    found: [1, 0, 0, 0],
     next: "read 1\nblock 1 00\n",
     text: "refused NotLive\nwrote 1\n",
 };

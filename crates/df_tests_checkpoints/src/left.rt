@@ -10,27 +10,20 @@ use std::test::Fail;
 /// A place with what is to be mended there.
 pub(crate) type Found = (Zone, u64, Class);
 
-/// The state that an open finds in a small file of one client, by its numbers.
-#[derive(Clone, Copy)]
-pub(crate) struct Numbers {
-    pub(crate) sequence: u64,
-    pub(crate) checkpoint_op: u64,
-    pub(crate) head: u64,
-    pub(crate) replies: u64,
-}
+/// The sequence, the checkpoint's op, the head and the replies that an open finds in a small file of one client.
+pub(crate) type Numbers = [u64; 4];
 
-impl Numbers {
-    fn summary(&self) -> Summary {
-        Summary {
-            cluster: 7,
-            layout: Layout::small(),
-            sequence: self.sequence,
-            checkpoint_op: self.checkpoint_op,
-            head: self.head,
-            replies: self.replies,
-            sessions: if self.head == 0 { 0 } else { 1 },
-            references: 0,
-        }
+fn summary_of(numbers: &Numbers) -> Summary {
+    let [sequence, checkpoint_op, head, replies] = *numbers;
+    Summary {
+        cluster: 7,
+        layout: Layout::small(),
+        sequence,
+        checkpoint_op,
+        head,
+        replies,
+        sessions: if head == 0 { 0 } else { 1 },
+        references: 0,
     }
 }
 
@@ -64,7 +57,7 @@ fn lists(alloc: Global, disk: &mut MemoryDisk, mends: &[Found]) -> Result<bool, 
 /// Whether the file is surveyed, opened and gone on with so.
 pub(crate) fn is_left(alloc: Global, disk: &mut MemoryDisk, left: &Left) -> Result<bool, Fail> {
     let listed = lists(alloc, disk, left.mends)?;
-    let opened = found(alloc, disk)? == Ok(left.found.summary());
+    let opened = found(alloc, disk)? == Ok(summary_of(&left.found));
     let ran = run_script(alloc, disk, left.next.as_bytes())?;
     Ok(listed && opened && printed(&ran, left.text))
 }

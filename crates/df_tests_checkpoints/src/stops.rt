@@ -1,6 +1,6 @@
 // Stops within the steps of a checkpoint, and within the prepare that reuses a slot behind one.
 use crate::cut::{served, stopped_within};
-use crate::left::{Found, Left, Numbers, has_root, is_left};
+use crate::left::{Found, Left, has_root, is_left};
 use df_images::Fate;
 use df_layout::{Class, Zone};
 use df_memdisk::Strike;
@@ -18,12 +18,7 @@ const WRITTEN: &str = "append 1 1 -\ncheckpoint 01\nstep\n";
 // The checkpoint didn't come about.
 const FIRST: Left = Left {
     mends: &[],
-    found: Numbers {
-        sequence: 1,
-        checkpoint_op: 0,
-        head: 1,
-        replies: 0,
-    },
+    found: [1, 0, 1, 0],
     next: NEXT,
     text: TO_SECOND,
 };
@@ -31,12 +26,7 @@ const FIRST: Left = Left {
 // The checkpoint came about.
 const SECOND: Left = Left {
     mends: &[],
-    found: Numbers {
-        sequence: 2,
-        checkpoint_op: 1,
-        head: 1,
-        replies: 0,
-    },
+    found: [2, 1, 1, 0],
     next: NEXT,
     text: "begun 1\nworking 1\ndone 3\n",
 };
@@ -104,24 +94,14 @@ const FREED: &str = "append 1 33 -\ncheckpoint -\nappend 1 33 -\nstep\nstep\n";
 
 const COVERED: Left = Left {
     mends: &[],
-    found: Numbers {
-        sequence: 2,
-        checkpoint_op: 32,
-        head: 32,
-        replies: 32,
-    },
+    found: [2, 32, 32, 32],
     next: "append 1 33 -\n",
     text: "appended 33\n",
 };
 
 const REUSED: Left = Left {
     mends: &[(Zone::WalHeaders, 1, Class::Stale)],
-    found: Numbers {
-        sequence: 2,
-        checkpoint_op: 32,
-        head: 33,
-        replies: 32,
-    },
+    found: [2, 32, 33, 32],
     next: "append 1 33 -\n",
     text: "refused ReplyPending op 33\n",
 };

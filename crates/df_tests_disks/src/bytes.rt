@@ -8,7 +8,7 @@ use df_base::{
 };
 use std::alloc::Global;
 use std::io::{self, ErrorKind, Read, Write};
-use std::test::Fail;
+use std::process::Abort;
 
 // What a reader or a writer does at one call.
 #[derive(Clone, Copy)]
@@ -117,20 +117,21 @@ fn carried(source: &mut MemorySource, sink: &mut MemorySink) -> Result<usize, Fa
     Ok(count)
 }
 
+// A list in memory.
+fn list_of<T: Copy>(rt: &impl Abort, alloc: Global, items: &[T]) -> Vec<T> {
+    Vec::from_slice(alloc, items).expect(rt, "memory of a list")
+}
+
 #[test]
-fn listed_calls_in_memory_fail(rt: HostRuntime) -> Result<(), Fail> {
-    let text = Vec::from_slice(rt.alloc(), b"abcde")?;
-    let mut source = MemorySource::new(text, Vec::from_slice(rt.alloc(), &[2])?);
-    let mut sink = MemorySink::new(rt.alloc(), Vec::from_slice(rt.alloc(), &[1, 4])?);
-    for (i, wanted) in [Ok(2), Err(Failed), Ok(2), Ok(1), Ok(0)]
-        .into_iter()
-        .enumerate()
-    {
-        assert!(rt; carried(&mut source, &mut sink) == wanted, "read {i}");
+fn listed_calls_in_memory_fail(rt: HostRuntime) {
+    let alloc = rt.alloc();
+    let mut source = MemorySource::new(list_of(&rt, alloc, b"abcde"), list_of(&rt, alloc, &[2]));
+    let mut sink = MemorySink::new(alloc, list_of(&rt, alloc, &[1, 4]));
+    for (i, wanted) in [Ok(2), Err(Failed), Ok(2), Ok(1), Ok(0)].iter().enumerate() {
+        assert!(rt; carried(&mut source, &mut sink) == *wanted, "read {i}");
     }
     assert!(rt; sink.bytes() == b"cde".as_slice());
     assert!(rt; sink.refused() == 0);
-    Ok(())
 }
 
 #[test]
@@ -150,9 +151,11 @@ fn a_reader_is_read_past_interruptions_and_not_past_errors(rt: HostRuntime) {
         (Ok(4), [2; 4]),
         (Ok(0), [2; 4]),
     ];
-    for (i, (count, bytes)) in rows.into_iter().enumerate() {
-        assert!(rt; source.read(&mut into) == count, "read {i}");
-        assert!(rt; into == bytes, "read {i}");
+    for (i, (count, bytes)) in rows.iter().enumerate() {
+        assert!(rt;
+            source.read(&mut into) == *count && into == *bytes,
+            "read {i}"
+        );
     }
 }
 
@@ -169,14 +172,8 @@ fn a_writer_gets_the_whole_piece_and_a_flush(rt: HostRuntime) {
     ];
     let mut writer = Scripted::new(rt.alloc(), &turns);
     let mut sink = ToWrite::new(&mut writer);
-    let rows = [
-        ("abcd", Ok(()), "a piece in three turns"),
-        ("ef", Err(Failed), "a writer that takes nothing"),
-        ("gh", Err(Failed), "a writer that breaks"),
-    ];
-    for (piece, answer, name) in rows {
-        assert!(rt; sink.write(piece.as_bytes()) == answer, "{name}");
-    }
-    assert!(rt; writer.taken.as_slice() == b"abcdeg".as_slice());
-    assert!(rt; writer.flushes == 1);
+    // a piece in three turns, a writer that takes nothing, and one that breaks
+    let answers = [sink.write(b"abcd"), sink.write(b"ef"), sink.write(b"gh")];
+    assert!(rt; answers == [Ok(()), Err(Failed), Err(Failed)]);
+    assert!(rt; writer.taken.as_slice() == b"abcdeg".as_slice() && writer.flushes == 1);
 }

@@ -1,24 +1,25 @@
 // A disk that loses its second and third write, over one whose third device call fails.
-use crate::rows::{Call, assert_answers, assert_shows};
+use crate::memory::failing;
+use crate::rows::{Call, assert_answers};
 use df_base::Failed;
-use df_memdisk::{DroppingDisk, MemoryDisk};
-use std::test::Fail;
+use df_memdisk::DroppingDisk;
 
 #[test]
-fn a_lost_write_is_answered_ok_and_is_no_device_call(rt: HostRuntime) -> Result<(), Fail> {
-    let memory = MemoryDisk::new(rt.alloc(), Vec::from_slice(rt.alloc(), &[3])?);
-    let mut disk = DroppingDisk::new(memory, Vec::from_slice(rt.alloc(), &[2, 3])?);
+fn a_lost_write_is_answered_ok_and_is_no_device_call(rt: HostRuntime) {
+    let dropped = Vec::from_slice(rt.alloc(), &[2, 3]).expect(&rt, "memory of a list");
+    let mut disk = DroppingDisk::new(failing(&rt, rt.alloc(), &[3]), dropped);
     let rows = [
-        (Call::Fill(1, 1), Ok(())),
-        (Call::Sync, Ok(())),
-        (Call::Fill(1, 2), Ok(())),
-        (Call::Fill(2, 3), Ok(())),
+        (Call::Fill(1, 1), Ok(true)),
+        (Call::Sync, Ok(true)),
+        (Call::Fill(1, 2), Ok(true)),
+        (Call::Fill(2, 3), Ok(true)),
         (Call::Sync, Err(Failed)),
-        (Call::Sync, Ok(())),
-        (Call::Fill(3, 4), Ok(())),
+        (Call::Sync, Ok(true)),
+        (Call::Fill(3, 4), Ok(true)),
+        (Call::Holds(1, 1), Ok(true)),
+        (Call::Holds(2, 0), Ok(true)),
+        (Call::Holds(3, 4), Ok(true)),
     ];
     assert_answers(&rt, &mut disk, &rows);
-    assert_shows(&rt, &mut disk, 1, [1, 0, 4, 0]);
     assert!(rt; disk.into_disk().events() == 4);
-    Ok(())
 }

@@ -1,33 +1,23 @@
 // What no contract can say: where it isn't sure that a file would stay off the numbers of the standard streams, it isn't
 // opened, nor made.
-use crate::files::{FAILING, disk_over};
+use crate::files::{FAILING, assert_over};
 use crate::guarded::Guarded;
-use crate::rows::{Call, assert_answers};
+use crate::rows::Call;
 use std::fs;
-use std::test::Fail;
 
 #[test]
-fn without_stand_ins_nothing_is_opened_or_made(rt: HostRuntime) -> Result<(), Fail> {
+fn without_stand_ins_nothing_is_opened_or_made(rt: HostRuntime) {
     let name = "file_of_a_guarded_test";
     let _ = fs::remove_file(&rt, name);
-    let guarded = Guarded::denying_root(&rt);
-    let mut disk = disk_over(&guarded, rt.alloc(), name)?;
-    assert_answers(&rt, &mut disk, &FAILING);
-    assert!(rt; !fs::exists(&rt, name)?);
-    Ok(())
+    assert_over(&rt, &Guarded::denying_root(&rt), rt.alloc(), name, &FAILING);
+    assert!(rt; fs::exists(&rt, name).ok() == Some(false));
 }
 
 #[test]
-fn stand_ins_serve_where_no_pipe_tells(rt: HostRuntime) -> Result<(), Fail> {
+fn stand_ins_serve_where_no_pipe_tells(rt: HostRuntime) {
     let name = "file_beside_stand_ins";
     let _ = fs::remove_file(&rt, name);
-    let guarded = Guarded::new(&rt, &[]);
-    let mut disk = disk_over(&guarded, rt.alloc(), name)?;
-    assert_answers(
-        &rt,
-        &mut disk,
-        &[(Call::Fill(0, 1), Ok(())), (Call::Sync, Ok(()))],
-    );
-    fs::remove_file(&rt, name)?;
-    Ok(())
+    let rows = [(Call::Fill(0, 1), Ok(true)), (Call::Sync, Ok(true))];
+    assert_over(&rt, &Guarded::new(&rt, &[]), rt.alloc(), name, &rows);
+    assert!(rt; fs::remove_file(&rt, name).is_ok());
 }

@@ -2,7 +2,7 @@
 use crate::seen::{Seen, heal, look};
 use df_layout::{Class, Place, Zone};
 use df_memdisk::{MemoryDisk, Strike};
-use df_runs::{Status, long_session, run_script, small_file};
+use df_runs::{disk_behind, long_session, small_file};
 use std::alloc::Global;
 use std::test::Fail;
 
@@ -24,13 +24,7 @@ fn expected(sector: u64) -> Seen {
 }
 
 fn long_file(alloc: Global) -> Result<MemoryDisk, Fail> {
-    let mut disk = small_file(alloc, &[])?;
-    let ran = run_script(alloc, &mut disk, &long_session(alloc)?)?;
-    if ran.status == Status::Done {
-        Ok(disk)
-    } else {
-        Err("the session isn't served".into())
-    }
+    disk_behind(alloc, small_file(alloc, &[])?, &long_session(alloc)?)
 }
 
 #[test]

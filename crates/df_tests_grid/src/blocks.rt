@@ -11,7 +11,6 @@ use df_layout::Layout;
 use df_memdisk::MemoryDisk;
 use std::alloc::Global;
 use std::process::Abort;
-use std::test::Fail;
 
 // Writes blocks until one goes elsewhere than to the next address from 1 on, and answers how many didn't.
 fn fill(
@@ -42,35 +41,35 @@ fn release(grid: &mut Grid, address: u64) -> (bool, Option<u64>)
 }
 
 #[test]
-fn blocks_go_to_the_least_addresses(rt: HostRuntime) -> Result<(), Fail> {
+fn blocks_go_to_the_least_addresses(rt: HostRuntime) {
     chains_have_room();
     let mut disk = MemoryDisk::new(rt.alloc(), Vec::new(rt.alloc()));
-    let mut grid = new_grid(rt.alloc(), Layout::small())?;
-    assert!(rt; fill(&rt, rt.alloc(), &mut grid, &mut disk)? == 64);
+    let mut grid = new_grid(rt.alloc(), Layout::small()).expect(&rt, "it succeeds");
+    assert!(rt; fill(&rt, rt.alloc(), &mut grid, &mut disk).expect(&rt, "it succeeds") == 64);
     assert!(rt; grid.next() == None);
     for first in [true, false] {
         assert!(rt; release(&mut grid, 7) == (first, Some(7)));
     }
     assert!(rt; grid.live(7) == None);
     assert!(rt; grid.free() == 1);
-    Ok(())
 }
 
 #[test]
-fn checkpoints_hold_what_they_captured(rt: HostRuntime) -> Result<(), Fail> {
+fn checkpoints_hold_what_they_captured(rt: HostRuntime) {
     let mut disk = MemoryDisk::new(rt.alloc(), Vec::new(rt.alloc()));
-    let mut grid = new_grid(rt.alloc(), Layout::small())?;
-    put_all(&rt, rt.alloc(), &mut grid, &mut disk, &[1, 2])?;
-    begin(&mut grid)?;
-    assert!(rt; put_next(&rt, rt.alloc(), &mut grid, &mut disk, 3)? == Some(4));
+    let mut grid = new_grid(rt.alloc(), Layout::small()).expect(&rt, "it succeeds");
+    put_all(&rt, rt.alloc(), &mut grid, &mut disk, &[1, 2]).expect(&rt, "it succeeds");
+    begin(&mut grid).expect(&rt, "it succeeds");
+    assert!(rt;
+        put_next(&rt, rt.alloc(), &mut grid, &mut disk, 3).expect(&rt, "it succeeds") == Some(4)
+    );
     assert!(rt; release(&mut grid, 4) == (true, Some(4)));
     assert!(rt; release(&mut grid, 2) == (true, Some(4)));
-    write_and_end(&mut grid, &mut disk, 2)?;
+    write_and_end(&mut grid, &mut disk, 2).expect(&rt, "it succeeds");
     assert!(rt; grid.next_referenced(1).map(|r| r.address) == Some(2));
     assert!(rt; grid.referenced() == 3);
-    begin(&mut grid)?;
-    write_and_end(&mut grid, &mut disk, 3)?;
+    begin(&mut grid).expect(&rt, "it succeeds");
+    write_and_end(&mut grid, &mut disk, 3).expect(&rt, "it succeeds");
     assert!(rt; grid.next() == Some(2));
     assert!(rt; grid.free() == 62);
-    Ok(())
 }

@@ -12,14 +12,13 @@ use df_format::Reference;
 use df_layout::{Class, Field, Layout};
 use df_memdisk::{MemoryDisk, Strike};
 use df_sessions::Session;
-use df_trailer::{Captured, piece};
+use df_trailer::{CapturedBlocks, piece};
 use std::alloc::Global;
-use std::test::Fail;
 
 // The 232 addresses from 793 on are referenced, each with a checksum of its own number.
 struct Highest;
 
-impl Captured for Highest {
+impl CapturedBlocks for Highest {
     ghost captured = { λ s address. if nat_le 793 address then Some (field_at 16 0 (replicate 16 (address % 256))) else None };
 
     fn captured(&self, address: u64) -> Option<Check> {
@@ -79,10 +78,12 @@ fn write_captured(
 }
 
 #[test]
-fn a_checkpoint_is_written_and_read(rt: HostRuntime) -> Result<(), Fail> {
+fn a_checkpoint_is_written_and_read(rt: HostRuntime) {
+    let layout = layout_of(1024);
     let mut disk = MemoryDisk::new(rt.alloc(), Vec::new(rt.alloc()));
     let mut room = [0; 3840];
-    let Some(last) = write_captured(rt.alloc(), &mut disk, &mut room)? else {
+    let Some(last) = write_captured(rt.alloc(), &mut disk, &mut room).expect(&rt, "it succeeds")
+    else {
         panic!(rt; "the last block is written");
     };
     let held = Held {
@@ -90,21 +91,22 @@ fn a_checkpoint_is_written_and_read(rt: HostRuntime) -> Result<(), Fail> {
         free: 1023,
         last: None,
     };
-    assert_eq!(rt;
-        read(rt.alloc(), &mut disk, layout_of(1024), last, 169, 9),
-        Some(Ok(held))
-    );
-    Ok(())
+    let answer = read(rt.alloc(), &mut disk, layout, last, 169, 9);
+    assert!(rt; answer == Some(Ok(held)));
 }
 
 #[test]
-fn a_chain_of_two_blocks_is_read(rt: HostRuntime) -> Result<(), Fail> {
+fn a_chain_of_two_blocks_is_read(rt: HostRuntime) {
+    let layout = layout_of(1024);
     let mut disk = MemoryDisk::new(rt.alloc(), Vec::new(rt.alloc()));
     let mut front = [0; 3840];
-    let _whole = piece(&layout_of(1024), &[], &[], &Highest, 0, &mut front);
+    let _whole = piece(&layout, &[], &[], &Highest, 0, &mut front);
     let mut back = [0; 3840];
-    let _rest = piece(&layout_of(1024), &[], &[], &Highest, 1, &mut back);
-    let Some(last) = write_two(rt.alloc(), &mut disk, layout_of(1024), &front, &back[..8])? else {
+    let _rest = piece(&layout, &[], &[], &Highest, 1, &mut back);
+    let Some(last) = write_two(rt.alloc(), &mut disk, layout, &front, &back[..8]).expect(
+        &rt,
+        "it succeeds",
+    ) else {
         panic!(rt; "the last block is written");
     };
     let held = Held {
@@ -112,51 +114,49 @@ fn a_chain_of_two_blocks_is_read(rt: HostRuntime) -> Result<(), Fail> {
         free: 790,
         last: Some([0; 16]),
     };
-    assert_eq!(rt;
-        read(rt.alloc(), &mut disk, layout_of(1024), last, 3848, 0),
-        Some(Ok(held))
-    );
-    assert_eq!(rt;
-        read(rt.alloc(), &mut disk, layout_of(1024), last, 3847, 0),
-        broken(2)
-    );
-    disk.strike(22, Strike::Fill { byte: 0xa5 })?;
+    assert!(rt; read(rt.alloc(), &mut disk, layout, last, 3848, 0) == Some(Ok(held)));
+    assert!(rt; read(rt.alloc(), &mut disk, layout, last, 3847, 0) == broken(2));
+    disk.strike(22, Strike::Fill { byte: 0xa5 })
+        .expect(&rt, "it succeeds");
     let damaged = TrailerFault::Damaged {
         address: 1,
         class: Class::Garbled,
     };
-    assert_eq!(rt;
-        read(rt.alloc(), &mut disk, layout_of(1024), last, 3848, 0),
-        Some(Err(damaged))
-    );
-    Ok(())
+    assert!(rt; read(rt.alloc(), &mut disk, layout, last, 3848, 0) == Some(Err(damaged)));
 }
 
 #[test]
-fn a_block_with_another_index_is_refused(rt: HostRuntime) -> Result<(), Fail> {
+fn a_block_with_another_index_is_refused(rt: HostRuntime) {
     let small = Layout::small();
     let mut disk = MemoryDisk::new(rt.alloc(), Vec::new(rt.alloc()));
     let text = text_with(4);
-    let Some(last) = write_two(rt.alloc(), &mut disk, small, &text, &text)? else {
+    let Some(last) = write_two(rt.alloc(), &mut disk, small, &text, &text).expect(
+        &rt,
+        "it succeeds",
+    ) else {
         panic!(rt; "the last block is written");
     };
-    assert_eq!(rt; read(rt.alloc(), &mut disk, small, last, 32, 0), broken(2));
-    Ok(())
+    assert!(rt; read(rt.alloc(), &mut disk, small, last, 32, 0) == broken(2));
 }
 
 // The block is written by the first device call, and read by the second.
 #[test]
-fn a_bit_at_an_address_of_the_chain_is_refused(rt: HostRuntime) -> Result<(), Fail> {
+fn a_bit_at_an_address_of_the_chain_is_refused(rt: HostRuntime) {
     let small = Layout::small();
     let failed = Some(Err(TrailerFault::DiskFault));
     for (failing, answer) in [(0, broken(1)), (2, failed)] {
-        let mut disk = MemoryDisk::new(rt.alloc(), Vec::from_slice(rt.alloc(), &[failing])?);
-        let Some(last) = write_one(rt.alloc(), &mut disk, small, &text_with(0))? else {
+        let mut disk = MemoryDisk::new(
+            rt.alloc(),
+            Vec::from_slice(rt.alloc(), &[failing]).expect(&rt, "it succeeds"),
+        );
+        let Some(last) = write_one(rt.alloc(), &mut disk, small, &text_with(0)).expect(
+            &rt,
+            "it succeeds",
+        ) else {
             panic!(rt; "the last block is written");
         };
-        assert_eq!(rt; read(rt.alloc(), &mut disk, small, last, 32, 0), answer);
+        assert!(rt; read(rt.alloc(), &mut disk, small, last, 32, 0) == answer);
     }
-    Ok(())
 }
 
 #[test]
@@ -168,10 +168,10 @@ fn the_least_op_without_a_session_is_pending(rt: HostRuntime) {
         reply: None,
     };
     let sessions = [session(5), session(3), session(9)];
-    assert_eq!(rt; pending(&sessions, 2, 3), None);
-    assert_eq!(rt; pending(&sessions, 2, 5), Some(4));
-    assert_eq!(rt; pending(&sessions, 4, 9), Some(6));
-    assert_eq!(rt; pending(&sessions, 8, 9), None);
-    assert_eq!(rt; pending(&sessions, 9, 4), None);
-    assert_eq!(rt; pending(&[], 0, 1), Some(1));
+    assert!(rt; pending(&sessions, 2, 3) == None);
+    assert!(rt; pending(&sessions, 2, 5) == Some(4));
+    assert!(rt; pending(&sessions, 4, 9) == Some(6));
+    assert!(rt; pending(&sessions, 8, 9) == None);
+    assert!(rt; pending(&sessions, 9, 4) == None);
+    assert!(rt; pending(&[], 0, 1) == Some(1));
 }

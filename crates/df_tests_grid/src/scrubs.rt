@@ -13,7 +13,6 @@ use df_memdisk::{MemoryDisk, Strike};
 use df_scrub::{Finding, Scrubbed, Scrubber, Verdict};
 use std::alloc::Global;
 use std::process::Abort;
-use std::test::Fail;
 
 // Takes blocks that the disk doesn't show, at the least addresses.
 fn adopt_lost(grid: &mut Grid, count: u64)
@@ -72,16 +71,19 @@ fn assert_recent(rt: &impl Abort, scrubber: &Scrubber, rows: &[(u64, Option<u64>
 }
 
 #[test]
-fn a_tour_finds_the_blocks_that_were_struck(rt: HostRuntime) -> Result<(), Fail> {
+fn a_tour_finds_the_blocks_that_were_struck(rt: HostRuntime) {
     let mut disk = MemoryDisk::new(rt.alloc(), Vec::new(rt.alloc()));
-    let mut grid = new_grid(rt.alloc(), Layout::small())?;
-    write_five(&rt, rt.alloc(), &mut grid, &mut disk)?;
+    let mut grid = new_grid(rt.alloc(), Layout::small()).expect(&rt, "it succeeds");
+    write_five(&rt, rt.alloc(), &mut grid, &mut disk).expect(&rt, "it succeeds");
     for sector in [84, 92, 104] {
-        disk.strike(sector, Strike::Fill { byte: 0xa5 })?;
+        disk.strike(sector, Strike::Fill { byte: 0xa5 })
+            .expect(&rt, "it succeeds");
     }
     let mut scrubber = Scrubber::reserve(rt.alloc()).expect(&rt, "memory of a ring");
     for step in 1..8u64 {
-        let scrubbed = scrubber.step(&mut disk, &mut grid)?;
+        let scrubbed = scrubber
+            .step(&mut disk, &mut grid)
+            .expect(&rt, "it succeeds");
         assert!(rt; scrubbed == answer_of(step), "step {step}");
     }
     let first = Finding {
@@ -92,21 +94,24 @@ fn a_tour_finds_the_blocks_that_were_struck(rt: HostRuntime) -> Result<(), Fail>
     assert_recent(&rt, &scrubber, &[(1, Some(4)), (2, None)]);
     scrubber.clear();
     assert_recent(&rt, &scrubber, &[(0, None)]);
-    Ok(())
 }
 
 #[test]
-fn the_newest_64_findings_stay(rt: HostRuntime) -> Result<(), Fail> {
-    let mut disk = MemoryDisk::new(rt.alloc(), Vec::from_slice(rt.alloc(), &[3])?);
-    let mut grid = new_grid(rt.alloc(), Layout::small())?;
+fn the_newest_64_findings_stay(rt: HostRuntime) {
+    let mut disk = MemoryDisk::new(
+        rt.alloc(),
+        Vec::from_slice(rt.alloc(), &[3]).expect(&rt, "it succeeds"),
+    );
+    let mut grid = new_grid(rt.alloc(), Layout::small()).expect(&rt, "it succeeds");
     adopt_lost(&mut grid, 63);
     let mut scrubber = Scrubber::reserve(rt.alloc()).expect(&rt, "memory of a ring");
-    let mut report = Vec::with_capacity(rt.alloc(), 64)?;
+    let mut report = Vec::with_capacity(rt.alloc(), 64).expect(&rt, "it succeeds");
     assert!(rt; scrubber.scrub(&mut disk, &mut grid, &mut report).is_err());
     assert!(rt; report.len() == 2);
-    scrubber.scrub(&mut disk, &mut grid, &mut report)?;
+    scrubber
+        .scrub(&mut disk, &mut grid, &mut report)
+        .expect(&rt, "it succeeds");
     assert!(rt; report.len() == 63);
     let rows = [(0, Some(2)), (1, Some(1)), (63, Some(63)), (64, None)];
     assert_recent(&rt, &scrubber, &rows);
-    Ok(())
 }

@@ -8,7 +8,7 @@ use df_base::Check;
 use df_layout::{Field, Layout};
 use df_sessions::Session;
 use df_trailer::{
-    Captured, Fault, Reader, blocks_needed, parts_have_one_text, piece, refusals_stay,
+    CapturedBlocks, Fault, Reader, blocks_needed, parts_have_one_text, piece, refusals_stay,
     sizes_are_exact, spelling_is_a_codec, text_has_one_parts,
 };
 use std::alloc::{AllocError, Global};
@@ -20,7 +20,7 @@ struct Lowest {
     count: u64,
 }
 
-impl Captured for Lowest {
+impl CapturedBlocks for Lowest {
     ghost captured = { λ s address. if nat_le address s.count then Some (field_at 16 0 (replicate 16 (address % 256))) else None };
 
     fn captured(&self, address: u64) -> Option<Check> {
@@ -42,7 +42,7 @@ struct Counted {
     lowest: Lowest,
 }
 
-impl Captured for Counted {
+impl CapturedBlocks for Counted {
     ghost captured = { λ s address. if nat_le address s.lowest.count then Some (field_at 16 0 (replicate 16 (address % 256))) else None };
 
     fn captured(&self, address: u64) -> Option<Check> {
@@ -176,7 +176,7 @@ fn twice_the_client() -> [u8; 80] {
 }
 
 #[test]
-fn forged_texts_are_refused(rt: HostRuntime) -> Result<(), AllocError> {
+fn forged_texts_are_refused(rt: HostRuntime) {
     let small = Layout::small();
     let twice = twice_the_client();
     let rows: [(Layout, u64, &[u8], Field, u64); 5] = [
@@ -199,10 +199,9 @@ fn forged_texts_are_refused(rt: HostRuntime) -> Result<(), AllocError> {
         (small, 0, &[0; 17], Field::TrailerEnd, 17),
     ];
     for (layout, op, text, field, value) in rows {
-        let answer = answer_to(&rt, rt.alloc(), layout, op, [text, &[]])?;
+        let answer = answer_to(&rt, rt.alloc(), layout, op, [text, &[]]).expect(&rt, "it succeeds");
         assert!(rt; answer == Err(Fault { field, value }), "{field:?} {value}");
     }
-    Ok(())
 }
 
 const SESSION: Session = Session {
@@ -238,22 +237,24 @@ fn answer_at(cut: u64) -> Result<(), Fault> {
 }
 
 #[test]
-fn a_text_may_be_cut_anywhere(rt: HostRuntime) -> Result<(), AllocError> {
+fn a_text_may_be_cut_anywhere(rt: HostRuntime) {
     let text = spelled(&rt);
     for cut in 0..=76u64 {
         let (front, back) = text.split_at(cut as usize);
         for (pieces, wanted) in [([front, &[]], answer_at(cut)), ([front, back], Ok(()))] {
-            let answer = answer_to(&rt, rt.alloc(), layout_of(12), 9, pieces)?;
+            let answer = answer_to(&rt, rt.alloc(), layout_of(12), 9, pieces).expect(
+                &rt,
+                "it succeeds",
+            );
             assert!(rt; answer == wanted, "{cut}");
         }
     }
-    Ok(())
 }
 
 #[test]
-fn a_reader_gives_what_was_written(rt: HostRuntime) -> Result<(), AllocError> {
+fn a_reader_gives_what_was_written(rt: HostRuntime) {
     let text = spelled(&rt);
-    let mut reader = new_reader(rt.alloc(), layout_of(12), 9)?;
+    let mut reader = new_reader(rt.alloc(), layout_of(12), 9).expect(&rt, "it succeeds");
     assert!(rt; reader.feed(&text) == Ok(()));
     let ended = reader.end();
     assert!(rt; ended.is_ok());
@@ -263,5 +264,4 @@ fn a_reader_gives_what_was_written(rt: HostRuntime) -> Result<(), AllocError> {
     assert!(rt; parts.bits.first().copied() == Some(3));
     assert!(rt; parts.checks.get(1).copied() == Some([2; 16]));
     assert!(rt; parts.checks.get(2).copied() == Some([0; 16]));
-    Ok(())
 }

@@ -3,7 +3,7 @@ use df_disk::Disk;
 use df_images::{OpenError, lists, rooms_of, small_file, strike, survey_in, survey_small};
 use df_layout::{Class, Layout, Mend, Place, Zone};
 use df_memdisk::MemoryDisk;
-use df_runs::{Status, run_script};
+use df_runs::disk_behind;
 use std::alloc::Global;
 use std::test::Fail;
 
@@ -76,14 +76,8 @@ fn a_survey_ends_with_the_call_that_fails(rt: HostRuntime) -> Result<(), Fail> {
 
 // A small file behind an op, a block and a checkpoint, whose trailer is one block.
 fn file_of_checkpoint(alloc: Global, listed: u64) -> Result<MemoryDisk, Fail> {
-    let mut disk = small_file(alloc, listed)?;
     let script = b"append 5 1 -\nreply 1 -\nblock 1 aa\ncheckpoint 0102\nstep\nstep\n";
-    let ran = run_script(alloc, &mut disk, script)?;
-    if ran.status == Status::Done {
-        Ok(disk)
-    } else {
-        Err("the script isn't served".into())
-    }
+    disk_behind(alloc, small_file(alloc, listed)?, script)
 }
 
 // The trailer is walked back and then forth. The block that the checkpoint references isn't read.

@@ -1,73 +1,45 @@
 // The words that report a file: what `inspect` and `recover` print behind stops, strikes and a long session.
-use crate::shown::{expect_end, expect_script, expect_words, strike};
+use crate::shown::{expect, expect_end, expect_script, expect_words, strike};
 use df_base::SECTOR;
 use df_memdisk::{Change, MemoryDisk, Strike};
-use df_runs::{FORMAT_CALLS, Status, ops_of_one, run_script, run_words, small_file};
+use df_runs::{FORMAT_CALLS, Status, ops_of_one, run_script, run_words, small_file, small_summary};
 use std::alloc::Global;
+use std::process::Abort;
 use std::test::Fail;
 
 const FILLED: Strike = Strike::Fill { byte: 0xa5 };
 
-// What a session did, the device call that failed in it, counted from its last one back, and the sector that the stop left full
-// of a5; and what `recover` prints.
-struct Stopped {
-    ops: u64,
-    behind: &'static str,
-    back: u64,
-    sector: u64,
-    text: &'static str,
-}
+// The ops and the script behind them, the device call that fails in it, counted from its last one back, the sector that the stop left
+// full of a5, and the numbers of the summary that `recover` prints.
+type Stopped = (u64, &'static str, u64, u64, [u64; 4]);
+
+const SECOND: &str = "checkpoint -\nstep\nstep\nappend 1 33 -\n";
+
+const FIRST: &str = "append 1 1 -\ncheckpoint 01\nstep\nstep\n";
 
 // An append writes its prepare, syncs, writes its header sector, syncs. The last step of a checkpoint writes and syncs the four
 // copies in turn and reads them back.
 const STOPS: [Stopped; 4] = [
-    Stopped {
-        ops: 16,
-        behind: "append 1 17 -\n",
-        back: 0,
-        sector: 5,
-        text: "cluster 7\nlayout 32 8192 4 16384 64\nsequence 1\ncheckpoint 0\n\
-            head 17\nreplies 16\nsessions 1\nreferences 0\n",
-    },
-    Stopped {
-        ops: 32,
-        behind: "checkpoint -\nstep\nstep\nappend 1 33 -\n",
-        back: 2,
-        sector: 8,
-        text: "cluster 7\nlayout 32 8192 4 16384 64\nsequence 2\ncheckpoint 32\n\
-            head 32\nreplies 32\nsessions 1\nreferences 0\n",
-    },
-    Stopped {
-        ops: 0,
-        behind: "append 1 1 -\ncheckpoint 01\nstep\nstep\n",
-        back: 8,
-        sector: 1,
-        text: "cluster 7\nlayout 32 8192 4 16384 64\nsequence 1\ncheckpoint 0\n\
-            head 1\nreplies 0\nsessions 1\nreferences 0\n",
-    },
-    Stopped {
-        ops: 0,
-        behind: "append 1 1 -\ncheckpoint 01\nstep\nstep\n",
-        back: 6,
-        sector: 2,
-        text: "cluster 7\nlayout 32 8192 4 16384 64\nsequence 2\ncheckpoint 1\n\
-            head 1\nreplies 0\nsessions 1\nreferences 0\n",
-    },
+    (16, "append 1 17 -\n", 0, 5, [1, 0, 17, 16]),
+    (32, SECOND, 2, 8, [2, 32, 32, 32]),
+    (0, FIRST, 8, 1, [1, 0, 1, 0]),
+    (0, FIRST, 6, 2, [2, 1, 1, 0]),
 ];
 
 // A new small file over which the session ran up to its stop.
 fn left_by(alloc: Global, row: &Stopped) -> Result<MemoryDisk, Fail> {
-    let script = ops_of_one(alloc, row.ops, row.behind)?;
+    let (ops, behind, back, sector, _) = *row;
+    let script = ops_of_one(alloc, ops, behind)?;
     let mut whole = small_file(alloc, &[])?;
     run_script(alloc, &mut whole, &script)?;
     let call = whole
         .calls()
-        .saturating_sub(FORMAT_CALLS.saturating_add(row.back));
+        .saturating_sub(FORMAT_CALLS.saturating_add(back));
     let mut disk = small_file(alloc, &[call])?;
     run_script(alloc, &mut disk, &script)?;
     let mut left = Vec::new(alloc);
     left.push(Change {
-        sector: row.sector,
+        sector,
         bytes: [0xa5; SECTOR],
     })?;
     match disk.stop(left) {
@@ -80,29 +52,29 @@ fn left_by(alloc: Global, row: &Stopped) -> Result<MemoryDisk, Fail> {
 fn recover_opens_a_stopped_file_and_prints_its_summary(rt: HostRuntime) -> Result<(), Fail> {
     for row in &STOPS {
         let mut disk = left_by(rt.alloc(), row)?;
-        expect_words(
-            &rt,
-            rt.alloc(),
-            &mut disk,
-            &["recover"],
-            row.text,
-            Status::Done,
-        )?;
+        let text = small_summary(rt.alloc(), row.4)?;
+        let recovered = run_words(rt.alloc(), &mut disk, &["recover"])?;
+        expect(&rt, &recovered, text.as_bytes(), Status::Done, &text);
         let ran = run_words(rt.alloc(), &mut disk, &["inspect"])?;
-        expect_end(&rt, &ran, "findings 0\n", Status::Done, row.text);
+        expect_end(&rt, &ran, "findings 0\n", Status::Done, &text);
     }
     Ok(())
 }
 
-const GARBLED: &str = "cluster 7
-layout 32 8192 4 16384 64
-sequence 1
-checkpoint 0
-head 17
-replies 16
-sessions 1
-references 0
-root -
+// What `inspect` prints of a file with findings: its summary, and this behind it.
+fn expect_found(
+    rt: &impl Abort,
+    alloc: Global,
+    disk: &mut MemoryDisk,
+    numbers: [u64; 4],
+    behind: &str,
+) -> Result<(), Fail> {
+    let summary = small_summary(alloc, numbers)?;
+    let text = format!(in alloc; "{summary}{behind}")?;
+    expect_words(rt, alloc, disk, &["inspect"], &text, Status::Found)
+}
+
+const GARBLED: &str = "root -
 session 0 client 1 request 17 op 17 pending
 mend WalHeaders 16 Garbled
 mend WalHeaders 17 Garbled
@@ -128,28 +100,13 @@ fn inspect_lists_what_is_to_be_mended_and_mends_nothing(rt: HostRuntime) -> Resu
     let mut disk = left_by(rt.alloc(), &STOPS[0])?;
     let events = disk.events();
     for again in 1..3u64 {
-        expect_words(
-            &rt,
-            rt.alloc(),
-            &mut disk,
-            &["inspect"],
-            GARBLED,
-            Status::Found,
-        )?;
+        expect_found(&rt, rt.alloc(), &mut disk, STOPS[0].4, GARBLED)?;
         assert_eq!(rt; disk.events(), events + again);
     }
     Ok(())
 }
 
-const STALE: &str = "cluster 7
-layout 32 8192 4 16384 64
-sequence 2
-checkpoint 1
-head 1
-replies 0
-sessions 1
-references 0
-root 02
+const STALE: &str = "root 02
 session 0 client 1 request 1 op 1 pending
 mend Superblock 0 Stale
 findings 1
@@ -164,14 +121,7 @@ fn a_copy_of_another_checkpoint_is_stale(rt: HostRuntime) -> Result<(), Fail> {
     let text = "begun 1\nworking 1\ndone 2\n";
     expect_script(&rt, rt.alloc(), &mut disk, script, text, Status::Done)?;
     disk.strike(0, Strike::Earlier { events })?;
-    expect_words(
-        &rt,
-        rt.alloc(),
-        &mut disk,
-        &["inspect"],
-        STALE,
-        Status::Found,
-    )
+    expect_found(&rt, rt.alloc(), &mut disk, [2, 1, 1, 0], STALE)
 }
 
 #[test]

@@ -29,32 +29,16 @@ const PENDING_3: &str = "refused ReplyPending op 3\n";
 
 const PENDING_4: &str = "refused ReplyPending op 4\n";
 
-// An op that is appended, and that waits for its reply.
-#[derive(Clone, Copy)]
-struct Op {
-    appended: &'static str,
-    pending: &'static str,
-}
+// What is printed of an op as it is appended, and as it waits for its reply.
+type Op = (&'static str, &'static str);
 
-const FIRST: Op = Op {
-    appended: "appended 1\n",
-    pending: PENDING_1,
-};
+const FIRST: Op = ("appended 1\n", PENDING_1);
 
-const SECOND: Op = Op {
-    appended: "appended 2\n",
-    pending: PENDING_2,
-};
+const SECOND: Op = ("appended 2\n", PENDING_2);
 
-const THIRD: Op = Op {
-    appended: "appended 3\n",
-    pending: PENDING_3,
-};
+const THIRD: Op = ("appended 3\n", PENDING_3);
 
-const FOURTH: Op = Op {
-    appended: "appended 4\n",
-    pending: PENDING_4,
-};
+const FOURTH: Op = ("appended 4\n", PENDING_4);
 
 // What is printed of the three prepares.
 const NONE_KEPT: &str =
@@ -130,8 +114,8 @@ pub fn is_found(alloc: Global, disk: &mut MemoryDisk, lines: usize) -> Result<bo
     let Some(found) = FOUND.iter().rev().find(|found| found.0 <= lines) else {
         return Err("nothing is known of it".into());
     };
-    let (_, five, six, prepares, op, blocks) = *found;
-    let asked = [five, six, prepares, blocks.left, op.appended, blocks.made];
-    let again = [op.pending, blocks.again];
+    let (_, five, six, prepares, (appended, pending), blocks) = *found;
+    let asked = [five, six, prepares, blocks.left, appended, blocks.made];
+    let again = [pending, blocks.again];
     Ok(answers(alloc, disk, ASKED, &asked)? && answers(alloc, disk, ASKED_AGAIN, &again)?)
 }

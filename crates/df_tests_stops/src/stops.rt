@@ -3,6 +3,7 @@
 use crate::found::is_found;
 use crate::moments::{Moment, moments};
 use crate::session::{Kept, run_session, session, text_of};
+use df_images::Fate::{AsBefore, AsWritten, Filled, Halved, Torn};
 use df_images::{Fate, stop_since};
 use df_memdisk::MemoryDisk;
 use df_runs::Status;
@@ -14,15 +15,15 @@ use std::test::Fail;
 type Image = (Fate, Fate, Fate);
 
 const IMAGES: [Image; 9] = [
-    (Fate::Filled, Fate::Filled, Fate::Filled),
-    (Fate::AsWritten, Fate::AsWritten, Fate::Filled),
-    (Fate::AsBefore, Fate::AsBefore, Fate::AsWritten),
-    (Fate::Torn, Fate::Torn, Fate::Torn),
-    (Fate::Halved, Fate::AsWritten, Fate::AsBefore),
-    (Fate::AsWritten, Fate::AsBefore, Fate::Halved),
-    (Fate::AsBefore, Fate::AsWritten, Fate::Filled),
-    (Fate::AsWritten, Fate::Filled, Fate::AsWritten),
-    (Fate::AsWritten, Fate::Halved, Fate::AsBefore),
+    (Filled, Filled, Filled),
+    (AsWritten, AsWritten, Filled),
+    (AsBefore, AsBefore, AsWritten),
+    (Torn, Torn, Torn),
+    (Halved, AsWritten, AsBefore),
+    (AsWritten, AsBefore, Halved),
+    (AsBefore, AsWritten, Filled),
+    (AsWritten, Filled, AsWritten),
+    (AsWritten, Halved, AsBefore),
 ];
 
 // Each loose sector with its fate.
@@ -45,8 +46,8 @@ fn fated(alloc: Global, moment: &Moment, image: Image) -> Result<Vec<(u16, Fate)
 // Whether a sector that holds no more than 512 bytes is as it was written.
 fn is_short_whole(fate: Fate) -> bool {
     match fate {
-        Fate::AsWritten | Fate::Torn | Fate::Halved => true,
-        Fate::AsBefore | Fate::Filled => false,
+        AsWritten | Torn | Halved => true,
+        AsBefore | Filled => false,
     }
 }
 

@@ -101,18 +101,14 @@ fn stops(rt: &impl Abort, alloc: Global, work: Work) -> Result<usize, Fail> {
     Ok(moments.len())
 }
 
-// Four moments of each append and two of the reply; of each checkpoint the writes of a block and of the trailer, the sync behind
-// them, and two of each copy; the write of the last block, and the read behind it.
+// In the session: four moments of each append and two of the reply; of each checkpoint the writes of a block and of the trailer,
+// the sync behind them, and two of each copy; the write of the last block, and the read behind it. In the mending, the session's
+// last block is loose in the first reads of the four copies and at the barrier, two sectors of headers up to the sync behind both,
+// and each of two copies up to its own.
 #[test]
 fn a_stop_at_each_write_leaves_the_view_before_or_after(rt: HostRuntime) -> Result<(), Fail> {
-    assert_eq!(rt; stops(&rt, rt.alloc(), Work::Session)?, 34);
-    Ok(())
-}
-
-// The session's last block is loose in the first reads of the four copies and at the barrier. Two sectors of headers are loose up to the
-// sync behind both, and each of two copies up to its own.
-#[test]
-fn a_stop_at_each_write_of_a_mending_leaves_the_view(rt: HostRuntime) -> Result<(), Fail> {
-    assert_eq!(rt; stops(&rt, rt.alloc(), Work::Mending)?, 12);
+    for (work, moments) in [(Work::Session, 34), (Work::Mending, 12)] {
+        assert_eq!(rt; stops(&rt, rt.alloc(), work)?, moments);
+    }
     Ok(())
 }

@@ -1,11 +1,11 @@
 // The printed lines of the log's commands, as the tables of printed texts and of the worked sessions give them.
-use crate::printed::{Row, expect, expect_rows, header, new_sink};
-use df_base::{Failed, MemorySink, Sink};
+use crate::printed::{Row, expect, expect_rows, failing_sink, header, new_sink};
+use df_base::{Failed, Sink};
 use df_format::Kind;
 use df_inspect::{print_formatted, print_prepare, print_reply, print_script};
 use df_layout::{Class, Place, Zone};
 use df_model::{Answer, AppendError, Command, LookupError, PrepareError, Receipt, ReplyError};
-use std::test::Fail;
+use std::alloc::{AllocError, Global};
 
 const APPEND: Command = Command::Append {
     client: 5,
@@ -116,10 +116,10 @@ fn an_answer_is_a_word_and_a_number_and_a_refusal_says_why(rt: HostRuntime) {
 }
 
 #[test]
-fn a_file_that_is_made_and_a_bad_line_have_their_numbers(rt: HostRuntime) -> Result<(), Fail> {
+fn a_file_that_is_made_and_a_bad_line_have_their_numbers(rt: HostRuntime) {
     let mut sink = new_sink(rt.alloc());
     for sectors in &[336, 2_375_808] {
-        print_formatted(&mut sink, *sectors)?;
+        assert!(rt; print_formatted(&mut sink, *sectors) == Ok(()));
     }
     let done = print_script(&mut sink, 2);
     expect(
@@ -128,7 +128,6 @@ fn a_file_that_is_made_and_a_bad_line_have_their_numbers(rt: HostRuntime) -> Res
         &sink,
         "formatted 336\nformatted 2375808\nscript 2\n",
     );
-    Ok(())
 }
 
 #[test]
@@ -157,21 +156,23 @@ fn messages_are_shown_with_their_bodies(rt: HostRuntime) {
     }
 }
 
-#[test]
-fn a_long_body_is_shown_in_pieces(rt: HostRuntime) -> Result<(), Fail> {
-    let mut sink = new_sink(rt.alloc());
-    let body = [0xfe; 600];
-    print_prepare(&mut sink, &header(Kind::Prepare, 2, 5, 2, 1, 1), &body)?;
-    let mut text = Vec::from_slice(
-        rt.alloc(),
-        b"prepare 2 client 5 request 2 mark 1 checkpoint 1 body ",
-    )?;
+// The line of a prepare with that body.
+fn long_line(alloc: Global) -> Result<Vec<u8>, AllocError> {
+    let mut text = b"prepare 2 client 5 request 2 mark 1 checkpoint 1 body ".to_vec(alloc)?;
     for _ in 0..600u32 {
         text.extend_from_slice(b"fe")?;
     }
-    text.extend_from_slice(b"\n")?;
-    assert_eq!(rt; sink.bytes(), text.as_slice());
-    Ok(())
+    text.push(b'\n')?;
+    Ok(text)
+}
+
+#[test]
+fn a_long_body_is_shown_in_pieces(rt: HostRuntime) {
+    let mut sink = new_sink(rt.alloc());
+    let header = header(Kind::Prepare, 2, 5, 2, 1, 1);
+    assert!(rt; print_prepare(&mut sink, &header, &[0xfe; 600]) == Ok(()));
+    let text = long_line(rt.alloc()).expect(&rt, "memory of a line");
+    assert!(rt; sink.bytes() == text.as_slice());
 }
 
 // The call of the sink that fails, and what it was given before.
@@ -182,13 +183,10 @@ const FRONTS: [(u64, &str); 3] = [
 ];
 
 #[test]
-fn a_failing_sink_has_a_front_of_the_line(rt: HostRuntime) -> Result<(), Fail> {
-    let alloc = rt.alloc();
+fn a_failing_sink_has_a_front_of_the_line(rt: HostRuntime) {
     for (call, front) in &FRONTS {
-        let mut sink = MemorySink::new(alloc, Vec::from_slice(alloc, &[*call])?);
+        let mut sink = failing_sink(&rt, rt.alloc(), *call);
         let printed = print_reply(&mut sink, &header(Kind::Reply, 1, 5, 1, 1, 1), b"\xaa");
-        assert_eq!(rt; printed, Err(Failed));
-        assert_eq!(rt; sink.bytes(), front.as_bytes());
+        assert!(rt; printed == Err(Failed) && sink.bytes() == front.as_bytes());
     }
-    Ok(())
 }

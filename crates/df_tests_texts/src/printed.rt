@@ -15,6 +15,12 @@ pub(crate) fn new_sink(alloc: Global) -> MemorySink {
     MemorySink::new(alloc, Vec::new(alloc))
 }
 
+// A sink whose call of this number fails.
+pub(crate) fn failing_sink(rt: &impl Abort, alloc: Global, call: u64) -> MemorySink {
+    let failing = Vec::from_slice(alloc, &[call]).expect(rt, "memory of a list");
+    MemorySink::new(alloc, failing)
+}
+
 // The header of a message, as far as a line shows it.
 pub(crate) fn header(
     kind: Kind,

@@ -8,7 +8,7 @@ fn expect_no_line(rt: &impl Abort, lines: &str) {
         let mut body = [0u8; 40];
         let bytes = line.as_bytes();
         assert!(rt; bytes.len() <= 80);
-        assert_eq!(rt; parse(bytes, &mut body), None, "{line}");
+        assert!(rt; parse(bytes, &mut body) == None, "{line}");
     }
 }
 
@@ -18,20 +18,10 @@ const NO_APPENDS: &str =
     append 5 1 ag|append 5 1 --|append  5 1 -|append 5 1  -|append 5 1 - |append 5 1 - -| append 5 1 -|\
     Append 5 1 -|append +5 1 -|append 5 -1 -|append\t5 1 -|append 5 1 -\r";
 
-#[test]
-fn other_lines_than_appends_are_refused(rt: HostRuntime) {
-    expect_no_line(&rt, NO_APPENDS);
-}
-
 const NO_READINGS: &str =
     "reply|reply 1|reply 1 |reply  -|reply 01 -|reply 18446744073709551616 -|reply 1 a|reply 1 - -|\
     prepare|prepare |prepare 02|prepare 18446744073709551616|prepare 2 -|prepare  2|lookup |\
     lookup 340282366920938463463374607431768211456|lookup 5 |lookup -";
-
-#[test]
-fn other_lines_than_replies_and_readings_are_refused(rt: HostRuntime) {
-    expect_no_line(&rt, NO_READINGS);
-}
 
 const NO_BLOCKS: &str =
     "block|block 1|block 1 |block - 1|block 256 -|block 01 -|block 1  -|block 1 abc|block 1 aa |\
@@ -39,16 +29,13 @@ const NO_BLOCKS: &str =
     read -|read 01|read  1|read 1 |read 18446744073709551616|scrub |scrub 1|scrubs|Scrub|recent |\
     recent 0|recen";
 
-#[test]
-fn other_lines_than_those_of_the_grid_are_refused(rt: HostRuntime) {
-    expect_no_line(&rt, NO_BLOCKS);
-}
-
 const NO_CHECKPOINTS: &str =
     "checkpoint|checkpoint |checkpoint  -|checkpoint a|checkpoint 0g|checkpoint - |checkpoint aa bb|\
     Checkpoint -|step |step x|step -| step|steps|Step|ste";
 
 #[test]
-fn other_lines_than_those_of_checkpoints_are_refused(rt: HostRuntime) {
-    expect_no_line(&rt, NO_CHECKPOINTS);
+fn other_lines_are_refused(rt: HostRuntime) {
+    for lines in &[NO_APPENDS, NO_READINGS, NO_BLOCKS, NO_CHECKPOINTS] {
+        expect_no_line(&rt, lines);
+    }
 }

@@ -1,5 +1,5 @@
 // The printed reports, as the worked sessions give them.
-use crate::printed::{expect, new_sink};
+use crate::printed::{expect, failing_sink, new_sink};
 use df_base::{Failed, MemorySink};
 use df_inspect::{
     Workload, print_failing, print_inspection, print_recent, print_summary, print_tour,
@@ -8,7 +8,6 @@ use df_inspect::{
 use df_layout::{Class, Finding, Layout, Mend, Place, Zone};
 use df_model::Summary;
 use df_sessions::Session;
-use std::test::Fail;
 
 // A file of layout `small` and cluster 7.
 fn summary(sequence: u64, op: u64, sessions: u64) -> Summary {
@@ -83,15 +82,13 @@ fn what_is_to_be_mended_is_listed(rt: HostRuntime) {
 }
 
 #[test]
-fn a_failing_sink_has_a_front_of_the_report(rt: HostRuntime) -> Result<(), Fail> {
-    let alloc = rt.alloc();
+fn a_failing_sink_has_a_front_of_the_report(rt: HostRuntime) {
     for call in 1u64..9 {
-        let mut sink = MemorySink::new(alloc, Vec::from_slice(alloc, &[call])?);
-        assert_eq!(rt; print_hurt_file(&mut sink), Err(Failed));
+        let mut sink = failing_sink(&rt, rt.alloc(), call);
+        assert!(rt; print_hurt_file(&mut sink) == Err(Failed));
         assert!(rt; HURT_FILE.as_bytes().starts_with(sink.bytes()));
         assert!(rt; sink.bytes().len() < HURT_FILE.len());
     }
-    Ok(())
 }
 
 const FINDINGS: [Finding; 2] = [

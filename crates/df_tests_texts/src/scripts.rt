@@ -2,15 +2,14 @@
 
 ghost use Rattle.std.specs.Prelude.{None};
 
-use df_base::{Failed, MemorySource, OutOfMemory, Source};
+use df_base::{Failed, MemorySource, Source};
 use df_layout::Layout;
 use df_lines::{Line, LineRoom, Next};
 use std::alloc::{AllocError, Global};
 use std::process::Abort;
-use std::test::Fail;
 
 // A reader over the least layout: its lines have 8,256 bytes at most.
-fn least_room(alloc: Global) -> Result<LineRoom, OutOfMemory> {
+fn least_room(rt: &impl Abort, alloc: Global) -> LineRoom {
     let layout = Layout {
         slots: 16,
         message_size: 4096,
@@ -18,7 +17,19 @@ fn least_room(alloc: Global) -> Result<LineRoom, OutOfMemory> {
         block_size: 4096,
         blocks: 8,
     };
-    LineRoom::reserve(alloc, &layout)
+    LineRoom::reserve(alloc, &layout).expect(rt, "memory of a room")
+}
+
+// A source of this text whose listed calls fail.
+fn source_of(
+    rt: &impl Abort,
+    alloc: Global,
+    text: Result<Vec<u8>, AllocError>,
+    failing: &[u64],
+) -> MemorySource {
+    let text = text.expect(rt, "memory of a script");
+    let failing = Vec::from_slice(alloc, failing).expect(rt, "memory of a list");
+    MemorySource::new(text, failing)
 }
 
 // The body of the second line: 0, 1, 2 and so on, modulo 256.
@@ -56,76 +67,76 @@ fn script(alloc: Global) -> Result<Vec<u8>, AllocError> {
 }
 
 // The three lines of that script, read in pieces of this size; the source's end is asked for once.
-fn expect_script(rt: &impl Abort, alloc: Global, piece: usize, body: &[u8]) -> Result<(), Fail> {
+fn expect_script(rt: &impl Abort, alloc: Global, piece: usize, body: &[u8]) {
     let mut source = Drip {
-        source: MemorySource::new(script(alloc)?, Vec::new(alloc)),
+        source: source_of(rt, alloc, script(alloc), &[]),
         piece,
         ended: 0,
     };
-    let mut room = least_room(alloc)?;
-    expect_line(rt, &mut room, &mut source, 4, 1, b"")?;
-    expect_line(rt, &mut room, &mut source, 55, 1, body)?;
-    expect_line(rt, &mut room, &mut source, 6, 2, b"\xff")?;
+    let mut room = least_room(rt, alloc);
+    expect_line(rt, &mut room, &mut source, 4, 1, b"");
+    expect_line(rt, &mut room, &mut source, 55, 1, body);
+    expect_line(rt, &mut room, &mut source, 6, 2, b"\xff");
     expect_twice(rt, &mut room, &mut source, Next::End);
-    assert_eq!(rt; source.ended, 1);
-    Ok(())
+    assert!(rt; source.ended == 1);
 }
 
 const PIECES: [usize; 6] = [1, 2, 7, 8256, 8257, 10_000];
 
 #[test]
-fn a_script_is_read_in_pieces_of_any_size(rt: HostRuntime) -> Result<(), Fail> {
-    let body = long_body(rt.alloc())?;
+fn a_script_is_read_in_pieces_of_any_size(rt: HostRuntime) {
+    let body = long_body(rt.alloc()).expect(&rt, "memory of a body");
     for piece in &PIECES {
-        expect_script(&rt, rt.alloc(), *piece, &body)?;
+        expect_script(&rt, rt.alloc(), *piece, &body);
     }
-    Ok(())
+}
+
+// A script whose first and third reads fail: each failure is answered once, and no line is lost.
+fn expect_each_line(rt: &impl Abort, room: &mut LineRoom, source: &mut MemorySource, body: &[u8]) {
+    assert!(rt; room.next(source) == Err(Failed));
+    expect_line(rt, room, source, 4, 1, b"");
+    assert!(rt; room.next(source) == Err(Failed));
+    expect_line(rt, room, source, 55, 1, body);
+    expect_line(rt, room, source, 6, 2, b"\xff");
+    assert!(rt; room.next(source) == Ok(Next::End));
 }
 
 #[test]
-fn a_failed_read_loses_nothing(rt: HostRuntime) -> Result<(), Fail> {
-    let body = long_body(rt.alloc())?;
-    let mut source = MemorySource::new(script(rt.alloc())?, [1, 3].to_vec(rt.alloc())?);
-    let mut room = least_room(rt.alloc())?;
-    assert_eq!(rt; room.next(&mut source), Err(Failed));
-    expect_line(&rt, &mut room, &mut source, 4, 1, b"")?;
-    assert_eq!(rt; room.next(&mut source), Err(Failed));
-    expect_line(&rt, &mut room, &mut source, 55, 1, &body)?;
-    expect_line(&rt, &mut room, &mut source, 6, 2, b"\xff")?;
-    assert_eq!(rt; room.next(&mut source), Ok(Next::End));
-    Ok(())
+fn a_failed_read_loses_nothing(rt: HostRuntime) {
+    let body = long_body(rt.alloc()).expect(&rt, "memory of a body");
+    let mut source = source_of(&rt, rt.alloc(), script(rt.alloc()), &[1, 3]);
+    let mut room = least_room(&rt, rt.alloc());
+    expect_each_line(&rt, &mut room, &mut source, &body);
 }
 
 const ENDINGS: [&[u8]; 3] = [b"", b"\n", b"\nappend 6 1 -\n"];
 
 #[test]
-fn a_line_past_the_bound_is_refused(rt: HostRuntime) -> Result<(), Fail> {
+fn a_line_past_the_bound_is_refused(rt: HostRuntime) {
     for ending in &ENDINGS {
-        let text = script_of(rt.alloc(), b"append 555 1 ", ending)?;
-        let mut source = MemorySource::new(text, Vec::new(rt.alloc()));
-        let mut room = least_room(rt.alloc())?;
-        expect_line(&rt, &mut room, &mut source, 4, 1, b"")?;
+        let text = script_of(rt.alloc(), b"append 555 1 ", ending);
+        let mut source = source_of(&rt, rt.alloc(), text, &[]);
+        let mut room = least_room(&rt, rt.alloc());
+        expect_line(&rt, &mut room, &mut source, 4, 1, b"");
         expect_twice(&rt, &mut room, &mut source, Next::Refused);
     }
-    Ok(())
 }
 
 const SHORTEST: [(&[u8], Next); 2] = [(b"", Next::End), (b"\n", Next::Refused)];
 
 #[test]
-fn an_empty_line_is_refused_and_an_empty_script_ends(rt: HostRuntime) -> Result<(), Fail> {
+fn an_empty_line_is_refused_and_an_empty_script_ends(rt: HostRuntime) {
     for (text, want) in &SHORTEST {
-        let mut source = MemorySource::new(text.to_vec(rt.alloc())?, Vec::new(rt.alloc()));
-        let mut room = least_room(rt.alloc())?;
+        let mut source = source_of(&rt, rt.alloc(), text.to_vec(rt.alloc()), &[]);
+        let mut room = least_room(&rt, rt.alloc());
         expect_twice(&rt, &mut room, &mut source, *want);
     }
-    Ok(())
 }
 
 // The reader's answer, which stays the same.
 fn expect_twice<S: Source>(rt: &impl Abort, room: &mut LineRoom, source: &mut S, want: Next) {
-    assert_eq!(rt; room.next(source), Ok(want));
-    assert_eq!(rt; room.next(source), Ok(want));
+    assert!(rt; room.next(source) == Ok(want));
+    assert!(rt; room.next(source) == Ok(want));
 }
 
 fn expect_line<S: Source>(
@@ -135,20 +146,19 @@ fn expect_line<S: Source>(
     client: u128,
     request: u64,
     bytes: &[u8],
-) -> Result<(), Failed> {
+) {
     let length = bytes.len() as u64;
     let want = Line::Append {
         client,
         request,
         length,
     };
-    let next = room.next(source)?;
-    assert_eq!(rt; next, Next::Line(want));
-    let Next::Line(Line::Append { length, .. }) = next else {
-        return Err(Failed);
+    let next = room.next(source);
+    assert!(rt; next == Ok(Next::Line(want)));
+    let Ok(Next::Line(Line::Append { length, .. })) = next else {
+        panic!(rt; "an append");
     };
-    assert_eq!(rt; room.body(length), bytes);
-    Ok(())
+    assert!(rt; room.body(length) == bytes);
 }
 
 /// Hands over the bytes of another source in small pieces, and counts how often that had ended.
@@ -184,14 +194,13 @@ fn reply_of(alloc: Global, size: u64) -> Result<Vec<u8>, AllocError> {
 }
 
 #[test]
-fn a_room_is_as_large_as_the_layout_asks(rt: HostRuntime) -> Result<(), Fail> {
+fn a_room_is_as_large_as_the_layout_asks(rt: HostRuntime) {
     let length = 16_412;
     let line = Next::Line(Line::Reply { op: 1, length });
     for (size, want) in &[(length, line), (16_413, Next::Refused)] {
-        let text = reply_of(rt.alloc(), *size)?;
-        let mut source = MemorySource::new(text, Vec::new(rt.alloc()));
-        let mut room = LineRoom::reserve(rt.alloc(), &Layout::small())?;
-        assert_eq!(rt; room.next(&mut source), Ok(*want));
+        let mut source = source_of(&rt, rt.alloc(), reply_of(rt.alloc(), *size), &[]);
+        let room = LineRoom::reserve(rt.alloc(), &Layout::small());
+        let mut room = room.expect(&rt, "memory of a room");
+        assert!(rt; room.next(&mut source) == Ok(*want));
     }
-    Ok(())
 }

@@ -20,6 +20,14 @@ const TWIN: SuperFields = SuperFields {
     ..EARLY
 };
 
+// A content.
+#[derive(Clone, Copy)]
+enum Content {
+    Early,
+    Later,
+    Twin,
+}
+
 // What stands at the place of a copy.
 #[derive(Clone, Copy)]
 enum Shown {
@@ -69,7 +77,7 @@ const YES: bool = true;
 const NO: bool = false;
 
 // What stands at the four places, the content that is chosen, and which of the copies are its own.
-const CHOSEN: [(&'static str, [Shown; 4], SuperFields, [bool; 4]); 9] = [
+const CHOSEN: [(&'static str, [Shown; 4], Content, [bool; 4]); 9] = [
     (
         "four equal copies",
         [
@@ -78,7 +86,7 @@ const CHOSEN: [(&'static str, [Shown; 4], SuperFields, [bool; 4]); 9] = [
             Shown::Early(2),
             Shown::Early(3),
         ],
-        EARLY,
+        Content::Early,
         [YES, YES, YES, YES],
     ),
     (
@@ -89,7 +97,7 @@ const CHOSEN: [(&'static str, [Shown; 4], SuperFields, [bool; 4]); 9] = [
             Shown::Early(2),
             Shown::Early(3),
         ],
-        LATER,
+        Content::Later,
         [YES, YES, NO, NO],
     ),
     (
@@ -100,13 +108,13 @@ const CHOSEN: [(&'static str, [Shown; 4], SuperFields, [bool; 4]); 9] = [
             Shown::Later(2),
             Shown::Later(3),
         ],
-        LATER,
+        Content::Later,
         [NO, NO, YES, YES],
     ),
     (
         "a single one of a later sequence",
         [Shown::Later(0), Shown::Early(1), Shown::Early(2), BLANK],
-        EARLY,
+        Content::Early,
         [NO, YES, YES, NO],
     ),
     (
@@ -117,7 +125,7 @@ const CHOSEN: [(&'static str, [Shown; 4], SuperFields, [bool; 4]); 9] = [
             Shown::Early(2),
             Shown::Twin(3),
         ],
-        EARLY,
+        Content::Early,
         [YES, NO, YES, NO],
     ),
     (
@@ -128,19 +136,19 @@ const CHOSEN: [(&'static str, [Shown; 4], SuperFields, [bool; 4]); 9] = [
             Shown::Early(2),
             Shown::Twin(3),
         ],
-        TWIN,
+        Content::Twin,
         [YES, NO, NO, YES],
     ),
     (
         "two damaged copies",
         [GARBLED, Shown::Early(1), BLANK, Shown::Early(3)],
-        EARLY,
+        Content::Early,
         [NO, YES, NO, YES],
     ),
     (
         "a damaged copy",
         [Shown::Early(0), GARBLED, Shown::Early(2), Shown::Early(3)],
-        EARLY,
+        Content::Early,
         [YES, NO, YES, YES],
     ),
     (
@@ -151,56 +159,70 @@ const CHOSEN: [(&'static str, [Shown; 4], SuperFields, [bool; 4]); 9] = [
             Shown::Early(2),
             Shown::Early(3),
         ],
-        EARLY,
+        Content::Early,
         [NO, NO, YES, YES],
     ),
 ];
 
-#[test]
-fn the_greatest_content_of_two_copies_is_chosen(rt: HostRuntime) {
-    for (name, copies, content, members) in CHOSEN {
-        assert!(rt; chosen(copies) == Ok(Chosen { content, members }), "{name}");
-    }
+// How a content is chosen of which these copies are.
+fn choice_of(content: Content, members: [bool; 4]) -> Chosen {
+    let content = match content {
+        Content::Early => EARLY,
+        Content::Later => LATER,
+        Content::Twin => TWIN,
+    };
+    Chosen { content, members }
 }
 
 #[test]
+fn the_greatest_content_of_two_copies_is_chosen(rt: HostRuntime) {
+    for (name, copies, content, members) in &CHOSEN {
+        assert!(rt;
+            chosen(*copies) == Ok(choice_of(*content, *members)),
+            "{name}"
+        );
+    }
+}
+
+const OTHER: Class = Class::Elsewhere(Place {
+    zone: Zone::Superblock,
+    index: 2,
+});
+
+const STALE: Class = Class::Stale;
+
+const SPLIT: [(&'static str, [Shown; 4], [Class; 4]); 5] = [
+    (
+        "three contents, and one that is early too, but for its checksum",
+        [
+            Shown::Early(0),
+            Shown::Later(1),
+            Shown::Twin(2),
+            Shown::Summed(3, 8),
+        ],
+        [STALE; 4],
+    ),
+    (
+        "equal checksums with different fields",
+        [BLANK, Shown::Summed(1, 6), BLANK, Shown::Later(3)],
+        [Class::Blank, STALE, Class::Blank, STALE],
+    ),
+    (
+        "three damaged copies",
+        [GARBLED, Shown::Bad(OTHER), Shown::Early(2), BLANK],
+        [Class::Garbled, OTHER, STALE, Class::Blank],
+    ),
+    ("a new file", [BLANK; 4], [Class::Blank; 4]),
+    (
+        "one copy four times: it is at its own place once",
+        [Shown::Early(2); 4],
+        [OTHER, OTHER, STALE, OTHER],
+    ),
+];
+
+#[test]
 fn copies_that_do_not_agree_give_their_classes(rt: HostRuntime) {
-    let garbled = Class::Garbled;
-    let blank = Class::Blank;
-    let stale = Class::Stale;
-    let other = Class::Elsewhere(Place {
-        zone: Zone::Superblock,
-        index: 2,
-    });
-    let rows = [
-        (
-            "three contents, and one that is early too, but for its checksum",
-            [
-                Shown::Early(0),
-                Shown::Later(1),
-                Shown::Twin(2),
-                Shown::Summed(3, 8),
-            ],
-            [stale; 4],
-        ),
-        (
-            "equal checksums with different fields",
-            [BLANK, Shown::Summed(1, 6), BLANK, Shown::Later(3)],
-            [blank, stale, blank, stale],
-        ),
-        (
-            "three damaged copies",
-            [GARBLED, Shown::Bad(other), Shown::Early(2), BLANK],
-            [garbled, other, stale, blank],
-        ),
-        ("a new file", [BLANK; 4], [blank; 4]),
-        (
-            "one copy four times: it is at its own place once",
-            [Shown::Early(2); 4],
-            [other, other, stale, other],
-        ),
-    ];
-    for (name, copies, classes) in rows {
-        assert!(rt; chosen(copies) == Err(classes), "{name}");
+    for (name, copies, classes) in &SPLIT {
+        assert!(rt; chosen(*copies) == Err(*classes), "{name}");
     }
 }

@@ -51,102 +51,93 @@ fn shown(cluster: u128, zone: Zone, index: u64, front: &[u8; 256]) -> Result<Hea
     }
 }
 
-#[test]
-fn shows_the_unit_of_each_place(rt: HostRuntime) {
-    let cases = [
-        (Zone::WalHeaders, 3, RESERVED),
-        (Zone::WalHeaders, 1, PREPARE),
-        (Zone::WalPrepares, 1, PREPARE),
-        (Zone::ClientReplies, 2, REPLY),
-        (Zone::Grid, 9, BLOCK),
-        (Zone::Grid, 8, FIRST_TRAILER),
-        (Zone::Grid, 9, TRAILER),
-    ];
-    for (zone, index, front) in cases {
-        let bytes = spelled(&front);
-        assert!(rt;
-            shown(7, zone, index, &bytes).ok() == decode_header(&bytes),
-            "{zone:?} {index}"
-        );
-        assert!(rt;
-            shown(8, zone, index, &bytes) == Err(Class::Garbled),
-            "{zone:?} {index}"
-        );
+// What is shown: the header that is there, or its class.
+#[derive(Clone, Copy)]
+enum Shows {
+    Header,
+    Other(Zone, u64),
+    Garbled,
+}
+
+// A place, what stands there, one byte of it that is changed before its checksum is taken, and what is shown then.
+type Row = (Zone, u64, [u8; 124], (usize, u8), Shows);
+
+// The byte that each header has at this offset.
+const AS_IT_IS: (usize, u8) = (122, 1);
+
+const RING: Zone = Zone::WalHeaders;
+
+const PREPARES: Zone = Zone::WalPrepares;
+
+const REPLIES: Zone = Zone::ClientReplies;
+
+const GRID: Zone = Zone::Grid;
+
+const ROWS: [Row; 28] = [
+    (RING, 3, RESERVED, AS_IT_IS, Shows::Header),
+    (RING, 1, PREPARE, AS_IT_IS, Shows::Header),
+    (PREPARES, 1, PREPARE, AS_IT_IS, Shows::Header),
+    (REPLIES, 2, REPLY, AS_IT_IS, Shows::Header),
+    (GRID, 9, BLOCK, AS_IT_IS, Shows::Header),
+    (GRID, 8, FIRST_TRAILER, AS_IT_IS, Shows::Header),
+    (GRID, 9, TRAILER, AS_IT_IS, Shows::Header),
+    (RING, 1, PREPARE, (113, 0x20), Shows::Header),
+    // units of other places
+    (RING, 4, RESERVED, AS_IT_IS, Shows::Other(RING, 3)),
+    (RING, 2, PREPARE, AS_IT_IS, Shows::Other(RING, 1)),
+    (PREPARES, 2, PREPARE, AS_IT_IS, Shows::Other(PREPARES, 1)),
+    (REPLIES, 1, PREPARE, AS_IT_IS, Shows::Other(PREPARES, 1)),
+    (GRID, 1, PREPARE, AS_IT_IS, Shows::Other(PREPARES, 1)),
+    (PREPARES, 2, REPLY, AS_IT_IS, Shows::Other(REPLIES, 2)),
+    (PREPARES, 9, BLOCK, AS_IT_IS, Shows::Other(GRID, 9)),
+    (GRID, 8, BLOCK, AS_IT_IS, Shows::Other(GRID, 9)),
+    // a prepare's slot that isn't its op's, and slots, places and addresses that the layout lacks
+    (PREPARES, 1, PREPARE, (116, 2), Shows::Garbled),
+    (RING, 1, PREPARE, (116, 2), Shows::Garbled),
+    (RING, 3, RESERVED, (116, 32), Shows::Garbled),
+    (REPLIES, 3, REPLY, (116, 4), Shows::Garbled),
+    (GRID, 64, BLOCK, (80, 65), Shows::Garbled),
+    // a body that isn't there, and sizes above the greatest of the place
+    (PREPARES, 1, PREPARE, (112, 1), Shows::Garbled),
+    (PREPARES, 1, BLOCK, (113, 0x21), Shows::Garbled),
+    (RING, 1, PREPARE, (113, 0x21), Shows::Garbled),
+    (GRID, 9, BLOCK, (113, 0x41), Shows::Garbled),
+    // units as they are, of a kind that doesn't stand in the ring
+    (PREPARES, 3, RESERVED, AS_IT_IS, Shows::Garbled),
+    (RING, 2, REPLY, AS_IT_IS, Shows::Garbled),
+    (RING, 9, BLOCK, AS_IT_IS, Shows::Garbled),
+];
+
+// What a row's place is to show with its bytes.
+fn wanted(bytes: &[u8; 256], shows: Shows) -> Result<Header, Class> {
+    match shows {
+        Shows::Header => decode_header(bytes).ok_or(Class::Garbled),
+        Shows::Other(zone, index) => Err(Class::Elsewhere(Place { zone, index })),
+        Shows::Garbled => Err(Class::Garbled),
     }
 }
 
 #[test]
-fn tells_units_of_other_places(rt: HostRuntime) {
-    let cases = [
-        (Zone::WalHeaders, 4, RESERVED, Zone::WalHeaders, 3),
-        (Zone::WalHeaders, 2, PREPARE, Zone::WalHeaders, 1),
-        (Zone::WalPrepares, 2, PREPARE, Zone::WalPrepares, 1),
-        (Zone::ClientReplies, 1, PREPARE, Zone::WalPrepares, 1),
-        (Zone::Grid, 1, PREPARE, Zone::WalPrepares, 1),
-        (Zone::WalPrepares, 2, REPLY, Zone::ClientReplies, 2),
-        (Zone::WalPrepares, 9, BLOCK, Zone::Grid, 9),
-        (Zone::Grid, 8, BLOCK, Zone::Grid, 9),
-    ];
-    for (i, (at, place, front, zone, index)) in cases.iter().enumerate() {
-        let elsewhere = Class::Elsewhere(Place {
-            zone: *zone,
-            index: *index,
-        });
-        assert!(rt;
-            shown(7, *at, *place, &spelled(front)) == Err(elsewhere),
-            "case {i}"
-        );
-    }
-}
-
-#[test]
-fn tells_what_is_no_whole_unit(rt: HostRuntime) {
-    let cases = [
-        // a prepare's slot that isn't its op's, and slots, places and addresses that the layout lacks
-        (Zone::WalPrepares, 1, PREPARE, 116, 2),
-        (Zone::WalHeaders, 1, PREPARE, 116, 2),
-        (Zone::WalHeaders, 3, RESERVED, 116, 32),
-        (Zone::ClientReplies, 3, REPLY, 116, 4),
-        (Zone::Grid, 64, BLOCK, 80, 65),
-        // a body that isn't there, and sizes above the greatest of the place
-        (Zone::WalPrepares, 1, PREPARE, 112, 1),
-        (Zone::WalPrepares, 1, BLOCK, 113, 0x21),
-        (Zone::WalHeaders, 1, PREPARE, 113, 0x21),
-        (Zone::Grid, 9, BLOCK, 113, 0x41),
-        // units as they are, of a kind that doesn't stand in the ring
-        (Zone::WalPrepares, 3, RESERVED, 255, 0),
-        (Zone::WalHeaders, 2, REPLY, 255, 0),
-        (Zone::WalHeaders, 9, BLOCK, 255, 0),
-    ];
-    for (i, (zone, index, front, at, byte)) in cases.iter().enumerate() {
+fn tells_what_each_place_shows(rt: HostRuntime) {
+    for (i, (zone, index, front, (at, byte), shows)) in ROWS.iter().enumerate() {
         let bytes = changed(front, *at, *byte);
-        assert!(rt;
-            shown(7, *zone, *index, &bytes) == Err(Class::Garbled),
-            "case {i}"
-        );
+        let is = shown(7, *zone, *index, &bytes);
+        assert!(rt; is == wanted(&bytes, *shows), "row {i}");
+        assert!(rt; is.is_ok() == (i < 8), "row {i}");
     }
-    // a byte that the checksum doesn't cover rightly
-    let mut bytes = spelled(&PREPARE);
-    bytes[80] = 2;
-    assert!(rt; shown(7, Zone::WalPrepares, 1, &bytes) == Err(Class::Garbled));
-    let header = shown(7, Zone::WalHeaders, 1, &changed(&PREPARE, 113, 0x20));
-    assert!(rt; header.is_ok());
 }
 
 #[test]
-fn looks_at_a_header_alone_for_blank(rt: HostRuntime) {
+fn tells_blank_and_garbled_places(rt: HostRuntime) {
     let mut one = [0; 256];
     one[255] = 1;
-    for zone in [
-        Zone::WalHeaders,
-        Zone::WalPrepares,
-        Zone::ClientReplies,
-        Zone::Grid,
-    ] {
-        assert!(rt;
-            shown(7, zone, 1, &[0; 256]) == Err(Class::Blank),
-            "{zone:?}"
-        );
-        assert!(rt; shown(7, zone, 1, &one) == Err(Class::Garbled), "{zone:?}");
+    for zone in [RING, PREPARES, REPLIES, GRID] {
+        assert!(rt; shown(7, zone, 1, &[0; 256]) == Err(Class::Blank));
+        assert!(rt; shown(7, zone, 1, &one) == Err(Class::Garbled));
     }
+    // another cluster, and a byte that the checksum doesn't cover rightly
+    let mut bytes = spelled(&PREPARE);
+    assert!(rt; shown(8, PREPARES, 1, &bytes) == Err(Class::Garbled));
+    bytes[80] = 2;
+    assert!(rt; shown(7, PREPARES, 1, &bytes) == Err(Class::Garbled));
 }

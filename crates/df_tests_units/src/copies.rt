@@ -48,32 +48,35 @@ fn has_at(bytes: &[u8], at: usize, field: &[u8]) -> bool {
     at <= bytes.len() && bytes[at..].starts_with(field)
 }
 
+const GREATEST: SuperFields = SuperFields {
+    op: 1 << 62,
+    head: 1 << 62,
+    replies: (1 << 62) - 8,
+    ..LATER
+};
+
+// Its fields from its op on, by their offset.
+const FIELDS: [(usize, [u8; 8]); 11] = [
+    (80, [0, 0, 0, 0, 0, 0, 0, 0x40]),
+    (88, [0, 0, 0, 0, 0, 0, 0, 0x40]),
+    (96, [0xf8, 0xff, 0xff, 0xff, 0xff, 0xff, 0xff, 0x3f]),
+    (104, [9, 0, 0, 0, 0, 0, 0, 0]),
+    (112, [1; 8]),
+    (120, [1; 8]),
+    (128, [2; 8]),
+    (136, [2; 8]),
+    (144, [0x90, 8, 0, 0, 0, 0, 0, 0]),
+    (152, [0; 8]),
+    (160, [0; 8]),
+];
+
 #[test]
 fn writes_each_field_at_its_offset(rt: HostRuntime) {
-    let greatest = SuperFields {
-        op: 1 << 62,
-        head: 1 << 62,
-        replies: (1 << 62) - 8,
-        ..LATER
-    };
-    let bytes = written(&greatest, 1);
-    let fields = [
-        (80, [0, 0, 0, 0, 0, 0, 0, 0x40]),
-        (88, [0, 0, 0, 0, 0, 0, 0, 0x40]),
-        (96, [0xf8, 0xff, 0xff, 0xff, 0xff, 0xff, 0xff, 0x3f]),
-        (104, [9, 0, 0, 0, 0, 0, 0, 0]),
-        (112, [1; 8]),
-        (120, [1; 8]),
-        (128, [2; 8]),
-        (136, [2; 8]),
-        (144, [0x90, 8, 0, 0, 0, 0, 0, 0]),
-        (152, [0; 8]),
-        (160, [0; 8]),
-    ];
-    for (at, field) in fields {
-        assert!(rt; has_at(&bytes, at, &field), "at {at}");
+    let bytes = written(&GREATEST, 1);
+    for (at, field) in &FIELDS {
+        assert!(rt; has_at(&bytes, *at, field), "at {at}");
     }
-    assert!(rt; decode_copy(&bytes).map(|copy| copy.fields) == Some(greatest));
+    assert!(rt; decode_copy(&bytes).map(|copy| copy.fields) == Some(GREATEST));
 }
 
 // The first byte of the sector with one byte changed that should be zero and isn't, where that is a copy.
@@ -81,32 +84,29 @@ fn first_nonzero(at: usize) -> Option<Option<u64>> {
     decode_copy(&sealed(with(at, 1))).map(|copy| copy.fields.first_nonzero)
 }
 
+// A byte that is put over one of the example's, and whether that is a copy still.
+const CHANGES: [(usize, u8, bool); 10] = [
+    (16, 2, true),
+    (16, 3, true),
+    (16, 4, false),
+    (17, 1, false),
+    (25, 1, false),
+    (31, 1, false),
+    (0, 0xbe, false),
+    (15, 0x30, false),
+    (32, 2, false),
+    (4095, 1, false),
+];
+
 #[test]
 fn tells_which_sectors_are_a_copy(rt: HostRuntime) {
-    // the first row changes nothing
-    let cases = [
-        (16, 2, true),
-        (16, 3, true),
-        (16, 4, false),
-        (17, 1, false),
-        (25, 1, false),
-        (31, 1, false),
-        (0, 0xbe, false),
-        (15, 0x30, false),
-        (32, 2, false),
-        (4095, 1, false),
-    ];
-    for (at, byte, is) in cases {
-        assert!(rt;
-            decode_copy(&with(at, byte)).is_some() == is,
-            "{byte} at {at}"
-        );
+    for (at, byte, is) in &CHANGES {
+        assert!(rt; decode_copy(&with(*at, *byte)).is_some() == *is, "at {at}");
     }
     assert!(rt; decode_copy(&sealed(with(32, 2))).is_some());
     assert!(rt; decode_copy(&[0; 4096]).is_none());
-    for (at, first) in [(4095, Some(4095)), (160, Some(160)), (159, None)] {
-        assert!(rt; first_nonzero(at) == Some(first), "at {at}");
-    }
+    let first = (first_nonzero(4095), first_nonzero(160), first_nonzero(159));
+    assert!(rt; first == (Some(Some(4095)), Some(Some(160)), Some(None)));
 }
 
 #[test]

@@ -4,35 +4,29 @@ use df_layout::{
     zones_in_order,
 };
 
-/// A place by zone and index, its first sector and how many it has.
-type Row = (Zone, u64, u64, u64);
+/// A zone, how many sectors each of its places has, and some of its places: their index and first sector.
+type Row = (Zone, u64, &'static [(u64, u64)]);
 
-const SMALL: [Row; 12] = [
-    (Zone::Superblock, 0, 0, 1),
-    (Zone::Superblock, 3, 3, 1),
-    (Zone::WalHeaders, 0, 4, 1),
-    (Zone::WalHeaders, 15, 4, 1),
-    (Zone::WalHeaders, 16, 5, 1),
-    (Zone::WalHeaders, 31, 5, 1),
-    (Zone::WalPrepares, 0, 6, 2),
-    (Zone::WalPrepares, 31, 68, 2),
-    (Zone::ClientReplies, 0, 70, 2),
-    (Zone::ClientReplies, 3, 76, 2),
-    (Zone::Grid, 1, 80, 4),
-    (Zone::Grid, 64, 332, 4),
+const SMALL: [Row; 5] = [
+    (Zone::Superblock, 1, &[(0, 0), (3, 3)]),
+    (Zone::WalHeaders, 1, &[(0, 4), (15, 4), (16, 5), (31, 5)]),
+    (Zone::WalPrepares, 2, &[(0, 6), (31, 68)]),
+    (Zone::ClientReplies, 2, &[(0, 70), (3, 76)]),
+    (Zone::Grid, 4, &[(1, 80), (64, 332)]),
 ];
 
-const LARGE: [Row; 9] = [
-    (Zone::Superblock, 3, 3, 1),
-    (Zone::WalHeaders, 0, 4, 1),
-    (Zone::WalHeaders, 1023, 67, 1),
-    (Zone::WalPrepares, 0, 68, 256),
-    (Zone::WalPrepares, 1023, 261_956, 256),
-    (Zone::ClientReplies, 0, 262_212, 256),
-    (Zone::ClientReplies, 63, 278_340, 256),
-    (Zone::Grid, 1, 278_656, 128),
-    (Zone::Grid, 16_384, 2_375_680, 128),
+const LARGE: [Row; 5] = [
+    (Zone::Superblock, 1, &[(3, 3)]),
+    (Zone::WalHeaders, 1, &[(0, 4), (1023, 67)]),
+    (Zone::WalPrepares, 256, &[(0, 68), (1023, 261_956)]),
+    (Zone::ClientReplies, 256, &[(0, 262_212), (63, 278_340)]),
+    (Zone::Grid, 128, &[(1, 278_656), (16_384, 2_375_680)]),
 ];
+
+fn stands(layout: &Layout, zone: Zone, index: u64, span: Span) -> bool {
+    let place = Place { zone, index };
+    layout.has(place) && layout.sectors_of(place) == span
+}
 
 #[test]
 fn places_stand_where_the_tables_say(rt: HostRuntime) {
@@ -42,47 +36,65 @@ fn places_stand_where_the_tables_say(rt: HostRuntime) {
     layouts_are_numbers();
     assert!(rt; Layout::small().sectors() == 336);
     assert!(rt; Layout::large().sectors() == 2_375_808);
-    for (layout, rows) in [(Layout::small(), &SMALL[..]), (Layout::large(), &LARGE[..])] {
-        for (zone, index, first, count) in rows {
-            let place = Place {
-                zone: *zone,
-                index: *index,
-            };
-            let span = Span {
-                first: *first,
-                count: *count,
-            };
-            assert!(rt;
-                layout.has(place) && layout.sectors_of(place) == span,
-                "{zone:?} {index}"
-            );
+    for (layout, rows) in [(Layout::small(), SMALL), (Layout::large(), LARGE)] {
+        for (zone, count, places) in rows {
+            for (index, first) in places.iter().copied() {
+                let span = Span { first, count };
+                assert!(rt; stands(&layout, zone, index, span), "{zone:?} {index}");
+            }
         }
     }
 }
 
+const LEAST: [u32; 5] = [16, 4096, 1, 4096, 8];
+
+// The number that is refused of a layout's five.
+fn refused(numbers: [u32; 5]) -> Option<Field> {
+    let [slots, message_size, clients, block_size, blocks] = numbers;
+    Layout::new(slots, message_size, clients, block_size, blocks).err()
+}
+
+// The least layout with zeros from one of its numbers on.
+fn zeros_from(first: usize) -> [u32; 5] {
+    let mut numbers = LEAST;
+    for (i, number) in numbers.iter_mut().enumerate() {
+        if i >= first {
+            *number = 0;
+        }
+    }
+    numbers
+}
+
+// Five numbers, of which one is refused.
+const BEYOND: [([u32; 5], Field); 9] = [
+    ([1040, 4096, 1, 4096, 8], Field::Slots),
+    ([24, 4096, 1, 4096, 8], Field::Slots),
+    ([16, 4097, 1, 4096, 8], Field::MessageSize),
+    ([16, 1_052_672, 1, 4096, 8], Field::MessageSize),
+    ([16, 4096, 65, 4096, 8], Field::Clients),
+    ([16, 4096, 1, 2048, 8], Field::BlockSize),
+    ([16, 4096, 1, 528_384, 8], Field::BlockSize),
+    ([16, 4096, 1, 4096, 7], Field::Blocks),
+    ([16, 4096, 1, 4096, 16_385], Field::Blocks),
+];
+
 #[test]
 fn numbers_end_at_their_limits(rt: HostRuntime) {
-    let least = (16, 4096, 1, 4096, 8);
-    let rows = [
-        (least, None),
-        ((1024, 1_048_576, 64, 524_288, 16_384), None),
-        ((0, 0, 0, 0, 0), Some(Field::Slots)),
-        ((1040, 4096, 1, 4096, 8), Some(Field::Slots)),
-        ((24, 4096, 1, 4096, 8), Some(Field::Slots)),
-        ((16, 0, 0, 0, 0), Some(Field::MessageSize)),
-        ((16, 4097, 1, 4096, 8), Some(Field::MessageSize)),
-        ((16, 1_052_672, 1, 4096, 8), Some(Field::MessageSize)),
-        ((16, 4096, 0, 0, 0), Some(Field::Clients)),
-        ((16, 4096, 65, 4096, 8), Some(Field::Clients)),
-        ((16, 4096, 1, 2048, 7), Some(Field::BlockSize)),
-        ((16, 4096, 1, 528_384, 8), Some(Field::BlockSize)),
-        ((16, 4096, 1, 4096, 7), Some(Field::Blocks)),
-        ((16, 4096, 1, 4096, 16_385), Some(Field::Blocks)),
+    for numbers in [LEAST, [1024, 1_048_576, 64, 524_288, 16_384]] {
+        assert!(rt; refused(numbers) == None);
+    }
+    for (i, (numbers, field)) in BEYOND.iter().enumerate() {
+        assert!(rt; refused(*numbers) == Some(*field), "beyond {i}");
+    }
+    let fields = [
+        Field::Slots,
+        Field::MessageSize,
+        Field::Clients,
+        Field::BlockSize,
+        Field::Blocks,
     ];
-    for (i, (numbers, refused)) in rows.iter().enumerate() {
-        let (slots, message_size, clients, block_size, blocks) = *numbers;
-        let made = Layout::new(slots, message_size, clients, block_size, blocks);
-        assert!(rt; made.err() == *refused, "row {i}");
+    for (i, field) in fields.iter().enumerate() {
+        assert!(rt; refused(zeros_from(i)) == Some(*field), "zeros from {i}");
     }
 }
 

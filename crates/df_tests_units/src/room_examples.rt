@@ -1,68 +1,14 @@
-// Headers in cluster 7 on layout small for the tests, as bytes and as values.
+// Headers in cluster 7 on layout small for the tests, as their makers give them.
 ghost use Rattle.std.specs.Prelude.{◌≡◌, ◌+◌, ◌≤◌, length, IsSome};
 ghost use Rattle.df_layout.specs.declared.layout.Layout.{Layout as AnyLayout};
 ghost use Rattle.df_format.specs.Rules.{ObeysRules};
 ghost use Rattle.df_format.specs.Own.{own_place};
 ghost use Rattle.df_format.specs.Making.{for_body};
 
-use df_base::{HEADER, check};
+use df_base::check;
 use df_buffers::{Identity, Wanted};
 use df_format::{Header, Kind};
 use df_layout::{Layout, Place, Zone};
-
-/// The bytes of a header that aren't zero, but for its checksums and what all headers have.
-pub(crate) type Fields = &'static [(usize, u8)];
-
-/// An empty slot, 3.
-pub(crate) const RESERVED: Fields = &[(120, 1), (116, 3)];
-
-/// The prepare of op 1, request 1 of client 5.
-pub(crate) const PREPARE: Fields = &[(120, 2), (64, 5), (80, 1), (88, 1), (104, 1), (116, 1)];
-
-/// The reply to it, at the session's place 2.
-pub(crate) const REPLY: Fields = &[
-    (120, 3),
-    (64, 5),
-    (80, 1),
-    (88, 1),
-    (96, 1),
-    (104, 1),
-    (116, 2),
-];
-
-/// A block of kind 1 at address 9.
-pub(crate) const BLOCK: Fields = &[(120, 4), (80, 9), (121, 1)];
-
-/// The block with index 0 of the trailer of sequence 2, at address 9.
-pub(crate) const TRAILER: Fields = &[(120, 5), (80, 9), (104, 2)];
-
-fn put(bytes: &mut [u8; 256], at: usize, byte: u8) {
-    if at < bytes.len() {
-        bytes[at] = byte;
-    }
-}
-
-/// The header without a body, with one byte changed before its checksum is taken.
-pub(crate) fn changed(fields: Fields, at: usize, byte: u8) -> [u8; 256] {
-    let mut bytes = [0; HEADER];
-    let body = check(&[]);
-    bytes[16..32].copy_from_slice(&body);
-    for (at, byte) in [(32, 7), (113, 1), (122, 1)] {
-        put(&mut bytes, at, byte);
-    }
-    for (at, byte) in fields.iter().copied() {
-        put(&mut bytes, at, byte);
-    }
-    put(&mut bytes, at, byte);
-    let sum = check(&bytes[16..]);
-    bytes[..16].copy_from_slice(&sum);
-    bytes
-}
-
-/// The header without a body.
-pub(crate) fn spelled(fields: Fields) -> [u8; 256] {
-    changed(fields, 122, 1)
-}
 
 /// What is wanted at a place of cluster 7.
 pub(crate) fn identity_at(layout: Layout, zone: Zone, index: u64, wanted: Wanted) -> Identity

@@ -33,97 +33,102 @@ fn bad(field: Field, value: u64) -> SuperFault {
     }
 }
 
-#[test]
-fn tests_each_field_without_a_checkpoint(rt: HostRuntime) {
-    let cases = [
-        (36, 4, 0, Field::Slots),
-        (36, 4, 24, Field::Slots),
-        (36, 4, 1040, Field::Slots),
-        (40, 4, 8191, Field::MessageSize),
-        (40, 4, 1_052_672, Field::MessageSize),
-        (44, 4, 0, Field::Clients),
-        (44, 4, 65, Field::Clients),
-        (64, 4, 0, Field::BlockSize),
-        (64, 4, 528_384, Field::BlockSize),
-        (68, 4, 7, Field::Blocks),
-        (68, 4, 16_385, Field::Blocks),
-        (48, 8, 0, Field::Cluster),
-        (72, 8, 0, Field::Sequence),
-        (72, 8, (1 << 62) + 1, Field::Sequence),
-        (112, 2, 256, Field::OpChecksum),
-        (128, 8, u64::MAX, Field::TrailerChecksum),
-        (144, 8, 1, Field::TrailerSize),
-        (152, 8, 1, Field::Boot),
-    ];
-    for (at, width, value, field) in cases {
-        let answer = tested(&FIRST, &[(at, width, value)]);
-        assert!(rt; answer == Some(Err(bad(field, value))), "{value} at {at}");
+// A field's offset and width, values of it with which the superblock can't be used, and its name.
+type Row = (usize, usize, &'static [u64], Field);
+
+const WITHOUT: [Row; 13] = [
+    (36, 4, &[0, 24, 1040], Field::Slots),
+    (40, 4, &[8191, 1_052_672], Field::MessageSize),
+    (44, 4, &[0, 65], Field::Clients),
+    (64, 4, &[0, 528_384], Field::BlockSize),
+    (68, 4, &[7, 16_385], Field::Blocks),
+    (48, 8, &[0], Field::Cluster),
+    (72, 8, &[0, (1 << 62) + 1], Field::Sequence),
+    (112, 2, &[256], Field::OpChecksum),
+    (128, 8, &[u64::MAX], Field::TrailerChecksum),
+    (144, 8, &[1], Field::TrailerSize),
+    (152, 8, &[1], Field::Boot),
+    // what is said of a byte that should be zero is its offset
+    (160, 0, &[160], Field::Zero),
+    (4095, 0, &[4095], Field::Zero),
+];
+
+const WITH: [Row; 5] = [
+    (80, 8, &[(1 << 62) + 1, u64::MAX], Field::Op),
+    (88, 8, &[99, 133], Field::Head),
+    (96, 8, &[111, 101, u64::MAX], Field::Replies),
+    (104, 8, &[0, 65], Field::TrailerAddress),
+    (144, 8, &[0, 2193], Field::TrailerSize),
+];
+
+// The first value of a row that isn't refused as it should be; of a width 0 a one is put there.
+fn first_other(fields: &SuperFields, row: &Row) -> Option<u64> {
+    let (at, width, values, field) = *row;
+    for value in values {
+        let number = if width == 0 {
+            (at, 1, 1)
+        } else {
+            (at, width, *value)
+        };
+        if tested(fields, &[number]) != Some(Err(bad(field, *value))) {
+            return Some(*value);
+        }
     }
-    for at in [160, 4095] {
-        let answer = tested(&FIRST, &[(at, 1, 1)]);
-        assert!(rt; answer == Some(Err(bad(Field::Zero, at as u64))), "at {at}");
-    }
-    assert!(rt; tested(&FIRST, &[]) == Some(Ok(())));
+    None
 }
 
+// Numbers at the limits, with which the superblock that has a checkpoint can be used.
+const USABLE: [[Put; 3]; 5] = [
+    [(88, 8, 132), (96, 8, 124), (48, 8, 7)],
+    [(88, 8, 100), (96, 8, 100), (48, 8, 7)],
+    [(104, 8, 64), (144, 8, 1), (72, 8, 1 << 62)],
+    [(80, 8, 1 << 62), (88, 8, 1 << 62), (96, 8, (1 << 62) - 8)],
+    [(48, 8, 0), (56, 8, u64::MAX), (72, 8, 1)],
+];
+
 #[test]
-fn tests_each_field_with_a_checkpoint(rt: HostRuntime) {
-    let cases = [
-        (80, (1 << 62) + 1, Field::Op),
-        (80, u64::MAX, Field::Op),
-        (88, 99, Field::Head),
-        (88, 133, Field::Head),
-        (96, 111, Field::Replies),
-        (96, 101, Field::Replies),
-        (96, u64::MAX, Field::Replies),
-        (104, 0, Field::TrailerAddress),
-        (104, 65, Field::TrailerAddress),
-        (144, 0, Field::TrailerSize),
-        (144, 2193, Field::TrailerSize),
-    ];
-    for (at, value, field) in cases {
-        let answer = tested(&LATER, &[(at, 8, value)]);
-        assert!(rt; answer == Some(Err(bad(field, value))), "{value} at {at}");
+fn tests_each_field_up_to_its_limits(rt: HostRuntime) {
+    for row in &WITHOUT {
+        assert!(rt; first_other(&FIRST, row) == None);
     }
-    let usable = [
-        [(88, 8, 132), (96, 8, 124), (48, 8, 7)],
-        [(88, 8, 100), (96, 8, 100), (48, 8, 7)],
-        [(104, 8, 64), (144, 8, 1), (72, 8, 1 << 62)],
-        [(80, 8, 1 << 62), (88, 8, 1 << 62), (96, 8, (1 << 62) - 8)],
-        [(48, 8, 0), (56, 8, u64::MAX), (72, 8, 1)],
-    ];
-    for (i, numbers) in usable.iter().enumerate() {
-        assert!(rt; tested(&LATER, numbers) == Some(Ok(())), "usable {i}");
+    for row in &WITH {
+        assert!(rt; first_other(&LATER, row) == None);
+    }
+    assert!(rt; tested(&FIRST, &[]) == Some(Ok(())));
+    for numbers in &USABLE {
+        assert!(rt; tested(&LATER, numbers) == Some(Ok(())));
     }
 }
+
+// Numbers of which each breaks a rule, in the order of the tests.
+const BROKEN: [Put; 7] = [
+    (32, 4, 9),
+    (36, 4, 0),
+    (44, 4, 0),
+    (48, 8, 0),
+    (80, 8, u64::MAX),
+    (152, 8, 1),
+    (200, 1, 1),
+];
+
+// What is said of a superblock with these numbers and those behind them.
+const SAID: [(Field, u64); 6] = [
+    (Field::Slots, 0),
+    (Field::Clients, 0),
+    (Field::Cluster, 0),
+    (Field::Op, u64::MAX),
+    (Field::Boot, 1),
+    (Field::Zero, 200),
+];
 
 #[test]
 fn tests_the_version_first_and_then_in_order(rt: HostRuntime) {
-    let broken = [
-        (32, 4, 9),
-        (36, 4, 0),
-        (44, 4, 0),
-        (48, 8, 0),
-        (80, 8, u64::MAX),
-        (152, 8, 1),
-        (200, 1, 1),
-    ];
-    let faults = [
-        SuperFault::Version { found: 9 },
-        bad(Field::Slots, 0),
-        bad(Field::Clients, 0),
-        bad(Field::Cluster, 0),
-        bad(Field::Op, u64::MAX),
-        bad(Field::Boot, 1),
-        bad(Field::Zero, 200),
-    ];
-    for (i, fault) in faults.iter().enumerate() {
-        if i < broken.len() {
-            assert!(rt;
-                tested(&LATER, &broken[i..]) == Some(Err(*fault)),
-                "fault {i}"
-            );
-        }
+    let version = SuperFault::Version { found: 9 };
+    assert!(rt; tested(&LATER, &BROKEN) == Some(Err(version)));
+    let mut broken = BROKEN.as_slice();
+    for (field, value) in &SAID {
+        broken = broken.get(1..).unwrap_or(&[]);
+        assert!(rt; tested(&LATER, broken) == Some(Err(bad(*field, *value))));
     }
 }
 

@@ -1,29 +1,8 @@
-// The definitions against values from outside: the bytes of an example, and which changed bytes are refused.
-ghost use Rattle.std.specs.Prelude.{◌≤◌, length};
-ghost use Rattle.df_format.specs.Rules.{ObeysRules};
-ghost use Rattle.df_format.specs.Making.{for_body};
-
-use crate::examples::{PREPARE, changed, spelled};
-use df_base::check;
-use df_format::{Header, Kind, decode_header, decode_unit, make_unit};
+// The definitions against values from outside: the bytes of an example, and which of them are refused when changed.
+use crate::examples::{PREPARE, spelled};
+use crate::room_examples::prepare;
+use df_format::{Header, decode_header, decode_unit, make_unit};
 use df_layout::{Class, Layout, Place, Zone};
-
-// What the maker of the example says of it; its size and its checksum are set.
-#[tactic(auto, unfolding(df_format::specs::Spelling::no_checksum))]
-fn given(body: &[u8]) -> Header
-    requires { length body.now ≤ 3840 }
-    ensures { ObeysRules (for_body result body.now) }
-{
-    Header {
-        checksum_body: check(body),
-        client: 5,
-        op: 1,
-        request: 1,
-        checkpoint: 1,
-        slot: 1,
-        ..Header::of(Kind::Prepare, 7)
-    }
-}
 
 fn example() -> [u8; 256] {
     spelled(&PREPARE)
@@ -50,7 +29,7 @@ fn shown(cluster: u128, index: u64, slot: &[u8; 8192]) -> Result<Header, Class> 
 #[test]
 fn makes_and_reads_the_example(rt: HostRuntime) {
     let mut slot = [9u8; 8192];
-    let made = make_unit(given(&[]), &[], &mut slot);
+    let made = make_unit(prepare(&[]), &[], &mut slot);
     assert!(rt; made.length == 4096);
     assert!(rt; is_example_before_nines(&slot));
     assert!(rt; decode_header(&example()) == Some(made.header));
@@ -58,43 +37,9 @@ fn makes_and_reads_the_example(rt: HostRuntime) {
 }
 
 #[test]
-fn tests_each_field_that_needs_no_layout(rt: HostRuntime) {
-    let cases = [
-        (80, 2, true),
-        (87, 0x3f, true),
-        (87, 0x40, false),
-        (80, 0, false),
-        (48, 1, false),
-        (32, 0, false),
-        (64, 0, false),
-        (88, 0, false),
-        (95, 0x40, false),
-        (96, 1, false),
-        (104, 0, false),
-        (111, 0x40, false),
-        (112, 1, true),
-        (113, 0, false),
-        (116, 9, true),
-        (120, 1, false),
-        (121, 1, false),
-        (122, 2, false),
-        (124, 1, false),
-        (132, 1, false),
-        (255, 1, false),
-    ];
-    for (at, byte, is) in cases {
-        let decoded = decode_header(&changed(&PREPARE, at, byte));
-        assert!(rt; decoded.is_some() == is, "{byte} at {at}");
-    }
-    let mut bytes = example();
-    bytes[80] = 2;
-    assert!(rt; decode_header(&bytes).is_none());
-}
-
-#[test]
 fn tests_the_body_and_not_what_follows_it(rt: HostRuntime) {
     let mut slot = [0u8; 8192];
-    let made = make_unit(given(b"abc"), b"abc", &mut slot);
+    let made = make_unit(prepare(b"abc"), b"abc", &mut slot);
     slot[259] = 1;
     assert!(rt; shown(7, 1, &slot) == Ok(made.header));
     slot[258] = b'd';

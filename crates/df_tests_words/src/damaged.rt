@@ -1,7 +1,7 @@
 // A step whose copies of the new superblock are lost: where fewer than three are read back as they were written it is damaged, its line
 // is the last one, and the run ends Refused. Nothing behind it is executed, and what was answered before is found again.
 use df_memdisk::{DroppingDisk, MemoryDisk};
-use df_runs::{Ran, Status, printed, run_script, run_words, small_file};
+use df_runs::{Ran, Status, printed, run_script, run_words, small_file, small_summary};
 use std::alloc::Global;
 use std::test::Fail;
 
@@ -32,48 +32,39 @@ fn is_printed(alloc: Global, ran: &Ran, behind: &str) -> Result<bool, Fail> {
     Ok(printed(ran, &text))
 }
 
-// Which writes are lost, what is printed behind the front, how the run ends, and the sequence and the checkpoint that the next open
-// chooses: the greatest content on which two copies agree.
+// Which writes are lost, what is printed behind the front, how the run ends, and the summary of the file that the next open
+// chooses: of the greatest content on which two copies agree.
 struct Row {
     lost: &'static [u64],
     behind: &'static str,
     status: Status,
-    summary: &'static str,
+    summary: [u64; 4],
 }
-
-const OLD: &str =
-    "cluster 7\nlayout 32 8192 4 16384 64\nsequence 1\ncheckpoint 0\nhead 1\nreplies 0\nsessions 1\nreferences 0\n";
-
-const NEW: &str =
-    "cluster 7\nlayout 32 8192 4 16384 64\nsequence 2\ncheckpoint 1\nhead 1\nreplies 0\nsessions 1\nreferences 0\n";
-
-const REPLIED: &str =
-    "cluster 7\nlayout 32 8192 4 16384 64\nsequence 2\ncheckpoint 1\nhead 1\nreplies 1\nsessions 1\nreferences 0\n";
 
 const ROWS: [Row; 4] = [
     Row {
         lost: &[5, 6],
         behind: "refused Damaged Superblock 1 Stale\n",
         status: Status::Refused,
-        summary: NEW,
+        summary: [2, 1, 1, 0],
     },
     Row {
         lost: &[4, 7],
         behind: "refused Damaged Superblock 0 Stale\n",
         status: Status::Refused,
-        summary: NEW,
+        summary: [2, 1, 1, 0],
     },
     Row {
         lost: &[4, 5, 6, 7],
         behind: "refused Damaged Superblock 0 Stale\n",
         status: Status::Refused,
-        summary: OLD,
+        summary: [1, 0, 1, 0],
     },
     Row {
         lost: &[6],
         behind: BEHIND,
         status: Status::Done,
-        summary: REPLIED,
+        summary: [2, 1, 1, 1],
     },
 ];
 
@@ -87,7 +78,8 @@ fn a_step_whose_copies_are_lost_ends_the_run(rt: HostRuntime) -> Result<(), Fail
         assert!(rt; told, "{}", row.behind);
         let recovered = run_words(rt.alloc(), &mut disk, &["recover"])?;
         assert_eq!(rt; recovered.status, Status::Done);
-        assert!(rt; printed(&recovered, row.summary), "{}", row.behind);
+        let summary = small_summary(rt.alloc(), row.summary)?;
+        assert!(rt; printed(&recovered, &summary), "{}", row.behind);
     }
     Ok(())
 }

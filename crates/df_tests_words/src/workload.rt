@@ -1,59 +1,66 @@
 // What generated runs print over new files, and which words ask for one. The numbers are those of a program of its own, in Python,
 // after the description of the generator.
 use df_runs::{Status, made_file, printed, run_failing, run_words, small_file, words};
+use std::alloc::Global;
 use std::test::Fail;
 
-const FIRST: &str =
-    "appended 3\nreplied 3\nwrote 0\nreleased 0\ncheckpoints 0\nrefused 0\nbytes 2231\nhead 3\nreplies 3\nsequence 1\n";
+// What a run counted: ops appended and replied, blocks written and released, checkpoints, refusals and bytes; and the head, the
+// replies and the sequence behind it.
+type Counts = [u64; 10];
 
-const LONG: &str =
-    "appended 2000\nreplied 2000\nwrote 500\nreleased 492\ncheckpoints 125\nrefused 0\nbytes 2024968\nhead 2000\nreplies 2000\nsequence 126\n";
-
-const SEVEN: &str =
-    "appended 64\nreplied 64\nwrote 16\nreleased 8\ncheckpoints 4\nrefused 0\nbytes 62150\nhead 64\nreplies 64\nsequence 5\n";
-
-const TWO: &str =
-    "appended 40\nreplied 40\nwrote 10\nreleased 2\ncheckpoints 2\nrefused 0\nbytes 40857\nhead 40\nreplies 40\nsequence 3\n";
-
-#[test]
-fn three_rounds_of_seed_42_print_their_counts(rt: HostRuntime) -> Result<(), Fail> {
-    let mut disk = small_file(rt.alloc(), &[])?;
-    let ran = run_words(rt.alloc(), &mut disk, &["workload", "42", "3"])?;
-    assert_eq!(rt; ran.status, Status::Done);
-    assert!(rt; printed(&ran, FIRST));
-    Ok(())
-}
-
-#[test]
-fn two_thousand_rounds_of_seed_42_print_their_counts(rt: HostRuntime) -> Result<(), Fail> {
-    let mut disk = small_file(rt.alloc(), &[])?;
-    let ran = run_words(rt.alloc(), &mut disk, &["workload", "42", "2000"])?;
-    assert_eq!(rt; ran.status, Status::Done);
-    assert!(rt; printed(&ran, LONG));
-    Ok(())
-}
-
-#[test]
-fn a_seed_prints_the_same_each_time(rt: HostRuntime) -> Result<(), Fail> {
-    for _ in 0..2 {
-        let mut disk = small_file(rt.alloc(), &[])?;
-        let ran = run_words(rt.alloc(), &mut disk, &["workload", "7", "64"])?;
-        assert_eq!(rt; ran.status, Status::Done);
-        assert!(rt; printed(&ran, SEVEN));
-    }
-    Ok(())
-}
-
-#[test]
-fn two_clients_take_turns_over_a_file_for_two(rt: HostRuntime) -> Result<(), Fail> {
-    let mut disk = made_file(rt.alloc(), "32,8192,2,16384,64", &[])?;
-    let ran = run_words(
-        rt.alloc(),
-        &mut disk,
-        &["workload", "18446744073709551615", "40"],
+fn text_of(alloc: Global, counts: Counts) -> Result<String, Fail> {
+    let [
+        appended,
+        replied,
+        wrote,
+        released,
+        checkpoints,
+        refused,
+        bytes,
+        head,
+        replies,
+        sequence,
+    ] = counts;
+    let ops = format!(in alloc; "appended {appended}\nreplied {replied}\n")?;
+    let blocks = format!(in alloc; "wrote {wrote}\nreleased {released}\n")?;
+    let others = format!(in alloc;
+        "checkpoints {checkpoints}\nrefused {refused}\nbytes {bytes}\n"
     )?;
-    assert_eq!(rt; ran.status, Status::Done);
-    assert!(rt; printed(&ran, TWO));
+    let file = format!(in alloc; "head {head}\nreplies {replies}\nsequence {sequence}\n")?;
+    Ok(format!(in alloc; "{ops}{blocks}{others}{file}")?)
+}
+
+// A layout, a seed and a count, and what is printed.
+type Row = (&'static str, &'static str, &'static str, Counts);
+
+const MANY: Counts = [2000, 2000, 500, 492, 125, 0, 2_024_968, 2000, 2000, 126];
+
+const SEVEN: Counts = [64, 64, 16, 8, 4, 0, 62_150, 64, 64, 5];
+
+const FORTY: Counts = [40, 40, 10, 2, 2, 0, 40_857, 40, 40, 3];
+
+const ROWS: [Row; 5] = [
+    ("small", "42", "3", [3, 3, 0, 0, 0, 0, 2231, 3, 3, 1]),
+    ("small", "42", "2000", MANY),
+    ("small", "7", "64", SEVEN),
+    // A seed prints the same each time.
+    ("small", "7", "64", SEVEN),
+    // Two clients take turns over a file for two.
+    ("32,8192,2,16384,64", "18446744073709551615", "40", FORTY),
+];
+
+const USAGE: &str =
+    "usage: format LAYOUT CLUSTER | run | recover | inspect | scrub | workload SEED COUNT\n";
+
+#[test]
+fn generated_runs_print_their_counts(rt: HostRuntime) -> Result<(), Fail> {
+    for (layout, seed, count, counts) in ROWS {
+        let mut disk = made_file(rt.alloc(), layout, &[])?;
+        let ran = run_words(rt.alloc(), &mut disk, &["workload", seed, count])?;
+        assert_eq!(rt; ran.status, Status::Done, "{seed} {count}");
+        let text = text_of(rt.alloc(), counts)?;
+        assert!(rt; printed(&ran, &text), "{seed} {count}");
+    }
     Ok(())
 }
 
@@ -63,31 +70,30 @@ fn a_second_run_over_a_file_is_refused_where_it_is_behind(rt: HostRuntime) -> Re
     let _first = run_words(rt.alloc(), &mut disk, &["workload", "42", "3"])?;
     let again = run_words(rt.alloc(), &mut disk, &["workload", "42", "3"])?;
     assert_eq!(rt; again.status, Status::Done);
-    assert!(rt;
-        printed(
-            &again,
-            "appended 0\nreplied 0\nwrote 0\nreleased 0\ncheckpoints 0\nrefused 6\nbytes 0\nhead 3\nreplies 3\nsequence 1\n"
-        )
-    );
+    let text = text_of(rt.alloc(), [0, 0, 0, 0, 0, 6, 0, 3, 3, 1])?;
+    assert!(rt; printed(&again, &text));
     Ok(())
 }
 
 #[test]
 fn seed_and_count_have_their_bounds(rt: HostRuntime) -> Result<(), Fail> {
-    for (seed, count, status) in [
-        ("0", "1", Status::Done),
-        ("18446744073709551615", "1", Status::Done),
-        ("18446744073709551616", "1", Status::Words),
-        ("0", "0", Status::Words),
-        ("0", "1000001", Status::Words),
-        ("00", "1", Status::Words),
-        ("0", "01", Status::Words),
-        ("-1", "1", Status::Words),
-        ("0", "", Status::Words),
+    for seed in ["0", "18446744073709551615"] {
+        let mut disk = small_file(rt.alloc(), &[])?;
+        let ran = run_words(rt.alloc(), &mut disk, &["workload", seed, "1"])?;
+        assert_eq!(rt; ran.status, Status::Done, "{seed}");
+    }
+    for (seed, count) in [
+        ("18446744073709551616", "1"),
+        ("0", "0"),
+        ("0", "1000001"),
+        ("00", "1"),
+        ("0", "01"),
+        ("-1", "1"),
+        ("0", ""),
     ] {
         let mut disk = small_file(rt.alloc(), &[])?;
         let ran = run_words(rt.alloc(), &mut disk, &["workload", seed, count])?;
-        assert_eq!(rt; ran.status, status, "{seed} {count}");
+        assert_eq!(rt; ran.status, Status::Words, "{seed} {count}");
     }
     for texts in [
         ["workload"].as_slice(),
@@ -97,12 +103,7 @@ fn seed_and_count_have_their_bounds(rt: HostRuntime) -> Result<(), Fail> {
         let mut disk = small_file(rt.alloc(), &[])?;
         let ran = run_words(rt.alloc(), &mut disk, texts)?;
         assert_eq!(rt; ran.status, Status::Words);
-        assert!(rt;
-            printed(
-                &ran,
-                "usage: format LAYOUT CLUSTER | run | recover | inspect | scrub | workload SEED COUNT\n"
-            )
-        );
+        assert!(rt; printed(&ran, USAGE));
     }
     Ok(())
 }

@@ -1,5 +1,5 @@
 // What no clause says: that a table comes through a disk in memory, and that a failed write is answered.
-ghost use Rattle.std.specs.Prelude.{◌≡◌, ◌<◌};
+ghost use Rattle.std.specs.Prelude.{◌≡◌};
 ghost use Rattle.df_headers.specs.Ring.{IsTable};
 
 use crate::rings::reserved_table;
@@ -9,9 +9,8 @@ use df_buffers::{HeaderSector, Identity, Raw, Wanted};
 use df_format::Header;
 use df_headers::{HeaderTable, read_sector, reserved_header};
 use df_layout::{Class, Layout, Place, Zone};
-use std::alloc::{AllocError, Global};
+use std::alloc::Global;
 use std::process::Abort;
-use std::test::Fail;
 
 // Writes the second sector of a table.
 fn write_second(
@@ -40,40 +39,28 @@ fn shown(layout: &Layout, slot: u32, room: &Raw<HeaderSector>) -> Result<Header,
 }
 
 // Writes the second sector of a table of reserved headers of layout small.
-fn write_reserved(
-    rt: &impl Abort,
-    alloc: Global,
-    board: &mut Board,
-) -> Result<Result<(), Failed>, AllocError> {
+fn write_reserved(rt: &impl Abort, alloc: Global, board: &mut Board) -> Result<(), Failed> {
     let layout = Layout::small();
-    let table = reserved_table(alloc, &layout)?;
+    let table = reserved_table(alloc, &layout).expect(rt, "memory of a table");
     let mut room = Raw::reserve(alloc, &layout).expect(rt, "memory of a room");
     let written = write_second(board, &layout, &table, &mut room);
     assert!(rt; table.into_room().len() == 32);
-    Ok(written)
+    written
 }
 
-// A sector of headers of layout small, as it is read.
-fn read_back(
-    rt: &impl Abort,
-    alloc: Global,
-    board: &mut Board,
-    sector: u32,
-) -> Result<Raw<HeaderSector>, Failed>
-    requires { sector < 2 }
-{
-    let mut room = Raw::reserve(alloc, &Layout::small()).expect(rt, "memory of a room");
-    read_sector(board, &mut room, sector)?;
-    Ok(room)
+// A room for a sector of headers of layout small.
+fn new_room(rt: &impl Abort, alloc: Global) -> Raw<HeaderSector> {
+    Raw::reserve(alloc, &Layout::small()).expect(rt, "memory of a room")
 }
 
 #[test]
-fn a_sector_shows_its_own_sixteen_headers(rt: HostRuntime) -> Result<(), Fail> {
+fn a_sector_shows_its_own_sixteen_headers(rt: HostRuntime) {
     let layout = Layout::small();
-    let mut board = Board::blank(rt.alloc())?;
-    write_reserved(&rt, rt.alloc(), &mut board)??;
+    let mut board = Board::failing(&rt, rt.alloc(), 0, 0);
+    assert!(rt; write_reserved(&rt, rt.alloc(), &mut board) == Ok(()));
+    let mut room = new_room(&rt, rt.alloc());
     for sector in 0..2u32 {
-        let room = read_back(&rt, rt.alloc(), &mut board, sector)?;
+        assert!(rt; read_sector(&mut board, &mut room, sector) == Ok(()));
         for slot in 16 * sector..16 * sector + 16 {
             let expected = if sector == 1 {
                 Ok(reserved_header(7, slot))
@@ -83,14 +70,13 @@ fn a_sector_shows_its_own_sixteen_headers(rt: HostRuntime) -> Result<(), Fail> {
             assert!(rt; shown(&layout, slot, &room) == expected, "slot {slot}");
         }
     }
-    Ok(())
 }
 
 #[test]
-fn a_failed_write_is_answered(rt: HostRuntime) -> Result<(), Fail> {
-    let mut board = Board::failing(rt.alloc(), 1, u64::MAX)?;
-    assert!(rt; write_reserved(&rt, rt.alloc(), &mut board)? == Err(Failed));
-    assert!(rt; read_back(&rt, rt.alloc(), &mut board, 1).err() == Some(Failed));
+fn a_failed_write_is_answered(rt: HostRuntime) {
+    let mut board = Board::failing(&rt, rt.alloc(), 1, u64::MAX);
+    assert!(rt; write_reserved(&rt, rt.alloc(), &mut board) == Err(Failed));
+    let mut room = new_room(&rt, rt.alloc());
+    assert!(rt; read_sector(&mut board, &mut room, 1) == Err(Failed));
     assert!(rt; board.faults == 2);
-    Ok(())
 }

@@ -1,6 +1,5 @@
 //! Tests of the zones but for the grid, over disks in memory: header sectors, client replies, sessions, the decision on a slot and the
-//! evidence of newer states; the recovery cases on a real image, the calls of a scan, appends that are found again, and what is decided
-//! where something of them was lost.
+//! evidence of newer states; the calls of a scan, appends that are found again, and what is decided where something of them was lost.
 #![tactic(auto)]
 
 #[cfg(test)]

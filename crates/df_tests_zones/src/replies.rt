@@ -12,7 +12,6 @@ use df_sessions::SessionTable;
 use df_stamps::Counters;
 use std::alloc::Global;
 use std::process::Abort;
-use std::test::Fail;
 
 // The sessions of four clients, each after its second request.
 fn four_sessions() -> SessionTable
@@ -39,37 +38,31 @@ fn turn_of(turn: u8) -> Stored {
 }
 
 #[test]
-fn the_second_reply_of_the_third_of_four_clients_is_torn(rt: HostRuntime) -> Result<(), Fail> {
+fn the_second_reply_of_the_third_of_four_clients_is_torn(rt: HostRuntime) {
     scanned_replies_are_shown();
     stored_replies_are_found();
-    let mut board = Board::blank(rt.alloc())?;
+    let mut board = Board::failing(&rt, rt.alloc(), 0, 0);
     let mut before = [0u8; 4096];
     for turn in 0..8u8 {
-        put(&rt, rt.alloc(), &mut board, &turn_of(turn), &[turn; 5000])?;
+        let body = [turn; 5000];
+        assert!(rt; put(&rt, rt.alloc(), &mut board, &turn_of(turn), &body) == Ok(()));
         if turn == 3 {
-            board.read(75, &mut before)?;
+            assert!(rt; board.read(75, &mut before) == Ok(()));
         }
     }
     let sessions = four_sessions();
     let mut table = new_table(&rt, rt.alloc());
-    scan(&rt, rt.alloc(), &mut board, &mut table)?;
-    assert!(rt; table.replies(4, 3) == 8);
-    assert!(rt; table.first_lacking(&sessions, 8) == None);
-    board.write(75, &before)?;
-    scan(&rt, rt.alloc(), &mut board, &mut table)?;
-    assert!(rt; table.get(2).err() == Some(Class::Garbled));
-    assert!(rt; table.replies(4, 3) == 8);
+    assert!(rt; scan(&rt, rt.alloc(), &mut board, &mut table) == Ok(()));
+    assert!(rt; table.replies(4, 3) == 8 && table.first_lacking(&sessions, 8) == None);
+    assert!(rt; board.write(75, &before) == Ok(()));
+    assert!(rt; scan(&rt, rt.alloc(), &mut board, &mut table) == Ok(()));
+    assert!(rt; table.get(2).err() == Some(Class::Garbled) && table.replies(4, 3) == 8);
     let lacking = Lacking {
         place: 2,
         class: Class::Garbled,
     };
-    for (stored, wanted) in [(8, Some(lacking)), (6, None)] {
-        assert!(rt;
-            table.first_lacking(&sessions, stored) == wanted,
-            "{stored}"
-        );
-    }
-    Ok(())
+    assert!(rt; table.first_lacking(&sessions, 8) == Some(lacking));
+    assert!(rt; table.first_lacking(&sessions, 6) == None);
 }
 
 const FIRST: Stored = Stored {
@@ -163,52 +156,48 @@ fn cases() -> [(&'static str, Stored, Finding); 7] {
 }
 
 // What is found of two sessions where these replies were written in turn.
-fn found_behind(rt: &impl Abort, alloc: Global, replies: [Stored; 3]) -> Result<Finding, Fail> {
-    let mut board = Board::blank(alloc)?;
+fn found_behind(rt: &impl Abort, alloc: Global, replies: &[Stored; 3]) -> Finding {
+    let mut board = Board::failing(rt, alloc, 0, 0);
     for reply in replies {
-        put(rt, alloc, &mut board, &reply, &[])?;
+        assert!(rt; put(rt, alloc, &mut board, reply, &[]) == Ok(()));
     }
     let mut sessions = SessionTable::new(4);
     ask(&mut sessions, &FIRST);
     ask(&mut sessions, &SECOND);
     let mut table = new_table(rt, alloc);
-    scan(rt, alloc, &mut board, &mut table)?;
+    assert!(rt; scan(rt, alloc, &mut board, &mut table) == Ok(()));
     let seen = table.count(&Counters::default());
     assert!(rt; seen.ring_op == 0);
-    Ok(Finding {
+    Finding {
         top: seen.reply_top,
         checkpoint: seen.checkpoint,
         replies: table.replies(0, 0),
         lacking: table.first_lacking(&sessions, 6),
-    })
-}
-
-#[test]
-fn other_replies_in_a_slot_are_told_apart(rt: HostRuntime) -> Result<(), Fail> {
-    for (name, stored, finding) in cases() {
-        let found = found_behind(&rt, rt.alloc(), [FIRST, SECOND, stored])?;
-        assert!(rt; found == finding, "{name}: {found:?}");
     }
-    Ok(())
 }
 
 #[test]
-fn each_slot_is_read_once_and_a_failed_call_is_answered_once(rt: HostRuntime) -> Result<(), Fail> {
+fn other_replies_in_a_slot_are_told_apart(rt: HostRuntime) {
+    for (name, stored, finding) in &cases() {
+        let found = found_behind(&rt, rt.alloc(), &[FIRST, SECOND, *stored]);
+        assert!(rt; found == *finding, "{name}");
+    }
+}
+
+#[test]
+fn each_slot_is_read_once_and_a_failed_call_is_answered_once(rt: HostRuntime) {
     for failing in 1..7u64 {
-        let mut board = Board::failing(rt.alloc(), failing, failing)?;
+        let mut board = Board::failing(&rt, rt.alloc(), failing, failing);
         let written = put(&rt, rt.alloc(), &mut board, &FIRST, &[]);
-        assert!(rt; written.is_err() == (failing <= 2), "call {failing}");
+        assert!(rt; written.is_err() == (failing <= 2));
         let made = board.calls;
         let mut table = new_table(&rt, rt.alloc());
         let scanned = scan(&rt, rt.alloc(), &mut board, &mut table);
-        assert!(rt; scanned.is_err() == (2 < failing), "call {failing}");
-        if failing <= 2 {
-            assert!(rt; board.calls.saturating_sub(made) == 4, "call {failing}");
-        }
-        scan(&rt, rt.alloc(), &mut board, &mut table)?;
+        assert!(rt; scanned.is_err() == (2 < failing));
+        assert!(rt; 2 < failing || board.calls.saturating_sub(made) == 4);
+        assert!(rt; scan(&rt, rt.alloc(), &mut board, &mut table) == Ok(()));
         assert!(rt; table.get(0).is_ok() == (failing != 1), "call {failing}");
     }
-    Ok(())
 }
 
 // The second session's slot, where the reply to this request is wanted.
@@ -246,15 +235,14 @@ fn length_of(layout: &Layout, room: Raw<Reply>, request: u64) -> (Raw<Reply>, Re
 }
 
 #[test]
-fn a_reply_is_read_by_its_request(rt: HostRuntime) -> Result<(), Fail> {
+fn a_reply_is_read_by_its_request(rt: HostRuntime) {
     let layout = Layout::small();
-    let mut board = Board::blank(rt.alloc())?;
-    put(&rt, rt.alloc(), &mut board, &SECOND, &[9; 300])?;
+    let mut board = Board::failing(&rt, rt.alloc(), 0, 0);
+    assert!(rt; put(&rt, rt.alloc(), &mut board, &SECOND, &[9; 300]) == Ok(()));
     let mut room = room_for(&rt, rt.alloc(), &layout);
-    read_reply_slot(&mut board, &layout, 1, &mut room)?;
+    assert!(rt; read_reply_slot(&mut board, &layout, 1, &mut room) == Ok(()));
     let (room, second) = length_of(&layout, room, 2);
     assert!(rt; second == Err(Class::Stale));
     let (_room, first) = length_of(&layout, room, 1);
     assert!(rt; first == Ok(300));
-    Ok(())
 }

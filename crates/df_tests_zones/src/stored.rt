@@ -13,7 +13,7 @@ use df_format::{Header, Kind};
 use df_layout::{Layout, Zone};
 use df_replies::{ReplyTable, write_reply};
 use df_sessions::SessionTable;
-use std::alloc::{AllocError, Global};
+use std::alloc::Global;
 use std::process::Abort;
 
 // A disk of 80 sectors that tells nothing, counts its calls, and whose calls of some numbers fail, from 1 on.
@@ -27,19 +27,15 @@ pub(crate) struct Board {
 }
 
 impl Board {
-    pub(crate) fn blank(alloc: Global) -> Result<Board, AllocError> {
-        Board::failing(alloc, 0, 0)
-    }
-
     // One whose calls fail from the first of these numbers to the last.
-    pub(crate) fn failing(alloc: Global, first: u64, last: u64) -> Result<Board, AllocError> {
-        Ok(Board {
-            bytes: vec![in alloc; 0u8; 80 * SECTOR]?,
+    pub(crate) fn failing(rt: &impl Abort, alloc: Global, first: u64, last: u64) -> Board {
+        Board {
+            bytes: vec![in alloc; 0u8; 80 * SECTOR].expect(rt, "memory of a disk"),
             calls: 0,
             first,
             last,
             faults: 0,
-        })
+        }
     }
 
     fn count(&mut self) -> Result<(), Failed>

@@ -2,7 +2,7 @@
 ghost use Rattle.std.specs.Prelude.{◌≡◌, ◌≤◌};
 ghost use Rattle.df_headers.specs.Ring.{IsTable};
 
-use crate::files::{blank, prepare_header, scanned, tried};
+use crate::files::{prepare_header, scanned};
 use crate::rings::reserved_table;
 use df_base::{Check, Failed};
 use df_buffers::{HeaderSector, Prepare, Raw};
@@ -10,32 +10,33 @@ use df_cases::Decision;
 use df_disk::Disk;
 use df_headers::HeaderTable;
 use df_journal::{Tail, append, count_rings, find_tail, is_behind, is_lost};
-use df_layout::Layout;
+use df_layout::{Class, Layout};
 use df_memdisk::{MemoryDisk, Strike};
 use df_sessions::SessionTable;
 use std::alloc::Global;
-use std::test::Fail;
+use std::process::Abort;
 
 // Appends the prepare of the next op, and hands back its checksum.
 fn append_next(
     disk: &mut MemoryDisk,
     layout: &Layout,
     table: &mut HeaderTable,
+    rt: &impl Abort,
     alloc: Global,
     op: u64,
     parent: Check,
-) -> Result<Check, Fail>
+) -> Check
     requires slots { layout.now.slots ≡ 32 }
     requires size { layout.now.message_size ≡ 8192 }
     requires op { (1 ≤ op) × (op ≤ 1000) }
     requires table { IsTable layout.now 7 table.old }
     ensures { IsTable layout.now 7 table.new }
 {
-    let room: Raw<Prepare> = Raw::reserve(alloc, layout)?;
-    let mut sector: Raw<HeaderSector> = Raw::reserve(alloc, layout)?;
+    let room: Raw<Prepare> = Raw::reserve(alloc, layout).expect(rt, "memory of a room");
+    let mut sector = Raw::reserve(alloc, layout).expect(rt, "memory of a sector");
     let unit = room.make(prepare_header(op, op, parent), &[]);
-    append(disk, layout, &unit, table, &mut sector)?;
-    Ok(unit.header().checksum)
+    append(disk, layout, &unit, table, &mut sector).expect(rt, "an append");
+    unit.header().checksum
 }
 
 // Writes both sectors of the header ring.
@@ -43,61 +44,65 @@ fn write_ring(
     disk: &mut MemoryDisk,
     layout: &Layout,
     table: &HeaderTable,
-    alloc: Global,
-) -> Result<(), Fail>
+    sector: &mut Raw<HeaderSector>,
+) -> Result<(), Failed>
     requires slots { layout.now.slots ≡ 32 }
     requires table { IsTable layout.now 7 table.now }
 {
-    let mut sector: Raw<HeaderSector> = Raw::reserve(alloc, layout)?;
-    table.write_sector(disk, &mut sector, 0)?;
-    table.write_sector(disk, &mut sector, 1)?;
-    disk.sync()?;
-    Ok(())
+    table.write_sector(disk, sector, 0)?;
+    table.write_sector(disk, sector, 1)?;
+    disk.sync()
 }
 
 // A file of five prepares, one of each op from 1 on.
-fn five(alloc: Global, layout: &Layout) -> Result<MemoryDisk, Fail>
+fn five(rt: &impl Abort, alloc: Global, layout: &Layout) -> MemoryDisk
     requires slots { layout.now.slots ≡ 32 }
     requires size { layout.now.message_size ≡ 8192 }
 {
-    let mut disk = blank(alloc);
-    let mut table = reserved_table(alloc, layout)?;
-    write_ring(&mut disk, layout, &table, alloc)?;
-    let one = append_next(&mut disk, layout, &mut table, alloc, 1, [0; 16])?;
-    let two = append_next(&mut disk, layout, &mut table, alloc, 2, one)?;
-    let three = append_next(&mut disk, layout, &mut table, alloc, 3, two)?;
-    let four = append_next(&mut disk, layout, &mut table, alloc, 4, three)?;
-    append_next(&mut disk, layout, &mut table, alloc, 5, four)?;
-    Ok(disk)
+    let mut disk = MemoryDisk::new(alloc, Vec::new(alloc));
+    let mut table = reserved_table(alloc, layout).expect(rt, "memory of a table");
+    let mut sector = Raw::reserve(alloc, layout).expect(rt, "memory of a sector");
+    write_ring(&mut disk, layout, &table, &mut sector).expect(rt, "a new ring");
+    let one = append_next(&mut disk, layout, &mut table, rt, alloc, 1, [0; 16]);
+    let two = append_next(&mut disk, layout, &mut table, rt, alloc, 2, one);
+    let three = append_next(&mut disk, layout, &mut table, rt, alloc, 3, two);
+    let four = append_next(&mut disk, layout, &mut table, rt, alloc, 4, three);
+    append_next(&mut disk, layout, &mut table, rt, alloc, 5, four);
+    disk
 }
 
 // What is found behind an empty checkpoint: the tail, and whether anything is behind or lost.
-fn found(alloc: Global, disk: &mut MemoryDisk, layout: &Layout) -> Result<(Tail, bool, bool), Fail>
+fn found(
+    rt: &impl Abort,
+    alloc: Global,
+    disk: &mut MemoryDisk,
+    layout: &Layout,
+) -> (Tail, bool, bool)
     requires slots { layout.now.slots ≡ 32 }
     requires clients { layout.now.clients ≡ 4 }
 {
-    let found = scanned(alloc, disk, layout, 0)?;
+    let found = scanned(rt, alloc, disk, layout, 0);
     let mut sessions = SessionTable::new(4);
     let tail = find_tail(layout, &found, &[0; 16], &mut sessions);
     let seen = count_rings(&found);
-    Ok((tail, is_behind(&seen, 1, 0, 32), is_lost(&seen, 0, tail.op)))
+    (tail, is_behind(&seen, 1, 0, 32), is_lost(&seen, 0, tail.op))
 }
 
 // The decisions on the first eight slots.
-fn decisions(alloc: Global, disk: &mut MemoryDisk, layout: &Layout) -> Result<[Decision; 8], Fail>
+fn decisions(
+    rt: &impl Abort,
+    alloc: Global,
+    disk: &mut MemoryDisk,
+    layout: &Layout,
+) -> [Decision; 8]
     requires slots { layout.now.slots ≡ 32 }
 {
-    let found = scanned(alloc, disk, layout, 0)?;
-    Ok([
-        found.decision(0),
-        found.decision(1),
-        found.decision(2),
-        found.decision(3),
-        found.decision(4),
-        found.decision(5),
-        found.decision(6),
-        found.decision(7),
-    ])
+    let found = scanned(rt, alloc, disk, layout, 0);
+    let mut decided = [LOST; 8];
+    for (i, decision) in decided.iter_mut().enumerate() {
+        *decision = found.decision(i as u32);
+    }
+    decided
 }
 
 const TAKE: Decision = Decision::Take { mend: false };
@@ -136,35 +141,36 @@ const ROWS: [Row; 3] = [
 ];
 
 #[test]
-fn five_appends_are_found_but_for_a_spoilt_prepare(rt: HostRuntime) -> Result<(), Fail> {
+fn five_appends_are_found_but_for_a_spoilt_prepare(rt: HostRuntime) {
     let layout = Layout::small();
-    for (name, spoilt, (op, mark, is_lost), decided) in ROWS {
-        let mut disk = five(rt.alloc(), &layout)?;
+    for (name, spoilt, (op, mark, is_lost), decided) in &ROWS {
+        let mut disk = five(&rt, rt.alloc(), &layout);
         if let Some(sector) = spoilt {
-            disk.strike(sector, Strike::Fill { byte: 0xa5 })?;
+            assert!(rt; disk.strike(*sector, Strike::Fill { byte: 0xa5 }).is_ok());
         }
-        let (tail, behind, lost) = found(rt.alloc(), &mut disk, &layout)?;
+        let (tail, behind, lost) = found(&rt, rt.alloc(), &mut disk, &layout);
         assert!(rt;
-            (tail.op, tail.mark, behind, lost) == (op, mark, false, is_lost),
+            (tail.op, tail.mark, behind, lost) == (*op, *mark, false, *is_lost),
             "{name}"
         );
         assert!(rt;
-            decisions(rt.alloc(), &mut disk, &layout)? == decided,
+            decisions(&rt, rt.alloc(), &mut disk, &layout) == *decided,
             "{name}"
         );
     }
-    Ok(())
 }
 
 #[test]
-fn a_scan_of_five_appends_makes_two_and_thirty_two_calls(rt: HostRuntime) -> Result<(), Fail> {
+fn a_table_has_the_headers_and_classes_of_its_slots(rt: HostRuntime) {
     let layout = Layout::small();
-    let mut disk = five(rt.alloc(), &layout)?;
-    let before = disk.calls();
-    let (_, done) = tried(rt.alloc(), &mut disk, &layout, 0)?;
-    assert_eq!(rt;
-        (done, disk.calls()),
-        (Ok(()), before.saturating_add(2 + 32))
+    let mut disk = five(&rt, rt.alloc(), &layout);
+    assert!(rt; disk.strike(12, Strike::Fill { byte: 0xa5 }).is_ok());
+    let found = scanned(&rt, rt.alloc(), &mut disk, &layout, 0);
+    let ops = (
+        found.prepare(2).map(|h| h.op),
+        found.header(3).map(|h| h.op),
     );
-    Ok(())
+    assert!(rt; ops == (Some(2), Some(3)));
+    assert!(rt; (found.class(3), found.class(6)) == (Class::Garbled, Class::Blank));
+    assert!(rt; found.header_class(6) == Class::Stale);
 }

@@ -1,8 +1,6 @@
 -- A log of sectors is a log of units.
-use Rattle.std.proofs.Common.{◌≡◌, inl, inr, ℕ, zero, suc, ◌<◌, Option, Some, None, replicate, Bool, true, false, ◌||◌, List, [], ◌∷◌, refl, sym, ◌∙◌, ap, subst, arith}
-use Rattle.std.specs.Prelude.{slice_index}
+use Rattle.std.proofs.Common.{◌≡◌, inl, inr, ℕ, Option, Some, None, Bool, true, false, ◌||◌, List, [], ◌∷◌, refl, sym, ◌∙◌, ap, subst, arith}
 use Rattle.std.proofs.lemmas.Bool.{cases_eq, cond-false, cond-true}
-use Rattle.std.proofs.lemmas.List.{length-replicate}
 use Rattle.std.proofs.lemmas.Bool.Decides.{nat_tests}
 use Rattle.df_theory.specs.UnitLog
 use Rattle.df_theory.specs.Units.{AnyUnit, Place, Units, is_some, or_else, overlay}
@@ -13,9 +11,9 @@ use Rattle.df_theory.specs.Rests.{IsGoodLog}
 use Rattle.df_theory.specs.Runs.{AtEach, IsPartWay, Puts, Step, Syncs, after_steps}
 use Rattle.df_theory.specs.Device.{AreSteps, Format, IsFormat, IsGoodDisk, IsPartWayDisk, IsSafeDisk, all_units, stands, units_log, units_of}
 use Rattle.df_theory.specs.DeviceLaws.{UnitMomentsLaw, StepsJoinLaw, ShownLaw, SettledLaw, DiskLaw, MomentsLaw, NewDiskLaw, PutLaw, RunMomentsLaw, SafeDiskLaw, SafeMomentsLaw}
-use Rattle.df_base.specs.Image.{Image, IsImage, blank, written, changed, IsPiece}
+use Rattle.df_base.specs.Image.{Image, blank, written, changed, IsPiece}
 use Rattle.df_base.specs.Log
-use Rattle.df_base.specs.Log.{Event, Write, Sync, Stop, IsLeft, AreLoose, new_log}
+use Rattle.df_base.specs.Log.{Event, Write, Sync, Stop, AreLoose}
 use Rattle.df_base.specs.Moments.{EachMoment, adds}
 use Rattle.df_base.proofs.Laws.{now_is_image, adds_extends, started, from_before, blank_is_image}
 

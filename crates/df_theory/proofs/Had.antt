@@ -1,13 +1,10 @@
 -- What is found in any image of settled units was the view of a settled image.
-use Rattle.std.proofs.Common.{◌≡◌, ◌⊎◌, inl, inr, ℕ, ◌+◌, ◌-◌, ◌%◌, ◌<◌, ◌≤◌, List, length, take, Option, Some, None, refl, sym, ◌∙◌, ap, subst, arith}
-use Rattle.std.specs.List.{slice_get}
+use Rattle.std.proofs.Common.{◌≡◌, ◌⊎◌, inl, inr, ℕ, ◌+◌, ◌-◌, ◌%◌, ◌<◌, ◌≤◌, List, length, take, Some, sym, ◌∙◌, ap, subst, arith}
 use Rattle.std.proofs.lemmas.Bool.{cases_lt}
-use Rattle.df_theory.specs.Units.{AnyUnit, BlockPlace, BlockUnit, Content, CopyPlace, CopyUnit, Message, Place, PreparePlace, PrepareUnit, ReplyPlace, ReplyUnit, Session, Units}
-use Rattle.df_theory.specs.Sessions.{sessions_after}
+use Rattle.df_theory.specs.Units.{AnyUnit, BlockPlace, BlockUnit, Content, CopyPlace, CopyUnit, Message, Place, PreparePlace, PrepareUnit, ReplyPlace, ReplyUnit, Units}
 use Rattle.df_theory.specs.Tails.{Chain, In, last_checksum, last_mark}
 use Rattle.df_theory.specs.Shape.{Shape}
 use Rattle.df_theory.specs.Copies.{rank_of}
-use Rattle.df_theory.specs.Trailer.{Links}
 use Rattle.df_theory.specs.View.{Checkpoint, View, head, sessions}
 use Rattle.df_theory.specs.Holds.{Sound}
 use Rattle.df_theory.specs.Chance.{Distinct, InImages}
@@ -16,15 +13,16 @@ use Rattle.df_theory.specs.Found.{IsFound}
 use Rattle.df_theory.specs.Past.{FromEmpty, Was}
 use Rattle.df_theory.specs.HistoryLaws.{FoundWasLaw, OneContentLaw, OneReplyLaw}
 use Rattle.df_theory.proofs.Choices.{rank_low}
-use Rattle.df_theory.proofs.OneView.{same_parts as parts_same}
+use Rattle.df_theory.proofs.SameView.{view_is_found}
+use Rattle.df_theory.proofs.WholeGroups.{no_gap}
 use Rattle.df_theory.proofs.Past.{WasIn, settled_one, settled_was, was_prepare, stamp_law}
-use Rattle.df_theory.proofs.Grouped.{group_from, group_holds, same_group}
+use Rattle.df_theory.proofs.Grouped.{group_holds}
 use Rattle.df_theory.proofs.Founds.{chain_at}
 use Rattle.df_theory.proofs.Agreeing.{take_boot}
 use Rattle.df_theory.proofs.Pinned.{same_named}
-use Rattle.df_theory.proofs.Tails.{chain_last, chain_ops}
+use Rattle.df_theory.proofs.Tails.{chain_ops}
 use Rattle.df_theory.proofs.Settled.{settled_content, settled_reply, after_append, after_reply, after_base}
-use Rattle.df_theory.proofs.Once.{was_base, was_sound, was_reply, was_chain, same_links, same_chains, last_of, no_mark}
+use Rattle.df_theory.proofs.Once.{was_base, was_sound, was_reply, was_chain, last_of, no_mark}
 
 module _ (sh : Shape) (images : List Units) (v : View) (grows : Grows sh images v) (empty : FromEmpty sh images v grows)
     (distinct : (place other : Place) (x y : AnyUnit) → InImages images place x → InImages images other y → Distinct x y)
@@ -73,25 +71,8 @@ module _ (sh : Shape) (images : List Units) (v : View) (grows : Grows sh images 
       above_case : (p : Message) → In p w.tail → (w.checkpoint.content.op + 1 ≤ p.header.op) × (p.header.op < w.checkpoint.content.op + 1 + length w.tail) → p.header.group ≤ p.header.op → w.checkpoint.content.pin < p.header.op → WasIn sh images v grows p
       above_case p at ops holds_op above = elim (settled_was sh images v grows empty (p.header.op % sh.layout.slots) p (settled_at p at) holds_op) [
         | inl was ↦ was
-        | inr gap ↦
-            let last = f.tail.groups p at in
-            let begins : w.checkpoint.content.op < p.header.group = elim (cases_lt w.checkpoint.content.op p.header.group) [
-              | inl yes_above ↦ yes_above
-              | inr not ↦ absurd (omega (arith, (group_from sh.layout.clients 0 w.checkpoint.content.op (w.checkpoint.content.op + 1) w.checkpoint.content.op_checksum 0 w.checkpoint.parts.sessions w.tail p f.tail.chain f.tail.grouped at (omega arith)).2))
-            ] in
-            let q = chain_at sh.layout.clients (w.checkpoint.content.op + 1) w.checkpoint.content.op_checksum 0 w.checkpoint.parts.sessions w.tail gap.missing f.tail.chain (omega (arith, gap.from)) (omega (arith, gap.to)) in
-            let group = same_group sh.layout.clients 0 w.checkpoint.content.op (w.checkpoint.content.op + 1) w.checkpoint.content.op_checksum 0 w.checkpoint.parts.sessions w.tail p q.0 f.tail.chain f.tail.grouped at q.1 (omega (arith, q.2, gap.from)) (omega (arith, q.2, gap.to)) in
-            let q_above : w.checkpoint.content.pin < q.0.header.op = elim (cases_lt w.checkpoint.content.pin q.0.header.op) [
-              | inl yes_above ↦ yes_above
-              | inr not ↦ absurd (let q_last = f.tail.pin_ends q.0 q.1 (omega arith) in let p_last = last_op p at in omega (arith, q_last, group.1, p_last, above))
-            ] in
-            let own_p = take_boot sh.layout.slots shown w.checkpoint.content p (f.tail.takes p at) above in
-            let own_q = take_boot sh.layout.slots shown w.checkpoint.content q.0 (f.tail.takes q.0 q.1) q_above in
-            absurd (gap.lacks (q.0.header.op % sh.layout.slots) q.0 (settled_at q.0 q.1) q.2 (own_q ∙ sym own_p) group.0)
+        | inr gap ↦ absurd (no_gap sh images shown of w f p at holds_op above gap)
       ]
-        where
-          last_op : (p : Message) → In p w.tail → p.header.op ≤ p.header.group_last
-          last_op p at = chain_last sh.layout.clients (w.checkpoint.content.op + 1) w.checkpoint.content.op_checksum 0 w.checkpoint.parts.sessions w.tail p f.tail.chain at
 
   append_event : 0 < length w.tail → (b : View) × Was sh images v grows b × (rank_of b.checkpoint.content ≤ rank_of w.checkpoint.content) × (head b ≡ head w) × (b.replies ≡ last_mark 0 w.tail)
   append_event some =
@@ -141,63 +122,33 @@ module _ (sh : Shape) (images : List Units) (v : View) (grows : Grows sh images 
       replies_event a was s top replies (inr (inr reply)) = let b = reply_event reply.0 reply.1 reply.2 reply.4 in (b.0, b.1, b.2, b.3, b.4 ∙ reply.3)
 
   module _ (z : View) (was : Was sh images v grows z) (s : rank_of z.checkpoint.content ≡ rank_of w.checkpoint.content) (top : head z ≡ head w) (r : z.replies ≡ w.replies) where
-    pub sound : Sound sh z
+    sound : Sound sh z
     sound = was_sound sh images v grows z was
 
-    pub same_content : z.checkpoint.content ≡ w.checkpoint.content
+    same_content : z.checkpoint.content ≡ w.checkpoint.content
     same_content =
         let a = checkpoint_event in
         ap (λ (b : Checkpoint). b.content) (was_base sh images v grows z a.0 was a.1 (s ∙ ap rank_of (sym a.2))) ∙ a.2
 
-    pub same_chain : z.checkpoint.chain ≡ w.checkpoint.chain
-    same_chain = same_links (sh.layout.block_size - 256) w.checkpoint.content z.checkpoint.chain w.checkpoint.chain w.checkpoint.content.trailer w.checkpoint.content.trailer_checksum
-        (subst (λ (c : Content). Links (sh.layout.block_size - 256) c z.checkpoint.chain c.trailer c.trailer_checksum) same_content sound.checkpoint.trailer.links) f.checkpoint.trailer.links
-        (λ a e b d at there checksum. distinct (BlockPlace a) (BlockPlace e) (BlockUnit b) (BlockUnit d) (was_chain sh images v grows z was a b at) (of (BlockPlace e) (BlockUnit d) (f.chain_shown e d there)) checksum)
+    same_prepare : (p q : Message) → In p z.tail → In q w.tail → p.header.op ≡ q.header.op → p ≡ q
+    same_prepare p q at there same = elim (cases_lt w.checkpoint.content.pin q.header.op) [
+      | inl above ↦
+          let own_q = take_boot sh.layout.slots shown w.checkpoint.content q (f.tail.takes q there) above in
+          let own_p = sound.records.tail p at (omega (arith, above, ap (λ (c : Content). c.pin) same_content)) in
+          settled_one sh images v grows empty (p.header.op % sh.layout.slots) (q.header.op % sh.layout.slots) p q (was_prepare sh images v grows z was p at) (settled_at q there) same (own_p ∙ ap (λ (c : Content). c.boot) same_content ∙ sym own_q)
+      | inr low ↦ sym (named z was same_content q p there at (sym same) (omega arith))
+    ]
 
-    pub same_parts : z.checkpoint.parts ≡ w.checkpoint.parts
-    same_parts = parts_same sh z.checkpoint.content w.checkpoint.content z.checkpoint.chain w.checkpoint.chain z.checkpoint.parts w.checkpoint.parts same_content same_chain sound.checkpoint.trailer.says f.checkpoint.trailer.says
-
-    pub same_tail : z.tail ≡ w.tail
-    same_tail =
-        let op : z.checkpoint.content.op ≡ w.checkpoint.content.op = ap (λ (c : Content). c.op) same_content in
-        same_chains sh.layout.clients (z.checkpoint.content.op + 1) z.checkpoint.content.op_checksum w.checkpoint.content.op_checksum 0 0 z.checkpoint.parts.sessions w.checkpoint.parts.sessions z.tail w.tail sound.chain
-        (subst (λ (n : ℕ). Chain sh.layout.clients (n + 1) w.checkpoint.content.op_checksum 0 w.checkpoint.parts.sessions w.tail) (sym op) f.tail.chain) (omega arith)
-        (λ p q at there same. elim (cases_lt w.checkpoint.content.pin q.header.op) [
-          | inl above ↦
-              let own_q = take_boot sh.layout.slots shown w.checkpoint.content q (f.tail.takes q there) above in
-              let own_p = sound.records.tail p at (omega (arith, above, ap (λ (c : Content). c.pin) same_content)) in
-              settled_one sh images v grows empty (p.header.op % sh.layout.slots) (q.header.op % sh.layout.slots) p q (was_prepare sh images v grows z was p at) (settled_at q there) same (own_p ∙ ap (λ (c : Content). c.boot) same_content ∙ sym own_q)
-          | inr low ↦ sym (named z was same_content q p there at (sym same) (omega arith))
-        ])
-
-    pub same_sessions : sessions z ≡ sessions w
-    same_sessions = λ i. sessions_after (same_parts i).sessions (same_tail i)
-
-    stored_cases : (k : ℕ) (o p : Option Message) → z.stored k ≡ o → w.stored k ≡ p → o ≡ p
-    stored_cases k None None is at = refl
-    stored_cases k (Some x) (Some q) is at =
-        let n = f.stored.no_more k q at in
-        let there = f.stored.shown k n.0 n.1 n.2 in
-        let q_is : there.0 ≡ q = (let both : Some there.0 ≡ Some q = sym there.1 ∙ at in cc) in
-        let m = sound.answered k x is in
-        let one : m.0 ≡ n.0 = (let both : Some m.0 ≡ Some n.0 = sym m.1 ∙ ap (λ (l : List Session). slice_get l k) same_sessions ∙ n.1 in cc) in
-        let y = settled_reply sh images v grows empty k there.0 (of (ReplyPlace k) (ReplyUnit there.0) there.2) in
-        let ops : x.header.op ≡ there.0.header.op = m.3.op ∙ ap (λ (t : Session). t.op) one ∙ sym there.3.op in
-        ap Some (was_reply sh images v grows z y.0 k k x there.0 was is y.1 y.2 ops ∙ q_is)
-    stored_cases k (Some x) None is at =
-        let m = sound.answered k x is in
-        let there = f.stored.shown k m.0 (ap (λ (l : List Session). slice_get l k) (sym same_sessions) ∙ m.1) (omega (arith, m.2)) in
-        absurd (let both : Some there.0 ≡ None = sym there.1 ∙ at in cc)
-    stored_cases k None (Some q) is at =
-        let n = f.stored.no_more k q at in
-        let there = sound.stores k n.0 (ap (λ (l : List Session). slice_get l k) same_sessions ∙ n.1) (omega (arith, n.2)) in
-        absurd (let both : Some there.0 ≡ None = sym there.1 ∙ is in cc)
-
-    pub same_stored : (k : ℕ) → z.stored k ≡ w.stored k
-    same_stored k = stored_cases k (z.stored k) (w.stored k) refl refl
+    same_reply : (k : ℕ) (x q : Message) → z.stored k ≡ Some x → shown (ReplyPlace k) ≡ Some (ReplyUnit q) → x.header.op ≡ q.header.op → x ≡ q
+    same_reply k x q is at ops =
+        let y = settled_reply sh images v grows empty k q (of (ReplyPlace k) (ReplyUnit q) at) in
+        was_reply sh images v grows z y.0 k k x q was is y.1 y.2 ops
 
     pub same_view : z ≡ w
-    same_view = λ i. record { checkpoint = record { content = same_content i; chain = same_chain i; parts = same_parts i }; tail = same_tail i; replies = r i; stored = λ k. same_stored k i }
+    same_view =
+        view_is_found sh shown w f z sound same_content top r
+        (λ a e b d at there checksum. distinct (BlockPlace a) (BlockPlace e) (BlockUnit b) (BlockUnit d) (was_chain sh images v grows z was a b at) (of (BlockPlace e) (BlockUnit d) (f.chain_shown e d there)) checksum)
+        same_prepare (λ k x q is at named ops. same_reply k x q is at ops)
 
   pub found_was : Was sh images v grows w
   found_was =

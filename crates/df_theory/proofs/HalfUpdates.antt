@@ -1,20 +1,21 @@
 -- An update is stopped within copy 1, and mended.
-use Rattle.std.proofs.Common.{◌≡◌, ◌⊎◌, inl, inr, ℕ, ◌%◌, ◌<◌, ◌==◌, ◌||◌, Bool, true, false, if◌then◌else◌, List, [], ◌∷◌, Some, None, refl, sym, ◌∙◌, ap, subst, arith}
-use Rattle.df_theory.specs.Units.{Content, CopyPlace, CopyUnit, Header, HeaderPlace, HeaderUnit, Message, Units, is_some, or_else}
+use Rattle.std.proofs.Common.{◌≡◌, ◌⊎◌, inl, inr, ℕ, ◌<◌, ◌||◌, Bool, true, false, if◌then◌else◌, List, [], ◌∷◌, Some, None, refl, sym, ◌∙◌, ap, subst, arith}
+use Rattle.df_theory.specs.Units.{Content, CopyPlace, CopyUnit, Units, is_some, or_else}
 use Rattle.df_theory.specs.UnitLog.{same_place, IsLeftBy, Stopped, Synced, UnitLog, add, now, put_one, wrote}
 use Rattle.df_theory.specs.Chance.{NoChance}
-use Rattle.df_theory.specs.Tails.{In}
 use Rattle.df_theory.specs.Holds.{Holds}
 use Rattle.df_theory.specs.Rests.{IsGoodLog}
-use Rattle.df_theory.specs.MendLaws.{IsNumber, IsSlotHeader, MayMend}
+use Rattle.df_theory.specs.MendLaws.{IsNumber, MayMend}
 use Rattle.df_theory.specs.Sample.{UpdateSampleLaw}
 use Rattle.df_theory.proofs.Writes.{stop_law}
 use Rattle.df_theory.proofs.PutOne.{put_one_law}
 use Rattle.df_theory.proofs.Keeps.{four}
 use Rattle.df_theory.proofs.AllOf.{All}
-use Rattle.df_theory.proofs.Ours.{IsOurs, distinct_in, log4_all, put_all}
-use Rattle.df_theory.proofs.HurtSample.{without, without_shows}
-use Rattle.df_theory.proofs.Samples.{content1, log4, prepare1, reserved, shape, view2}
+use Rattle.df_theory.proofs.Ours.{IsOurs, distinct_in, log4_all}
+use Rattle.df_theory.proofs.SampleSlots.{header_shown, slot, table}
+use Rattle.df_theory.proofs.SampleUnits.{put_all}
+use Rattle.df_theory.proofs.Without.{without, without_shows}
+use Rattle.df_theory.proofs.Samples.{content1, log4, shape, view2}
 use Rattle.df_theory.proofs.SampleEnds.{content2, leads5, view5}
 
 -- copy 0 is durable, and copy 1 is being written
@@ -29,10 +30,10 @@ abbrev image : Units
 image = without (CopyPlace 1) (now half)
 
 half_all : All IsOurs half.start half.events
-half_all = put_all (CopyPlace 0) (CopyUnit content2) (add Synced log4) refl log4_all
+half_all = put_all IsOurs (CopyPlace 0) (CopyUnit content2) (add Synced log4) refl log4_all
 
 log_all : All IsOurs log.start log.events
-log_all = put_all (CopyPlace 1) (CopyUnit content2) half refl half_all
+log_all = put_all IsOurs (CopyPlace 1) (CopyUnit content2) half refl half_all
 
 good : IsGoodLog shape view2 view5 log
 good = leads5.0.leads.moments.1.1.1.1.0
@@ -67,25 +68,6 @@ holds = elim (good.left image left chance) [
 
 -- ---- the mending
 
-abbrev table : ℕ → Header
-table s = if 1 == s then prepare1.header else reserved
-
-header_shown : (s : ℕ) → image (HeaderPlace s) ≡ Some (HeaderUnit (table s))
-header_shown s = go (1 == s)
-  where
-    go : (b : Bool) → or_else (if b then Some (HeaderUnit prepare1.header) else None) (Some (HeaderUnit reserved)) ≡ Some (HeaderUnit (if b then prepare1.header else reserved))
-    go true = refl
-    go false = refl
-
-slot : (s : ℕ) → IsSlotHeader shape image view2 s (table s)
-slot s = record { from = inl (header_shown s); tail = λ p at mine. own p at mine }
-  where
-    own : (p : Message) → In p view2.tail → s ≡ p.header.op % 16 → p.header ≡ table s
-    own p (inl is) mine =
-        let one : s ≡ 1 = mine ∙ ap (λ (q : Message). q.header.op % 16) is in
-        ap (λ (q : Message). q.header) is ∙ subst (λ (k : ℕ). prepare1.header ≡ table k) (sym one) refl
-    own p (inr none) mine = absurd none
-
 abbrev mends : List (ℕ × Units)
 mends = (0, put_one (CopyPlace 0) (CopyUnit content1)) ∷ (1, put_one (CopyPlace 1) (CopyUnit content1)) ∷ []
 
@@ -101,7 +83,7 @@ may : MayMend shape (add (Stopped image) log) view2 table [] mends
 may = record {
   rests = stop_law shape log view2 image (good.safe.stopped image left chance) holds;
   quiet = λ place wet. absurd (let no_unit : false ≡ true = wet in cc);
-  tells = slot;
+  tells = λ s. slot image s (header_shown s);
   puts_headers = tt;
   agreed = record { first = 2; second = 3; apart = omega arith; inside = omega arith; at_first = refl; at_second = refl };
   puts_copies = (put_one_law (CopyPlace 0) (CopyUnit content1), (λ e. omega arith), (λ e. omega arith), (put_one_law (CopyPlace 1) (CopyUnit content1), (λ e. omega arith), (λ e. omega arith), tt));
@@ -110,16 +92,4 @@ may = record {
 }
 
 pub update_sample_law : UpdateSampleLaw
-update_sample_law = record {
-  shape = shape;
-  log = log;
-  view = view2;
-  next = view5;
-  image = image;
-  safe = good.safe;
-  left = (left, chance, holds);
-  copies = (refl, refl, refl);
-  table = table;
-  mends = mends;
-  may = may;
-}
+update_sample_law = record { shape = shape; log = log; view = view2; next = view5; image = image; safe = good.safe; left = (left, chance, holds); copies = (refl, refl, refl); table = table; mends = mends; may = may }

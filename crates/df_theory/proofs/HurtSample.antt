@@ -1,7 +1,7 @@
 -- A file at rest whose only prepare is lost: an open refuses, and names its slot.
-use Rattle.std.proofs.Common.{◌≡◌, inl, ℕ, ◌%◌, ◌<◌, Bool, true, false, if◌then◌else◌, List, [], ◌∷◌, length, Some, None, refl, sym, ◌∙◌, ap, arith}
+use Rattle.std.proofs.Common.{◌≡◌, inl, ℕ, ◌%◌, ◌<◌, List, [], ◌∷◌, length, Some, None, refl, sym, ◌∙◌, ap, arith}
 use Rattle.df_theory.specs.Units.{AnyUnit, Message, Place, PreparePlace, PrepareUnit, Units}
-use Rattle.df_theory.specs.UnitLog.{now, same_place}
+use Rattle.df_theory.specs.UnitLog.{now}
 use Rattle.df_theory.specs.Copies.{Agree}
 use Rattle.df_theory.specs.Chance.{InPool, NoChance}
 use Rattle.df_theory.specs.Found.{IsReach, IsTail, NotLost}
@@ -11,27 +11,9 @@ use Rattle.df_theory.specs.Opens.{Lost}
 use Rattle.df_theory.specs.View.{Checkpoint}
 use Rattle.df_theory.specs.Sample.{HurtSampleLaw}
 use Rattle.df_theory.proofs.Hurts.{never_behind_law}
-use Rattle.df_theory.proofs.PutOne.{same_is}
+use Rattle.df_theory.proofs.Without.{without, without_else, without_shows}
 use Rattle.df_theory.proofs.Ours.{distinct_in, log1_all}
 use Rattle.df_theory.proofs.Samples.{content1, first, leads1, log1, shape, view1, prepare1}
-
--- an image with one place hurt, so that it shows nothing there
-abbrev pub without : Place → Units → Units
-without place image other = if same_place place other then None else image other
-
-pub without_else : (place other : Place) (image : Units) → (other ≡ place → ⊥) → without place image other ≡ image other
-without_else place other image away = go (same_place place other) refl
-  where
-    go : (b : Bool) → same_place place other ≡ b → (if b then None else image other) ≡ image other
-    go true same = absurd (away (same_is place other same))
-    go false same = refl
-
-pub without_shows : (place other : Place) (image : Units) (x : AnyUnit) → without place image other ≡ Some x → image other ≡ Some x
-without_shows place other image x is = go (same_place place other) is
-  where
-    go : (b : Bool) → (if b then None else image other) ≡ Some x → image other ≡ Some x
-    go true none = absurd (let both : None ≡ Some x = none in cc)
-    go false shown = shown
 
 abbrev shown : Units
 shown = without (PreparePlace 1) (now log1)

@@ -94,21 +94,21 @@ whole_append_law sh image v p prepare headers sound may one sector there whole =
 
 -- ---- the other writers
 
-pub whole_reply_law : WholeReplyLaw
-whole_reply_law sh image put v place r one whole = record {
-  copies = λ n below. put_else put image (ReplyPlace place) (CopyPlace n) (ReplyUnit r) one (λ same. cc (same)) ∙ whole.copies n below;
-  headers = λ s below.
-      let old = whole.headers s below in
-      (old.0, put_else put image (ReplyPlace place) (HeaderPlace s) (ReplyUnit r) one (λ same. cc (same)) ∙ old.1, old.2);
+-- a unit that is no copy and no header
+whole_beside :
+    (sh : Shape) (image put : Units) (v : View) (place : Place) (x : AnyUnit) → PutsOne put place x → ((n : ℕ) → CopyPlace n ≡ place → ⊥) → ((s : ℕ) → HeaderPlace s ≡ place → ⊥) → IsWhole sh image v → IsWhole sh (overlay put image) v
+whole_beside sh image put v place x one no_copy no_header whole = record {
+  copies = λ n below. put_else put image place (CopyPlace n) x one (no_copy n) ∙ whole.copies n below;
+  headers = λ s below. let old = whole.headers s below in (old.0, put_else put image place (HeaderPlace s) x one (no_header s) ∙ old.1, old.2);
 }
 
+pub whole_reply_law : WholeReplyLaw
+whole_reply_law sh image put v place r one whole =
+    let beside = whole_beside sh image put v (ReplyPlace place) (ReplyUnit r) one (λ n same. cc (same)) (λ s same. cc (same)) whole in
+    record { copies = beside.copies; headers = beside.headers }
+
 pub whole_block_law : WholeBlockLaw
-whole_block_law sh image put v a b one whole = record {
-  copies = λ n below. put_else put image (BlockPlace a) (CopyPlace n) (BlockUnit b) one (λ same. cc (same)) ∙ whole.copies n below;
-  headers = λ s below.
-      let old = whole.headers s below in
-      (old.0, put_else put image (BlockPlace a) (HeaderPlace s) (BlockUnit b) one (λ same. cc (same)) ∙ old.1, old.2);
-}
+whole_block_law sh image put v a b one whole = whole_beside sh image put v (BlockPlace a) (BlockUnit b) one (λ n same. cc (same)) (λ s same. cc (same)) whole
 
 -- of two numbers of copies the places differ
 apart : (n k : ℕ) → (n ≡ k → ⊥) → CopyPlace n ≡ CopyPlace k → ⊥

@@ -51,16 +51,19 @@ pub use Rattle.df_theory.proofs.Clear.{low_steps, low_update}
 pub use Rattle.df_theory.proofs.Founds.{holds_found}
 pub use Rattle.df_theory.proofs.Grew.{next_grew}
 pub use Rattle.df_theory.proofs.Grouped.{group_from, group_holds, same_group}
-pub use Rattle.df_theory.proofs.HurtSample.{without, without_else, without_shows}
 pub use Rattle.df_theory.proofs.Hurts.{pool_pools}
 pub use Rattle.df_theory.proofs.Images.{IsOpen, bears_open, chosen_same}
-pub use Rattle.df_theory.proofs.Mends.{IsUnderWay, header_steps_miss, is_mend, missed, under_way_still}
-pub use Rattle.df_theory.proofs.Once.{last_of, no_mark, one_stored, same_chains, same_links, stored_op}
+pub use Rattle.df_theory.proofs.Mends.{IsUnderWay, half_way, header_steps_miss, is_mend, missed, under_way_still}
+pub use Rattle.df_theory.proofs.Once.{last_of, no_mark, one_stored, stored_op}
 pub use Rattle.df_theory.proofs.OneFound.{one_view}
-pub use Rattle.df_theory.proofs.OneView.{same_parts}
-pub use Rattle.df_theory.proofs.Past.{HasGap, IsNew, appended_clear, next_in, no_made, same_slot}
+pub use Rattle.df_theory.proofs.WholeGroups.{no_gap}
+pub use Rattle.df_theory.proofs.SameView.{view_is_found}
+pub use Rattle.df_theory.proofs.Past.{HasGap, IsNew, gap_left, appended_clear, next_in, no_made, same_slot}
 pub use Rattle.df_theory.proofs.Pinned.{same_named}
-pub use Rattle.df_theory.proofs.Samples.{all_reserved, copies_of, layout, puts_reserved, reserved, sector}
+pub use Rattle.df_theory.proofs.SampleFiles.{all_reserved, bare, copies_of, first_of, is_first_bare, is_first_of, layout, made_of, making_of, puts_reserved, reserved, sector, shape_of, tidy_of}
+pub use Rattle.df_theory.proofs.SampleSteps.{copies_are, grouped, header_put, may_append, may_append_pair, may_raise, prepare_put, quiet_updated}
+pub use Rattle.df_theory.proofs.SampleUnits.{AreTold, copies_all, distinct_of, left_without, made_all, no_chance, put_all, wrote_pooled}
+pub use Rattle.df_theory.proofs.Without.{without, without_else, without_shows}
 pub use Rattle.df_theory.proofs.Settled.{append_here, base_here, made_content, made_reply, reply_here}
 pub use Rattle.df_theory.proofs.Tails.{chain_last}
 pub use Rattle.df_theory.proofs.Upgrades.{raise_anew_law, raise_ends_law}

@@ -9,7 +9,7 @@ use Rattle.df_theory.specs.Rests.{IsGoodLog, IsQuiet, RestsOn}
 use Rattle.df_theory.specs.Runs.{AtEach, Puts, Step, Syncs, after_steps}
 use Rattle.df_theory.specs.WriterLaws.{IsHeaderMend}
 use Rattle.df_theory.specs.MakingLaws.{all_puts}
-use Rattle.df_theory.specs.MendLaws.{AllPutCopy, AllPutTable, IsNumber, IsTable, MendLaw, MendsWholeLaw, PutsTable, Reaches, copy_steps, header_steps, mend_steps, IsFromSlot}
+use Rattle.df_theory.specs.MendLaws.{AllPutCopy, AllPutTable, IsNumber, MendLaw, MendsWholeLaw, PutsTable, Reaches, copy_steps, header_steps, mend_steps, IsFromSlot}
 use Rattle.df_theory.proofs.Steps.{rests_safe}
 use Rattle.df_theory.proofs.Writes.{good_rests, sync_law, header_law, copy_law, quiet_synced, put_else}
 use Rattle.df_theory.proofs.Runs.{each_append, after_append}
@@ -120,28 +120,29 @@ copies_rests sh v m n (k ∷ ks) log apart inside one two rests quiet all =
 
 -- ---- all of it
 
--- where the header sectors lead
-pub record IsHalfWay (sh : Shape) (log : UnitLog) (v : View) (headers : List Units) : Type 0 where
-  pub moments : AtEach (IsGoodLog sh v v) log (header_steps headers)
+-- where the header sectors lead, with this at each moment
+pub record IsHalfWay (P : UnitLog → Type 0) (sh : Shape) (log : UnitLog) (v : View) (headers : List Units) : Type 0 where
+  pub moments : AtEach P log (header_steps headers)
   pub rests : RestsOn sh (after_steps (header_steps headers) log) v
   pub quiet : IsQuiet (after_steps (header_steps headers) log)
 
-pub half_way : (sh : Shape) (log : UnitLog) (v : View) (table : ℕ → Header) (headers : List Units) → RestsOn sh log v → IsQuiet log → IsTable sh (now log) v table → AllPutTable table headers → IsHalfWay sh log v headers
-half_way sh log v table [] rests quiet is all = record { moments = good_rests sh log v v v rests (inl refl); rests = rests; quiet = quiet }
-half_way sh log v table (put ∷ puts) rests quiet is all =
-    let written = headers_rests sh v table (put ∷ puts) log rests (record { each = λ s. (is s).from }) all in
+pub half_way :
+    (P : UnitLog → Type 0) (sh : Shape) (log : UnitLog) (v : View) (headers : List Units) → ((l : UnitLog) → RestsOn sh l v → P l) → RestsOn sh log v → IsQuiet log
+    → AtEach P log (all_puts headers) × RestsOn sh (after_steps (all_puts headers) log) v → IsHalfWay P sh log v headers
+half_way P sh log v [] good rests quiet written = record { moments = good log rests; rests = rests; quiet = quiet }
+half_way P sh log v (put ∷ puts) good rests quiet written =
     let after : UnitLog = after_steps (all_puts (put ∷ puts)) log in
     let synced : RestsOn sh (add Synced after) v = synced_after sh v after written.1 in
     let same : after_steps (header_steps (put ∷ puts)) log ≡ add Synced after = after_append (all_puts (put ∷ puts)) (Syncs ∷ []) log in
     record {
-      moments = each_append (IsGoodLog sh v v) (all_puts (put ∷ puts)) (Syncs ∷ []) log written.0 (good_rests sh after v v v written.1 (inl refl), good_rests sh (add Synced after) v v v synced (inl refl));
+      moments = each_append P (all_puts (put ∷ puts)) (Syncs ∷ []) log written.0 (good after written.1, good (add Synced after) synced);
       rests = subst (λ (l : UnitLog). RestsOn sh l v) (sym same) synced;
       quiet = subst IsQuiet (sym same) (quiet_synced after);
     }
 
 pub mend_law : MendLaw
 mend_law sh log v table headers copies may =
-    let half = half_way sh log v table headers may.rests may.quiet may.tells may.puts_headers in
+    let half = half_way (IsGoodLog sh v v) sh log v headers (λ l at. good_rests sh l v v v at (inl refl)) may.rests may.quiet (headers_rests sh v table headers log may.rests (record { each = λ s. (may.tells s).from }) may.puts_headers) in
     let mid : UnitLog = after_steps (header_steps headers) log in
     let stays : (n : ℕ) → now mid (CopyPlace n) ≡ now log (CopyPlace n) = λ n. missed (CopyPlace n) (header_steps headers) log (header_steps_miss table headers may.puts_headers n) in
     let agreed = may.agreed in

@@ -161,6 +161,18 @@ pub record HasGap (images : List Units) (p : Message) : Type 0 where
   pub to : missing ≤ p.header.group_last
   pub lacks : (t : ℕ) (q : Message) → InImages images (PreparePlace t) (PrepareUnit q) → q.header.op ≡ missing → q.header.boot ≡ p.header.boot → q.header.group ≡ p.header.group → ⊥
 
+-- where a prepare is left of a group that is cut
+pub gap_left : (images : List Units) (image : Units) (v : View) (p : Message) → IsLeft images image v p → HasGap (image ∷ images) p
+gap_left images image v p left = record {
+  missing = left.missing;
+  from = omega (arith, left.cut.first, left.from);
+  to = left.to;
+  lacks = λ t q at op boot group. elim at [
+    | inl shown ↦ left.lacks t q shown (boot ∙ left.own) op
+    | inr old ↦ omega (arith, left.clear t q old (boot ∙ left.own), left.from)
+  ];
+}
+
 -- nor is it settled later
 gap_stays : (sh : Shape) (image : Units) (images : List Units) (u v : View) → AllInHistory images image v → GoesOn images u v → Grows sh images u → (s : ℕ) (p : Message) → InImages images (PreparePlace s) (PrepareUnit p) → p.header.group ≤ p.header.op → HasGap images p → HasGap (image ∷ images) p
 gap_stays sh image images u v history goes grows s p at holds gap = record { missing = gap.missing; from = gap.from; to = gap.to; lacks = lacks }
@@ -201,15 +213,7 @@ settled_was sh (image ∷ images) v (holds, inr (history, (u, next, grows))) emp
   | inr survivor ↦
       let same : survivor.0 ≡ p = (let e = survivor.1 in cc) in
       let left : IsLeft images image v p = subst (λ (q : Message). IsLeft images image v q) same survivor.2 in
-      inr (record {
-        missing = left.missing;
-        from = omega (arith, left.cut.first, left.from);
-        to = left.to;
-        lacks = λ t q at op boot group. elim at [
-          | inl shown ↦ left.lacks t q shown (boot ∙ left.own) op
-          | inr old ↦ omega (arith, left.clear t q old (boot ∙ left.own), left.from)
-        ];
-      })
+      inr (gap_left images image v p left)
 ]
 
 pub one_prepare_law : OnePrepareLaw

@@ -1,6 +1,5 @@
 -- The write of one unit.
-use Rattle.std.proofs.Common.{◌≡◌, ℕ, ◌==◌, Bool, if◌then◌else◌, true, false, Some, None, refl, sym, ap, arith, eqb-true, eq-eqb}
-use Rattle.std.proofs.lemmas.Bool.Decides.{nat_tests}
+use Rattle.std.proofs.Common.{◌≡◌, Bool, if◌then◌else◌, true, false, Some, None, refl, sym, ap, eqb-true, eq-eqb}
 use Rattle.df_theory.specs.Units.{AnyUnit, BlockPlace, CopyPlace, HeaderPlace, Place, PreparePlace, ReplyPlace}
 use Rattle.df_theory.specs.UnitLog.{same_place}
 use Rattle.df_theory.specs.WriterLaws.{PutOneLaw}

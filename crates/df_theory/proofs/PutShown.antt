@@ -1,7 +1,6 @@
 -- A write puts what it shows at the places that it touches.
 use Rattle.std.proofs.Common.{◌≡◌, ℕ, false, List, Option, Some, None, refl, sym, ◌∙◌, ap}
-use Rattle.std.proofs.lemmas.Bool.{cond-false}
-use Rattle.df_base.specs.Image.{Image, IsImage, covers, written}
+use Rattle.df_base.specs.Image.{Image, IsImage, written}
 use Rattle.df_base.proofs.Laws.{written_else}
 use Rattle.df_theory.specs.Units.{AnyUnit, Place, is_some, or_else}
 use Rattle.df_theory.specs.Device.{Format, IsFormat}
@@ -11,7 +10,7 @@ untouched_stays : (f : Format) → IsFormat f → (at : ℕ) (bytes : List ℕ) 
 untouched_stays f is at bytes place image apart = is.local (written at bytes image) image place (λ sector here. written_else at bytes image sector (is.apart at bytes place sector apart here))
 
 pub put_shown_law : PutShownLaw
-put_shown_law f at bytes put is piece touched shown = record { piece = piece; touches = touched; shows = λ image place whole. shows_at image place (put place) whole refl }
+put_shown_law f at bytes put is piece within touched shown = record { piece = piece; within = within; touches = touched; shows = λ image place whole. shows_at image place (put place) whole refl }
   where
     shows_at : (image : Image) (place : Place) (o : Option AnyUnit) → IsImage image → put place ≡ o → f.unit_at (written at bytes image) place ≡ or_else (put place) (f.unit_at image place)
     shows_at image place None whole none =

@@ -1,21 +1,21 @@
 -- The sample goes on: a checkpoint is finished, and another prepare appended.
 use Rattle.std.proofs.Common.{◌≡◌, inl, inr, ℕ, ◌≤◌, ◌==◌, Bool, true, false, if◌then◌else◌, List, [], ◌∷◌, Some, None, refl, sym, ap, subst, arith}
 use Rattle.std.proofs.lemmas.Bool.Decides.{nat_tests}
-use Rattle.df_theory.specs.Units.{Block, BlockPlace, BlockUnit, Content, HeaderPlace, HeaderUnit, Message, PreparePlace, PrepareUnit, Units}
-use Rattle.df_theory.specs.Tails.{In}
+use Rattle.df_theory.specs.Units.{Block, BlockPlace, BlockUnit, Content, Message}
 use Rattle.df_theory.specs.Trailer.{InChain}
 use Rattle.df_theory.specs.View.{Checkpoint, View}
 use Rattle.df_theory.specs.Holds.{Stands}
-use Rattle.df_theory.specs.Next.{IsStamped, MayAppend, MayFinish, appended, checkpointed}
-use Rattle.df_theory.specs.UnitLog.{UnitLog, now, put_one}
+use Rattle.df_theory.specs.Next.{MayAppend, MayFinish, checkpointed}
+use Rattle.df_theory.specs.UnitLog.{UnitLog, now}
 use Rattle.df_theory.specs.Runs.{Command, after_steps}
-use Rattle.df_theory.specs.Commands.{append_command, finish_command}
+use Rattle.df_theory.specs.Commands.{finish_command}
 use Rattle.df_theory.specs.TidyLaws.{KeepStanding, KeepsStanding, LeadTidily, LeadsTidily}
 use Rattle.df_theory.specs.WholeLaws.{IsStanding}
 use Rattle.df_theory.specs.Sample.{SampleLaw}
-use Rattle.df_theory.proofs.PutOne.{put_one_law}
-use Rattle.df_theory.proofs.Tidy.{tidy_append_law, tidy_finish_law}
-use Rattle.df_theory.proofs.Samples.{layout, parts, shape, first, copies_of, made_steps, made, safe_made, tidy_made, sector, command1, leads1, view2, command2, leads2, block, trailer, command3, leads3, command4, log4, leads4}
+use Rattle.df_theory.proofs.Tidy.{tidy_finish_law}
+use Rattle.df_theory.proofs.SampleFiles.{copies_of, layout}
+use Rattle.df_theory.proofs.SampleSteps.{append_leads, append_of, may_append}
+use Rattle.df_theory.proofs.Samples.{parts, shape, first, made_steps, made, safe_made, tidy_made, command1, leads1, view2, command2, leads2, block, trailer, block_at, leads3, log4, leads4}
 
 -- ---- the checkpoint
 
@@ -71,41 +71,19 @@ leads5 = tidy_finish_law shape log4 view2 checkpoint2 (copies_of content2) leads
 abbrev pub prepare2 : Message
 prepare2 = record { header = record { checksum = 12; parent = 5; client = 7; op = 2; request = 2; mark = 1; checkpoint = 2; boot = 0; group = 2; group_last = 2 }; body = [] }
 
-abbrev pub view6 : View
-view6 = appended view5 (prepare2 ∷ [])
-
-abbrev pub put6 : Units
-put6 = put_one (PreparePlace 2) (PrepareUnit prepare2)
-
-abbrev pub header6 : Units
-header6 = put_one (HeaderPlace 2) (HeaderUnit prepare2.header)
-
-abbrev pub command6 : Command
-command6 = append_command view5 prepare2 put6 header6
-
 abbrev pub log6 : UnitLog
-log6 = after_steps command6.steps log5
-
-stamped6 : (p : Message) → In p (prepare2 ∷ []) → IsStamped view5 2 p.header
-stamped6 p (inl is) = subst (λ (q : Message). IsStamped view5 2 q.header) (sym is) (record { mark = refl; checkpoint = refl; boot = refl; group = refl; group_last = refl })
-stamped6 p (inr none) = absurd none
+log6 = after_steps (append_of view5 prepare2).steps log5
 
 may6 : MayAppend shape view5 (prepare2 ∷ [])
-may6 = record {
-  is = record { some = omega arith; turn = (refl, refl, tt); stamped = stamped6 };
-  room = omega arith;
-  pipeline = omega arith;
-  unspent = omega arith;
-  asks = (inl (refl, refl, omega arith), tt);
-}
+may6 = may_append shape view5 (prepare2 ∷ []) (omega arith) (refl, refl, tt) (record { mark = refl; checkpoint = refl; boot = refl; group = refl; group_last = refl }, tt) (omega arith, omega arith, omega arith) (inl (refl, refl, omega arith), tt)
 
-leads6 : LeadsTidily shape log5 view5 command6 × (IsStanding log5 view5 → KeepsStanding shape log5 view5 command6)
-leads6 = tidy_append_law shape log5 view5 prepare2 put6 header6 leads5.0.tidy may6 (put_one_law (PreparePlace 2) (PrepareUnit prepare2)) (sector shape (now log5) prepare2) refl
+leads6 : LeadsTidily shape log5 view5 (append_of view5 prepare2) × (IsStanding log5 view5 → KeepsStanding shape log5 view5 (append_of view5 prepare2))
+leads6 = append_leads 1 (λ op text. Some parts) log5 view5 prepare2 leads5.0.tidy may6
 
 -- ---- all of it
 
 abbrev pub commands : List Command
-commands = command1 ∷ command2 ∷ command3 ∷ command4 ∷ command5 ∷ command6 ∷ []
+commands = command1 ∷ command2 ∷ block_at 2 block ∷ block_at 1 trailer ∷ command5 ∷ append_of view5 prepare2 ∷ []
 
 lead : LeadTidily shape made first commands
 lead = (leads1.0, (leads2.0, (leads3.0, (leads4.0, (leads5.0, (leads6.0, tt))))))
@@ -135,15 +113,4 @@ keep =
     (one, (two, (three, (four, (five, (six, tt))))))
 
 pub sample_law : SampleLaw
-sample_law = record {
-  shape = shape;
-  first = first;
-  format = made_steps;
-  commands = commands;
-  safe = safe_made;
-  tidy = tidy_made.0;
-  standing = tidy_made.1;
-  lead = lead;
-  keep = keep;
-  some = (omega arith, omega arith, refl, (2, 9, refl));
-}
+sample_law = record { shape = shape; first = first; format = made_steps; commands = commands; safe = safe_made; tidy = tidy_made.0; standing = tidy_made.1; lead = lead; keep = keep; some = (omega arith, omega arith, refl, (2, 9, refl)) }

@@ -1,17 +1,18 @@
 -- A stop within the write of a prepare, with every premise on chance shown.
-use Rattle.std.proofs.Common.{◌≡◌, inl, inr, ◌||◌, false, true, [], ◌∷◌, Option, Some, None, refl, sym, ◌∙◌, ap, subst, arith}
-use Rattle.df_theory.specs.Units.{AnyUnit, Message, Place, PreparePlace, PrepareUnit, Units, is_some, or_else, overlay}
-use Rattle.df_theory.specs.Tails.{In}
+use Rattle.std.proofs.Common.{◌≡◌, inl, inr, ◌||◌, false, true, [], ◌∷◌, Option, Some, None, refl, sym, ◌∙◌, ap, arith}
+use Rattle.df_theory.specs.Units.{AnyUnit, PreparePlace, PrepareUnit, Units, is_some, or_else, overlay}
 use Rattle.df_theory.specs.View.{View}
-use Rattle.df_theory.specs.Next.{IsStamped, MayAppend, appended}
+use Rattle.df_theory.specs.Next.{MayAppend, appended}
 use Rattle.df_theory.specs.UnitLog.{IsLeftBy, UnitLog, loose, now, put_one, wrote}
-use Rattle.df_theory.specs.Chance.{InPool, NoChance}
+use Rattle.df_theory.specs.Chance.{NoChance}
 use Rattle.df_theory.specs.Rests.{Stepped}
 use Rattle.df_theory.specs.Sample.{StopSampleLaw}
 use Rattle.df_theory.proofs.Writes.{prepare_steps}
 use Rattle.df_theory.proofs.PutOne.{put_one_law}
 use Rattle.df_theory.proofs.AllOf.{All}
-use Rattle.df_theory.proofs.Ours.{IsOurs, distinct_in, log1_all, prepare_other, put_all}
+use Rattle.df_theory.proofs.Ours.{IsOurs, distinct_in, log1_all, prepare_other}
+use Rattle.df_theory.proofs.SampleSteps.{may_append}
+use Rattle.df_theory.proofs.SampleUnits.{put_all, wrote_pooled}
 use Rattle.df_theory.proofs.Samples.{shape, view1, log1, leads1}
 
 abbrev put2 : Units
@@ -24,20 +25,11 @@ abbrev view2 : View
 view2 = appended view1 (prepare_other ∷ [])
 
 log2_all : All IsOurs log2.start log2.events
-log2_all = put_all (PreparePlace 2) (PrepareUnit prepare_other) log1 (refl, refl) log1_all
-
-stamped2 : (p : Message) → In p (prepare_other ∷ []) → IsStamped view1 2 p.header
-stamped2 p (inl is) = subst (λ (q : Message). IsStamped view1 2 q.header) (sym is) (record { mark = refl; checkpoint = refl; boot = refl; group = refl; group_last = refl })
-stamped2 p (inr none) = absurd none
+log2_all = put_all IsOurs (PreparePlace 2) (PrepareUnit prepare_other) log1 (refl, refl) log1_all
 
 may2 : MayAppend shape view1 (prepare_other ∷ [])
-may2 = record {
-  is = record { some = omega arith; turn = (refl, refl, tt); stamped = stamped2 };
-  room = omega arith;
-  pipeline = omega arith;
-  unspent = omega arith;
-  asks = (inr (λ same. omega arith, 3, refl, (refl, omega arith)), tt);
-}
+may2 = may_append shape view1 (prepare_other ∷ []) (omega arith) (refl, refl, tt) (record { mark = refl; checkpoint = refl; boot = refl; group = refl; group_last = refl }, tt) (omega arith, omega arith, omega arith)
+    (inr (λ same. omega arith, 3, refl, (refl, omega arith)), tt)
 
 stepped : Stepped shape log1 put2 view1 view2
 stepped = prepare_steps shape log1 view1 put2 prepare_other leads1.0.leads.rests (λ place wet. absurd (let no_unit : false ≡ true = wet in cc)) leads1.0.tidy.clear may2 (put_one_law (PreparePlace 2) (PrepareUnit prepare_other))
@@ -56,22 +48,7 @@ before_chance = record {
 }
 
 after_chance : NoChance log2 (now log2)
-after_chance = record { pooled = λ place x is. pooled place x (put2 place) refl is; distinct = distinct_in log2 log2_all }
-  where
-    pooled : (place : Place) (x : AnyUnit) (o : Option AnyUnit) → put2 place ≡ o → overlay put2 (now log1) place ≡ Some x → InPool log2 place x
-    pooled place x None none is = elim (leads1.0.leads.rests.pooled place x (ap (λ (o : Option AnyUnit). or_else o (now log1 place)) (sym none) ∙ is)) [ inl old ↦ inl old | inr new ↦ inr (inr new) ]
-    pooled place x (Some y) some is = inr (inl (some ∙ ap (λ (o : Option AnyUnit). or_else o (now log1 place)) (sym some) ∙ is))
+after_chance = record { pooled = wrote_pooled put2 log1 leads1.0.leads.rests.pooled; distinct = distinct_in log2 log2_all }
 
 pub stop_sample_law : StopSampleLaw
-stop_sample_law = record {
-  shape = shape;
-  log = log2;
-  view = view1;
-  next = view2;
-  before = now log1;
-  after = now log2;
-  safe = stepped.good.safe;
-  before_left = (before_left, before_chance, leads1.0.leads.rests.holds);
-  after_left = (λ place firm. refl, after_chance, stepped.rests.holds);
-  one_more = refl;
-}
+stop_sample_law = record { shape = shape; log = log2; view = view1; next = view2; before = now log1; after = now log2; safe = stepped.good.safe; before_left = (before_left, before_chance, leads1.0.leads.rests.holds); after_left = (λ place firm. refl, after_chance, stepped.rests.holds); one_more = refl }

@@ -1,5 +1,5 @@
 -- The text of a trailer that an image shows is of bytes.
-use Rattle.std.proofs.Common.{◌≡◌, inl, inr, ℕ, zero, suc, List, [], ◌∷◌, ◌++◌, Some, refl, subst, arith}
+use Rattle.std.proofs.Common.{◌≡◌, inl, inr, ℕ, List, [], ◌∷◌, Some, refl, subst, arith}
 use Rattle.df_base.specs.Fields.{AreBytes}
 use Rattle.df_base.proofs.Laws.{AreBytes-append}
 use Rattle.df_theory.specs.Units.{Block, BlockPlace, BlockUnit, Units}

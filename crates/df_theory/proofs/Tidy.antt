@@ -1,19 +1,21 @@
 -- Each command begins and ends in a tidy file.
 use Rattle.std.proofs.Common.{◌≡◌, inl, ℕ, ◌+◌, ◌-◌, ◌%◌, List, [], ◌∷◌, ◌++◌, ◌||◌, false, Option, Some, None, refl, sym, ◌∙◌, ap, subst, true, arith, length-append, length-drop}
 use Rattle.df_theory.specs.Units.{AnyUnit, Block, BlockPlace, BlockUnit, Content, CopyPlace, CopyUnit, Header, Message, PreparePlace, PrepareUnit, ReplyPlace, ReplyUnit, Units, is_some}
+use Rattle.df_theory.specs.Shape.{Shape}
 use Rattle.df_theory.specs.View.{View, boot_of, head}
+use Rattle.df_theory.specs.Holds.{Stands}
 use Rattle.df_theory.specs.Next.{appended, checkpointed, replied}
 use Rattle.df_theory.specs.Grown.{IsClear}
 use Rattle.df_theory.proofs.Clear.{clear_steps, low_append, low_copies, low_headers, low_one, low_update}
 use Rattle.df_theory.specs.UnitLog.{PutsOne, Synced, UnitLog, add, loose, now, settled, wrote}
-use Rattle.df_theory.specs.Rests.{IsBlock, IsQuiet}
-use Rattle.df_theory.specs.Runs.{Leads, Puts, Step, Syncs, after_steps}
+use Rattle.df_theory.specs.Rests.{IsBlock, IsGoodLog, IsQuiet, RestsOn}
+use Rattle.df_theory.specs.Runs.{AtEach, Leads, Puts, Step, Syncs, after_steps}
 use Rattle.df_theory.specs.MakingLaws.{all_puts}
 use Rattle.df_theory.specs.MendLaws.{AllPutCopy, AllPutTable, copy_steps, header_steps, mend_steps}
 use Rattle.df_theory.specs.WholeLaws.{AllSpare, IsStanding, Spares}
-use Rattle.df_theory.specs.TidyLaws.{TidyAppendLaw, TidyBlockLaw, TidyFinishLaw, TidyMendLaw, TidyReplyLaw, TidySyncLaw, TidyIdleLaw}
+use Rattle.df_theory.specs.TidyLaws.{KeepsStanding, TidyAppendLaw, TidyBlockLaw, TidyFinishLaw, TidyMendLaw, TidyReplyLaw, TidySyncLaw, TidyIdleLaw}
 use Rattle.df_theory.specs.Commands.{append_command, block_command, finish_command, mend_command, reply_command, sync_command, idle_command}
-use Rattle.df_theory.specs.CopyPuts.{update_steps}
+use Rattle.df_theory.specs.CopyPuts.{PutsCopies, update_steps}
 use Rattle.df_theory.proofs.Writes.{append_law, reply_law, block_law, update_law, write_law, good_rests, quiet_synced}
 use Rattle.df_theory.proofs.Steps.{rests_safe, rests_holds}
 use Rattle.df_theory.proofs.Runs.{after_append}
@@ -82,22 +84,39 @@ tidy_sync_law sh log v tidy =
       keeps_standing sh log v (sync_command v) refl leads tt,
     )
 
+-- ---- an update behind a sync
+
+pub spare_update : (w : View) (c : Content) (puts : PutsCopies c) → AllSpare w (update_steps puts)
+spare_update w c puts = (
+  spares_one w puts.put0 (CopyPlace 0) (CopyUnit c) puts.one0 (λ a same. cc (same)),
+  (
+    spares_one w puts.put1 (CopyPlace 1) (CopyUnit c) puts.one1 (λ a same. cc (same)),
+    (spares_one w puts.put2 (CopyPlace 2) (CopyUnit c) puts.one2 (λ a same. cc (same)), (spares_one w puts.put3 (CopyPlace 3) (CopyUnit c) puts.one3 (λ a same. cc (same)), tt)),
+  ),
+)
+
+-- the blocks that either view references go on standing
+pub standing_update :
+    (sh : Shape) (log : UnitLog) (v u : View) (c : Content) (puts : PutsCopies c) → RestsOn sh log v → AtEach (IsGoodLog sh v u) (add Synced log) (update_steps puts) → IsStanding log v → Stands (now log) u
+    → KeepsStanding sh log v (record { steps = Syncs ∷ update_steps puts; view = u })
+standing_update sh log v u c puts rests moments standing references =
+    let old : IsStanding (add Synced log) v = record { shown = standing.shown; firm = λ a d is. refl } in
+    let new : IsStanding (add Synced log) u = record { shown = references; firm = λ a d is. refl } in
+    record {
+      moments = (
+        record { safe = rests_safe sh log v rests; left = λ image left chance. inl (rests_holds sh log v rests image left chance, (stands_law log v [] standing tt).1 image left chance) },
+        standing_all sh (add Synced log) v u (update_steps puts) moments old (spare_update v c puts) new (spare_update u c puts),
+      );
+      standing = standing_after (add Synced log) u (update_steps puts) new (spare_update u c puts);
+    }
+
 pub tidy_finish_law : TidyFinishLaw
 tidy_finish_law sh log v c puts tidy may chain = (
   record {
     leads = record { moments = (good_rests sh log v u v tidy.rests (inl refl), update.moments); rests = update.rests };
     tidy = record { rests = update.rests; quiet = λ place wet. absurd (let no_unit : false ≡ true = wet in cc); clear = clear_steps sh log v u (finish_command v c puts).steps tidy.rests tidy.quiet tidy.clear may.is.boot (omega (arith, top)) (low_update (boot_of u) (head u) c.content puts); whole = whole_update_law sh (now log) v c puts tidy.whole };
   },
-  λ standing references.
-      let old : IsStanding log0 v = record { shown = standing.shown; firm = λ a d is. refl } in
-      let new : IsStanding log0 u = record { shown = references; firm = λ a d is. refl } in
-      record {
-        moments = (
-          record { safe = rests_safe sh log v tidy.rests; left = λ image left chance. inl (rests_holds sh log v tidy.rests image left chance, (stands_law log v [] standing tt).1 image left chance) },
-          standing_all sh log0 v u (update_steps puts) update.moments old (spare v) new (spare u),
-        );
-        standing = standing_after log0 u (update_steps puts) new (spare u);
-      },
+  standing_update sh log v u c.content puts tidy.rests update.moments,
 )
   where
     u : View
@@ -114,15 +133,6 @@ tidy_finish_law sh log v c puts tidy may chain = (
 
     update : Leads sh log0 v (record { steps = update_steps puts; view = checkpointed v c })
     update = (update_law sh log0 v c puts (synced_after sh v log tidy.rests) (λ place. refl) clear0 may tidy.whole.copies chain).leads
-
-    spare : (w : View) → AllSpare w (update_steps puts)
-    spare w = (
-      spares_one w puts.put0 (CopyPlace 0) (CopyUnit c.content) puts.one0 (λ a same. cc (same)),
-      (
-        spares_one w puts.put1 (CopyPlace 1) (CopyUnit c.content) puts.one1 (λ a same. cc (same)),
-        (spares_one w puts.put2 (CopyPlace 2) (CopyUnit c.content) puts.one2 (λ a same. cc (same)), (spares_one w puts.put3 (CopyPlace 3) (CopyUnit c.content) puts.one3 (λ a same. cc (same)), tt)),
-      ),
-    )
 
 -- ---- mending
 

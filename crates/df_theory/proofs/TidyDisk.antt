@@ -8,7 +8,6 @@ use Rattle.df_theory.specs.TidyLaws.{IsGoodWhole, IsTidy}
 use Rattle.df_theory.specs.WholeLaws.{IsStanding}
 use Rattle.df_theory.specs.DeviceLaws.{StandingMomentsLaw, TidyMomentsLaw}
 use Rattle.df_base.specs.Log
-use Rattle.df_base.specs.Log.{Event}
 use Rattle.df_theory.proofs.Bridge.{safe_disk_law, firm_units, moments, moments_law, same_log}
 
 on_disk : (f : Format) (sh : Shape) (v u : View) → IsFormat f → (log : Log.Log) → Log.IsLog log → IsGoodWhole sh v u (units_log f log) → IsGoodWholeDisk f sh v u log

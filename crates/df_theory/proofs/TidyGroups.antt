@@ -1,6 +1,6 @@
 -- A group, and a boot update, lead to a tidy file.
 use Rattle.std.proofs.Common.{◌≡◌, inl, inr, ℕ, ◌-◌, ◌%◌, ◌<◌, List, [], ◌∷◌, ◌++◌, drop, false, true, Option, Some, None, refl, sym, ◌∙◌, ap, subst, arith}
-use Rattle.df_theory.specs.Units.{AnyUnit, CopyPlace, CopyUnit, Header, HeaderPlace, HeaderUnit, Message, Place, PreparePlace, PrepareUnit, Units}
+use Rattle.df_theory.specs.Units.{AnyUnit, CopyPlace, Header, HeaderPlace, HeaderUnit, Message, Place, PreparePlace, PrepareUnit, Units}
 use Rattle.df_theory.specs.Tails.{In}
 use Rattle.df_theory.specs.Shape.{Shape}
 use Rattle.df_theory.specs.View.{Checkpoint, View, head}
@@ -14,19 +14,18 @@ use Rattle.df_theory.specs.MakingLaws.{all_puts}
 use Rattle.df_theory.specs.MendLaws.{AllPutTable, Reaches}
 use Rattle.df_theory.specs.CopyPuts.{update_steps}
 use Rattle.df_theory.specs.WriterLaws.{AllPutPrepare, AreGroupSectors, Flushes, flush_steps}
-use Rattle.df_theory.specs.WholeLaws.{AllSpare, IsStanding}
+use Rattle.df_theory.specs.WholeLaws.{AllSpare}
 use Rattle.df_theory.specs.GroupLaws.{ClearLaw, IsGroupTable, TidyBootLaw, TidyFlushLaw, boot_command, flush_command}
 use Rattle.df_theory.proofs.Tails.{in_either}
 use Rattle.df_theory.proofs.Agreeing.{prepare_agrees}
 use Rattle.df_theory.proofs.Clear.{IsLow, clear_one, low_steps, low_update}
 use Rattle.df_theory.proofs.Flushes.{group_slot}
 use Rattle.df_theory.proofs.FlushLaws.{flush_law}
-use Rattle.df_theory.proofs.Keeps.{stands_law, whole_update_law}
+use Rattle.df_theory.proofs.Keeps.{whole_update_law}
 use Rattle.df_theory.proofs.Mends.{AllMiss, headers_miss, headers_shown, missed, synced_after}
 use Rattle.df_theory.proofs.Runs.{after_append}
-use Rattle.df_theory.proofs.Standing.{keeps_standing, spares_one, standing_after, standing_all}
-use Rattle.df_theory.proofs.Steps.{rests_holds, rests_safe}
-use Rattle.df_theory.proofs.Tidy.{spare_append, spare_table}
+use Rattle.df_theory.proofs.Standing.{keeps_standing, spares_one}
+use Rattle.df_theory.proofs.Tidy.{spare_append, spare_table, standing_update}
 use Rattle.df_theory.proofs.Writes.{boot_law, good_rests, quiet_synced}
 
 pub clear_law : ClearLaw
@@ -124,16 +123,7 @@ tidy_boot_law sh log v d puts mended may = (
     leads = record { moments = (good_rests sh log v u v mended.rests (inl refl), update.moments); rests = update.rests };
     tidy = record { rests = update.rests; quiet = λ place wet. absurd (let no_unit : false ≡ true = wet in cc); clear = clear; whole = whole };
   },
-  λ standing.
-      let old : IsStanding log0 v = record { shown = standing.shown; firm = λ a c is. refl } in
-      let new : IsStanding log0 u = record { shown = standing.shown; firm = λ a c is. refl } in
-      record {
-        moments = (
-          record { safe = rests_safe sh log v mended.rests; left = λ image left chance. inl (rests_holds sh log v mended.rests image left chance, (stands_law log v [] standing tt).1 image left chance) },
-          standing_all sh log0 v u (update_steps puts) update.moments old (spare v) new (spare u),
-        );
-        standing = standing_after log0 u (update_steps puts) new (spare u);
-      },
+  λ standing. standing_update sh log v u d puts mended.rests update.moments standing standing.shown,
 )
   where
     u : View
@@ -171,12 +161,3 @@ tidy_boot_law sh log v d puts mended may = (
               let h = after.headers s below in
               (h.0, h.1, λ p at slot. h.2 p (subst (λ (n : ℕ). In p (drop n v.tail)) (sym none) at) slot);
         }
-
-    spare : (w : View) → AllSpare w (update_steps puts)
-    spare w = (
-      spares_one w puts.put0 (CopyPlace 0) (CopyUnit d) puts.one0 (λ a same. cc (same)),
-      (
-        spares_one w puts.put1 (CopyPlace 1) (CopyUnit d) puts.one1 (λ a same. cc (same)),
-        (spares_one w puts.put2 (CopyPlace 2) (CopyUnit d) puts.one2 (λ a same. cc (same)), (spares_one w puts.put3 (CopyPlace 3) (CopyUnit d) puts.one3 (λ a same. cc (same)), tt)),
-      ),
-    )

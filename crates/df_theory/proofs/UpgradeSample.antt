@@ -1,19 +1,17 @@
 -- A file of version 1 whose copy 2 shows a content above the choice is upgraded, and stopped.
-use Rattle.std.proofs.Common.{◌≡◌, ◌⊎◌, inl, inr, ℕ, zero, suc, ◌<◌, ◌≤◌, ◌%◌, ◌==◌, ◌||◌, ◌^◌, nat_lt, Bool, true, false, if◌then◌else◌, List, [], ◌∷◌, Option, Some, None, refl, sym, ◌∙◌, ap, subst, arith}
+use Rattle.std.proofs.Common.{◌≡◌, ◌⊎◌, inl, inr, ℕ, zero, suc, ◌<◌, ◌≤◌, ◌==◌, ◌||◌, ◌^◌, nat_lt, Bool, true, false, if◌then◌else◌, List, [], ◌∷◌, Option, Some, None, refl, sym, ◌∙◌, ap, subst, arith}
 use Rattle.std.specs.Prelude.{slice_index, ◌++◌}
 use Rattle.std.specs.List.{slice_get}
 use Rattle.df_theory.specs.Sessions.{sessions_after}
 use Rattle.std.proofs.lemmas.Bool.{cases_eq}
 use Rattle.std.proofs.lemmas.Bool.Decides.{nat_tests}
 use Rattle.df_theory.specs.Units.{AnyUnit, BlockPlace, BlockUnit, Content, CopyPlace, CopyUnit, Header, HeaderPlace, HeaderUnit, Message, Place, PreparePlace, PrepareUnit, ReplyPlace, ReplyUnit, Session, Units, is_some, or_else}
-use Rattle.df_theory.specs.Tails.{In}
 use Rattle.df_theory.specs.Copies.{IsChosen, rank_of}
 use Rattle.df_theory.specs.View.{head}
 use Rattle.df_theory.specs.Holds.{Holds}
 use Rattle.df_theory.specs.Next.{MayBoot, booted, kept}
 use Rattle.df_theory.specs.UnitLog.{IsLeftBy, Synced, UnitLog, add, now, put_one, same_place, wrote}
 use Rattle.df_theory.specs.Chance.{Distinct, EachLeft, InPool, NoChance}
-use Rattle.df_theory.specs.MendLaws.{IsSlotHeader}
 use Rattle.df_theory.specs.Found.{AreOfPlaces, IsClean, IsFound, IsInRange, IsOfPlace}
 use Rattle.df_theory.specs.Upgrades.{HasBare, MayRaise, as_version, begun, of_version}
 use Rattle.df_theory.specs.Sample.{UpgradeSampleLaw}
@@ -21,10 +19,14 @@ use Rattle.df_theory.proofs.Choices.{chosen_above, same_copy}
 use Rattle.df_theory.proofs.CopyVotes.{agree_at}
 use Rattle.df_theory.proofs.PutOne.{put_one_law}
 use Rattle.df_theory.proofs.Keeps.{four}
-use Rattle.df_theory.proofs.AllOf.{All, all_wrote, now_all, pools_all}
+use Rattle.df_theory.proofs.AllOf.{All, now_all, pools_all}
 use Rattle.df_theory.proofs.Founds.{holds_found}
 use Rattle.df_theory.proofs.Ours.{IsOurs, content_with, distinct, header_with, log4_all, prepare_with}
-use Rattle.df_theory.proofs.Samples.{block, content1, copies_of, first, layout, leads4, log4, prepare1, reply1, reserved, shape, trailer, view1, view2}
+use Rattle.df_theory.proofs.SampleFiles.{copies_of, layout, reserved}
+use Rattle.df_theory.proofs.SampleSlots.{header_shown, slot, table}
+use Rattle.df_theory.proofs.SampleSteps.{may_raise}
+use Rattle.df_theory.proofs.SampleUnits.{put_all}
+use Rattle.df_theory.proofs.Samples.{block, content1, first, leads4, log4, prepare1, reply1, shape, trailer, view1, view2}
 use Rattle.df_theory.proofs.SampleEnds.{content2}
 use Rattle.df_theory.proofs.Masked.{masked, masked_holds, unmasked_found}
 use Rattle.df_theory.proofs.Upgrades.{raise_law}
@@ -138,25 +140,6 @@ found = unmasked_found shape image view2 (subst (λ (i : Units). Holds shape i v
 
 -- ---- it may be raised
 
-abbrev table : ℕ → Header
-table s = if 1 == s then prepare1.header else reserved
-
-header_shown : (s : ℕ) → image (HeaderPlace s) ≡ Some (HeaderUnit (table s))
-header_shown s = go (1 == s)
-  where
-    go : (b : Bool) → or_else (if b then Some (HeaderUnit prepare1.header) else None) (Some (HeaderUnit reserved)) ≡ Some (HeaderUnit (if b then prepare1.header else reserved))
-    go true = refl
-    go false = refl
-
-slot : (s : ℕ) → IsSlotHeader shape image view2 s (table s)
-slot s = record { from = inl (header_shown s); tail = λ p at mine. own p at mine }
-  where
-    own : (p : Message) → In p view2.tail → s ≡ p.header.op % 16 → p.header ≡ table s
-    own p (inl is) mine =
-        let one : s ≡ 1 = mine ∙ ap (λ (q : Message). q.header.op % 16) is in
-        ap (λ (q : Message). q.header) is ∙ subst (λ (k : ℕ). prepare1.header ≡ table k) (sym one) refl
-    own p (inr none) mine = absurd none
-
 abbrev mends : List (ℕ × Units)
 mends = (2, put_one (CopyPlace 2) (CopyUnit content1)) ∷ []
 
@@ -185,25 +168,14 @@ spare zero low = absurd (omega arith)
 spare (suc k) low = refl
 
 boots : MayBoot (as_version 2 view2) content3
-boots = record {
-  is = record {
-    same = record { file = (refl, refl, refl, refl); sequence = refl; op = (refl, refl); trailer = (refl, refl, refl) };
-    boot = refl;
-    pin = refl;
-    head = refl;
-    replies = refl;
-    answered = refl;
-    records = record { pin_from = (omega arith, omega arith); pin_to = omega arith; checksum = refl; answered = (omega arith, omega arith); stored = λ k r at low. stored_named k r at; spare = spare };
-    of = record { one = λ is. absurd (omega arith); two = λ is. (refl, refl) };
-  };
-  unspent = omega arith;
-}
+boots = may_raise (as_version 2 view2) 31 5 (6 ∷ []) refl (omega arith)
+    (record { pin_from = (omega arith, omega arith); pin_to = omega arith; checksum = refl; answered = (omega arith, omega arith); stored = λ k r at low. stored_named k r at; spare = spare })
 
 may : MayRaise shape 2 image view2 table [] mends content3
 may = record {
   places = places;
   found = found;
-  tells = slot;
+  tells = λ s. slot image s (header_shown s);
   puts_headers = tt;
   agreed = record { first = 0; second = 1; apart = omega arith; inside = omega arith; at_first = refl; at_second = refl };
   puts_copies = (put_one_law (CopyPlace 2) (CopyUnit content1), (λ e. omega arith), (λ e. omega arith), tt);
@@ -269,9 +241,6 @@ distinct_known x y (inl one) (inr two) = subst (λ (z : AnyUnit). Distinct x z) 
 distinct_known x y (inr one) (inl two) = subst (λ (z : AnyUnit). Distinct z y) (sym one) (third_distinct y two)
 distinct_known x y (inr one) (inr two) = subst (λ (z : AnyUnit). Distinct z y) (sym one) (subst (λ (z : AnyUnit). Distinct (CopyUnit content3) z) (sym two) (λ same. refl))
 
-put_known : (place : Place) (x : AnyUnit) (l : UnitLog) → IsKnown x → All IsKnown l.start l.events → All IsKnown l.start (wrote (put_one place x) l).events
-put_known place x l known all = all_wrote IsKnown (put_one place x) l (λ other y is. subst IsKnown (sym ((put_one_law place x).only other y is).1) known) all
-
 image_known : (place : Place) (x : AnyUnit) → image place ≡ Some x → IsKnown x
 image_known place x is = go (same_place (CopyPlace 2) place) is
   where
@@ -282,11 +251,11 @@ image_known place x is = go (same_place (CopyPlace 2) place) is
 log_known : All IsKnown log.start log.events
 log_known =
     let l1 : UnitLog = add Synced (wrote (put_one (CopyPlace 2) (CopyUnit content1)) (begun image)) in
-    let a1 : All IsKnown l1.start l1.events = put_known (CopyPlace 2) (CopyUnit content1) (begun image) (inl refl) image_known in
+    let a1 : All IsKnown l1.start l1.events = put_all IsKnown (CopyPlace 2) (CopyUnit content1) (begun image) (inl refl) image_known in
     let l2 : UnitLog = add Synced (wrote (put_one (CopyPlace 0) (CopyUnit content3)) l1) in
-    let a2 : All IsKnown l2.start l2.events = put_known (CopyPlace 0) (CopyUnit content3) l1 (inr refl) a1 in
-    let a3 : All IsKnown half.start half.events = put_known (CopyPlace 1) (CopyUnit content3) l2 (inr refl) a2 in
-    put_known (CopyPlace 2) (CopyUnit content3) half (inr refl) a3
+    let a2 : All IsKnown l2.start l2.events = put_all IsKnown (CopyPlace 0) (CopyUnit content3) l1 (inr refl) a1 in
+    let a3 : All IsKnown half.start half.events = put_all IsKnown (CopyPlace 1) (CopyUnit content3) l2 (inr refl) a2 in
+    put_all IsKnown (CopyPlace 2) (CopyUnit content3) half (inr refl) a3
 
 left_pooled : (place : Place) (x : AnyUnit) → left place ≡ Some x → InPool log place x
 left_pooled place x is = go (same_place (CopyPlace 2) place) refl is
@@ -332,21 +301,4 @@ dirty clean = elim (clean 2 content2 refl (λ e. omega arith)) [
 ]
 
 pub upgrade_sample_law : UpgradeSampleLaw
-upgrade_sample_law = record {
-  shape = shape;
-  image = image;
-  view = view2;
-  above = content2;
-  next = content3;
-  table = table;
-  mends = mends;
-  version = refl;
-  may = may;
-  shows = (refl, above);
-  unclean = unclean;
-  log = log;
-  left = left;
-  is_left = (left_by, chance);
-  found = left_found;
-  dirty = (refl, dirty);
-}
+upgrade_sample_law = record { shape = shape; image = image; view = view2; above = content2; next = content3; table = table; mends = mends; version = refl; may = may; shows = (refl, above); unclean = unclean; log = log; left = left; is_left = (left_by, chance); found = left_found; dirty = (refl, dirty) }

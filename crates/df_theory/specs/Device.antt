@@ -67,9 +67,14 @@ pub record IsGoodWholeDisk (f : Format) (sh : Shape) (v u : View) (log : Log) : 
   pub safe : IsSafeDisk f sh log
   pub left : (image : Image) → IsLeft log image → NoChanceOf f log image → (Held sh (f.unit_at image) v × Stands (f.unit_at image) v) ⊎ (Held sh (f.unit_at image) u × Stands (f.unit_at image) u)
 
--- what a writer of bytes shows: the write, of whole sectors, puts these units and touches no other place
+-- a write lies at one place: each sector that it has bytes for is one of the place's
+abbrev pub LiesAtPlace : Format → ℕ → List ℕ → Type 0
+LiesAtPlace f at bytes = (place : Place) × ((sector : ℕ) → covers at bytes sector ≡ true → f.has place sector ≡ true)
+
+-- what a writer of bytes shows: the write, of whole sectors, lies at one place, puts these units and touches no other place
 pub record IsPut (f : Format) (at : ℕ) (bytes : List ℕ) (put : Units) : Type 0 where
   pub piece : IsPiece bytes
+  pub within : LiesAtPlace f at bytes
   pub touches : (place : Place) → f.touches at bytes place ≡ is_some (put place)
   pub shows : (image : Image) (place : Place) → IsImage image → f.unit_at (written at bytes image) place ≡ or_else (put place) (f.unit_at image place)
 

@@ -12,7 +12,7 @@ use Rattle.df_theory.specs.Holds.{Held}
 use Rattle.df_theory.specs.Rests.{IsGoodLog, RestsOn}
 use Rattle.df_theory.specs.Runs.{AtEach, Command, IsPartWay, Step, after_steps}
 use Rattle.df_theory.specs.MakingLaws.{blank_log}
-use Rattle.df_theory.specs.Device.{AreSteps, Format, IsFormat, IsGoodDisk, IsGoodWholeDisk, IsPartWayDisk, IsPut, IsSafeDisk, NoChanceOf, all_units, units_log}
+use Rattle.df_theory.specs.Device.{AreSteps, Format, IsFormat, IsGoodDisk, IsGoodWholeDisk, IsPartWayDisk, IsPut, IsSafeDisk, LiesAtPlace, NoChanceOf, all_units, units_log}
 use Rattle.df_theory.specs.TidyLaws.{IsTidy, LeadsTidily, KeepsStanding}
 use Rattle.df_base.specs.Image.{Image, IsImage, IsPiece, blank, changed, written}
 use Rattle.df_base.specs.Log
@@ -27,10 +27,10 @@ DiskLaw = (f : Format) (sh : Shape) (v u : View) (log : Log) → IsFormat f → 
 abbrev pub SafeDiskLaw : Type 0
 SafeDiskLaw = (f : Format) (sh : Shape) (log : Log) → IsFormat f → IsLog log → IsSafe sh (units_log f log) → IsSafeDisk f sh log
 
--- a write puts what it shows at the places that it touches, whatever was there before
+-- a write that lies at one place puts what it shows at the places that it touches, whatever was there before
 abbrev pub PutShownLaw : Type 0
 PutShownLaw =
-    (f : Format) (at : ℕ) (bytes : List ℕ) (put : Units) → IsFormat f → IsPiece bytes → ((place : Place) → f.touches at bytes place ≡ is_some (put place))
+    (f : Format) (at : ℕ) (bytes : List ℕ) (put : Units) → IsFormat f → IsPiece bytes → LiesAtPlace f at bytes → ((place : Place) → f.touches at bytes place ≡ is_some (put place))
     → ((image : Image) (place : Place) (x : AnyUnit) → IsImage image → put place ≡ Some x → f.unit_at (written at bytes image) place ≡ Some x) → IsPut f at bytes put
 
 -- a write of whole units is a write of units

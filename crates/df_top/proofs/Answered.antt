@@ -1,31 +1,25 @@
 -- What a call comes to for a session, by what it answered and by what was printed of it.
-use Rattle.std.proofs.Common.{◌≡◌, ℕ, Bool, true, false, List, [], ◌∷◌, Option, Some, None, inl, inr, refl, sym, ◌∙◌, ap, subst, Result, Ok, Err}
+use Rattle.std.proofs.Common.{◌≡◌, ℕ, Bool, true, false, List, Option, Some, None, inl, inr, refl, sym, subst, Result, Ok, Err}
 use Rattle.df_base.specs.Causes.{Blamed, Rose}
-use Rattle.df_base.specs.Log.{Event}
 use Rattle.df_disk.specs.Told as told
 use Rattle.df_disk.specs.Told.{Told}
-use Rattle.df_disk.specs.Adds.{AddsPart}
-use Rattle.df_base.specs.Streams.{Appends, AppendsPart}
 use Rattle.df_inspect.specs.Answers.{text_of}
 use Rattle.df_inspect.specs.Prints.{Prints}
-use Rattle.df_lines.specs.Grammar.{Said}
 use Rattle.df_layout.specs.declared.damage.Class.{Class}
 use Rattle.df_layout.specs.declared.places.Place.{Place}
-use Rattle.df_model.specs.Commands.{Answer, Command, Given}
+use Rattle.df_model.specs.Commands.{Answer, Command}
 use Rattle.df_model.specs.declared.commands.Answer.{Answer as Called}
 use Rattle.df_model.specs.declared.commands.Answer.TheVariants as answers
 use Rattle.df_model.specs.declared.errors.StepError.TheVariants as step
 use Rattle.df_replica.specs.Below.{State as Replica}
-use Rattle.df_replica.specs.Answering.{Serves}
-use Rattle.df_replica.specs.Opened.{ToldBy}
-use Rattle.df_replica.specs.Supply.{IsSupplied}
 use Rattle.df_script_model.specs.Script.{answer_text}
 use Rattle.df_script_model.specs.Texts.{damaged_text}
-use Rattle.df_top.specs.Calls.{LendsNothing, is_damaged, is_fault, machine_answer}
-use Rattle.df_top.specs.Lines.{commands_of, line_text}
-use Rattle.df_top.specs.Step.{Answers, EndsDamaged, IsAnswered, IsLineAnswered, IsLineDamaged, Makes, ServesLine}
-use Rattle.df_top.specs.Session.{IsDamaged}
-use Rattle.df_top.specs.Turning.{BlamesIfEnds, IsLastPrinted, IsPrinted, Tells, TellsAs, last_turn, printed_turn}
+use Rattle.df_session.specs.Calls.{LendsNothing, is_damaged, is_fault, machine_answer}
+use Rattle.df_session.specs.Links.{Makes}
+use Rattle.df_top.specs.Step.{Answers}
+use Rattle.df_session.specs.Endings.{IsDamaged}
+use Rattle.df_top.specs.Session.{IsDamagedLine}
+use Rattle.df_top.specs.Turning.{BlamesIfEnds, IsLastPrinted, IsPrinted, Tells, TellsAs, printed_turn}
 use Rattle.df_top.specs.declared.turns.Turn.{Turn}
 use Rattle.df_top.specs.declared.turns.Turn.TheVariants.{GoesOn, Ends}
 use Rattle.df_top.proofs.InWords.{InWords, in_words}
@@ -45,41 +39,19 @@ last_not_fault text old new turn printed is = subst (λ (u : Turn). IsLastPrinte
 
 -- ---- a call
 
--- what was told changed by a part of the events
-pub part_told : (es : List Event) (old new : Option Told) → AddsPart es old new → ToldBy old new
-part_told [] old new is = ([], is)
-part_told (e ∷ es) old new (inl same) = ([], same)
-part_told (e ∷ es) old new (inr more) =
-    let rest = part_told es (told.after e old) new more in
-    (e ∷ rest.0, rest.1)
-
-pub made : (command : Command) (given : Given) (s t : Replica) (old new : Option Told) (answer : Option Answer) → IsSupplied s old command given → Serves command s t old new answer → ToldBy old new → Makes command s t old new answer
-made command given s t old new answer supplied serves told = record {
-  act = record { command = command; given = given };
-  is = refl;
-  calls = record { call = serves given supplied; told = told };
-}
-
 module _ (command : Command) (s t : Replica) (old new : Option Told) (written took : Option (List ℕ)) where
   -- it was answered, and the answer was printed
   pub printed_is : (x : Answer) → Makes command s t old new (Some x) → (turn : Turn) → IsPrinted (answer_text command x) written took turn → Answers command s t old new written took turn
   printed_is x makes GoesOn printed = (x, makes, printed)
   printed_is x makes (Ends WriteFault) printed = inl (x, makes, printed)
-  printed_is x makes (Ends Done) printed = absurd printed
-  printed_is x makes (Ends Found) printed = absurd printed
-  printed_is x makes (Ends Words) printed = absurd printed
-  printed_is x makes (Ends Script) printed = absurd printed
-  printed_is x makes (Ends Refused) printed = absurd printed
-  printed_is x makes (Ends DiskFault) printed = absurd printed
-  printed_is x makes (Ends ReadFault) printed = absurd printed
-  printed_is x makes (Ends Memory) printed = absurd printed
+  printed_is x makes turn printed = absurd printed
 
   -- the disk failed in it
   pub failed_is : Makes command s t old new None → (turn : Turn) → (turn ≡ Ends DiskFault) × (took ≡ written) → Answers command s t old new written took turn
   failed_is makes turn is = subst (λ (u : Turn). Answers command s t old new written took u) (sym is.0) (makes, is.1)
 
   -- it is a step that is damaged, and its line was printed
-  pub damaged_is : (line : List ℕ) → Makes command s t old new None → IsDamaged command new line → (turn : Turn) → IsLastPrinted line written took turn → Answers command s t old new written took turn
+  pub damaged_is : (line : List ℕ) → Makes command s t old new None → IsDamagedLine command new line → (turn : Turn) → IsLastPrinted line written took turn → Answers command s t old new written took turn
   damaged_is line makes damaged (Ends Refused) printed = (line, makes, damaged, printed)
   damaged_is line makes damaged (Ends WriteFault) printed = inr (line, makes, damaged, printed)
   damaged_is line makes damaged GoesOn printed = absurd printed
@@ -100,6 +72,12 @@ disk_same before now (Ends status) same other = record { rose = λ is. absurd (o
 pub disk_rose : (before now : ℕ) (turn : Turn) → turn ≡ Ends DiskFault → Rose before now → BlamesIfEnds DiskFault before now turn
 disk_rose before now turn is rose = subst (λ (u : Turn). BlamesIfEnds DiskFault before now u) (sym is) (record { rose = λ yes. rose; same = λ no. absurd (no refl) })
 
+-- ---- a step that is damaged
+
+-- its line says so
+pub damaged_line : (command : Command) (told : Option Told) (place : Place) (class : Class) → IsDamaged command told place class → IsDamagedLine command told (damaged_text place class)
+damaged_line command told place class is = record { place = place; class = class; is = refl; step = is }
+
 -- ---- what a call comes to
 
 module _ (command : Command) (s t : Replica) (old new : Option Told) (written took : Option (List ℕ)) (before now : ℕ) (turn : Turn) where
@@ -115,7 +93,7 @@ module _ (command : Command) (s t : Replica) (old new : Option Told) (written to
   pub comes_failed : Makes command s t old new None → (turn ≡ Ends DiskFault) × (took ≡ written) → Rose before now → Comes
   comes_failed makes ended rose = (failed_is command s t old new written took makes turn ended, disk_rose before now turn ended.0 rose)
 
-  pub comes_damaged : (line : List ℕ) → Makes command s t old new None → IsDamaged command new line → now ≡ before → IsLastPrinted line written took turn → Comes
+  pub comes_damaged : (line : List ℕ) → Makes command s t old new None → IsDamagedLine command new line → now ≡ before → IsLastPrinted line written took turn → Comes
   comes_damaged line makes damaged same printed = (
     damaged_is command s t old new written took line makes damaged turn printed,
     disk_same before now turn same (last_not_fault line written took turn printed),
@@ -123,50 +101,14 @@ module _ (command : Command) (s t : Replica) (old new : Option Told) (written to
 
   -- its answer was told
   module _ (a : Called) (makes : Makes command s t old new (machine_answer a)) (lends : LendsNothing a)
-      (damaged : (place : Place) (class : Class) → a ≡ answers.Advance (Err (step.Damaged place class)) → IsDamaged command new (damaged_text place class)) where
+      (damaged : (place : Place) (class : Class) → a ≡ answers.Advance (Err (step.Damaged place class)) → IsDamagedLine command new (damaged_text place class)) where
     comes_as : (fault damages : Bool) → InWords fault damages command a → Blamed fault before now → TellsAs fault damages (text_of command a) written took turn → Comes
     comes_as true damages none blamed tells = comes_failed (subst (λ (x : Option Answer). Makes command s t old new x) none makes) tells blamed.1
     comes_as false true found same tells =
         comes_damaged (text_of command a) (subst (λ (x : Option Answer). Makes command s t old new x) found.3 makes)
-        (subst (λ (x : Called). IsDamaged command new (text_of command x)) (sym found.2) (damaged found.0 found.1 found.2)) same tells
+        (subst (λ (x : Called). IsDamagedLine command new (text_of command x)) (sym found.2) (damaged found.0 found.1 found.2)) same tells
     comes_as false false found same tells =
         comes_answered found.0 (subst (λ (x : Option Answer). Makes command s t old new x) found.1 makes) same (subst (λ (l : List ℕ). IsPrinted l written took turn) found.2 tells)
 
     pub comes_told : Blamed (is_fault a) before now → Tells command a written took turn → Comes
     comes_told blamed tells = comes_as (is_fault a) (is_damaged a) (in_words command a lends) blamed tells
-
--- ---- the one call of a line
-
-module _ (said : Said) (command : Command) (asks : commands_of said ≡ command ∷ []) (text : (x : Answer) → line_text said (x ∷ []) ≡ answer_text command x) (s t : Replica) (old new : Option Told) where
-  line_answered : (P : List ℕ → Type 0) → IsAnswered command s t old new P → IsLineAnswered said s t old new P
-  line_answered P did = (
-    did.1.act ∷ [],
-    did.0 ∷ [],
-    ap (λ (c : Command). c ∷ []) did.1.is ∙ sym asks,
-    (t, new, did.1.calls, (refl, refl)),
-    subst P (sym (text did.0)) did.2,
-  )
-
-  act_asked : (answer : Option Answer) (makes : Makes command s t old new answer) → commands_of said ≡ makes.act.command ∷ []
-  act_asked answer makes = asks ∙ ap (λ (c : Command). c ∷ []) (sym makes.is)
-
-  line_damaged : (P : List ℕ → Type 0) → EndsDamaged command s t old new P → IsLineDamaged said s t old new P
-  line_damaged P did = (
-    did.1.act,
-    act_asked None did.1,
-    did.1.calls,
-    (did.0, subst (λ (c : Command). IsDamaged c new did.0) (sym did.1.is) did.2, did.3),
-  )
-
-  pub serves_line : (written took : Option (List ℕ)) (turn : Turn) → Answers command s t old new written took turn → ServesLine said s t old new written took turn
-  serves_line written took GoesOn did = line_answered (λ line. Appends written took line) did
-  serves_line written took (Ends DiskFault) did = (did.0.act, act_asked None did.0, did.0.calls, did.1)
-  serves_line written took (Ends Refused) did = line_damaged (λ line. Appends written took line) did
-  serves_line written took (Ends WriteFault) (inl did) = inl (line_answered (λ line. AppendsPart written took line) did)
-  serves_line written took (Ends WriteFault) (inr did) = inr (line_damaged (λ line. AppendsPart written took line) did)
-  serves_line written took (Ends Done) did = absurd did
-  serves_line written took (Ends Found) did = absurd did
-  serves_line written took (Ends Words) did = absurd did
-  serves_line written took (Ends Script) did = absurd did
-  serves_line written took (Ends ReadFault) did = absurd did
-  serves_line written took (Ends Memory) did = absurd did

@@ -1,5 +1,5 @@
 -- A read of a block, and what is printed of it.
-use Rattle.std.proofs.Common.{◌≡◌, ℕ, List, [], Option, Some, None, refl, sym, ◌∙◌, ap, subst, Result, Ok, Err}
+use Rattle.std.proofs.Common.{◌≡◌, ℕ, List, [], Option, Some, None, refl, sym, subst, Result, Ok, Err}
 use Rattle.df_base.specs.Causes.{IsBlamed}
 use Rattle.df_disk.specs.Told.{Told}
 use Rattle.df_layout.specs.declared.damage.Class.{Class}
@@ -22,9 +22,11 @@ use Rattle.df_replica.specs.BlockReads.{IsBlockFound, block_found, what_block}
 use Rattle.df_replica.specs.Serving.{IsCall}
 use Rattle.df_replica.specs.Stopping.{left_by}
 use Rattle.df_script_model.specs.Texts.{block_text}
-use Rattle.df_top.specs.Step.{Answers, Makes}
+use Rattle.df_session.specs.Links.{Makes}
+use Rattle.df_top.specs.Step.{Answers}
 use Rattle.df_top.specs.Turning.{IsPrinted, Tells, printed_turn}
 use Rattle.df_top.specs.declared.turns.Turn.{Turn}
+use Rattle.df_top.proofs.ReadTurns.{ends_as}
 use Rattle.df_top.proofs.Answered.{Comes, comes_answered, comes_told, prints_turn}
 
 -- ---- what a read is rightly supplied with
@@ -88,5 +90,4 @@ pub block_ends : {A : Type 0} (s t : Replica) (r : Result A ReadError) (e : Read
     → ServesBlockRead (ReadBlock address) s (left_by {T = A} is_read_fault s (Err e)) old (what_block (Err e)) (answer_of is_read_fault ToReadBlock (Err e)) → IsBlamed {T = Block} is_read_fault before now (Err e) → Tells (ReadBlock address) (answers.ReadBlock (Err e)) written took turn
     → Answers (ReadBlock address) s t old new written took turn
 block_ends {A} s t r e old new same written took before now turn address leaves is serves blamed tells =
-    subst (λ (u : Replica). Answers (ReadBlock address) s u old new written took turn) (sym (leaves ∙ ap (λ (x : Result A ReadError). left_by is_read_fault s x) is))
-    (block_refused address s (left_by {T = A} is_read_fault s (Err e)) old new same written took before now turn e serves blamed tells).0
+    ends_as (ReadBlock address) is_read_fault s t r e old new written took turn leaves is (block_refused address s (left_by {T = A} is_read_fault s (Err e)) old new same written took before now turn e serves blamed tells).0

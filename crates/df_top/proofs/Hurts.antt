@@ -17,11 +17,12 @@ use Rattle.df_replica.proofs.Laws.{call_is_own, call_is_the_one, found_keeps, op
 use Rattle.df_theory.specs.Found.{IsFound}
 use Rattle.df_theory.specs.View.{View}
 use Rattle.df_units.specs.Bytes.{unit_at}
-use Rattle.df_top.specs.Hurting.{AllGiveOwn, GiveOwn, IsOfHurt, ReadsOwn, RefusesCopies, RunsOverHurt, ServesHurt, ServesOverHurt}
+use Rattle.df_session.specs.Owning.{AllGiveOwn, GiveOwn}
+use Rattle.df_top.specs.Hurting.{IsOfHurt, ReadsOwn, RefusesCopies, RunsOverHurt, ServesHurt, ServesOverHurt}
 use Rattle.df_top.specs.Opening.{RefusesFile}
 use Rattle.df_top.specs.Outside.{Outside}
 use Rattle.df_top.specs.Run.{Does, RefusesSuperblock, Runs, ServesIn, ServesOwn, ServesScript}
-use Rattle.df_top.specs.Session.{AreCalls, Calls, EndsCalls}
+use Rattle.df_session.specs.Links.{AreCalls, Calls, EndsCalls}
 use Rattle.df_top.specs.declared.mode.Mode.{Mode}
 use Rattle.df_top.specs.declared.mode.Mode.TheVariants.{Format, Run, Recover, Inspect, Scrub, Workload}
 use Rattle.df_top.specs.declared.status.Status.{Status}

@@ -1,5 +1,5 @@
 -- What an answer is in the machine's words, by whether the disk failed in its call, and whether a step found the superblock damaged.
-use Rattle.std.proofs.Common.{◌≡◌, ℕ, Bool, true, false, Option, Some, None, if◌then◌else◌, refl, Result, Ok, Err}
+use Rattle.std.proofs.Common.{◌≡◌, Bool, true, false, Some, None, if◌then◌else◌, refl, Ok, Err}
 use Rattle.df_inspect.specs.Answers.{text_of}
 use Rattle.df_layout.specs.declared.damage.Class.{Class}
 use Rattle.df_layout.specs.declared.places.Place.{Place}
@@ -12,8 +12,7 @@ use Rattle.df_script_model.specs.Script.{answer_text}
 use Rattle.df_units.specs.Meaning.{number_of}
 use Rattle.df_model.specs.Faults.{is_append_fault, is_block_fault, is_lookup_fault, is_prepare_fault, is_read_fault, is_reply_fault}
 use Rattle.df_workload.specs.Hearing.{outcome_of}
-use Rattle.df_workload.specs.declared.outcome.Outcome.{Outcome}
-use Rattle.df_top.specs.Calls.{LendsNothing, is_damaged, is_fault, machine_answer}
+use Rattle.df_session.specs.Calls.{LendsNothing, is_damaged, is_fault, machine_answer}
 use Rattle.df_top.specs.Works.{outcome_in}
 
 -- there is none, or the machine's answer has the same line and is heard so
@@ -49,4 +48,4 @@ in_words c (answers.ReadReply (Err e)) lends = refused (is_lookup_fault e) c (an
 in_words c (answers.ReadBlock (Ok done)) lends = absurd lends
 in_words c (answers.ReadBlock (Err e)) lends = refused (is_read_fault e) c (answers.ReadBlock (Err e)) (ToReadBlock (Err e)) refl refl refl
 in_words c (answers.Scrub scrubbed) lends = (ToScrub scrubbed, refl, refl, refl)
-in_words c (answers.Recent found) lends = absurd lends
+in_words c answers.Recent lends = absurd lends

@@ -6,16 +6,11 @@ mod Progress
 mod LineEnds
 mod InWords
 mod Answered
-mod Exact
 mod BlockReadTurns
 mod ScrubTurns
 mod Checks
 mod Tours
-mod Untouched
-mod Kept
 mod Resulted
-mod Acknowledged
-mod Spared
 mod Served
 mod Reported
 mod OneReport
@@ -25,7 +20,9 @@ mod Causes
 mod RunCalls
 mod Runs
 mod Hurts
+mod Within
 mod WorksOn
 mod Made
 mod SafelyServed
+mod BlankFormatted
 pub mod Laws

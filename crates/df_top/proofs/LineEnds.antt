@@ -1,18 +1,17 @@
 -- What one line does to a session: it goes on with the call that the line asks for, or ends.
-use Rattle.std.proofs.Common.{◌≡◌, inl, inr, true, ℕ, ◌+◌, List, [], ◌∷◌, Option, Some, ◌∙◌, ap}
+use Rattle.std.proofs.Common.{◌≡◌, ◌⊎◌, ◌<◌, inl, inr, true, ℕ, ◌+◌, List, ◌++◌, length, Option, Some, ◌∙◌, ap, subst}
 use Rattle.df_lines.specs.declared.line.Line.{Line}
 use Rattle.df_lines.specs.Grammar.{Said, said_with}
 use Rattle.df_lines.specs.Reads.{RefusesNext, TakesLine}
 use Rattle.df_lines.specs.Room.{Room, Tells}
 use Rattle.df_lines.specs.Script.{IsRefused}
-use Rattle.df_lines.specs.Text.{unread}
+use Rattle.df_lines.specs.Text.{line_of, unread}
 use Rattle.df_disk.specs.Told.{Told}
-use Rattle.df_model.specs.Commands.{Answer}
-use Rattle.df_replica.specs.Session.{Act}
 use Rattle.df_replica.specs.Below.{State as Replica}
+use Rattle.df_top.specs.Lines.{command_of}
 use Rattle.df_top.specs.Outside.{Outside}
-use Rattle.df_top.specs.Session.{AreCalls, EndedIsEnd, State, state}
-use Rattle.df_top.specs.Step.{EndsIn, RefusesLine, ServesLine, Takes, Turns}
+use Rattle.df_top.specs.Session.{EndedIsEnd, HoldsLine, State, state}
+use Rattle.df_top.specs.Step.{Answers, EndsIn, RefusesLine, Takes, Turns}
 use Rattle.df_top.specs.Turning.{OnGoing}
 use Rattle.df_top.specs.declared.session.Session.{Session}
 use Rattle.df_top.specs.declared.turns.Turn.{Turn}
@@ -22,23 +21,31 @@ use Rattle.df_top.specs.declared.status.Status.TheVariants.{Done, Found, Words, 
 use Rattle.df_top.proofs.Progress.{ends_answer, ends_damaged, ends_damaged_fault, ends_disk, ends_script, ends_script_fault, goes_on}
 
 -- the line that refuses the next line ends the session
-pub ends_refused : (bound : ℕ) (old new : State) → new.outside.told ≡ old.outside.told → new.replica ≡ old.replica → ((rest : List ℕ) → old.text ≡ Some rest → IsRefused bound old.budget rest) → (status : Status)
+pub ends_refused : (bound : ℕ) (old new : State) → new.outside.told ≡ old.outside.told → new.replica ≡ old.replica → ((rest : List ℕ) → old.text ≡ Some rest → IsRefused bound old.budget rest)
+    → ((rest : List ℕ) → old.text ≡ Some rest → (remains : List ℕ) → new.outside.left ≡ Some remains → HoldsLine bound rest remains) → (status : Status)
     → RefusesLine old.lines old.outside.written new.outside.written status → EndsIn bound old new status
-ends_refused bound old new same one refused Script wrote = ends_script bound old new same one refused wrote
-ends_refused bound old new same one refused WriteFault wrote = ends_script_fault bound old new same one refused wrote
-ends_refused bound old new same one refused Done wrote = absurd wrote
-ends_refused bound old new same one refused Found wrote = absurd wrote
-ends_refused bound old new same one refused Words wrote = absurd wrote
-ends_refused bound old new same one refused Refused wrote = absurd wrote
-ends_refused bound old new same one refused DiskFault wrote = absurd wrote
-ends_refused bound old new same one refused ReadFault wrote = absurd wrote
-ends_refused bound old new same one refused Memory wrote = absurd wrote
+ends_refused bound old new same one refused holds Script wrote = ends_script bound old new same one refused holds wrote
+ends_refused bound old new same one refused holds WriteFault wrote = ends_script_fault bound old new same one refused holds wrote
+ends_refused bound old new same one refused holds status wrote = absurd wrote
 
 -- what the reader refuses is refused
 pub refused_next : (outside : Outside) (left : Option (List ℕ)) (old : Session) (room : Room) → EndedIsEnd old outside.left
     → ((text : List ℕ) → Tells old.lines outside.left text → RefusesNext old.lines.reading room.reading text (unread room.reading.held left))
     → (text : List ℕ) → (state outside old).text ≡ Some text → IsRefused old.lines.reading.bound old.lines.reading.budget text
 refused_next outside left old room ended gives text is = (gives text (record { is = is; ended = ended })).refuses
+
+-- and the reader holds it, or more of it than the bound
+pub held_next : (outside : Outside) (left : Option (List ℕ)) (old : Session) (room : Room) → EndedIsEnd old outside.left → room.reading.bound ≡ old.lines.reading.bound
+    → ((text : List ℕ) → Tells old.lines outside.left text → RefusesNext old.lines.reading room.reading text (unread room.reading.held left))
+    → (text : List ℕ) → (state outside old).text ≡ Some text → (remains : List ℕ) → left ≡ Some remains → HoldsLine old.lines.reading.bound text remains
+held_next outside left old room ended bound gives text is remains has =
+    let refuses : RefusesNext old.lines.reading room.reading text (unread room.reading.held left) = gives text (record { is = is; ended = ended }) in
+    let whole : Some (room.reading.held ++ remains) ≡ Some text = subst (λ (o : Option (List ℕ)). unread room.reading.held o ≡ Some text) has refuses.rest in
+    record {
+      held = room.reading.held;
+      is = cc whole;
+      line = subst (λ (n : ℕ). (line_of room.reading.held ≡ line_of text) ⊎ (n < length (line_of room.reading.held))) bound refuses.read;
+    }
 
 -- ---- a line was taken
 
@@ -56,7 +63,7 @@ module _ (before after : Outside) (old : Session) (room : Room) (line : Line) (e
           ap (λ (l : Room). l.reading.budget) kept ∙ line_is.budget,
         )
 
-    pub line_turns : (turn : Turn) → ServesLine said old.replica new.replica before.told after.told before.written after.written turn → OnGoing turn (new.count ≡ old.count + 1)
+    pub line_turns : (turn : Turn) → Answers (command_of said) old.replica new.replica before.told after.told before.written after.written turn → OnGoing turn (new.count ≡ old.count + 1)
         → Turns old.lines.reading.bound (state before old) (state after new) turn
     line_turns GoesOn did count = goes_on old.lines.reading.bound (state before old) (state after new) said takes did count
     line_turns (Ends DiskFault) did count = ends_disk old.lines.reading.bound (state before old) (state after new) said takes did
@@ -72,12 +79,6 @@ module _ (before after : Outside) (old : Session) (room : Room) (line : Line) (e
 
 -- ---- calls may go on behind a line that was answered
 
-calls_live : (s t : Replica) (old new : Option Told) (acts : List Act) (answers : List Answer) → s.live ≡ true → AreCalls s old acts answers t new → t.live ≡ true
-calls_live s t old new [] [] live calls = ap (λ (r : Replica). r.live) calls.0 ∙ live
-calls_live s t old new [] (x ∷ answers) live calls = absurd calls
-calls_live s t old new (a ∷ acts) [] live calls = absurd calls
-calls_live s t old new (a ∷ acts) (x ∷ answers) live calls = calls_live calls.0 t calls.1 new acts answers calls.2.call.live calls.3
-
-pub live_on : (said : Said) (s t : Replica) (old new : Option Told) (written took : Option (List ℕ)) (turn : Turn) → s.live ≡ true → ServesLine said s t old new written took turn → OnGoing turn (t.live ≡ true)
-live_on said s t old new written took GoesOn live did = calls_live s t old new did.0 did.1 live did.3
-live_on said s t old new written took (Ends status) live did = tt
+pub live_on : (said : Said) (s t : Replica) (old new : Option Told) (written took : Option (List ℕ)) (turn : Turn) → Answers (command_of said) s t old new written took turn → OnGoing turn (t.live ≡ true)
+live_on said s t old new written took GoesOn did = did.1.calls.call.live
+live_on said s t old new written took (Ends status) did = tt

@@ -13,7 +13,7 @@ use Rattle.df_top.specs.Formats.{MakesOn}
 use Rattle.df_top.specs.Refusing.{PrintsFormatError}
 use Rattle.df_top.specs.declared.status.Status.{Status}
 use Rattle.df_top.specs.declared.status.Status.TheVariants.{Done, Refused}
-use Rattle.df_top.proofs.Answered.{part_told}
+use Rattle.df_session.proofs.Laws.{part_told}
 use Rattle.df_top.proofs.Causes.{line_ends}
 
 format_told : {T : Type 0} (es : List Event) (old new : Option Told) (r : Result T FormatError) → AddsFormat es old new r → ToldBy old new

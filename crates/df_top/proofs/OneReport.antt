@@ -2,8 +2,6 @@
 use Rattle.std.proofs.Common.{◌≡◌, ℕ, ◌<◌, Bool, true, false, not, IsTrue, List, [], ◌∷◌, ◌++◌, length, Option, None, Some, refl, sym, ◌∙◌, ap, subst, arith}
 use Rattle.std.specs.Prelude.{◌+◌, zero, suc, codes, map, get_or}
 use Rattle.std.specs.List.{filter, range_with_len}
-use Rattle.std.proofs.Math.Bridge.{le_prop}
-use Rattle.std.proofs.Math.Nat.{ℕ_set}
 use Rattle.df_base.specs.Image.{Image}
 use Rattle.df_format.specs.Copies.{Content, content_at}
 use Rattle.df_format.specs.Own.{place_in}
@@ -16,7 +14,7 @@ use Rattle.df_layout.specs.declared.places.Zone.TheVariants.{WalHeaders}
 use Rattle.df_quorum.specs.Quorum.{AreMembers}
 use Rattle.df_quorum.proofs.Laws.{one_law}
 use Rattle.df_replica.proofs.Laws.{filter_more, one_super, same_file}
-use Rattle.df_replica.specs.Below.{if_wanted, needs_header, slot_mends, IsOpened, memory, reply_sum, shape, spelling, stored_sum, DataFile}
+use Rattle.df_replica.specs.Below.{if_wanted, needs_header, slot_mends, start_of, IsOpened, memory, reply_sum, shape, spelling, stored_sum, DataFile, State}
 use Rattle.df_replica.specs.Replica.{Survey, summary_of}
 use Rattle.df_replica.specs.Surveying.{IsMendable, copy_mend_at, mends_of}
 use Rattle.df_script_model.specs.Texts.{body_text, line_of, numbered, spaced}
@@ -32,7 +30,7 @@ use Rattle.df_model.specs.Work.{opened}
 use Rattle.df_model.specs.declared.answers.Summary.{Summary}
 use Rattle.df_top.specs.Reporting.{OneReport, report_of, status_of}
 
--- ---- the sessions' lines say what the model knows of them
+-- ---- the sessions' lines say what the theory knows of them
 
 stored_same : (r : Option (List ℕ)) → stored_text r ≡ stored_text (reply_sum r)
 stored_same None = refl
@@ -90,9 +88,25 @@ members_same image c d m k same one other n below =
 
 mends_same : (layout : Layout) (image : Image) (f g : SuperFields) (m k : List Bool) → f ≡ g → ((n : ℕ) → n < 4 → get_or m n false ≡ get_or k n false) → mends_of layout image f m ≡ mends_of layout image g k
 mends_same layout image f g m k fields bits =
-    ap (λ (ns : List ℕ). map (copy_mend_at image) ns ++ slot_mends (needs_header layout f.op (unit_at layout f.cluster image)) (λ s. class_at layout f.cluster image (place_in WalHeaders s)) layout.slots)
+    ap (λ (ns : List ℕ). map (copy_mend_at image) ns ++ slot_mends (needs_header layout (start_of f) (unit_at layout f.cluster image)) (λ s. class_at layout f.cluster image (place_in WalHeaders s)) layout.slots)
     (filter_same (λ n. not (get_or m n false)) (λ n. not (get_or k n false)) 4 (λ n below. ap not (bits n below)))
     ∙ ap (λ (x : SuperFields). mends_of layout image x k) fields
+
+-- replicas with the same superblock, and the same in memory, have one summary
+pub summary_same : (s u : State) → s.file ≡ u.file → s.fields ≡ u.fields → memory s ≡ memory u → summary_of s ≡ summary_of u
+summary_same s u file fields known = λ i. record {
+  cluster = (file i).cluster;
+  layout = (file i).layout;
+  sequence = (fields i).sequence;
+  checkpoint_op = (fields i).op;
+  head = (known i).head;
+  replies = (known i).replies;
+  sessions = count i;
+  references = length (known i).blocks.durable;
+}
+  where
+    count : length s.table.sessions ≡ length u.table.sessions
+    count = sym (count_is s.table.sessions) ∙ ap (λ (m : Memory). length m.sessions) known ∙ count_is u.table.sessions
 
 -- ---- the law
 
@@ -118,20 +132,8 @@ module _ (layout : Layout) (image : Image) (s u : Survey) (one : IsOpened layout
   sessions : sessions_of s.state.table.sessions ≡ sessions_of u.state.table.sessions
   sessions = ap (λ (m : Memory). m.sessions) known
 
-  count : length s.state.table.sessions ≡ length u.state.table.sessions
-  count = sym (count_is s.state.table.sessions) ∙ ap length sessions ∙ count_is u.state.table.sessions
-
   summary : summary_of s.state ≡ summary_of u.state
-  summary = λ i. record {
-    cluster = (file i).cluster;
-    layout = (file i).layout;
-    sequence = (fields i).sequence;
-    checkpoint_op = (fields i).op;
-    head = (known i).head;
-    replies = (known i).replies;
-    sessions = count i;
-    references = length (known i).blocks.durable;
-  }
+  summary = summary_same s.state u.state file fields known
 
   lines : each_text session_text 0 s.state.table.sessions ≡ each_text session_text 0 u.state.table.sessions
   lines = texts_same 0 s.state.table.sessions u.state.table.sessions sessions (ap (λ (m : Memory). m.stored) known)

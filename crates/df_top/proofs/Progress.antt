@@ -1,5 +1,5 @@
 -- A session goes on by one line, or ends.
-use Rattle.std.proofs.Common.{◌≡◌, ℕ, suc, ◌+◌, true, false, List, [], ◌∷◌, ◌++◌, length, map, Option, Some, None, refl, sym, ap, subst, arith, length-append}
+use Rattle.std.proofs.Common.{◌≡◌, ℕ, ◌+◌, true, false, List, [], ◌∷◌, ◌++◌, map, Option, Some, None, refl, sym, subst, arith, length-append}
 use Rattle.std.proofs.lemmas.List.{append-nil, map_push}
 use Rattle.df_base.specs.Streams.{Appends, AppendsPart}
 use Rattle.df_base.proofs.Laws.{appends_none, appends_more, appends_part}
@@ -8,32 +8,18 @@ use Rattle.df_inspect.specs.Opening.{script_text}
 use Rattle.df_lines.specs.Grammar.{Said}
 use Rattle.df_lines.specs.Script.{Begins, IsRefused}
 use Rattle.df_lines.specs.Text.{after_line}
-use Rattle.df_model.specs.Commands.{Answer}
+use Rattle.df_model.specs.Commands.{Answer, Command}
 use Rattle.df_replica.specs.Below.{State as Replica}
 use Rattle.df_replica.specs.Session.{Act}
-use Rattle.df_top.specs.Lines.{Turned, all_acts, all_answers, all_text, command_in, commands_of, line_text, said_in}
-use Rattle.df_top.specs.Session.{AreCalls, Ended, EndsText, Executed, State}
-use Rattle.df_top.specs.Step.{EndsIn, GoesOn, IsLineAnswered, IsLineDamaged, IsLineFailed, Takes}
+use Rattle.df_script_model.specs.Script.{answer_text}
+use Rattle.df_session.proofs.Laws.{calls_join}
+use Rattle.df_top.specs.Lines.{Turned, all_acts, all_answers, all_text, command_of, said_in}
+use Rattle.df_session.specs.Links.{AreCalls, Makes}
+use Rattle.df_top.specs.Session.{Ended, EndsText, EndsWith, Executed, HoldsLine, IsDamagedLine, State}
+use Rattle.df_top.specs.Step.{EndsDamaged, EndsIn, GoesOn, IsAnswered, Takes}
 use Rattle.df_top.specs.declared.status.Status.{Status}
 use Rattle.df_top.specs.declared.status.Status.TheVariants.{Done, Script, Refused, DiskFault, ReadFault, WriteFault}
 use Rattle.df_top.proofs.Written.{acts_more, answers_more, are_more, begins_more, text_more}
-
--- ---- calls
-
-pub calls_join : (s t u : Replica) (old mid new : Option Told) (acts more : List Act) (answers others : List Answer)
-    → AreCalls s old acts answers t mid → AreCalls t mid more others u new → AreCalls s old (acts ++ more) (answers ++ others) u new
-calls_join s t u old mid new [] more [] others calls rest =
-    subst (λ (o : Option Told). AreCalls s o more others u new) calls.1 (subst (λ (r : Replica). AreCalls r mid more others u new) calls.0 rest)
-calls_join s t u old mid new [] more (y ∷ answers) others calls rest = absurd calls
-calls_join s t u old mid new (b ∷ acts) more [] others calls rest = absurd calls
-calls_join s t u old mid new (b ∷ acts) more (y ∷ answers) others calls rest = (calls.0, calls.1, calls.2, calls_join calls.0 t u calls.1 mid new acts more answers others calls.3 rest)
-
--- each of them has its answer
-answered_each : (s t : Replica) (old new : Option Told) (acts : List Act) (answers : List Answer) → AreCalls s old acts answers t new → length answers ≡ length acts
-answered_each s t old new [] [] calls = refl
-answered_each s t old new [] (x ∷ answers) calls = absurd calls
-answered_each s t old new (a ∷ acts) [] calls = absurd calls
-answered_each s t old new (a ∷ acts) (x ∷ answers) calls = ap suc (answered_each calls.0 t calls.1 new acts answers calls.3)
 
 -- ---- on
 
@@ -60,18 +46,19 @@ text_on bound origin old turns said left budget so_far takes text is =
           (begins_more bound origin.budget text (map said_in turns) old.budget before.0 said before.2 line.0),
     )
 
--- the calls of a line were made and answered
-module _ (bound : ℕ) (old new : State) (said : Said) (takes : Takes bound old said new.text new.budget) (acts : List Act) (answers : List Answer) (are : map command_in acts ≡ commands_of said)
-    (calls : AreCalls old.replica old.outside.told acts answers new.replica new.outside.told) (origin : State) (turns : List Turned) (so_far : Executed bound origin old turns) where
+-- the call of a line was made and answered
+module _ (bound : ℕ) (old new : State) (said : Said) (takes : Takes bound old said new.text new.budget) (x : Answer) (makes : Makes (command_of said) old.replica new.replica old.outside.told new.outside.told (Some x))
+    (origin : State) (turns : List Turned) (so_far : Executed bound origin old turns) where
   line : Turned
-  line = record { said = said; acts = acts; answers = answers }
+  line = record { said = said; act = makes.act; answer = x }
 
   all_calls : AreCalls origin.replica origin.outside.told (all_acts (turns ++ line ∷ [])) (all_answers (turns ++ line ∷ [])) new.replica new.outside.told
   unfolding line
   all_calls =
       subst (λ (l : List Act). AreCalls origin.replica origin.outside.told l (all_answers (turns ++ line ∷ [])) new.replica new.outside.told) (sym (acts_more turns line))
-      (subst (λ (l : List Answer). AreCalls origin.replica origin.outside.told (all_acts turns ++ acts) l new.replica new.outside.told) (sym (answers_more turns line))
-      (calls_join origin.replica old.replica new.replica origin.outside.told old.outside.told new.outside.told (all_acts turns) acts (all_answers turns) answers so_far.calls calls))
+      (subst (λ (l : List Answer). AreCalls origin.replica origin.outside.told (all_acts turns ++ makes.act ∷ []) l new.replica new.outside.told) (sym (answers_more turns line))
+      (calls_join origin.replica old.replica new.replica origin.outside.told old.outside.told new.outside.told (all_acts turns) (makes.act ∷ []) (all_answers turns) (x ∷ []) so_far.calls
+      (new.replica, new.outside.told, makes.calls, (refl, refl))))
 
   said_on : (text : List ℕ) → origin.text ≡ Some text → (rest : List ℕ) × (new.text ≡ Some rest) × Begins bound origin.budget text (map said_in (turns ++ line ∷ [])) new.budget rest
   unfolding line
@@ -79,22 +66,22 @@ module _ (bound : ℕ) (old new : State) (said : Said) (takes : Takes bound old 
       let more = text_on bound origin old turns said new.text new.budget so_far takes text is in
       (more.0, more.1, subst (λ (l : List Said). Begins bound origin.budget text l new.budget more.0) (sym (map_push said_in turns line)) more.2)
 
-  pub line_done : Appends old.outside.written new.outside.written (line_text said answers) → new.lines ≡ old.lines + 1 → (t : Turned) × Executed bound origin new (turns ++ t ∷ [])
+  pub line_done : Appends old.outside.written new.outside.written (answer_text (command_of said) x) → new.lines ≡ old.lines + 1 → (t : Turned) × Executed bound origin new (turns ++ t ∷ [])
   unfolding line
   line_done wrote lines = (
     line,
     record {
       text = said_on;
-      are = are_more turns line so_far.are (are, answered_each old.replica new.replica old.outside.told new.outside.told acts answers calls);
+      are = are_more turns line so_far.are makes.is;
       written =
           subst (λ (l : List ℕ). Appends origin.outside.written new.outside.written l) (sym (text_more turns line))
-          (appends_more origin.outside.written old.outside.written new.outside.written (all_text turns) (line_text said answers) so_far.written wrote);
+          (appends_more origin.outside.written old.outside.written new.outside.written (all_text turns) (answer_text (command_of said) x) so_far.written wrote);
       lines = omega (arith, lines, so_far.lines, length-append turns (line ∷ []));
       calls = all_calls;
     },
   )
 
-  pub line_cut_off : AppendsPart old.outside.written new.outside.written (line_text said answers) → Ended bound origin new WriteFault
+  pub line_cut_off : AppendsPart old.outside.written new.outside.written (answer_text (command_of said) x) → Ended bound origin new WriteFault
   unfolding line
   line_cut_off wrote = record {
     turns = turns ++ line ∷ [];
@@ -105,18 +92,18 @@ module _ (bound : ℕ) (old new : State) (said : Said) (takes : Takes bound old 
           new.budget,
           more.0,
           subst (λ (l : List Said). Begins bound origin.budget text l new.budget more.0) (sym (append-nil (map said_in (turns ++ line ∷ [])))) more.2,
-          record { refused = λ no. absurd (cc); finished = λ no. absurd (cc) },
+          record { refused = λ no. absurd (cc); held = λ no. absurd (cc); finished = λ no. absurd (cc) },
         );
-    are = are_more turns line so_far.are (are, answered_each old.replica new.replica old.outside.told new.outside.told acts answers calls);
+    are = are_more turns line so_far.are makes.is;
     written =
         subst (λ (l : List ℕ). AppendsPart origin.outside.written new.outside.written l) (sym (text_more turns line))
-        (appends_part origin.outside.written old.outside.written new.outside.written (all_text turns) (line_text said answers) so_far.written wrote);
+        (appends_part origin.outside.written old.outside.written new.outside.written (all_text turns) (answer_text (command_of said) x) so_far.written wrote);
     calls = all_calls;
   }
 
 pub goes_on : (bound : ℕ) (old new : State) (said : Said) → Takes bound old said new.text new.budget
-    → IsLineAnswered said old.replica new.replica old.outside.told new.outside.told (λ line. Appends old.outside.written new.outside.written line) → new.lines ≡ old.lines + 1 → GoesOn bound old new
-goes_on bound old new said takes done lines origin turns so_far = line_done bound old new said takes done.0 done.1 done.2 done.3 origin turns so_far done.4 lines
+    → IsAnswered (command_of said) old.replica new.replica old.outside.told new.outside.told (λ line. Appends old.outside.written new.outside.written line) → new.lines ≡ old.lines + 1 → GoesOn bound old new
+goes_on bound old new said takes done lines origin turns so_far = line_done bound old new said takes done.0 done.1 origin turns so_far done.2 lines
 
 -- ---- the end
 
@@ -141,7 +128,7 @@ module _ (bound : ℕ) (old new : State) (same_told : new.outside.told ≡ old.o
     cut = false;
     text = λ text is.
         let before = so_far.text text is in
-        (old.budget, before.0, said_all origin turns text before.0 before.2, record { refused = λ no. absurd (cc); finished = λ yes. at_end before.0 before.1 });
+        (old.budget, before.0, said_all origin turns text before.0 before.2, record { refused = λ no. absurd (cc); held = λ no. absurd (cc); finished = λ yes. at_end before.0 before.1 });
     are = so_far.are;
     written = (refl, written_so origin turns same so_far);
     calls = stays origin turns so_far;
@@ -155,47 +142,45 @@ module _ (bound : ℕ) (old new : State) (same_told : new.outside.told ≡ old.o
     cut = false;
     text = λ text is.
         let before = so_far.text text is in
-        (old.budget, before.0, said_all origin turns text before.0 before.2, record { refused = λ no. absurd (cc); finished = λ no. absurd (cc) });
+        (old.budget, before.0, said_all origin turns text before.0 before.2, record { refused = λ no. absurd (cc); held = λ no. absurd (cc); finished = λ no. absurd (cc) });
     are = so_far.are;
     written = (refl, written_so origin turns same so_far);
     calls = stays origin turns so_far;
   }
 
-  -- the next line is refused, and the line that says so is written, or a front of it
-  module _ (refused : (rest : List ℕ) → old.text ≡ Some rest → IsRefused bound old.budget rest) where
+  -- the next line is refused, and was read, and the line that says so is written, or a front of it
+  module _ (refused : (rest : List ℕ) → old.text ≡ Some rest → IsRefused bound old.budget rest)
+      (holds : (rest : List ℕ) → old.text ≡ Some rest → (remains : List ℕ) → new.outside.left ≡ Some remains → HoldsLine bound rest remains) where
     cut_text : (origin : State) (turns : List Turned) (status : Status) → (status ≡ Done → ⊥) → Executed bound origin old turns → (text : List ℕ) → origin.text ≡ Some text
         → (budget : ℕ) × (rest : List ℕ) × Begins bound origin.budget text (map said_in turns ++ []) budget rest × EndsText bound budget rest new.outside.left true status
     cut_text origin turns status unfinished so_far text is =
         let before = so_far.text text is in
-        (old.budget, before.0, said_all origin turns text before.0 before.2, record { refused = λ yes. refused before.0 before.1; finished = λ done. absurd (unfinished done) })
+        (old.budget, before.0, said_all origin turns text before.0 before.2, record { refused = λ yes. refused before.0 before.1; held = λ yes. holds before.0 before.1; finished = λ done. absurd (unfinished done) })
+
+    ends_cut : (status : Status) → (status ≡ Done → ⊥) → (origin : State) (turns : List Turned) → Executed bound origin old turns → EndsWith origin.lines origin.outside new.outside turns None true status → Ended bound origin new status
+    ends_cut status unfinished origin turns so_far written = record {
+      turns = turns;
+      failing = None;
+      cut = true;
+      text = cut_text origin turns status unfinished so_far;
+      are = so_far.are;
+      written = written;
+      calls = stays origin turns so_far;
+    }
 
     pub ends_script : Appends old.outside.written new.outside.written (script_text (old.lines + 1)) → EndsIn bound old new Script
-    ends_script wrote origin turns so_far = record {
-      turns = turns;
-      failing = None;
-      cut = true;
-      text = cut_text origin turns Script (λ no. cc) so_far;
-      are = so_far.are;
-      written = (
-        refl,
-        appends_more origin.outside.written old.outside.written new.outside.written (all_text turns) _ so_far.written
-            (subst (λ (n : ℕ). Appends old.outside.written new.outside.written (script_text (n + 1))) so_far.lines wrote),
-      );
-      calls = stays origin turns so_far;
-    }
+    ends_script wrote origin turns so_far =
+        ends_cut Script (λ no. cc) origin turns so_far (
+          refl,
+          appends_more origin.outside.written old.outside.written new.outside.written (all_text turns) _ so_far.written
+              (subst (λ (n : ℕ). Appends old.outside.written new.outside.written (script_text (n + 1))) so_far.lines wrote),
+        )
 
     pub ends_script_fault : AppendsPart old.outside.written new.outside.written (script_text (old.lines + 1)) → EndsIn bound old new WriteFault
-    ends_script_fault wrote origin turns so_far = record {
-      turns = turns;
-      failing = None;
-      cut = true;
-      text = cut_text origin turns WriteFault (λ no. cc) so_far;
-      are = so_far.are;
-      written =
-          appends_part origin.outside.written old.outside.written new.outside.written (all_text turns) _ so_far.written
-          (subst (λ (n : ℕ). AppendsPart old.outside.written new.outside.written (script_text (n + 1))) so_far.lines wrote);
-      calls = stays origin turns so_far;
-    }
+    ends_script_fault wrote origin turns so_far =
+        ends_cut WriteFault (λ no. cc) origin turns so_far
+        (appends_part origin.outside.written old.outside.written new.outside.written (all_text turns) _ so_far.written
+        (subst (λ (n : ℕ). AppendsPart old.outside.written new.outside.written (script_text (n + 1))) so_far.lines wrote))
 
 -- the session ends within a call, or with its answer
 module _ (bound : ℕ) (old new : State) (said : Said) (takes : Takes bound old said new.text new.budget) where
@@ -203,43 +188,41 @@ module _ (bound : ℕ) (old new : State) (said : Said) (takes : Takes bound old 
       → (budget : ℕ) × (rest : List ℕ) × Begins bound origin.budget text (map said_in turns ++ said ∷ []) budget rest × EndsText bound budget rest new.outside.left false status
   last_text origin turns status unfinished so_far text is =
       let more = text_on bound origin old turns said new.text new.budget so_far takes text is in
-      (new.budget, more.0, more.2, record { refused = λ no. absurd (cc); finished = λ done. absurd (unfinished done) })
+      (new.budget, more.0, more.2, record { refused = λ no. absurd (cc); held = λ no. absurd (cc); finished = λ done. absurd (unfinished done) })
+
+  -- its call wasn't answered
+  ends_failing : (status : Status) → (status ≡ Done → ⊥) → (makes : Makes (command_of said) old.replica new.replica old.outside.told new.outside.told None) (origin : State) (turns : List Turned) → Executed bound origin old turns
+      → EndsWith origin.lines origin.outside new.outside turns (Some makes.act) false status → Ended bound origin new status
+  ends_failing status unfinished makes origin turns so_far written = record {
+    turns = turns;
+    failing = Some (record { said = said; act = makes.act; asks = makes.is });
+    cut = false;
+    text = last_text origin turns status unfinished so_far;
+    are = so_far.are;
+    written = written;
+    calls = (old.replica, old.outside.told, so_far.calls, makes.calls);
+  }
 
   -- the disk failed
-  pub ends_disk : IsLineFailed said old.replica new.replica old.outside.told new.outside.told (λ a. new.outside.written ≡ old.outside.written) → EndsIn bound old new DiskFault
-  ends_disk failed origin turns so_far = record {
-    turns = turns;
-    failing = Some (record { said = said; act = failed.0; asks = failed.1 });
-    cut = false;
-    text = last_text origin turns DiskFault (λ no. cc) so_far;
-    are = so_far.are;
-    written = (refl, subst (λ (o : Option (List ℕ)). Appends origin.outside.written o (all_text turns)) (sym failed.3) so_far.written);
-    calls = (old.replica, old.outside.told, so_far.calls, failed.2);
-  }
+  pub ends_disk : Makes (command_of said) old.replica new.replica old.outside.told new.outside.told None × (new.outside.written ≡ old.outside.written) → EndsIn bound old new DiskFault
+  ends_disk failed origin turns so_far =
+      ends_failing DiskFault (λ no. cc) failed.0 origin turns so_far (refl, subst (λ (o : Option (List ℕ)). Appends origin.outside.written o (all_text turns)) (sym failed.1) so_far.written)
 
   -- the sink failed
-  pub ends_answer : IsLineAnswered said old.replica new.replica old.outside.told new.outside.told (λ line. AppendsPart old.outside.written new.outside.written line) → EndsIn bound old new WriteFault
-  ends_answer done origin turns so_far = line_cut_off bound old new said takes done.0 done.1 done.2 done.3 origin turns so_far done.4
+  pub ends_answer : IsAnswered (command_of said) old.replica new.replica old.outside.told new.outside.told (λ line. AppendsPart old.outside.written new.outside.written line) → EndsIn bound old new WriteFault
+  ends_answer done origin turns so_far = line_cut_off bound old new said takes done.0 done.1 origin turns so_far done.2
 
-  -- the step is damaged, and the line that says so is written, or a front of it
-  pub ends_damaged : IsLineDamaged said old.replica new.replica old.outside.told new.outside.told (λ line. Appends old.outside.written new.outside.written line) → EndsIn bound old new Refused
-  ends_damaged failed origin turns so_far = record {
-    turns = turns;
-    failing = Some (record { said = said; act = failed.0; asks = failed.1 });
-    cut = false;
-    text = last_text origin turns Refused (λ no. cc) so_far;
-    are = so_far.are;
-    written = (refl, failed.3.0, failed.3.1, appends_more origin.outside.written old.outside.written new.outside.written (all_text turns) failed.3.0 so_far.written failed.3.2);
-    calls = (old.replica, old.outside.told, so_far.calls, failed.2);
-  }
+  -- its step is damaged
+  damaged_step : (makes : Makes (command_of said) old.replica new.replica old.outside.told new.outside.told None) (line : List ℕ) → IsDamagedLine (command_of said) new.outside.told line → IsDamagedLine makes.act.command new.outside.told line
+  damaged_step makes line damaged = subst (λ (c : Command). IsDamagedLine c new.outside.told line) (sym makes.is) damaged
 
-  pub ends_damaged_fault : IsLineDamaged said old.replica new.replica old.outside.told new.outside.told (λ line. AppendsPart old.outside.written new.outside.written line) → EndsIn bound old new WriteFault
-  ends_damaged_fault failed origin turns so_far = record {
-    turns = turns;
-    failing = Some (record { said = said; act = failed.0; asks = failed.1 });
-    cut = false;
-    text = last_text origin turns WriteFault (λ no. cc) so_far;
-    are = so_far.are;
-    written = (refl, failed.3.0, failed.3.1, appends_part origin.outside.written old.outside.written new.outside.written (all_text turns) failed.3.0 so_far.written failed.3.2);
-    calls = (old.replica, old.outside.told, so_far.calls, failed.2);
-  }
+  -- the line that says so is written, or a front of it
+  pub ends_damaged : EndsDamaged (command_of said) old.replica new.replica old.outside.told new.outside.told (λ line. Appends old.outside.written new.outside.written line) → EndsIn bound old new Refused
+  ends_damaged failed origin turns so_far =
+      ends_failing Refused (λ no. cc) failed.1 origin turns so_far
+      (refl, failed.0, damaged_step failed.1 failed.0 failed.2, appends_more origin.outside.written old.outside.written new.outside.written (all_text turns) failed.0 so_far.written failed.3)
+
+  pub ends_damaged_fault : EndsDamaged (command_of said) old.replica new.replica old.outside.told new.outside.told (λ line. AppendsPart old.outside.written new.outside.written line) → EndsIn bound old new WriteFault
+  ends_damaged_fault failed origin turns so_far =
+      ends_failing WriteFault (λ no. cc) failed.1 origin turns so_far
+      (refl, failed.0, damaged_step failed.1 failed.0 failed.2, appends_part origin.outside.written old.outside.written new.outside.written (all_text turns) failed.0 so_far.written failed.3)

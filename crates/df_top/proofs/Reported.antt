@@ -4,7 +4,6 @@ use Rattle.df_base.specs.Image.{Image, IsImage}
 use Rattle.df_base.specs.Log.{Sync}
 use Rattle.df_disk.specs.Adds.{AddsPart}
 use Rattle.df_disk.specs.Told.{Told, after, did}
-use Rattle.df_disk.proofs.Laws.{goes_told}
 use Rattle.df_inspect.specs.Reports.{inspection_text, summary_text}
 use Rattle.df_layout.specs.declared.damage.Mend.{Mend}
 use Rattle.df_layout.specs.declared.layout.Layout.{Layout}
@@ -28,7 +27,7 @@ use Rattle.df_replica.specs.Scrubbing.{IsMachineTour, at_start}
 use Rattle.df_replica.specs.Serving.{Grade, StandsFor}
 use Rattle.df_replica.specs.Surveying.{TellsMends, TellsSurvey}
 use Rattle.df_replica.proofs.Laws.{added_is_told, shown_after}
-use Rattle.df_top.specs.Keeping.{KeepsFile}
+use Rattle.df_session.specs.Keeping.{KeepsFile}
 use Rattle.df_top.specs.Opening.{RefusesFile}
 use Rattle.df_top.specs.Outside.{Outside, PrintsLine}
 use Rattle.df_top.specs.Refusing.{PrintsError}
@@ -36,7 +35,7 @@ use Rattle.df_top.specs.Reporting.{FailsToSurvey, Inspects, Recovers, report_of,
 use Rattle.df_top.specs.Scrubs.{PrintsTour, ScrubsFile}
 use Rattle.df_top.specs.declared.status.Status.{Status}
 use Rattle.df_top.specs.declared.status.Status.TheVariants.{Done}
-use Rattle.df_top.proofs.Kept.{keeps_over, opened_over}
+use Rattle.df_session.proofs.Laws.{keeps_over, opened_over}
 use Rattle.df_top.proofs.Served.{by_fault, refuses}
 
 -- ---- the barrier

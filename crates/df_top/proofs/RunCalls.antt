@@ -2,7 +2,6 @@
 use Rattle.std.proofs.Common.{◌≡◌, ◌<◌, ℕ, Bool, true, false, List, [], ◌∷◌, length, Option, Some, None, if◌then◌else◌, refl, sym, ◌∙◌, ap, subst, Result, Ok, Err, arith}
 use Rattle.df_base.specs.Causes.{Blamed, IsBlamed}
 use Rattle.df_disk.specs.Told.{Told}
-use Rattle.df_format.specs.declared.reference.Reference.{Reference}
 use Rattle.df_layout.specs.declared.damage.Class.{Class}
 use Rattle.df_layout.specs.declared.places.Place.{Place}
 use Rattle.df_model.specs.Commands.{Advance, Answer as Answered, Append, Begin, Command, ReadBlock, ReadPrepare, ReadReply, Recent, Release, Reply, Scrub, WriteBlock}
@@ -15,20 +14,19 @@ use Rattle.df_model.specs.declared.errors.NotLive.{NotLive}
 use Rattle.df_model.specs.declared.errors.StepError.{StepError}
 use Rattle.df_model.specs.declared.errors.StepError.TheVariants as step
 use Rattle.df_replica.specs.Beginning.{IsBegin}
-use Rattle.df_replica.specs.Below.{Capture, State as Replica}
+use Rattle.df_replica.specs.Below.{RunningState, State as Replica}
 use Rattle.df_replica.specs.Blocks.{IsRelease}
 use Rattle.df_replica.specs.Stepping.{IsStep, OfRunning, advanced, finished}
 use Rattle.df_script_model.specs.Texts.{damaged_text}
-use Rattle.df_workload.specs.Hearing.{outcome_of}
 use Rattle.df_workload.specs.declared.outcome.Outcome.{Outcome}
-use Rattle.df_workload.specs.declared.outcome.Outcome.TheVariants.{Refused, Accepted, Wrote, Finished}
-use Rattle.df_top.specs.Calls.{IsExact, is_damaged, is_fault, machine_answer}
-use Rattle.df_top.specs.Session.{IsDamaged}
-use Rattle.df_top.specs.Step.{Makes}
+use Rattle.df_session.specs.Calls.{IsExact, is_damaged, is_fault, machine_answer}
+use Rattle.df_top.specs.Session.{IsDamagedLine}
+use Rattle.df_session.specs.Links.{Makes}
 use Rattle.df_top.specs.Works.{IsRunning, MakesTo, RunsOn, StepsOn, heard, is_disk, outcome_in}
 use Rattle.df_top.specs.declared.works.Fault.{Fault}
 use Rattle.df_top.specs.declared.works.Fault.TheVariants.{Damaged, Disk}
-use Rattle.df_top.proofs.Exact.{append_moves, exact_damaged, exact_lends, on_running, reply_moves, write_moves}
+use Rattle.df_session.proofs.Laws.{append_moves, exact_damaged, exact_lends, on_running, reply_moves, write_moves}
+use Rattle.df_top.proofs.Answered.{damaged_line}
 use Rattle.df_top.proofs.InWords.{InWords, in_words}
 
 -- ---- what is heard
@@ -38,7 +36,7 @@ abbrev Heard : Command → (s t : Replica) → (old new : Option Told) → (befo
 Heard command s t old new before now r = MakesTo command s t old new r × IsBlamed is_disk before now r
 
 module _ (command : Command) (s t : Replica) (old new : Option Told) (before now : ℕ) (a : Answer) (makes : Makes command s t old new (machine_answer a))
-    (damaged : (place : Place) (class : Class) → a ≡ answers.Advance (Err (step.Damaged place class)) → IsDamaged command new (damaged_text place class)) where
+    (damaged : (place : Place) (class : Class) → a ≡ answers.Advance (Err (step.Damaged place class)) → IsDamagedLine command new (damaged_text place class)) where
   unless_fault : (fault : Bool) → is_fault a ≡ fault → heard a ≡ (if fault then Err Disk else outcome_in a)
   unless_fault fault is = ap (λ (b : Bool). if b then Err Disk else outcome_in a) is
 
@@ -56,7 +54,7 @@ module _ (command : Command) (s t : Replica) (old new : Option Told) (before now
 
 -- it runs as before
 stays : (s t : Replica) → t.running ≡ s.running → (flag : Bool) → (flag ≡ true → IsRunning s) → flag ≡ true → IsRunning t
-stays s t same flag had set = subst (λ (r : Option Capture). OfRunning r (λ c. Unit {0})) (sym same) (had set)
+stays s t same flag had set = subst (λ (r : Option RunningState). OfRunning r (λ c. Unit {0})) (sym same) (had set)
 
 same_running : (s t : Replica) → t ≡ s → t.running ≡ s.running
 same_running s t is = ap (λ (r : Replica). r.running) is
@@ -89,22 +87,22 @@ begin_on s t root (Err e) is = stays s t (same_running s t is.1)
 -- ---- a step
 
 not_running : (s : Replica) → s.running ≡ None → IsRunning s → ⊥
-not_running s is runs = subst (λ (r : Option Capture). OfRunning r (λ c. Unit {0})) is runs
+not_running s is runs = subst (λ (r : Option RunningState). OfRunning r (λ c. Unit {0})) is runs
 
 -- a checkpoint of which a block is written runs on
-runs_on : (s t : Replica) (running : Option Capture) → OfRunning running (λ r. t ≡ advanced s r) → IsRunning t
+runs_on : (s t : Replica) (running : Option RunningState) → OfRunning running (λ r. t ≡ advanced s r) → IsRunning t
 runs_on s t None is = absurd is
 runs_on s t (Some r) is = subst (λ (u : Replica). IsRunning u) (sym is) tt
 
-one_less : (s : Replica) (r : Capture) (left : List ℕ) → (left ≡ [] → ⊥) → length (advanced (record s { blocks = record s.blocks { left = left } }) r).blocks.left < length left
+one_less : (s : Replica) (r : RunningState) (left : List ℕ) → (left ≡ [] → ⊥) → length (advanced (record s { blocks = record s.blocks { left = left } }) r).blocks.left < length left
 one_less s r [] some = absurd (some refl)
 one_less s r (a ∷ more) some = omega arith
 
-fewer : (s t : Replica) (running : Option Capture) → OfRunning running (λ r. (s.blocks.left ≡ [] → ⊥) × (t ≡ advanced s r)) → length t.blocks.left < length s.blocks.left
+fewer : (s t : Replica) (running : Option RunningState) → OfRunning running (λ r. (s.blocks.left ≡ [] → ⊥) × (t ≡ advanced s r)) → length t.blocks.left < length s.blocks.left
 fewer s t None is = absurd is
 fewer s t (Some r) is = subst (λ (u : Replica). length u.blocks.left < length s.blocks.left) (sym is.1) (one_less s r s.blocks.left is.0)
 
-none_left : (s t : Replica) (running : Option Capture) → OfRunning running (λ r. t ≡ finished s r) → t.blocks.left ≡ []
+none_left : (s t : Replica) (running : Option RunningState) → OfRunning running (λ r. t ≡ finished s r) → t.blocks.left ≡ []
 none_left s t None is = absurd is
 none_left s t (Some r) is = ap (λ (u : Replica). u.blocks.left) is
 
@@ -144,7 +142,7 @@ module _ (s t : Replica) (old new : Option Told) (a : Answer) where
   exact_on (ReadReply client) is = absurd is
   exact_on (ReadBlock address) is = absurd is
   exact_on Scrub is = absurd is
-  exact_on (Recent place) is = absurd is
+  exact_on Recent is = absurd is
 
   exact_steps : (command : Command) → IsExact command s t old new a → command ≡ Advance → StepsOn s t (heard a)
   exact_steps command exact is =
@@ -154,5 +152,5 @@ module _ (s t : Replica) (old new : Option Told) (a : Answer) where
   pub heard_call : (before now : ℕ) (command : Command) → IsExact command s t old new a → Makes command s t old new (machine_answer a) → Blamed (is_fault a) before now → Call command s t old new before now (heard a)
   heard_call before now command exact makes blamed =
       let both =
-      heard_as command s t old new before now a makes (exact_damaged s t old new a command exact) (is_fault a) (is_damaged a) refl (in_words command a (exact_lends s t old new a command exact)) blamed in
+      heard_as command s t old new before now a makes (λ place class is. damaged_line command new place class (exact_damaged s t old new a command exact place class is)) (is_fault a) (is_damaged a) refl (in_words command a (exact_lends s t old new a command exact)) blamed in
       record { makes = both.0; runs = exact_on command exact; steps = exact_steps command exact; disk = both.1 }

@@ -15,13 +15,13 @@ use Rattle.df_workload.specs.declared.outcome.Outcome.{Outcome}
 use Rattle.df_workload.specs.declared.outcome.Outcome.TheVariants.{Refused, Accepted, Wrote, Finished}
 use Rattle.df_workload.specs.declared.state.State.{State as Run}
 use Rattle.df_workload.proofs.Laws.{follows_more, runs_so}
-use Rattle.df_top.specs.Lines.{command_in}
-use Rattle.df_top.specs.Session.{IsDamaged}
+use Rattle.df_session.specs.Links.{command_in}
+use Rattle.df_top.specs.Session.{IsDamagedLine}
 use Rattle.df_top.specs.Works.{Comes, Fails, IsRunning, MakesTo, PrintsRun, RunsOn, StepsOn, Worked, Works, Writes, steps_left}
 use Rattle.df_top.specs.declared.works.Fault.{Fault}
 use Rattle.df_top.specs.declared.works.Fault.TheVariants.{Disk, Damaged}
 use Rattle.df_top.specs.declared.status.Status.{Status}
-use Rattle.df_top.proofs.Progress.{calls_join}
+use Rattle.df_session.proofs.Laws.{calls_join}
 
 -- ---- joined
 
@@ -58,7 +58,7 @@ module _ (begun : Run) (s : Replica) (old : Option Told) (mid : Run) (u : Replic
   pub comes_more : {T : Type 0} (r : Result T Fault) → Comes mid u between run t new r → Comes begun s old run t new r
   comes_more (Ok x) two = works_more begun s old mid u between run t new one two
   comes_more (Err Disk) f = fails_more (λ a. Unit {0}) f
-  comes_more (Err (Damaged place class)) f = fails_more (λ a. IsDamaged a.command new (damaged_text place class)) f
+  comes_more (Err (Damaged place class)) f = fails_more (λ a. IsDamagedLine a.command new (damaged_text place class)) f
 
 -- ---- one call
 
@@ -94,7 +94,7 @@ module _ (run : Run) (s t : Replica) (old new : Option Told) (command : Command)
     act = made.0.act;
     call = made.0.calls;
     asked = is ∙ ap (λ (c : Command). Option.Some c) (sym made.0.is);
-    holds = subst (λ (c : Command). IsDamaged c new (damaged_text place class)) (sym made.0.is) made.1;
+    holds = subst (λ (c : Command). IsDamagedLine c new (damaged_text place class)) (sym made.0.is) made.1;
   }
 
 -- ---- the last steps

@@ -1,5 +1,5 @@
 -- Over a file that may be opened each other end of a word needs a call that failed, or a refusal that no such file has.
-use Rattle.std.proofs.Common.{◌≡◌, ◌⊎◌, inl, inr, ℕ, zero, suc, ◌-◌, Bool, true, List, [], ◌∷◌, ◌++◌, length, map, Option, None, Some, refl, sym, ◌∙◌, subst}
+use Rattle.std.proofs.Common.{◌≡◌, ◌⊎◌, inl, inr, ℕ, zero, suc, Bool, true, List, [], ◌∷◌, ◌++◌, length, map, Option, None, Some, refl, subst}
 use Rattle.df_base.specs.Image.{IsImage}
 use Rattle.df_disk.specs.Told.{Told}
 use Rattle.df_layout.specs.declared.damage.Mend.{Mend}
@@ -7,7 +7,6 @@ use Rattle.df_layout.specs.declared.layout.Layout.{Layout}
 use Rattle.df_lines.specs.Grammar.{Said}
 use Rattle.df_lines.specs.Room.{line_bound}
 use Rattle.df_lines.specs.Script.{Begins, IsRefused, IsScript}
-use Rattle.df_lines.specs.Text.{after_line, taken}
 use Rattle.df_lines.proofs.Laws.{one_script, begins_one}
 use Rattle.df_replica.specs.Below.{DataFile, IsNotRefused, State as Replica}
 use Rattle.df_theory.specs.View.{View}
@@ -27,7 +26,7 @@ use Rattle.df_top.specs.Works.{Writes}
 use Rattle.df_top.specs.declared.mode.Mode.{Mode}
 use Rattle.df_top.specs.declared.mode.Mode.TheVariants.{Format, Run, Recover, Inspect, Scrub, Workload}
 use Rattle.df_top.specs.declared.status.Status.{Status}
-use Rattle.df_top.specs.declared.status.Status.TheVariants.{Done, Found, Words, Script, Refused, DiskFault, ReadFault, WriteFault, Memory}
+use Rattle.df_top.specs.declared.status.Status.TheVariants.{Done, Found, Script, Refused, DiskFault, ReadFault, WriteFault, Memory}
 
 -- a report ends Done or Found
 listed : (mends : List Mend) (status : Status) → status ≡ status_of mends → (status ≡ Done) ⊎ (status ≡ Found)
@@ -58,17 +57,7 @@ session_ends n old new turns None cut WriteFault ends = Unwritten refl
 session_ends n old new turns (Some a) cut DiskFault ends = Unserved refl
 session_ends n old new turns (Some a) cut Refused ends = Damaged refl
 session_ends n old new turns (Some a) cut WriteFault ends = Unwritten refl
-session_ends n old new turns None cut Found ends = absurd ends
-session_ends n old new turns None cut Words ends = absurd ends
-session_ends n old new turns None cut Refused ends = absurd ends
-session_ends n old new turns None cut DiskFault ends = absurd ends
-session_ends n old new turns None cut Memory ends = absurd ends
-session_ends n old new turns (Some a) cut Done ends = absurd ends
-session_ends n old new turns (Some a) cut Script ends = absurd ends
-session_ends n old new turns (Some a) cut ReadFault ends = absurd ends
-session_ends n old new turns (Some a) cut Found ends = absurd ends
-session_ends n old new turns (Some a) cut Words ends = absurd ends
-session_ends n old new turns (Some a) cut Memory ends = absurd ends
+session_ends n old new turns failed cut status ends = absurd ends
 
 -- ---- a text that is whole has no line that is refused
 
@@ -84,23 +73,11 @@ whole_uncut layout text rest asked budget whole begins refused =
 run_ends : (run : Generated) (last : Replica) (told : Option Told) (failed : Option Act) (written took : Option (List ℕ)) (status : Status) → Writes run last told failed written took status
     → (status ≡ Done) ⊎ (status ≡ Refused) ⊎ (status ≡ DiskFault) ⊎ (status ≡ WriteFault)
 run_ends run last told None written took Done writes = inl refl
-run_ends run last told None written took Found writes = absurd writes
-run_ends run last told None written took Words writes = absurd writes
-run_ends run last told None written took Script writes = absurd writes
-run_ends run last told None written took Refused writes = absurd writes
-run_ends run last told None written took DiskFault writes = absurd writes
-run_ends run last told None written took ReadFault writes = absurd writes
 run_ends run last told None written took WriteFault writes = inr (inr (inr refl))
-run_ends run last told None written took Memory writes = absurd writes
-run_ends run last told (Some a) written took Done writes = absurd writes
-run_ends run last told (Some a) written took Found writes = absurd writes
-run_ends run last told (Some a) written took Words writes = absurd writes
-run_ends run last told (Some a) written took Script writes = absurd writes
 run_ends run last told (Some a) written took Refused writes = inr (inl refl)
 run_ends run last told (Some a) written took DiskFault writes = inr (inr (inl refl))
-run_ends run last told (Some a) written took ReadFault writes = absurd writes
 run_ends run last told (Some a) written took WriteFault writes = inr (inr (inr refl))
-run_ends run last told (Some a) written took Memory writes = absurd writes
+run_ends run last told failed written took status writes = absurd writes
 
 -- ---- the words
 

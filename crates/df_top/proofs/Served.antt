@@ -12,11 +12,12 @@ use Rattle.df_units.specs.Bytes.{unit_at}
 use Rattle.df_model.specs.Work.{opened}
 use Rattle.df_model.specs.declared.errors.OpenError.{OpenError}
 use Rattle.df_model.specs.declared.errors.OpenError.TheVariants as opens
-use Rattle.df_replica.specs.Below.{State as Replica, shape, IsOpened, told_after}
+use Rattle.df_replica.specs.Below.{State as Replica, shape, IsOpened}
 use Rattle.df_replica.specs.Opened.{MendsAll, StopsOpening, ToldBy}
-use Rattle.df_replica.specs.Serving.{Firm}
 use Rattle.df_replica.specs.Surveying.{TellsSurvey}
 use Rattle.df_replica.proofs.Laws.{found_keeps}
+use Rattle.df_session.specs.Laws.{CallsKeep}
+use Rattle.df_session.proofs.Laws.{calls_keep, ends_told}
 use Rattle.df_top.specs.Acknowledging.{script_calls}
 use Rattle.df_top.specs.Opening.{FailsToOpen, RefusesFile}
 use Rattle.df_top.specs.Outside.{Outside}
@@ -28,10 +29,7 @@ use Rattle.df_top.specs.Session.{Ended, EndsWith, State, act_of, state}
 use Rattle.df_top.specs.declared.session.Session.{Session}
 use Rattle.df_top.specs.declared.status.Status.{Status}
 use Rattle.df_top.specs.declared.status.Status.TheVariants.{Refused}
-use Rattle.df_top.proofs.Acknowledged.{keeps_answered}
-use Rattle.df_top.proofs.Kept.{answers_alone, ends_add, ends_told, keeps_over, opened_over}
 use Rattle.df_top.proofs.Resulted.{opened_prints}
-use Rattle.df_top.proofs.Spared.{spares_blocks}
 
 -- ---- a session that was just opened
 
@@ -59,7 +57,7 @@ from_start told old s layout last status fresh none ended =
 -- no session ends there by a step that is damaged
 refused_never : (n : ℕ) (old new : Outside) (turns : List Turned) (failed : Option Act) (cut : Bool) (u : Told) → new.told ≡ Some u → EndsWith n old new turns failed cut Refused → ⊥
 refused_never n old new turns None cut u is ends = ends
-refused_never n old new turns (Some a) cut u is ends = none-some u (sym ends.2.untold ∙ is)
+refused_never n old new turns (Some a) cut u is ends = none-some u (sym ends.2.step.untold ∙ is)
 
 -- ---- it is served
 
@@ -89,6 +87,9 @@ module _ (layout : Layout) (t : Told) (old new : Outside) (status : Status) (s :
       refused_never origin.lines origin.outside last.outside ended.turns (act_of ended.failing) ended.cut tells_on.0 tells_on.1
       (subst (λ (x : Status). EndsWith origin.lines origin.outside last.outside ended.turns (act_of ended.failing) ended.cut x) is ended.written)
 
+  calls : CallsKeep t s mended over.mending (script_calls ended)
+  calls = calls_keep t s mended over last.replica last.outside.told (all_acts ended.turns) (all_answers ended.turns) (act_of ended.failing) ended.calls whole live opened_here
+
   pub serves : ServesScript layout t old new status
   serves = record {
     replica = s;
@@ -98,21 +99,11 @@ module _ (layout : Layout) (t : Told) (old new : Outside) (status : Status) (s :
     last = last;
     last_is = last_is;
     session = ended;
-    answered = λ view found.
-        answers_alone Firm (opened (shape s.file) (unit_at s.file.layout s.file.cluster t.shown) view) s last.replica mended last.outside.told (all_acts ended.turns) (all_answers ended.turns) (act_of ended.failing) live
-        (found_keeps s t.shown view whole opened_here found) ended.calls;
     result = λ view shown found agree.
         opened_prints s t mended over whole (opened (shape s.file) (unit_at s.file.layout s.file.cluster t.shown) view) (found_keeps s t.shown view whole opened_here found) last.replica last.outside.told (act_of ended.failing) shown agree ended.turns
         ended.are ended.calls;
-    adds = sym last_told ∙ ends_add s last.replica mended last.outside.told (all_acts ended.turns) (all_answers ended.turns) (act_of ended.failing) ended.calls;
-    kept = λ g view base same may stands. (opened_over t s mended over g view base same may stands).kept_for;
-    keeps = λ g view base same may stands.
-        keeps_over g s (opened (shape s.file) (unit_at s.file.layout s.file.cluster t.shown) view) base (told_after over.mending.events (did Sync base)) live (opened_over t s mended over g view base same may stands)
-        last.replica mended last.outside.told (all_acts ended.turns) (all_answers ended.turns) (act_of ended.failing) ended.calls;
-    acknowledged = λ g view base same may stands.
-        keeps_answered s.file g (opened (shape s.file) (unit_at s.file.layout s.file.cluster t.shown) view) (Some (told_after over.mending.events (did Sync base))) (script_calls ended) refl live
-        (opened_over t s mended over g view base same may stands).kept_for;
-    spares = λ view found. spares_blocks (opened (shape s.file) (unit_at s.file.layout s.file.cluster t.shown) view) (script_calls ended) live (found_keeps s t.shown view whole opened_here found);
+    adds = sym last_told ∙ calls.adds;
+    calls = calls;
     undamaged = undamaged;
   }
 

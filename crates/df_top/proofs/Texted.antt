@@ -1,5 +1,5 @@
 -- A session's text and status follow from its script and from what the disk shows.
-use Rattle.std.proofs.Common.{◌≡◌, ◌⊎◌, inl, inr, ℕ, ◌+◌, ◌-◌, Bool, List, [], ◌∷◌, ◌++◌, length, map, Option, Some, None, refl, sym, ◌∙◌, ap, subst, arith, suc}
+use Rattle.std.proofs.Common.{◌≡◌, ◌⊎◌, inl, inr, ℕ, ◌+◌, ◌-◌, Bool, List, [], ◌∷◌, ◌++◌, length, map, Option, Some, None, refl, sym, ◌∙◌, ap, subst, arith}
 use Rattle.std.proofs.lemmas.List.{append-nil, length-map}
 use Rattle.df_base.specs.Image.{Image}
 use Rattle.df_base.specs.Streams.{Appends}
@@ -24,7 +24,7 @@ use Rattle.df_model.specs.Work.{Work, opened}
 use Rattle.df_replica.specs.Below.{DataFile, IsOpened, State as Replica, shape}
 use Rattle.df_replica.specs.Reading.{shown_of}
 use Rattle.df_replica.proofs.Laws.{one_super, same_file}
-use Rattle.df_result.specs.Agreeing.{AgreeShown}
+use Rattle.df_session.specs.Below.{AgreeShown}
 use Rattle.df_top.specs.Lines.{Turned, all_text, printed, said_in}
 use Rattle.df_top.specs.OneText.{IsThrough, OneText, ShowSame, TextIsResult, status_by, text_by}
 use Rattle.df_top.specs.Outside.{Outside}

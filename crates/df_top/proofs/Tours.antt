@@ -1,7 +1,7 @@
 -- A tour on its way: what is listed so far, with what is left to be checked, is all that fails.
 use Rattle.std.proofs.Common.{◌≡◌, inl, inr, ℕ, zero, suc, ◌+◌, ◌<◌, List, [], ◌∷◌, ◌++◌, length, Option, Some, refl, sym, ◌∙◌, ap, subst, arith, append_assoc, length-append}
 use Rattle.std.specs.Prelude.{Ok}
-use Rattle.std.proofs.lemmas.List.{append-nil, take-append-le}
+use Rattle.std.proofs.lemmas.List.{append-nil}
 use Rattle.df_base.specs.Streams.{Appends, AppendsPart}
 use Rattle.df_base.proofs.Laws.{appends_more, appends_part, part_of_more}
 use Rattle.df_disk.specs.Told.{Told}
@@ -24,7 +24,8 @@ use Rattle.df_top.specs.declared.turns.Turn.{Turn}
 use Rattle.df_top.specs.declared.turns.Turn.TheVariants.{Ends, GoesOn}
 use Rattle.df_top.specs.Turning.{BlamesIfEnds}
 use Rattle.df_top.proofs.Causes.{no_blame}
-use Rattle.df_top.proofs.Checks.{IsChecked, IsEnded, IsStepOf, above, all_above, check_counts, check_fails, checked, ended, failing_of, left_of, referenced, referenced_rise}
+use Rattle.df_model.proofs.Laws.{above, all_above}
+use Rattle.df_top.proofs.Checks.{IsChecked, IsEnded, IsStepOf, check_counts, check_fails, checked, ended, failing_of, left_of, referenced, referenced_rise}
 
 -- ---- what is printed
 
@@ -49,7 +50,7 @@ pub record IsTouring (s : Replica) (t : Told) (u : ScrubState) (old new : Option
 -- at the start of a tour all is left
 pub starts : (s : Replica) (t : Told) (old : Option (List ℕ)) → s.tour ≡ first_tour → Appends old old [] → IsTouring s t (scrub_of s) old old
 starts s t old first none =
-    let all : left_of s (scrub_of s) ≡ referenced s = ap (λ (x : Tour). above x.last (referenced s)) first ∙ all_above 0 1 (referenced s) (omega arith) (referenced_rise s) in
+    let all : left_of s (scrub_of s) ≡ referenced s = ap (λ (x : Tour). above x.last (referenced s)) first ∙ all_above 0 1 (1 + s.file.layout.blocks) (referenced s) (omega arith) (referenced_rise s) in
     record {
       listed = [];
       so_far = ap (λ (xs : List (ℕ × ℕ)). failing_of s t.shown xs) (sym all);

@@ -1,7 +1,7 @@
 -- What the words ask for, and which clauses of a run speak of them.
 use Rattle.std.proofs.Common.{◌≡◌, ℕ, List, subst}
 use Rattle.df_layout.specs.declared.layout.Layout.{Layout}
-use Rattle.df_top.specs.Mode.{AsksOfFile, IsOfFile, Means, MeansNothing}
+use Rattle.df_top.specs.Mode.{IsOfFile, Means}
 use Rattle.df_top.specs.declared.mode.Mode.{Mode}
 use Rattle.df_top.specs.declared.mode.Mode.TheVariants.{Format}
 use Rattle.df_top.proofs.Modes.{one_mode}

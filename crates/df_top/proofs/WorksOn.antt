@@ -1,7 +1,7 @@
 -- A file that was opened, and on which a generated run was carried out: what is answered and kept, and who is to blame.
 use Rattle.std.proofs.Common.{◌≡◌, inl, inr, ℕ, true, List, Option, Some, None, refl, sym, ◌∙◌, subst, Result, Ok, Err}
 use Rattle.std.proofs.lemmas.Option.{none-some}
-use Rattle.df_base.specs.Causes.{HasCause, IsBlamed}
+use Rattle.df_base.specs.Causes.{IsBlamed}
 use Rattle.df_base.specs.Image.{IsImage}
 use Rattle.df_base.specs.Log.{Sync}
 use Rattle.df_disk.specs.Told.{Told, did}
@@ -13,15 +13,13 @@ use Rattle.df_layout.specs.declared.damage.Class.{Class}
 use Rattle.df_layout.specs.declared.places.Place.{Place}
 use Rattle.df_script_model.specs.Texts.{damaged_text}
 use Rattle.df_layout.specs.declared.layout.Layout.{Layout}
-use Rattle.df_units.specs.Bytes.{unit_at}
-use Rattle.df_model.specs.Work.{opened}
-use Rattle.df_replica.specs.Below.{IsOpened, State as Replica, shape, told_after}
+use Rattle.df_replica.specs.Below.{IsOpened, State as Replica}
 use Rattle.df_replica.specs.Opened.{MendsAll, ToldBy}
-use Rattle.df_replica.specs.Serving.{Firm}
 use Rattle.df_replica.specs.Session.{Act}
-use Rattle.df_replica.proofs.Laws.{found_keeps}
 use Rattle.df_workload.specs.Rounds.{start}
 use Rattle.df_workload.specs.declared.state.State.{State as Run}
+use Rattle.df_session.specs.Laws.{CallsKeep}
+use Rattle.df_session.proofs.Laws.{calls_keep, ends_told}
 use Rattle.df_top.specs.Acknowledging.{run_calls}
 use Rattle.df_top.specs.Outside.{Blames, HasCauses, Outside, PrintsLine}
 use Rattle.df_top.specs.Working.{WorksThrough}
@@ -31,11 +29,7 @@ use Rattle.df_top.specs.declared.works.Fault.TheVariants.{Disk, Damaged}
 use Rattle.df_top.specs.declared.status.Status.{Status}
 use Rattle.df_top.specs.declared.status.Status.TheVariants.{Done, Words, Refused, DiskFault, ReadFault, WriteFault, Memory}
 use Rattle.df_top.proofs.Causes.{calm_done, calm_refused, disk_blame, line_ends, never_printed, no_blame}
-use Rattle.df_top.proofs.Acknowledged.{keeps_answered}
-use Rattle.df_top.proofs.Kept.{answers_alone, ends_add, ends_told, keeps_over, opened_over}
 use Rattle.df_top.proofs.Runs.{EndsRun}
-use Rattle.df_top.proofs.Resulted.{opened_answers}
-use Rattle.df_top.proofs.Spared.{spares_blocks}
 
 -- ---- what is printed
 
@@ -89,7 +83,7 @@ run_never run t (Err Disk) old new status printed = (λ is. cc (printed.0, is), 
 -- no run ends there by a step that is damaged
 damaged_never : (run : Run) (t : Replica) (told : Option Told) (failed : Option Act) (old new : Option (List ℕ)) (u : Told) → told ≡ Some u → Writes run t told failed old new Refused → ⊥
 damaged_never run t told None old new u is writes = writes
-damaged_never run t told (Some a) old new u is writes = none-some u (sym writes.1.untold ∙ is)
+damaged_never run t told (Some a) old new u is writes = none-some u (sym writes.1.step.untold ∙ is)
 
 -- ---- it is carried out
 
@@ -115,6 +109,9 @@ module _ (seed count : ℕ) (layout : Layout) (t : Told) (old new : Outside) (st
       damaged_never run last new.told ended.worked.failed old.written new.written tells_on.0 tells_on.1
       (subst (λ (x : Status). Writes run last new.told ended.worked.failed old.written new.written x) is ended.writes)
 
+  calls : CallsKeep t s mended over.mending (run_calls ended.worked)
+  calls = calls_keep t s mended over last new.told ended.worked.acts ended.worked.answers ended.worked.failed ended.worked.calls image live opened_here
+
   pub works_through : WorksThrough seed count layout t old new status
   works_through = record {
     replica = s;
@@ -125,21 +122,7 @@ module _ (seed count : ℕ) (layout : Layout) (t : Told) (old new : Outside) (st
     last = last;
     worked = ended.worked;
     written = ended.writes;
-    answered = λ view found.
-        answers_alone Firm (opened (shape s.file) (unit_at s.file.layout s.file.cluster t.shown) view) s last mended new.told ended.worked.acts ended.worked.answers ended.worked.failed live
-        (found_keeps s t.shown view image opened_here found) ended.worked.calls;
     mending = over.mending;
-    result = λ view shown found agree.
-        opened_answers s t mended over image (opened (shape s.file) (unit_at s.file.layout s.file.cluster t.shown) view) (found_keeps s t.shown view image opened_here found) last new.told ended.worked.failed shown agree ended.worked.acts
-        ended.worked.answers ended.worked.calls;
-    adds = ends_add s last mended new.told ended.worked.acts ended.worked.answers ended.worked.failed ended.worked.calls;
-    kept = λ g view base same may stands. (opened_over t s mended over g view base same may stands).kept_for;
-    keeps = λ g view base same may stands.
-        keeps_over g s (opened (shape s.file) (unit_at s.file.layout s.file.cluster t.shown) view) base (told_after over.mending.events (did Sync base)) live (opened_over t s mended over g view base same may stands)
-        last mended new.told ended.worked.acts ended.worked.answers ended.worked.failed ended.worked.calls;
-    acknowledged = λ g view base same may stands.
-        keeps_answered s.file g (opened (shape s.file) (unit_at s.file.layout s.file.cluster t.shown) view) (Some (told_after over.mending.events (did Sync base))) (run_calls ended.worked) refl live
-        (opened_over t s mended over g view base same may stands).kept_for;
-    spares = λ view found. spares_blocks (opened (shape s.file) (unit_at s.file.layout s.file.cluster t.shown) view) (run_calls ended.worked) live (found_keeps s t.shown view image opened_here found);
+    calls = calls;
     undamaged = undamaged;
   }

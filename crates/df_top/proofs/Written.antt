@@ -1,32 +1,33 @@
 -- What a sink has taken goes on, piece by piece; and lists go on by one item.
-use Rattle.std.proofs.Common.{◌≡◌, ℕ, ◌+◌, ◌-◌, List, [], ◌∷◌, ◌++◌, length, map, take, suc, Option, Some, None, refl, sym, ◌∙◌, ap, subst, arith, append_assoc, length-append}
+use Rattle.std.proofs.Common.{◌≡◌, ℕ, ◌+◌, ◌-◌, List, [], ◌∷◌, ◌++◌, refl, sym, ◌∙◌, ap, subst, append_assoc}
 use Rattle.std.proofs.lemmas.List.{append-nil}
-use Rattle.df_base.specs.Streams.{Appends, AppendsPart}
-use Rattle.df_base.proofs.Laws.{appends_more}
 use Rattle.df_lines.specs.Grammar.{Said}
 use Rattle.df_lines.specs.Script.{Begins, IsLine}
 use Rattle.df_lines.specs.Text.{after_line, taken}
 use Rattle.df_model.specs.Commands.{Answer}
 use Rattle.df_replica.specs.Session.{Act}
-use Rattle.df_top.specs.Lines.{AreTurned, IsTurned, Turned, all_acts, all_answers, all_text, line_text}
+use Rattle.df_script_model.specs.Script.{answer_text}
+use Rattle.df_top.specs.Lines.{AreTurned, Turned, all_acts, all_answers, all_text, command_of}
 
 -- ---- one line more
 
-pub are_more : (turns : List Turned) (t : Turned) → AreTurned turns → IsTurned t → AreTurned (turns ++ t ∷ [])
+pub are_more : (turns : List Turned) (t : Turned) → AreTurned turns → t.act.command ≡ command_of t.said → AreTurned (turns ++ t ∷ [])
 are_more [] t are is = (is, tt)
 are_more (u ∷ turns) t are is = (are.0, are_more turns t are.1 is)
 
-pub text_more : (turns : List Turned) (t : Turned) → all_text (turns ++ t ∷ []) ≡ all_text turns ++ line_text t.said t.answers
-text_more [] t = append-nil (line_text t.said t.answers)
-text_more (u ∷ turns) t = ap (λ (l : List ℕ). line_text u.said u.answers ++ l) (text_more turns t) ∙ sym (append_assoc (line_text u.said u.answers) (all_text turns) (line_text t.said t.answers))
+pub text_more : (turns : List Turned) (t : Turned) → all_text (turns ++ t ∷ []) ≡ all_text turns ++ answer_text (command_of t.said) t.answer
+text_more [] t = append-nil (answer_text (command_of t.said) t.answer)
+text_more (u ∷ turns) t =
+    let text = answer_text (command_of u.said) u.answer in
+    ap (λ (l : List ℕ). text ++ l) (text_more turns t) ∙ sym (append_assoc text (all_text turns) (answer_text (command_of t.said) t.answer))
 
-pub acts_more : (turns : List Turned) (t : Turned) → all_acts (turns ++ t ∷ []) ≡ all_acts turns ++ t.acts
-acts_more [] t = append-nil t.acts
-acts_more (u ∷ turns) t = ap (λ (l : List Act). u.acts ++ l) (acts_more turns t) ∙ sym (append_assoc u.acts (all_acts turns) t.acts)
+pub acts_more : (turns : List Turned) (t : Turned) → all_acts (turns ++ t ∷ []) ≡ all_acts turns ++ t.act ∷ []
+acts_more [] t = refl
+acts_more (u ∷ turns) t = ap (λ (l : List Act). u.act ∷ l) (acts_more turns t)
 
-pub answers_more : (turns : List Turned) (t : Turned) → all_answers (turns ++ t ∷ []) ≡ all_answers turns ++ t.answers
-answers_more [] t = append-nil t.answers
-answers_more (u ∷ turns) t = ap (λ (l : List Answer). u.answers ++ l) (answers_more turns t) ∙ sym (append_assoc u.answers (all_answers turns) t.answers)
+pub answers_more : (turns : List Turned) (t : Turned) → all_answers (turns ++ t ∷ []) ≡ all_answers turns ++ t.answer ∷ []
+answers_more [] t = refl
+answers_more (u ∷ turns) t = ap (λ (l : List Answer). u.answer ∷ l) (answers_more turns t)
 
 pub begins_more : (bound budget : ℕ) (text : List ℕ) (asked : List Said) (left : ℕ) (rest : List ℕ) (said : Said) → Begins bound budget text asked left rest → IsLine bound left rest said
     → Begins bound budget text (asked ++ said ∷ []) (left - taken rest) (after_line rest)

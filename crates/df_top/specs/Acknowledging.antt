@@ -1,32 +1,13 @@
--- What was answered of a session by a moment of it, and that from then on it is there.
-use Rattle.std.specs.Prelude.{ℕ, zero, suc, List, [], ◌∷◌, ◌++◌, take, drop, Option, Some, None}
-use Rattle.df_base.specs.Log.{Event, Log}
-use Rattle.df_base.specs.Moments.{Extends}
+-- The calls of a script, and those of a generated run.
+use Rattle.std.specs.Prelude.{ℕ, Option}
 use Rattle.df_disk.specs.Told.{Told}
-use Rattle.df_disk.specs.Adds.{after_all}
-use Rattle.df_model.specs.Commands.{Answer}
-use Rattle.df_model.specs.Work.{Work}
-use Rattle.df_replica.specs.Below.{DataFile, State as Replica}
-use Rattle.df_replica.specs.Serving.{Grade}
-use Rattle.df_replica.specs.Session.{Act, IsMidway, work_after}
+use Rattle.df_replica.specs.Below.{State as Replica}
+use Rattle.df_session.specs.Links.{CallsMade}
 use Rattle.df_workload.specs.declared.state.State.{State as Run}
 use Rattle.df_top.specs.Lines.{all_acts, all_answers}
-use Rattle.df_top.specs.Session.{AreCalls, Ended, EndsCalls, State, act_of, events_to, list_of}
+use Rattle.df_top.specs.Session.{Ended, State, act_of}
 use Rattle.df_top.specs.Works.{Worked}
 use Rattle.df_top.specs.declared.status.Status.{Status}
-
--- ---- the calls of a session
-
--- these calls were made and answered, one after the other, and behind them one was not, if there is one
-pub record CallsMade : Type 0 where
-  pub from : Replica
-  pub to : Replica
-  pub old : Option Told
-  pub new : Option Told
-  pub acts : List Act
-  pub answers : List Answer
-  pub failed : Option Act
-  pub calls : EndsCalls from to old new acts answers failed
 
 -- those of a script
 abbrev pub script_calls : {bound : ℕ} {origin now : State} {status : Status} → Ended bound origin now status → CallsMade
@@ -44,40 +25,3 @@ script_calls {origin = origin} {now = now} ended = record {
 -- those of a generated run
 abbrev pub run_calls : {begun : Run} {s : Replica} {old : Option Told} {run : Run} {t : Replica} {new : Option Told} → Worked begun s old run t new → CallsMade
 run_calls {s = s} {old = old} {t = t} {new = new} worked = record { from = s; to = t; old = old; new = new; acts = worked.acts; answers = worked.answers; failed = worked.failed; calls = worked.calls }
-
--- all that they added to the log
-abbrev pub events_made : CallsMade → List Event
-events_made c = events_to c.from c.to c.old c.new c.acts c.answers c.failed c.calls
-
--- ---- what was answered by a moment, of the told log or of another base
-
--- the log goes on from what the disk told then
-abbrev pub IsSince : Option Told → Log → Type 0
-IsSince None log = ⊥
-IsSince (Some t) log = Extends log t.log
-
--- and what the disk tells later goes on from it
-abbrev pub IsUntil : Option Told → Log → Type 0
-IsUntil None log = ⊥
-IsUntil (Some n) log = Extends n.log log
-
--- the first k of these calls had returned by then: the log goes on from the base with what they added
-abbrev pub HadReturned : ℕ → Option Told → Log → (s : Replica) (old : Option Told) (acts : List Act) (answers : List Answer) (t : Replica) (new : Option Told) → AreCalls s old acts answers t new → Type 0
-HadReturned zero base log s old acts answers t new calls = IsSince base log
-HadReturned (suc k) base log s old [] answers t new calls = ⊥
-HadReturned (suc k) base log s old (a ∷ acts) [] t new calls = ⊥
-HadReturned (suc k) base log s old (a ∷ acts) (x ∷ answers) t new calls = HadReturned k (after_all calls.2.call.events base) log calls.0 calls.1 acts answers t new calls.3
-
-abbrev pub HadAnswers : ℕ → Option Told → Log → (s t : Replica) (old new : Option Told) (acts : List Act) (answers : List Answer) (failed : Option Act) → EndsCalls s t old new acts answers failed → Type 0
-HadAnswers k base log s t old new acts answers None calls = HadReturned k base log s old acts answers t new calls
-HadAnswers k base log s t old new acts answers (Some a) calls = HadReturned k base log s old acts answers calls.0 calls.1 calls.2
-
--- The first k calls of a session were answered by then, that is they had returned, by the log that began with this base. The program prints the line of an answer only
--- behind that, so what was printed by a moment was answered by then.
-abbrev pub WereAnswered : ℕ → Option Told → Log → CallsMade → Type 0
-WereAnswered k base log c = HadAnswers k base log c.from c.to c.old c.new c.acts c.answers c.failed c.calls
-
--- At each moment of a session the log is safe, and whatever a stop leaves has the view after all calls that were answered by then, and perhaps some of those
--- behind them, from the first of these on.
-abbrev pub KeepsAnswered : DataFile → Grade → Work → Option Told → CallsMade → Type 0
-KeepsAnswered file g w base c = (k : ℕ) (log : Log) → WereAnswered k base log c → IsUntil (after_all (events_made c) base) log → IsMidway file g (work_after file w (take k c.acts)) (drop k c.acts ++ list_of c.failed) log

@@ -1,14 +1,15 @@
--- How a word ends over a file that is safe to open, where nothing fails.
-use Rattle.std.specs.Prelude.{◌≡◌, ◌⊎◌, ℕ, List, [], Option, Some}
+-- How a word ends where nothing fails: over a file that is safe to open, and `format` over a blank disk.
+use Rattle.std.specs.Prelude.{◌≡◌, ◌⊎◌, ◌<◌, ℕ, List, [], Option, Some}
 use Rattle.df_base.specs.Causes.{Rose}
 use Rattle.df_disk.specs.Told.{Told}
 use Rattle.df_layout.specs.declared.layout.Layout.{Layout}
 use Rattle.df_lines.specs.Grammar.{Said}
 use Rattle.df_lines.specs.Room.{line_bound}
 use Rattle.df_lines.specs.Script.{Begins}
-use Rattle.df_replica.specs.Below.{DataFile}
+use Rattle.df_replica.specs.Below.{DataFile, IsUnformatted}
 use Rattle.df_theory.specs.View.{View}
 use Rattle.df_replica.specs.Following.{MayOpen}
+use Rattle.df_top.specs.Formats.{Formats}
 use Rattle.df_top.specs.Mode.{IsOfFile}
 use Rattle.df_top.specs.Outside.{Faults, HasCauses, Outside}
 use Rattle.df_top.specs.Run.{Runs, ServesIn, script_budget}
@@ -54,3 +55,9 @@ abbrev pub SafeIsServed : Type 0
 SafeIsServed =
     (mode : Mode) (file : DataFile) (view : View) (t : Told) (old new : Outside) (before now : Faults) (status : Status) → MayOpen file view t → old.told ≡ Some t
     → HasCauses before now status → NoneFailed before now → ServesIn mode file.layout old new status → IsCarriedOut mode file.layout old.left status
+
+-- over a disk whose superblock is blank, and with a cluster other than 0, the word `format` makes the file, or memory was wanting
+abbrev pub BlankIsFormatted : Type 0
+BlankIsFormatted =
+    (layout : Layout) (cluster : ℕ) (t : Told) (later : Option Told) (old new : Option (List ℕ)) (before now : Faults) (status : Status) → 0 < cluster → IsUnformatted t.shown
+    → HasCauses before now status → NoneFailed before now → Formats layout cluster (Some t) later old new status → (status ≡ Done) ⊎ (status ≡ Memory)

@@ -1,35 +1,20 @@
 -- What a word does with a file that may be hurt: sectors of it were damaged, lost or swapped before the open.
 use Rattle.std.proofs.Common.{inl, inr}
-use Rattle.std.specs.Prelude.{◌≡◌, ◌⊎◌, List, [], ◌∷◌, Option, Some, None}
+use Rattle.std.specs.Prelude.{◌≡◌, ◌⊎◌, Some}
 use Rattle.df_disk.specs.Told.{Told}
 use Rattle.df_layout.specs.declared.layout.Layout.{Layout}
 use Rattle.df_theory.specs.View.{View}
 use Rattle.df_units.specs.Bytes.{unit_at}
-use Rattle.df_model.specs.Commands.{Answer}
-use Rattle.df_model.specs.Work.{Work, opened}
-use Rattle.df_replica.specs.Lending.{GivesOwn}
-use Rattle.df_replica.specs.Serving.{next}
-use Rattle.df_replica.specs.Session.{Act}
-use Rattle.df_replica.specs.Below.{DataFile, State as Replica, shape, FindsHad, IsNeedless, RefusesHurt, IsAtRest, MayBeHurt, HasTwoCopies, IsHurtFile, MayBeOfDamage}
+use Rattle.df_model.specs.Work.{opened}
+use Rattle.df_replica.specs.Below.{DataFile, shape, FindsHad, IsNeedless, RefusesHurt, IsAtRest, MayBeHurt, HasTwoCopies, IsHurtFile, MayBeOfDamage}
+use Rattle.df_session.specs.Owning.{AllGiveOwn}
 use Rattle.df_top.specs.Outside.{Outside}
 use Rattle.df_top.specs.Run.{DidNothing, Does, RefusesSuperblock, ServesScript}
-use Rattle.df_top.specs.Session.{AreCalls, EndsCalls}
 use Rattle.df_top.specs.declared.mode.Mode.{Mode}
 use Rattle.df_top.specs.declared.mode.Mode.TheVariants.{Format, Run, Recover, Inspect, Scrub, Workload}
 use Rattle.df_top.specs.declared.status.Status.{Status}
 
 -- ---- reads
-
--- each of these calls that is a read and Ok gives what is its own, over whatever is shown to it without chance, in the state of the machine that the calls before it lead to
-abbrev pub GiveOwn : (s : Replica) → (old : Option Told) → Work → (acts : List Act) → (answers : List Answer) → (t : Replica) → (new : Option Told) → AreCalls s old acts answers t new → Type 0
-GiveOwn s old w [] answers t new are = Unit {0}
-GiveOwn s old w (a ∷ acts) [] t new are = Unit {0}
-GiveOwn s old w (a ∷ acts) (x ∷ answers) t new are = GivesOwn s old w a.command x × GiveOwn are.0 are.1 (next s.file w a.given a.command).0 acts answers t new are.3
-
--- and each that was answered, where the last one was not
-abbrev pub AllGiveOwn : (s t : Replica) → (old new : Option Told) → Work → (acts : List Act) → (answers : List Answer) → (failed : Option Act) → EndsCalls s t old new acts answers failed → Type 0
-AllGiveOwn s t old new w acts answers None ends = GiveOwn s old w acts answers t new ends
-AllGiveOwn s t old new w acts answers (Some a) ends = GiveOwn s old w acts answers ends.0 ends.1 ends.2
 
 -- from the state that was found on: it is one that the file had, and each read of the session gives what is its own
 abbrev pub ReadsOwn : DataFile → View → (t : Told) → (layout : Layout) → (old new : Outside) → (status : Status) → ServesScript layout t old new status → Type 0

@@ -16,7 +16,7 @@ use Rattle.df_replica.specs.Opened.{Mends}
 use Rattle.df_replica.specs.Replica.{Survey, summary_of}
 use Rattle.df_replica.specs.Serving.{Grade, StandsFor}
 use Rattle.df_replica.specs.Surveying.{IsMendable}
-use Rattle.df_top.specs.Keeping.{KeepsFile, over}
+use Rattle.df_session.specs.Keeping.{KeepsFile, over}
 use Rattle.df_top.specs.Opening.{IsSilent}
 use Rattle.df_top.specs.Outside.{Outside, PrintsLine}
 use Rattle.df_top.specs.declared.status.Status.{Status}

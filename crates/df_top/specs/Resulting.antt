@@ -2,32 +2,16 @@
 use Rattle.std.specs.Prelude.{◌≡◌, ℕ, List, [], ◌∷◌, ◌++◌, map}
 use Rattle.df_base.specs.Image.{Image}
 use Rattle.df_lines.specs.Grammar.{Said}
-use Rattle.df_lines.specs.Grammar as lines
 use Rattle.df_theory.specs.View.{View}
 use Rattle.df_units.specs.Bytes.{unit_at}
-use Rattle.df_model.specs.Commands.{Advance, Answer, Append, Begin, ReadBlock, ReadPrepare, ReadReply, Release, Reply, Scrub, WriteBlock}
-use Rattle.df_model.specs.Supply.{Shown, result}
+use Rattle.df_model.specs.Supply.{Shown}
 use Rattle.df_model.specs.Work.{Work, opened}
 use Rattle.df_replica.specs.Below.{DataFile, shape}
 use Rattle.df_replica.specs.Reading.{shown_of}
-use Rattle.df_replica.specs.Session.{Act}
-use Rattle.df_result.specs.Codec.{codec}
-use Rattle.df_script_model.specs.Script.{Call, Line, Ring, printed}
-use Rattle.df_top.specs.Lines.{Turned, all_acts, all_answers, all_text, command_in, said_in}
-
--- what a line asks of the machine: one call, or the whole ring of findings
-abbrev pub line_of : Said → Line
-line_of (lines.Append client request body) = Call (Append client request body)
-line_of (lines.Reply op body) = Call (Reply op body)
-line_of (lines.Block kind body) = Call (WriteBlock kind body)
-line_of (lines.Release address) = Call (Release address)
-line_of (lines.Checkpoint root) = Call (Begin root)
-line_of lines.Step = Call Advance
-line_of (lines.Prepare op) = Call (ReadPrepare op)
-line_of (lines.Lookup client) = Call (ReadReply client)
-line_of (lines.Read address) = Call (ReadBlock address)
-line_of lines.Scrub = Call Scrub
-line_of lines.Recent = Ring
+use Rattle.df_session.specs.Below.{codec}
+use Rattle.df_script_model.specs.Script.{printed}
+use Rattle.df_session.specs.Resulting.{AnswersResult}
+use Rattle.df_top.specs.Lines.{Turned, all_acts, all_answers, all_text, command_of, said_in}
 
 -- one text behind the other
 abbrev pub joined : List (List ℕ) → List ℕ
@@ -36,15 +20,11 @@ joined (text ∷ texts) = text ++ joined texts
 
 -- what these lines print over what is shown, from this state of the machine on
 abbrev pub text_over : DataFile → Shown → Work → List Said → List ℕ
-text_over file shown w says = joined (printed (shape file) (codec file) shown w (map line_of says))
+text_over file shown w says = joined (printed (shape file) (codec file) shown w (map command_of says))
 
 -- what they print over a file whose disk shows this image, in which this view is found
 abbrev pub script_text_of : DataFile → View → Image → List Said → List ℕ
 script_text_of file view image says = text_over file (shown_of file image) (opened (shape file) (unit_at file.layout file.cluster image) view) says
-
--- these calls answered what the machine answers over what is shown, from this state on: each in turn, over what those before it left shown
-abbrev pub AnswersResult : DataFile → Shown → Work → List Act → List Answer → Type 0
-AnswersResult file shown w acts answers = answers ≡ result (shape file) (codec file) shown w (map command_in acts)
 
 -- so it is of these lines, and so they print
 pub record IsResultOf (file : DataFile) (shown : Shown) (w : Work) (turns : List Turned) : Type 0 where

@@ -1,5 +1,5 @@
 -- What the program promises of words that work on a file.
-use Rattle.std.specs.Prelude.{◌≡◌, ◌⊎◌, ◌^◌, ℕ, List, [], Option, Some}
+use Rattle.std.specs.Prelude.{◌≡◌, ◌⊎◌, ◌^◌, ℕ, List, Option, Some}
 use Rattle.df_base.specs.Image.{IsImage}
 use Rattle.df_base.specs.Log.{Sync}
 use Rattle.df_base.specs.Streams.{Appends, AppendsPart}
@@ -13,24 +13,20 @@ use Rattle.df_units.specs.Bytes.{unit_at}
 use Rattle.df_model.specs.Supply.{Shown}
 use Rattle.df_model.specs.Work.{opened}
 use Rattle.df_model.specs.declared.errors.OpenError.{OpenError}
-use Rattle.df_replica.specs.Below.{IsLayoutShown, Refuses, IsOpened, State as Replica, shape, told_after}
-use Rattle.df_replica.specs.Following.{MayOpen}
+use Rattle.df_replica.specs.Below.{IsLayoutShown, Refuses, IsOpened, State as Replica, shape}
 use Rattle.df_replica.specs.Opened.{Mends}
 use Rattle.df_replica.specs.Reading.{shown_of}
-use Rattle.df_replica.specs.Serving.{Grade, IsKept, StandsFor}
-use Rattle.df_replica.specs.Session.{answers_of}
-use Rattle.df_result.specs.Agreeing.{AgreeShown}
-use Rattle.df_top.specs.Acknowledging.{KeepsAnswered, events_made, script_calls}
-use Rattle.df_top.specs.Keeping.{KeepsFile, over}
+use Rattle.df_session.specs.Below.{AgreeShown}
+use Rattle.df_session.specs.Links.{events_made}
+use Rattle.df_session.specs.Laws.{CallsKeep}
+use Rattle.df_top.specs.Acknowledging.{script_calls}
 use Rattle.df_top.specs.Opening.{FailsToOpen, IsSilent, PrintsRefusal, RefusesFile}
 use Rattle.df_top.specs.Outside.{Outside}
 use Rattle.df_top.specs.Reporting.{FailsToSurvey, Inspects, Recovers}
 use Rattle.df_top.specs.Scrubs.{ScrubsFile}
-use Rattle.df_top.specs.Sparing.{SparesBlocks}
 use Rattle.df_top.specs.Working.{WorksThrough}
-use Rattle.df_top.specs.Lines.{all_acts, all_answers}
 use Rattle.df_top.specs.Resulting.{IsResultOf}
-use Rattle.df_top.specs.Session.{Ended, State, act_of}
+use Rattle.df_top.specs.Session.{Ended, State}
 use Rattle.df_top.specs.Usage.{usage}
 use Rattle.df_top.specs.declared.mode.Mode.{Mode}
 use Rattle.df_top.specs.declared.mode.Mode.TheVariants.{Format, Run, Recover, Inspect, Scrub, Workload}
@@ -51,11 +47,9 @@ script_budget = 2 ^ 32
 abbrev pub start : (told : Option Told) → Outside → Replica → State
 start told old replica = record { outside = record { told = told; left = old.left; written = old.written }; text = old.left; budget = script_budget; lines = 0; replica = replica }
 
--- the file that the disk shows is opened, and the script is served: what is answered is what the machine answers from the state that is found, on whatever
--- image, and what is answered and printed is a function of what the disk shows at first, and of the lines; and by each log that shows what the disk showed, and by which the file may be opened, the told one or one that is begun anew there, all that was
--- answered is kept, at the end and at each moment from its answer on. On whatever image, no call writes a sector of a block that is held, but a step those of the
--- running trailer's next. No step finds the superblock damaged that it wrote, since the disk tells what it shows. Between the barrier and the first call is the mending
--- alone, which leaves each place that a call reads as it was, whatever is shown.
+-- The file that the disk shows is opened, and the script is served; what its calls keep is what calls on an open file keep, and what is answered and printed is a function of
+-- what the disk shows at first, and of the lines. No step finds the superblock damaged that it wrote, since the disk tells what it shows. Between the barrier and the first call is
+-- the mending alone, which leaves each place that a call reads as it was, whatever is shown.
 pub record ServesScript (layout : Layout) (t : Told) (old new : Outside) (status : Status) : Type 0 where
   pub replica : Replica
   pub is_opened : IsOpened layout t.shown replica
@@ -64,19 +58,10 @@ pub record ServesScript (layout : Layout) (t : Told) (old new : Outside) (status
   pub last : State
   pub last_is : last.outside ≡ new
   pub session : Ended (line_bound layout) (start mended old replica) last status
-  pub answered : (view : View) → IsFound (shape replica.file) (unit_at replica.file.layout replica.file.cluster t.shown) view
-      → all_answers session.turns ≡ answers_of replica.file (opened (shape replica.file) (unit_at replica.file.layout replica.file.cluster t.shown) view) (all_acts session.turns)
   pub result : (view : View) (shown : Shown) → IsFound (shape replica.file) (unit_at replica.file.layout replica.file.cluster t.shown) view → AgreeShown replica.file.layout (shown_of replica.file t.shown) shown
       → IsResultOf replica.file shown (opened (shape replica.file) (unit_at replica.file.layout replica.file.cluster t.shown) view) session.turns
   pub adds : new.told ≡ after_all (events_made (script_calls session)) mended
-  pub kept : (g : Grade) (view : View) (base : Told) → base.shown ≡ t.shown → MayOpen replica.file view base → StandsFor g (unit_at replica.file.layout replica.file.cluster t.shown) view
-      → IsKept g replica (opened (shape replica.file) (unit_at replica.file.layout replica.file.cluster t.shown) view) (told_after mending.events (did Sync base)).log
-  pub keeps : (g : Grade) (view : View) (base : Told) → base.shown ≡ t.shown → MayOpen replica.file view base → StandsFor g (unit_at replica.file.layout replica.file.cluster t.shown) view
-      → KeepsFile replica.file g (opened (shape replica.file) (unit_at replica.file.layout replica.file.cluster t.shown) view) base (all_acts session.turns) (all_answers session.turns) (act_of session.failing) (over mending.events (events_made (script_calls session)) base)
-  pub acknowledged : (g : Grade) (view : View) (base : Told) → base.shown ≡ t.shown → MayOpen replica.file view base → StandsFor g (unit_at replica.file.layout replica.file.cluster t.shown) view
-      → KeepsAnswered replica.file g (opened (shape replica.file) (unit_at replica.file.layout replica.file.cluster t.shown) view) (over mending.events [] base) (script_calls session)
-  pub spares : (view : View) → IsFound (shape replica.file) (unit_at replica.file.layout replica.file.cluster t.shown) view
-      → SparesBlocks replica.file (opened (shape replica.file) (unit_at replica.file.layout replica.file.cluster t.shown) view) (script_calls session)
+  pub calls : CallsKeep t replica mended mending (script_calls session)
   pub undamaged : status ≡ Refused → ⊥
 
 -- ---- any word

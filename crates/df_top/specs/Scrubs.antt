@@ -19,7 +19,7 @@ use Rattle.df_replica.specs.Leaving.{SparesReads}
 use Rattle.df_replica.specs.Opened.{Mends}
 use Rattle.df_replica.specs.Scrubbing.{IsMachineTour}
 use Rattle.df_replica.specs.Serving.{Grade, StandsFor}
-use Rattle.df_top.specs.Keeping.{KeepsFile, over}
+use Rattle.df_session.specs.Keeping.{KeepsFile, over}
 use Rattle.df_top.specs.Outside.{Outside, PrintsLine}
 use Rattle.df_top.specs.declared.status.Status.{Status}
 use Rattle.df_top.specs.declared.status.Status.TheVariants.{DiskFault, Done, Found}

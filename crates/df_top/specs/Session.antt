@@ -1,6 +1,5 @@
 -- How far a session has come, and what it has done when it ends.
-use Rattle.std.specs.Prelude.{◌≡◌, ◌+◌, ℕ, Bool, true, false, IsTrue, List, [], ◌∷◌, ◌++◌, length, map, Option, Some, None}
-use Rattle.df_base.specs.Log.{Event}
+use Rattle.std.specs.Prelude.{◌≡◌, ◌⊎◌, ◌<◌, ◌+◌, ℕ, Bool, true, false, IsTrue, List, [], ◌∷◌, ◌++◌, length, map, Option, Some, None}
 use Rattle.df_base.specs.Streams.{Appends, AppendsPart}
 use Rattle.df_disk.specs.Told.{Told}
 use Rattle.df_layout.specs.declared.damage.Class.{Class}
@@ -8,14 +7,14 @@ use Rattle.df_layout.specs.declared.places.Place.{Place}
 use Rattle.df_lines.specs.Grammar.{Said}
 use Rattle.df_lines.specs.Room.{IsAtEnd}
 use Rattle.df_lines.specs.Script.{Begins, IsRefused}
-use Rattle.df_lines.specs.Text.{unread}
-use Rattle.df_model.specs.Commands.{Advance, Answer, Command}
+use Rattle.df_lines.specs.Text.{line_of, unread}
+use Rattle.df_model.specs.Commands.{Command}
 use Rattle.df_replica.specs.Below.{State as Replica}
-use Rattle.df_replica.specs.Opened.{ToldBy}
-use Rattle.df_replica.specs.Serving.{IsCall}
 use Rattle.df_replica.specs.Session.{Act}
 use Rattle.df_script_model.specs.Texts.{damaged_text}
-use Rattle.df_top.specs.Lines.{AreTurned, Turned, all_acts, all_answers, commands_of, printed, said_in}
+use Rattle.df_session.specs.Endings.{IsDamaged}
+use Rattle.df_session.specs.Links.{AreCalls, EndsCalls}
+use Rattle.df_top.specs.Lines.{AreTurned, Turned, all_acts, all_answers, command_of, printed, said_in}
 use Rattle.df_top.specs.Outside.{Outside}
 use Rattle.df_top.specs.declared.session.Session.{Session}
 use Rattle.df_top.specs.declared.status.Status.{Status}
@@ -37,49 +36,13 @@ state outside s = record { outside = outside; text = unread s.lines.reading.held
 abbrev pub EndedIsEnd : Session → Option (List ℕ) → Type 0
 EndedIsEnd s left = IsTrue s.lines.ended → IsAtEnd left
 
--- ---- calls
-
--- one call: what it was supplied with is right, and what the disk tells changed by its events alone
-pub record Calls (a : Act) (s t : Replica) (old new : Option Told) (answer : Option Answer) : Type 0 where
-  pub call : IsCall a.given a.command s t old new answer
-  pub told : ToldBy old new
-
--- from one state to another these calls were made, one after the other, and each was answered
-abbrev pub AreCalls : Replica → Option Told → List Act → List Answer → Replica → Option Told → Type 0
-AreCalls s old [] [] t new = (t ≡ s) × (new ≡ old)
-AreCalls s old [] (x ∷ answers) t new = ⊥
-AreCalls s old (a ∷ acts) [] t new = ⊥
-AreCalls s old (a ∷ acts) (x ∷ answers) t new = (u : Replica) × (mid : Option Told) × Calls a s u old mid (Some x) × AreCalls u mid acts answers t new
-
--- the events that they added
-abbrev pub events_of : (s : Replica) → (old : Option Told) → (acts : List Act) → (answers : List Answer) → (t : Replica) → (new : Option Told) → AreCalls s old acts answers t new → List Event
-events_of s old [] [] t new calls = []
-events_of s old [] (x ∷ answers) t new calls = []
-events_of s old (a ∷ acts) [] t new calls = []
-events_of s old (a ∷ acts) (x ∷ answers) t new calls = calls.2.call.events ++ events_of calls.0 calls.1 acts answers t new calls.3
-
--- the act that was not answered, if there is one
-abbrev pub list_of : Option Act → List Act
-list_of None = []
-list_of (Some a) = a ∷ []
-
--- the calls were made, and the last one was not answered, if there is one
-abbrev pub EndsCalls : (s t : Replica) → (old new : Option Told) → List Act → List Answer → Option Act → Type 0
-EndsCalls s t old new acts answers None = AreCalls s old acts answers t new
-EndsCalls s t old new acts answers (Some a) = (u : Replica) × (mid : Option Told) × AreCalls s old acts answers u mid × Calls a u t mid new None
-
--- what all of them added
-abbrev pub events_to : (s t : Replica) → (old new : Option Told) → (acts : List Act) → (answers : List Answer) → (failed : Option Act) → EndsCalls s t old new acts answers failed → List Event
-events_to s t old new acts answers None calls = events_of s old acts answers t new calls
-events_to s t old new acts answers (Some a) calls = events_of s old acts answers calls.0 calls.1 calls.2 ++ calls.3.call.events
-
 -- ---- executed, and ended
 
 -- the line whose one call was not answered
 pub record Failing : Type 0 where
   pub said : Said
   pub act : Act
-  pub asks : commands_of said ≡ act.command ∷ []
+  pub asks : act.command ≡ command_of said
 
 abbrev pub act_of : Option Failing → Option Act
 act_of None = None
@@ -98,18 +61,24 @@ pub record Executed (bound : ℕ) (origin now : State) (turns : List Turned) : T
   pub lines : now.lines ≡ origin.lines + length turns
   pub calls : AreCalls origin.replica origin.outside.told (all_acts turns) (all_answers turns) now.replica now.outside.told
 
--- what is unread at the end: where the script is cut, a line that is refused; at Done nothing at all
+-- of this rest of a text, of which the source has so much left, its first line was read, or more of it than the bound
+pub record HoldsLine (bound : ℕ) (rest left : List ℕ) : Type 0 where
+  pub held : List ℕ
+  pub is : rest ≡ held ++ left
+  pub line : (line_of held ≡ line_of rest) ⊎ (bound < length (line_of held))
+
+-- what is unread at the end: where the script is cut, a line that is refused, and the source was read as far as that takes; at Done nothing at all
 pub record EndsText (bound budget : ℕ) (rest : List ℕ) (left : Option (List ℕ)) (cut : Bool) (status : Status) : Type 0 where
   pub refused : cut ≡ true → IsRefused bound budget rest
+  pub held : cut ≡ true → (remains : List ℕ) → left ≡ Some remains → HoldsLine bound rest remains
   pub finished : status ≡ Done → (rest ≡ []) × (left ≡ Some [])
 
--- The line of a step that is damaged: a copy of the superblock that it wrote is not read back as it was written. Over a disk that tells what it shows it never comes.
-pub record IsDamaged (command : Command) (told : Option Told) (line : List ℕ) : Type 0 where
-  pub step : command ≡ Advance
+-- the line of a step that is damaged
+pub record IsDamagedLine (command : Command) (told : Option Told) (line : List ℕ) : Type 0 where
   pub place : Place
   pub class : Class
   pub is : line ≡ damaged_text place class
-  pub untold : told ≡ None
+  pub step : IsDamaged command told place class
 
 -- What is written at the end, and which call was not answered: all that is to be printed, or a front of it where the sink failed. Behind a step that is
 -- damaged comes its line.
@@ -119,8 +88,8 @@ EndsWith n old new turns None cut Script = (cut ≡ true) × Appends old.written
 EndsWith n old new turns None cut ReadFault = (cut ≡ false) × Appends old.written new.written (printed n turns cut)
 EndsWith n old new turns None cut WriteFault = AppendsPart old.written new.written (printed n turns cut)
 EndsWith n old new turns (Some a) cut DiskFault = (cut ≡ false) × Appends old.written new.written (printed n turns cut)
-EndsWith n old new turns (Some a) cut Refused = (cut ≡ false) × (line : List ℕ) × IsDamaged a.command new.told line × Appends old.written new.written (printed n turns cut ++ line)
-EndsWith n old new turns (Some a) cut WriteFault = (cut ≡ false) × (line : List ℕ) × IsDamaged a.command new.told line × AppendsPart old.written new.written (printed n turns cut ++ line)
+EndsWith n old new turns (Some a) cut Refused = (cut ≡ false) × (line : List ℕ) × IsDamagedLine a.command new.told line × Appends old.written new.written (printed n turns cut ++ line)
+EndsWith n old new turns (Some a) cut WriteFault = (cut ≡ false) × (line : List ℕ) × IsDamagedLine a.command new.told line × AppendsPart old.written new.written (printed n turns cut ++ line)
 EndsWith n old new turns failed cut status = ⊥
 
 -- from origin to now a session was executed to its end: these lines are the first ones of the text, each was answered, and then one more was not, or there

@@ -1,29 +1,21 @@
 -- What one line of a script does to a session, whatever was executed before it.
-use Rattle.std.specs.Prelude.{◌≡◌, ◌⊎◌, ◌+◌, ◌-◌, ℕ, List, [], ◌∷◌, ◌++◌, map, Option, Some, None}
-use Rattle.std.specs.List.{range_with_len}
+use Rattle.std.specs.Prelude.{◌≡◌, ◌⊎◌, ◌+◌, ◌-◌, ℕ, List, [], ◌∷◌, ◌++◌, Option, Some, None}
 use Rattle.df_base.specs.Streams.{Appends, AppendsPart}
 use Rattle.df_disk.specs.Told.{Told}
 use Rattle.df_inspect.specs.Opening.{script_text}
 use Rattle.df_lines.specs.Grammar.{Said}
 use Rattle.df_lines.specs.Script.{IsLine}
 use Rattle.df_lines.specs.Text.{after_line, taken}
-use Rattle.df_layout.specs.declared.damage.Finding.{Finding}
-use Rattle.df_model.specs.Commands.{Answer, Command, Recent}
+use Rattle.df_model.specs.Commands.{Answer, Command}
 use Rattle.df_replica.specs.Below.{State as Replica}
-use Rattle.df_replica.specs.Session.{Act}
 use Rattle.df_script_model.specs.Script.{answer_text}
-use Rattle.df_top.specs.Lines.{Turned, found_in, command_in, commands_of, line_text}
-use Rattle.df_top.specs.Session.{AreCalls, Calls, Ended, Executed, IsDamaged, State}
+use Rattle.df_session.specs.Links.{Makes}
+use Rattle.df_top.specs.Lines.{Turned}
+use Rattle.df_top.specs.Session.{Ended, Executed, IsDamagedLine, State}
 use Rattle.df_top.specs.declared.turns.Turn.{Turn}
 use Rattle.df_top.specs.declared.turns.Turn.TheVariants.{GoesOn as Goes, Ends as EndsBy}
 use Rattle.df_top.specs.declared.status.Status.{Status}
 use Rattle.df_top.specs.declared.status.Status.TheVariants.{Script, Refused, DiskFault, WriteFault}
-
--- the call that a command asks for
-pub record Makes (command : Command) (s t : Replica) (old new : Option Told) (answer : Option Answer) : Type 0 where
-  pub act : Act
-  pub is : act.command ≡ command
-  pub calls : Calls act s t old new answer
 
 -- the call was made and was answered
 abbrev pub IsAnswered : Command → (s t : Replica) → (old new : Option Told) → (List ℕ → Type 0) → Type 0
@@ -31,7 +23,7 @@ IsAnswered command s t old new Printed = (x : Answer) × Makes command s t old n
 
 -- it is a step that is damaged, and has no answer but the line that ends the session
 abbrev pub EndsDamaged : Command → (s t : Replica) → (old new : Option Told) → (List ℕ → Type 0) → Type 0
-EndsDamaged command s t old new Printed = (line : List ℕ) × Makes command s t old new None × IsDamaged command new line × Printed line
+EndsDamaged command s t old new Printed = (line : List ℕ) × Makes command s t old new None × IsDamagedLine command new line × Printed line
 
 -- the call was made and its answer is printed; or the disk failed in it; or it is a step that is damaged; or the sink failed with its line
 abbrev pub Answers : Command → (s t : Replica) → (old new : Option Told) → (written took : Option (List ℕ)) → Turn → Type 0
@@ -40,33 +32,6 @@ Answers command s t old new written took (EndsBy DiskFault) = Makes command s t 
 Answers command s t old new written took (EndsBy Refused) = EndsDamaged command s t old new (λ line. Appends written took line)
 Answers command s t old new written took (EndsBy WriteFault) = IsAnswered command s t old new (λ line. AppendsPart written took line) ⊎ EndsDamaged command s t old new (λ line. AppendsPart written took line)
 Answers command s t old new written took (EndsBy status) = ⊥
-
--- ---- a line
-
--- the calls that a line asks for were made and answered, and this is what the answers print
-abbrev pub IsLineAnswered : Said → (s t : Replica) → (old new : Option Told) → (List ℕ → Type 0) → Type 0
-IsLineAnswered said s t old new Printed =
-    (acts : List Act) × (answers : List Answer) × (map command_in acts ≡ commands_of said) × AreCalls s old acts answers t new × Printed (line_text said answers)
-
--- these findings are what so many places of the ring hold, by the calls that read them
-abbrev pub ShowsRing : Replica → Option Told → (places : ℕ) → List Finding → Type 0
-ShowsRing s told places findings =
-    (acts : List Act) × (answers : List Answer) × (map command_in acts ≡ map Recent (range_with_len 0 places)) × AreCalls s told acts answers s told × (found_in answers ≡ findings)
-
--- the one call that it asks for was made and has no answer
-abbrev pub IsLineFailed : Said → (s t : Replica) → (old new : Option Told) → (Act → Type 0) → Type 0
-IsLineFailed said s t old new Holds = (a : Act) × (commands_of said ≡ a.command ∷ []) × Calls a s t old new None × Holds a
-
-abbrev pub IsLineDamaged : Said → (s t : Replica) → (old new : Option Told) → (List ℕ → Type 0) → Type 0
-IsLineDamaged said s t old new Printed = IsLineFailed said s t old new (λ a. (line : List ℕ) × IsDamaged a.command new line × Printed line)
-
--- a line is answered and its answer is printed; or the disk failed in its call; or that is a step that is damaged; or the sink failed with what is printed
-abbrev pub ServesLine : Said → (s t : Replica) → (old new : Option Told) → (written took : Option (List ℕ)) → Turn → Type 0
-ServesLine said s t old new written took Goes = IsLineAnswered said s t old new (λ line. Appends written took line)
-ServesLine said s t old new written took (EndsBy DiskFault) = IsLineFailed said s t old new (λ a. took ≡ written)
-ServesLine said s t old new written took (EndsBy Refused) = IsLineDamaged said s t old new (λ line. Appends written took line)
-ServesLine said s t old new written took (EndsBy WriteFault) = IsLineAnswered said s t old new (λ line. AppendsPart written took line) ⊎ IsLineDamaged said s t old new (λ line. AppendsPart written took line)
-ServesLine said s t old new written took (EndsBy status) = ⊥
 
 -- the line that refuses the next line was written, or a front of it where the sink failed
 abbrev pub RefusesLine : (n : ℕ) → (old new : Option (List ℕ)) → Status → Type 0

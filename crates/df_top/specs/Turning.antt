@@ -4,7 +4,7 @@ use Rattle.df_base.specs.Streams.{Appends, AppendsPart}
 use Rattle.df_inspect.specs.Answers.{text_of}
 use Rattle.df_model.specs.Commands.{Command}
 use Rattle.df_model.specs.declared.commands.Answer.{Answer}
-use Rattle.df_top.specs.Calls.{is_damaged, is_fault}
+use Rattle.df_session.specs.Calls.{is_damaged, is_fault}
 use Rattle.df_top.specs.Outside.{Blames}
 use Rattle.df_top.specs.Session.{EndedIsEnd}
 use Rattle.df_top.specs.declared.session.Session.{Session}

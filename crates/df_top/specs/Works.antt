@@ -20,11 +20,10 @@ use Rattle.df_workload.specs.Sound.{flag}
 use Rattle.df_workload.specs.declared.outcome.Outcome.{Outcome}
 use Rattle.df_workload.specs.declared.outcome.Outcome.TheVariants.{Refused, Accepted, Wrote, Finished}
 use Rattle.df_workload.specs.declared.state.State.{State as Run}
-use Rattle.df_top.specs.Calls.{is_fault}
-use Rattle.df_top.specs.Lines.{command_in}
+use Rattle.df_session.specs.Calls.{is_fault}
+use Rattle.df_session.specs.Links.{AreCalls, Calls, EndsCalls, Makes, command_in}
 use Rattle.df_top.specs.Outside.{PrintsLine}
-use Rattle.df_top.specs.Session.{AreCalls, Calls, EndsCalls, IsDamaged}
-use Rattle.df_top.specs.Step.{Makes}
+use Rattle.df_top.specs.Session.{IsDamagedLine}
 use Rattle.df_top.specs.declared.works.Fault.{Fault}
 use Rattle.df_top.specs.declared.works.Fault.TheVariants.{Disk, Damaged}
 use Rattle.df_top.specs.declared.status.Status.{Status}
@@ -36,7 +35,7 @@ use Rattle.df_top.specs.declared.status.Status.TheVariants as ends
 abbrev pub MakesTo : Command → (s t : Replica) → (old new : Option Told) → Result Outcome Fault → Type 0
 MakesTo command s t old new (Ok outcome) = (x : Answered) × Makes command s t old new (Some x) × (outcome ≡ outcome_of x)
 MakesTo command s t old new (Err Disk) = Makes command s t old new None
-MakesTo command s t old new (Err (Damaged place class)) = Makes command s t old new None × IsDamaged command new (damaged_text place class)
+MakesTo command s t old new (Err (Damaged place class)) = Makes command s t old new None × IsDamagedLine command new (damaged_text place class)
 
 -- the disk failed
 abbrev pub is_disk : Fault → Bool
@@ -99,7 +98,7 @@ pub record Fails (begun : Run) (s : Replica) (old : Option Told) (run : Run) (t 
 abbrev pub Comes : {T : Type 0} → (begun : Run) → (s : Replica) → (old : Option Told) → (run : Run) → (t : Replica) → (new : Option Told) → Result T Fault → Type 0
 Comes begun s old run t new (Ok x) = Works begun s old run t new
 Comes begun s old run t new (Err Disk) = Fails begun s old run t new (λ a. Unit {0})
-Comes begun s old run t new (Err (Damaged place class)) = Fails begun s old run t new (λ a. IsDamaged a.command new (damaged_text place class))
+Comes begun s old run t new (Err (Damaged place class)) = Fails begun s old run t new (λ a. IsDamagedLine a.command new (damaged_text place class))
 
 -- ---- a whole run
 
@@ -136,8 +135,8 @@ abbrev pub Writes : Run → Replica → (told : Option Told) → (failed : Optio
 Writes run t told None old new ends.Done = Appends old new (workload_text (workload_of run t))
 Writes run t told None old new ends.WriteFault = AppendsPart old new (workload_text (workload_of run t))
 Writes run t told (Some a) old new ends.DiskFault = new ≡ old
-Writes run t told (Some a) old new ends.Refused = (line : List ℕ) × IsDamaged a.command told line × Appends old new line
-Writes run t told (Some a) old new ends.WriteFault = (line : List ℕ) × IsDamaged a.command told line × AppendsPart old new line
+Writes run t told (Some a) old new ends.Refused = (line : List ℕ) × IsDamagedLine a.command told line × Appends old new line
+Writes run t told (Some a) old new ends.WriteFault = (line : List ℕ) × IsDamagedLine a.command told line × AppendsPart old new line
 Writes run t told failed old new status = ⊥
 
 -- how many steps a run has at its end: one for each block of the running trailer, and the last

@@ -1,5 +1,5 @@
 // How the words that work on a file end where nothing fails.
-ghost use Rattle.df_top.specs.Completeness.{SafeIsRun, SafeIsServed};
+ghost use Rattle.df_top.specs.Completeness.{BlankIsFormatted, SafeIsRun, SafeIsServed};
 
 /// A file that is safe to open is served: where no call of the disk, the source or the sink failed, `run` ends Done, or Script
 /// where a line of the text is refused, `recover` ends Done, and `inspect` and `scrub` Done or Found; or memory was wanting,
@@ -7,4 +7,10 @@ ghost use Rattle.df_top.specs.Completeness.{SafeIsRun, SafeIsServed};
 pub fn a_safe_file_is_served()
     ensures runs { SafeIsRun }
     ensures serves { SafeIsServed }
+{}
+
+/// A blank disk is formatted: with a cluster other than 0, where no call of the disk or of the sink failed, the word `format` ends
+/// Done, with the file made and its line printed, or memory was wanting.
+pub fn a_blank_disk_is_formatted()
+    ensures { BlankIsFormatted }
 {}

@@ -4,12 +4,14 @@ ghost use Rattle.df_base.specs.Log.{Sync};
 ghost use Rattle.df_disk.specs.Adds.{AddsPart};
 ghost use Rattle.df_layout.specs.declared.layout.Layout.{Layout};
 ghost use Rattle.df_lines.specs.Room.{IsFresh, line_bound};
+ghost use Rattle.df_units.specs.Within.{AddsWithin};
 ghost use Rattle.df_top.specs.declared.mode.Mode.{Mode};
 ghost use Rattle.df_top.specs.Mode.{AsksOfFile, IsOfFile, Means, MeansNothing};
 ghost use Rattle.df_top.specs.Formats.{Formats, MakesFile};
 ghost use Rattle.df_top.specs.Hurting.{RunsOverHurt};
 ghost use Rattle.df_top.specs.Outside.{Blames, HasCauses};
 ghost use Rattle.df_top.specs.Run.{IsWithout, PrintsUsage, Runs};
+ghost use Rattle.df_top.specs.Within.{WritesOwn};
 
 use crate::making::make_file;
 use crate::mode::{Mode, mode_of};
@@ -119,6 +121,10 @@ pub fn run<D: Disk, S: Source, W: Sink>(
         (record { told = D.told disk.old; left = S.left source.old; written = W.written sink.old })
         (record { told = D.told disk.new; left = S.left source.new; written = W.written sink.new }) result }
     ensures inspects { Means (map string_bytes words.now) Mode.Inspect → AddsPart (Sync ∷ []) (D.told disk.old) (D.told disk.new) }
+
+    // Every write lies within the zones of the file: of the one that is made, or of the one whose superblock is shown.
+    ensures made_within { (layout : Layout) (cluster : ℕ) → Means (map string_bytes words.now) (Mode.Format layout cluster) → AddsWithin layout (D.told disk.old) (D.told disk.new) }
+    ensures within { (mode : Mode) → IsOfFile mode → Means (map string_bytes words.now) mode → WritesOwn (D.told disk.old) (D.told disk.new) }
 
     // Where sectors of the file were damaged, lost or swapped before, they find a state that the file really had, or refuse it
     // because of a sector that is hurt; and a read of a script gives what is the state's own, as it was written.

@@ -2,6 +2,7 @@
 ghost use Rattle.std.specs.Prelude.{◌≡◌};
 ghost use Rattle.df_layout.specs.Zones.{file_sectors};
 ghost use Rattle.df_inspect.specs.Opening.{formatted_text};
+ghost use Rattle.df_units.specs.Within.{AddsWithin};
 ghost use Rattle.df_top.specs.Formats.{Formats, MakesFile};
 ghost use Rattle.df_top.specs.Outside.{Blames, PrintsLine};
 ghost use Rattle.df_top.specs.Refusing.{PrintsFormatError};
@@ -43,6 +44,7 @@ fn tell_formatted<W: Sink>(sink: &mut W, layout: &Layout) -> Status
 fn make<D: Disk, W: Sink>(disk: &mut D, sink: &mut W, rooms: &mut Rooms, cluster: u128) -> Status
     ensures formats { Formats rooms.old.layout cluster (D.told disk.old) (D.told disk.new) (W.written sink.old) (W.written sink.new) result }
     ensures makes { MakesFile rooms.old.layout cluster (D.told disk.old) (D.told disk.new) result }
+    ensures within { AddsWithin rooms.old.layout (D.told disk.old) (D.told disk.new) }
     ensures disk { Blames Status.DiskFault (D.faults disk.old) (D.faults disk.new) result }
     ensures sink { Blames Status.WriteFault (W.faults sink.old) (W.faults sink.new) result }
     ensures memory { result ≡ Status.Memory → ⊥ }
@@ -63,6 +65,7 @@ pub fn make_file<D: Disk, W: Sink>(
 ) -> Status
     ensures formats { Formats layout.now cluster (D.told disk.old) (D.told disk.new) (W.written sink.old) (W.written sink.new) result }
     ensures makes { MakesFile layout.now cluster (D.told disk.old) (D.told disk.new) result }
+    ensures within { AddsWithin layout.now (D.told disk.old) (D.told disk.new) }
     ensures disk { Blames Status.DiskFault (D.faults disk.old) (D.faults disk.new) result }
     ensures sink { Blames Status.WriteFault (W.faults sink.old) (W.faults sink.new) result }
 {

@@ -1,10 +1,10 @@
-// One line of a script on the scrubber: the calls that it asks for, and the line that their answers print.
-ghost use Rattle.std.specs.Prelude.{◌≡◌, ◌<◌, ◌≤◌, ◌+◌, ◌++◌, ℕ, length, take, Option, true};
+// One line of a script on the scrubber: the call that it asks for, and the line that its answer prints.
+ghost use Rattle.std.specs.Prelude.{◌≡◌, ◌<◌, ◌≤◌, ◌+◌, ◌++◌, ℕ, length, take, Option, Some, true};
 ghost use Rattle.df_disk.specs.Told.{Told};
-ghost use Rattle.df_lines.specs.Grammar as lines;
-ghost use Rattle.df_model.specs.Commands.{Scrub, ToRecent};
-ghost use Rattle.df_top.specs.Lines.{found_of};
-ghost use Rattle.df_top.specs.Step.{Answers, ServesLine, ShowsRing};
+ghost use Rattle.df_model.specs.Commands.{Recent, Scrub, ToRecent};
+ghost use Rattle.df_replica.specs.Answering.{Serves};
+ghost use Rattle.df_top.specs.Findings.{items_of};
+ghost use Rattle.df_top.specs.Step.{Answers};
 ghost use Rattle.df_top.specs.Turning.{BlamesIfEnds};
 
 use crate::status::Status;
@@ -42,8 +42,8 @@ pub fn scrub<D: Disk, W: Sink>(disk: &mut D, sink: &mut W, replica: &mut Replica
 // Puts a finding behind the first `count` ones, where there is one, and says how many there are then.
 fn keep(row: &mut [Finding], count: usize, found: Option<Finding>) -> usize
     requires { count < length row.old }
-    ensures kept { take result row.new ≡ take count row.old ++ found_of (ToRecent found) }
-    ensures count { result ≡ count + length (found_of (ToRecent found)) }
+    ensures kept { take result row.new ≡ take count row.old ++ items_of found }
+    ensures count { result ≡ count + length (items_of found) }
     ensures length { length row.new ≡ length row.old }
 {
     match found {
@@ -59,7 +59,8 @@ fn keep(row: &mut [Finding], count: usize, found: Option<Finding>) -> usize
 fn fill(replica: &Replica, row: &mut [Finding]) -> usize
     requires live { replica.now.live ≡ true }
     requires room { length row.old ≡ 64 }
-    ensures ring { (told : Option Told) → ShowsRing replica.now told 64 (take result row.new) }
+    ensures ring { take result row.new ≡ replica.now.findings }
+    ensures call { (told : Option Told) → Serves Recent replica.now replica.now told told (Some (ToRecent replica.now.findings)) }
     ensures few { result ≤ 64 }
     ensures length { length row.new ≡ 64 }
 {
@@ -75,7 +76,7 @@ fn fill(replica: &Replica, row: &mut [Finding]) -> usize
 /// Prints what the scrubber found last, the newest 64 findings. No disk is touched.
 pub fn recent<W: Sink>(sink: &mut W, replica: &Replica) -> Turn
     requires live { replica.now.live ≡ true }
-    ensures answers { (told : Option Told) → ServesLine lines.Recent replica.now replica.now told told (W.written sink.old) (W.written sink.new) result }
+    ensures answers { (told : Option Told) → Answers Recent replica.now replica.now told told (W.written sink.old) (W.written sink.new) result }
     ensures disk { (faults : ℕ) → BlamesIfEnds Status.DiskFault faults faults result }
     ensures sink { BlamesIfEnds Status.WriteFault (W.faults sink.old) (W.faults sink.new) result }
 {

@@ -9,6 +9,7 @@ ghost use Rattle.df_top.specs.Mode.{AsksOfFile, Means};
 ghost use Rattle.df_top.specs.Outside.{Blames, HasCauses};
 ghost use Rattle.df_top.specs.Refusing.{PrintsError};
 ghost use Rattle.df_top.specs.Run.{ServesIn};
+ghost use Rattle.df_top.specs.Within.{WritesIn};
 
 use crate::mode::{Mode, mode_of};
 use crate::reporting::{inspect_file, recover_file};
@@ -87,6 +88,7 @@ pub fn serve<D: Disk, S: Source, W: Sink>(
     ensures hurt { (mode : Mode) → Means (map string_bytes words.now) mode → ServesOverHurt mode rooms.layout
         (record { told = D.told disk.old; left = S.left source.old; written = W.written sink.old })
         (record { told = D.told disk.new; left = S.left source.new; written = W.written sink.new }) result }
+    ensures within { WritesIn rooms.layout (D.told disk.old) (D.told disk.new) }
     ensures unread { (Means (map string_bytes words.now) Mode.Run → ⊥) → S.left source.new ≡ S.left source.old }
     ensures causes { HasCauses
         (record { disk = D.faults disk.old; source = S.faults source.old; sink = W.faults sink.old })

@@ -1,11 +1,10 @@
 // What becomes of a session by an answer: its line is printed, or it ends.
 ghost use Rattle.std.specs.Prelude.{◌≡◌, true};
 ghost use Rattle.df_inspect.specs.Answers.{command_of};
-ghost use Rattle.df_top.specs.Calls.{HasAnswer, blames, is_damaged, is_fault};
+ghost use Rattle.df_session.specs.Calls.{HasAnswer, blames, is_damaged, is_fault};
 ghost use Rattle.df_top.specs.Step.{Answers};
 ghost use Rattle.df_top.specs.Turning.{BlamesIfEnds, Tells, last_turn, printed_turn};
 
-use crate::calls::call;
 use crate::status::Status;
 use crate::turns::Turn;
 use df_base::{BlamesDisk, Failed, Sink};
@@ -13,6 +12,7 @@ use df_disk::Disk;
 use df_inspect::print_answer;
 use df_model::{Answer, Command, StepError};
 use df_replica::Replica;
+use df_session::call;
 
 /// Goes on where the answer was printed.
 pub fn printed(done: Result<(), Failed>) -> Turn
@@ -56,7 +56,7 @@ pub fn is_fault(answer: &Answer) -> bool
         Answer::ReadPrepare(answer) => blames(answer),
         Answer::ReadReply(answer) => blames(answer),
         Answer::ReadBlock(answer) => blames(answer),
-        Answer::Release(_) | Answer::Begin(_) | Answer::Scrub(_) | Answer::Recent(_) => false,
+        Answer::Release(_) | Answer::Begin(_) | Answer::Scrub(_) | Answer::Recent => false,
     }
 }
 
@@ -78,7 +78,7 @@ fn is_damaged(answer: &Answer) -> bool
         | Answer::ReadReply(_)
         | Answer::ReadBlock(_)
         | Answer::Scrub(_)
-        | Answer::Recent(_) => false,
+        | Answer::Recent => false,
     }
 }
 

@@ -1,9 +1,10 @@
 // The session over a script: one turn for each line, until there is none, one is refused, or something fails.
 ghost use Rattle.std.specs.Prelude.{◌≡◌, ◌<◌, ◌≤◌, ◌+◌, ◌^◌, length, true};
 ghost use Rattle.df_lines.specs.Grammar.{body_length, said_with};
+ghost use Rattle.df_top.specs.Lines.{command_of};
 ghost use Rattle.df_top.specs.Outside.{Blames};
 ghost use Rattle.df_top.specs.Session.{Ended, state};
-ghost use Rattle.df_top.specs.Step.{RefusesLine, ServesLine, Turns};
+ghost use Rattle.df_top.specs.Step.{Answers, RefusesLine, Turns};
 ghost use Rattle.df_top.specs.Turning.{BlamesIfEnds, IsReady, OnGoing};
 
 use crate::reads::{lookup, prepare, read_block};
@@ -40,7 +41,7 @@ fn refuse<W: Sink>(sink: &mut W, lines: u64) -> Status
 fn execute<D: Disk, W: Sink>(disk: &mut D, sink: &mut W, session: &mut Session, line: Line) -> Turn
     requires live { session.old.replica.live ≡ true }
     requires size { body_length line ≤ length session.old.lines.body }
-    ensures answers { ServesLine (said_with session.old.lines.body line) session.old.replica session.new.replica (D.told disk.old) (D.told disk.new) (W.written sink.old) (W.written sink.new) result }
+    ensures answers { Answers (command_of (said_with session.old.lines.body line)) session.old.replica session.new.replica (D.told disk.old) (D.told disk.new) (W.written sink.old) (W.written sink.new) result }
     ensures lines { session.new.lines ≡ session.old.lines }
     ensures count { session.new.count ≡ session.old.count }
     ensures disk { BlamesIfEnds Status.DiskFault (D.faults disk.old) (D.faults disk.new) result }
@@ -98,7 +99,7 @@ fn serve_line<D: Disk, W: Sink>(
     requires live { session.old.replica.live ≡ true }
     requires room { session.old.count < 2 ^ 33 }
     requires size { body_length line ≤ length session.old.lines.body }
-    ensures answers { ServesLine (said_with session.old.lines.body line) session.old.replica session.new.replica (D.told disk.old) (D.told disk.new) (W.written sink.old) (W.written sink.new) result }
+    ensures answers { Answers (command_of (said_with session.old.lines.body line)) session.old.replica session.new.replica (D.told disk.old) (D.told disk.new) (W.written sink.old) (W.written sink.new) result }
     ensures lines { session.new.lines ≡ session.old.lines }
     ensures live { OnGoing result (session.new.replica.live ≡ true) }
     ensures count { OnGoing result (session.new.count ≡ session.old.count + 1) }

@@ -4,15 +4,15 @@ ghost use Rattle.df_base.specs.Causes.{IsBlamed};
 ghost use Rattle.df_model.specs.Commands.{Advance, Command as Asks};
 ghost use Rattle.df_inspect.specs.Answers.{command_of};
 ghost use Rattle.df_workload.specs.Asking.{asks};
-ghost use Rattle.df_top.specs.Calls.{HasAnswer};
+ghost use Rattle.df_session.specs.Calls.{HasAnswer};
 ghost use Rattle.df_top.specs.Works.{MakesTo, RunsOn, StepsOn, heard, is_disk, outcome_in};
 
-use crate::calls::call;
 use crate::telling::is_fault;
 use df_disk::Disk;
 use df_layout::{Class, Place};
 use df_model::{Answer, Command, Progress, StepError};
 use df_replica::Replica;
+use df_session::call;
 use df_workload::{Asked, Generator, Outcome, number_body};
 
 /// Why a generated run ends before its last command was answered.
@@ -62,7 +62,7 @@ fn outcome_in(answer: &Answer) -> Result<Outcome, Fault>
         | Answer::ReadReply(_)
         | Answer::ReadBlock(_)
         | Answer::Scrub(_)
-        | Answer::Recent(_) => Ok(Outcome::Accepted),
+        | Answer::Recent => Ok(Outcome::Accepted),
     }
 }
 

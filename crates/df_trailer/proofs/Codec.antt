@@ -1,5 +1,5 @@
 -- The spelling serves the machine of the replica's commands.
-use Rattle.std.proofs.Common.{◌≡◌, ℕ, suc, ◌+◌, ◌*◌, ◌/◌, ◌^◌, ◌<◌, ◌≤◌, Bool, true, false, Option, Some, None, List, [], ◌∷◌, ◌++◌, length, refl, ap, arith, length-append}
+use Rattle.std.proofs.Common.{◌≡◌, ℕ, suc, ◌+◌, ◌*◌, ◌/◌, ◌^◌, ◌<◌, ◌≤◌, Bool, true, false, Option, Some, None, List, [], ◌∷◌, ◌++◌, length, arith, length-append}
 use Rattle.std.specs.Prelude.{map, min}
 use Rattle.df_base.specs.Fields.{AreBytes, spelled}
 use Rattle.df_base.proofs.Laws.{AreBytes-spelled, length-spelled, AreBytes-nil, AreBytes-append}

@@ -7,7 +7,6 @@ pub mod Laws
 pub mod Listed
 pub mod Longer
 pub mod OneBit
-pub mod Passing
 pub mod Fed
 pub mod Kept
 pub mod Pieces

@@ -25,6 +25,16 @@ spread_first x blocks old rank size is = record {
   empty = λ i late within unset. absurd (omega arith);
 }
 
+next : (p : ℕ) → p + 1 ≡ suc p
+next p = omega arith
+
+clash : 1 ≤ 0 → ⊥
+clash h = omega arith
+
+both : (b : Bool) → b ≡ true → b ≡ false → ⊥
+both true a e = absurd (cc)
+both false a e = absurd (cc)
+
 -- a set bit counts
 pub rank_set : (x p rank : ℕ) → rank ≡ ones (bits_of (p + 1) x) → (bit_at x p == 1) ≡ true → rank ≡ ones (bits_of p x) + 1
 rank_set x p rank is set =
@@ -32,9 +42,6 @@ rank_set x p rank is set =
     let more = ones_more p x in
     let up : ones (bits_of (p + 1) x) ≡ ones (bits_of (suc p) x) = ap (λ (k : ℕ). ones (bits_of k x)) (next p) in
     omega arith
-  where
-    next : (p : ℕ) → p + 1 ≡ suc p
-    next p = omega arith
 
 pub rank_unset : (x p rank : ℕ) → rank ≡ ones (bits_of (p + 1) x) → (bit_at x p == 1) ≡ false → rank ≡ ones (bits_of p x)
 rank_unset x p rank is unset =
@@ -42,9 +49,6 @@ rank_unset x p rank is unset =
     let more = ones_more p x in
     let up : ones (bits_of (p + 1) x) ≡ ones (bits_of (suc p) x) = ap (λ (k : ℕ). ones (bits_of k x)) (next p) in
     omega arith
-  where
-    next : (p : ℕ) → p + 1 ≡ suc p
-    next p = omega arith
 
 pub spread_set : (x blocks : ℕ) (old now : List (List ℕ)) (rank place p r : ℕ) → place ≡ p + 1 → rank ≡ r + 1 → place ≤ blocks → (bit_at x p == 1) ≡ true
     → IsSpread x blocks old now rank place → IsSpread x blocks old (set now p (get_or now r [])) r p
@@ -68,13 +72,6 @@ spread_set x blocks old now rank place p r at ranked within is was =
         | inr other ↦ get_or-set_other now p i (get_or now r []) [] other ∙ was.empty i (omega arith) inside unset
       ];
     }
-  where
-    clash : 1 ≤ 0 → ⊥
-    clash h = omega arith
-
-    both : (b : Bool) → b ≡ true → b ≡ false → ⊥
-    both true a e = absurd (cc)
-    both false a e = absurd (cc)
 
 pub spread_unset : (x blocks : ℕ) (old now : List (List ℕ)) (rank place p : ℕ) → place ≡ p + 1 → place ≤ blocks → (bit_at x p == 1) ≡ false
     → IsSpread x blocks old now rank place → IsSpread x blocks old (set now p (replicate 16 0)) rank p
@@ -91,10 +88,3 @@ spread_unset x blocks old now rank place p at within is was = record {
     | inr other ↦ get_or-set_other now p i (replicate 16 0) [] other ∙ was.empty i (omega arith) inside unset
   ];
 }
-  where
-    clash : 1 ≤ 0 → ⊥
-    clash h = omega arith
-
-    both : (b : Bool) → b ≡ true → b ≡ false → ⊥
-    both true a e = absurd (cc)
-    both false a e = absurd (cc)

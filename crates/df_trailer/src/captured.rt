@@ -9,7 +9,7 @@ use df_base::Check;
 pub const GROUP: u64 = 256;
 
 /// The blocks that a checkpoint refers to.
-pub trait Captured {
+pub trait CapturedBlocks {
     /// The checksum of each of them, by address.
     ghost captured: { Self → ℕ → Option ℕ };
 

@@ -3,7 +3,7 @@
 ghost use Rattle.std.specs.Prelude.{◌≡◌, ◌+◌, ◌*◌, ◌<◌, ◌≤◌, ◌^◌, IfSome};
 ghost use Rattle.df_trailer.specs.Writing.{referenced_among};
 
-use crate::Captured;
+use crate::CapturedBlocks;
 use crate::behind::CHECK;
 use crate::captured::GROUP;
 
@@ -17,7 +17,7 @@ pub(crate) struct Begin {
 }
 
 /// The begin behind so many groups, None where that isn't kept or is past the window's begin.
-fn behind_groups<G: Captured>(grid: &G, start: u64, from: u64, groups: u64) -> Option<Begin>
+fn behind_groups<G: CapturedBlocks>(grid: &G, start: u64, from: u64, groups: u64) -> Option<Begin>
     requires groups { groups < 2 ^ 24 }
     requires small { start < 2 ^ 60 }
     ensures place { IfSome result (λ begin. begin.place ≡ 256 * groups) }
@@ -35,7 +35,7 @@ fn behind_groups<G: Captured>(grid: &G, start: u64, from: u64, groups: u64) -> O
 }
 
 /// The last begin of a group that isn't past the window's begin, as far as it is counted; else that of the first block.
-pub(crate) fn begin_before<G: Captured>(grid: &G, start: u64, from: u64, blocks: u32) -> Begin
+pub(crate) fn begin_before<G: CapturedBlocks>(grid: &G, start: u64, from: u64, blocks: u32) -> Begin
     requires { start < 2 ^ 60 }
     ensures inside { result.place ≤ blocks }
     ensures at { result.at ≡ start + 16 * referenced_among (G.captured grid.now) result.place }

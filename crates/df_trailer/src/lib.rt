@@ -16,7 +16,7 @@ mod size;
 mod window;
 mod writer;
 
-pub use captured::{Captured, GROUP};
+pub use captured::{CapturedBlocks, GROUP};
 pub use fault::Fault;
 pub use meaning::{
     parts_have_one_text, refusals_stay, sizes_are_exact, spelling_is_a_codec, text_has_one_parts,

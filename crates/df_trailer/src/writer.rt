@@ -7,7 +7,7 @@ ghost use Rattle.df_trailer.specs.Rooms.{session_of};
 ghost use Rattle.df_trailer.specs.Spelling.{spell, spell_checks, spell_sessions};
 ghost use Rattle.df_trailer.specs.Writing.{IsShown, captured_bits, captured_blocks, captured_parts, piece_of, sessions_of};
 
-use crate::Captured;
+use crate::CapturedBlocks;
 use crate::groups::begin_before;
 use crate::window::{put, put_u32, put_u64, put_u128};
 use df_base::{HEADER, u128_at};
@@ -56,7 +56,7 @@ fn put_sessions(room: &mut [u8], from: u64, start: u64, sessions: &[Session]) ->
 }
 
 /// The bit of the block at a place, 0 behind the last one.
-fn bit_of<G: Captured>(grid: &G, blocks: u32, place: u64) -> u8
+fn bit_of<G: CapturedBlocks>(grid: &G, blocks: u32, place: u64) -> u8
     ensures { result ≡ bit_at (captured_bits (G.captured grid.now) blocks) place }
 {
     if place >= u64::from(blocks) {
@@ -69,7 +69,7 @@ fn bit_of<G: Captured>(grid: &G, blocks: u32, place: u64) -> u8
 }
 
 /// The byte of the bits with this number: of eight blocks.
-fn bits_byte<G: Captured>(grid: &G, blocks: u32, number: u64) -> u8
+fn bits_byte<G: CapturedBlocks>(grid: &G, blocks: u32, number: u64) -> u8
     requires { number < 2 ^ 32 }
     ensures { result ≡ byte_at number (captured_bits (G.captured grid.now) blocks) }
 {
@@ -82,7 +82,7 @@ fn bits_byte<G: Captured>(grid: &G, blocks: u32, number: u64) -> u8
 }
 
 /// Puts the bytes of the bits that the window shows.
-fn put_bits<G: Captured>(room: &mut [u8], from: u64, start: u64, grid: &G, blocks: u32) -> u64
+fn put_bits<G: CapturedBlocks>(room: &mut [u8], from: u64, start: u64, grid: &G, blocks: u32) -> u64
     requires small { start < 2 ^ 60 }
     requires window { from + length room.old < 2 ^ 62 }
     ensures next { result ≡ start + (blocks + 7) / 8 }
@@ -100,7 +100,7 @@ fn put_bits<G: Captured>(room: &mut [u8], from: u64, start: u64, grid: &G, block
 }
 
 /// Puts the checksum of the block at an address, if there is one.
-fn put_check<G: Captured>(room: &mut [u8], from: u64, at: u64, grid: &G, address: u64) -> u64
+fn put_check<G: CapturedBlocks>(room: &mut [u8], from: u64, at: u64, grid: &G, address: u64) -> u64
     requires small { at + 16 < 2 ^ 62 }
     requires window { from + length room.old < 2 ^ 62 }
     ensures next { result ≡ at + length (spell_checks (G.captured grid.now address ∷ [])) }
@@ -115,7 +115,13 @@ fn put_check<G: Captured>(room: &mut [u8], from: u64, at: u64, grid: &G, address
 
 /// Puts the checksums of the referenced blocks that the window shows. The answer is where the checksums end, or an offset behind the window
 /// where they end behind it.
-fn put_checks<G: Captured>(room: &mut [u8], from: u64, start: u64, grid: &G, blocks: u32) -> u64
+fn put_checks<G: CapturedBlocks>(
+    room: &mut [u8],
+    from: u64,
+    start: u64,
+    grid: &G,
+    blocks: u32,
+) -> u64
     requires small { start < 2 ^ 60 }
     requires window { from + length room.old < 2 ^ 62 }
     ensures left { min (result - from) (length room.new) ≡ min (start + length (spell_checks (captured_blocks (G.captured grid.now) blocks)) - from) (length room.new) }
@@ -142,7 +148,7 @@ fn left_of(end: u64, from: u64, size: u64) -> u64
 }
 
 /// Puts what a window shows of the text from an offset on at the front of a room, and answers how much that is.
-fn put_window<G: Captured>(
+fn put_window<G: CapturedBlocks>(
     room: &mut [u8],
     from: u64,
     layout: &Layout,
@@ -167,7 +173,7 @@ fn put_window<G: Captured>(
 
 /// Puts the piece with this index of the trailer's text at the front of a buffer, and answers its length in bytes: that
 /// of a block's body, but for the last piece, and 0 behind it.
-pub fn piece<G: Captured>(
+pub fn piece<G: CapturedBlocks>(
     layout: &Layout,
     root: &[u8],
     sessions: &[Session],

@@ -1,4 +1,4 @@
--- An append on a disk is one of the model.
+-- An append on a disk is one of the theory.
 use Rattle.std.proofs.Common.{◌≡◌, inl, inr, ℕ, ◌/◌, ◌%◌, ◌==◌, List, [], Some, None, refl, sym, ◌∙◌, ap, subst}
 use Rattle.std.specs.Prelude.{slice_get}
 use Rattle.std.proofs.lemmas.Bool.{cond-true, eq-eqb}
@@ -15,7 +15,7 @@ use Rattle.df_format.proofs.Laws.{read_belongs}
 use Rattle.std.specs.Prelude.{◌++◌}
 use Rattle.std.proofs.lemmas.Option.{same_Some}
 use Rattle.df_theory.specs.Units
-use Rattle.df_theory.specs.Units.{AnyUnit, HeaderPlace, HeaderUnit, PreparePlace, PrepareUnit}
+use Rattle.df_theory.specs.Units.{HeaderPlace, HeaderUnit, PreparePlace, PrepareUnit}
 use Rattle.df_theory.specs.Shape.{Shape}
 use Rattle.df_theory.specs.UnitLog
 use Rattle.df_theory.specs.UnitLog.{PutsOne, put_one}

@@ -19,7 +19,7 @@ use Rattle.df_format.specs.Copies.{Content, class_of_copy, content_at, content_o
 use Rattle.df_format.specs.Valid.{IsUnit}
 use Rattle.df_format.proofs.Laws.{read_shown, shown_belongs, shown_is_unit, header_count}
 use Rattle.df_theory.specs.Units
-use Rattle.df_theory.specs.Units.{AnyUnit, BlockPlace, BlockUnit, CopyPlace, CopyUnit, HeaderPlace, HeaderUnit, PreparePlace, PrepareUnit, ReplyPlace, ReplyUnit}
+use Rattle.df_theory.specs.Units.{AnyUnit, BlockPlace, CopyPlace, HeaderPlace, PreparePlace, ReplyPlace}
 use Rattle.df_theory.specs.Found.{IsInRange, IsOfPlace}
 use Rattle.df_units.specs.Meaning.{block_of, content_of, header_of, message_of, number_of, place_of}
 use Rattle.df_units.specs.Bytes.{copy_unit, message_unit, unit_at}

@@ -1,4 +1,4 @@
--- The choice among the copies is the model's: contents are told apart by what the model sees of them.
+-- The choice among the copies is the theory's: contents are told apart by what the theory sees of them.
 use Rattle.std.proofs.Common.{◌≡◌, ◌*◌, ℕ, suc, ◌+◌, ◌≤◌, List, ◌∷◌, take, drop, Option, Some, None, refl, sym, ◌∙◌, ap, subst, arith}
 use Rattle.std.proofs.lemmas.List.{length-drop, length-take-le}
 use Rattle.std.proofs.lemmas.Option.{same_Some}
@@ -11,7 +11,7 @@ use Rattle.df_format.specs.Copies.{Content, content_at, content_of as content_of
 use Rattle.df_format.proofs.Laws.{is_here, read_as}
 use Rattle.df_quorum.specs.Quorum
 use Rattle.df_theory.specs.Units
-use Rattle.df_theory.specs.Units.{AnyUnit, CopyPlace, CopyUnit}
+use Rattle.df_theory.specs.Units.{CopyUnit}
 use Rattle.df_theory.specs.Copies
 use Rattle.df_units.specs.Meaning.{content_of, offset_list}
 use Rattle.df_units.specs.Bytes.{copy_unit, unit_at}
@@ -89,7 +89,7 @@ copy_parts None d is = absurd (cc)
 copy_parts (Some c) d is = (c, refl, cc)
 
 module _ (layout : Layout) (cluster : ℕ) (image : Image) (whole : IsImage image) where
-  -- two copies that agree in the model agree
+  -- two copies that agree in the theory agree
   agree_back : (d : Units.Content) → Copies.Agree (unit_at layout cluster image) d → (c : Content) × (content_of c ≡ d) × Quorum.Agree (content_at image) c
   agree_back d agreed =
       let one = copy_parts (content_at image agreed.first) d agreed.at_first in

@@ -1,4 +1,4 @@
--- What is wanted of a place, and the class of what it shows, in the words of the model.
+-- What is wanted of a place, and the class of what it shows, in the words of the theory.
 use Rattle.std.proofs.Common.{◌≡◌, ◌≢◌, ◌↔◌, inl, inr, ℕ, ◌<◌, List, Option, Some, None, refl, sym, ◌∙◌, ap, subst, arith}
 use Rattle.std.specs.Prelude.{◌⊎◌, ⊤}
 use Rattle.std.proofs.lemmas.Option.{same_Some}
@@ -43,7 +43,7 @@ copy_told image n = (
       absurd (cc),
 )
 
--- a place that shows no unit of the model shows no message
+-- a place that shows no unit of the theory shows no message
 no_message : (place : Units.Place) (o : Option Message) → ((u : Message) → unit_of place u ≡ None → ⊥) → message_unit place o ≡ None → o ≡ None
 no_message place None some is = refl
 no_message place (Some u) some is = absurd (some u is)
@@ -76,18 +76,12 @@ own_kind : (u : Message) (kind : Kind) → u.header.kind ≡ kind → (u.header.
 own_kind u kind is = (λ same. tt, λ _. is)
 
 prepare_kind : (u : Message) (kind : Kind) → u.header.kind ≡ Prepare → (u.header.kind ≡ kind) ↔ IsOfKind kind (PrepareUnit (message_of u))
-prepare_kind u Reserved is = other_kind u Prepare Reserved is (λ same. cc)
 prepare_kind u Prepare is = own_kind u Prepare is
-prepare_kind u Reply is = other_kind u Prepare Reply is (λ same. cc)
-prepare_kind u Block is = other_kind u Prepare Block is (λ same. cc)
-prepare_kind u Trailer is = other_kind u Prepare Trailer is (λ same. cc)
+prepare_kind u kind is = other_kind u Prepare kind is (λ same. cc)
 
 reply_kind : (u : Message) (kind : Kind) → u.header.kind ≡ Reply → (u.header.kind ≡ kind) ↔ IsOfKind kind (ReplyUnit (message_of u))
-reply_kind u Reserved is = other_kind u Reply Reserved is (λ same. cc)
-reply_kind u Prepare is = other_kind u Reply Prepare is (λ same. cc)
 reply_kind u Reply is = own_kind u Reply is
-reply_kind u Block is = other_kind u Reply Block is (λ same. cc)
-reply_kind u Trailer is = other_kind u Reply Trailer is (λ same. cc)
+reply_kind u kind is = other_kind u Reply kind is (λ same. cc)
 
 -- in the header ring a reserved header has op 0, and that of a prepare another one
 abbrev IsInRing : Message → Type 0
@@ -98,28 +92,20 @@ header_kind u Reserved (inl is) = (λ _. is.1, λ _. is.0)
 header_kind u Reserved (inr is) = (λ same. absurd (let both : Prepare ≡ Reserved = sym is.0 ∙ same in cc), λ none. absurd (omega (arith, is.1, none)))
 header_kind u Prepare (inl is) = (λ same. absurd (let both : Reserved ≡ Prepare = sym is.0 ∙ same in cc), λ some. absurd (omega (arith, is.1, some)))
 header_kind u Prepare (inr is) = (λ _. is.1, λ _. is.0)
-header_kind u Reply (inl is) = other_kind u Reserved Reply is.0 (λ same. cc)
-header_kind u Reply (inr is) = other_kind u Prepare Reply is.0 (λ same. cc)
-header_kind u Block (inl is) = other_kind u Reserved Block is.0 (λ same. cc)
-header_kind u Block (inr is) = other_kind u Prepare Block is.0 (λ same. cc)
-header_kind u Trailer (inl is) = other_kind u Reserved Trailer is.0 (λ same. cc)
-header_kind u Trailer (inr is) = other_kind u Prepare Trailer is.0 (λ same. cc)
+header_kind u kind (inl is) = other_kind u Reserved kind is.0 (λ same. cc)
+header_kind u kind (inr is) = other_kind u Prepare kind is.0 (λ same. cc)
 
 -- in the grid a trailer block has kind 0, and a block another one
 abbrev IsInGrid : Message → Type 0
 IsInGrid u = ((u.header.kind ≡ Block) × (0 < u.header.block_kind)) ⊎ ((u.header.kind ≡ Trailer) × (u.header.block_kind ≡ 0))
 
 block_kind : (u : Message) (kind : Kind) → IsInGrid u → (u.header.kind ≡ kind) ↔ IsOfKind kind (BlockUnit (block_of u))
-block_kind u Reserved (inl is) = other_kind u Block Reserved is.0 (λ same. cc)
-block_kind u Reserved (inr is) = other_kind u Trailer Reserved is.0 (λ same. cc)
-block_kind u Prepare (inl is) = other_kind u Block Prepare is.0 (λ same. cc)
-block_kind u Prepare (inr is) = other_kind u Trailer Prepare is.0 (λ same. cc)
-block_kind u Reply (inl is) = other_kind u Block Reply is.0 (λ same. cc)
-block_kind u Reply (inr is) = other_kind u Trailer Reply is.0 (λ same. cc)
 block_kind u Block (inl is) = (λ _. is.1, λ _. is.0)
 block_kind u Block (inr is) = (λ same. absurd (let both : Trailer ≡ Block = sym is.0 ∙ same in cc), λ some. absurd (omega (arith, is.1, some)))
 block_kind u Trailer (inl is) = (λ same. absurd (let both : Block ≡ Trailer = sym is.0 ∙ same in cc), λ none. absurd (omega (arith, is.1, none)))
 block_kind u Trailer (inr is) = (λ _. is.1, λ _. is.0)
+block_kind u kind (inl is) = other_kind u Block kind is.0 (λ same. cc)
+block_kind u kind (inr is) = other_kind u Trailer kind is.0 (λ same. cc)
 
 -- ---- what is wanted
 

@@ -1,4 +1,4 @@
--- The making of a file on a disk is one of the model.
+-- The making of a file on a disk is one of the theory.
 use Rattle.std.proofs.Common.{◌≡◌, inl, inr, ℕ, ◌+◌, ◌/◌, ◌%◌, ◌<◌, ◌≤◌, ◌==◌, true, List, [], ◌∷◌, length, Option, Some, None, refl, sym, ◌∙◌, subst, arith}
 use Rattle.std.specs.Prelude.{slice_get}
 use Rattle.std.proofs.lemmas.Bool.{cases_eq, cond-true, eq-eqb}
@@ -19,7 +19,7 @@ use Rattle.df_theory.specs.MendLaws.{Reaches}
 use Rattle.df_theory.specs.TidyLaws.{IsTidy}
 use Rattle.df_theory.specs.WholeLaws.{IsStanding}
 use Rattle.df_theory.specs.Device.{AreSteps, units_log}
-use Rattle.df_theory.proofs.Laws.{blank_law, format_law, making_sync_law, new_disk_law, safe_moments_law, same_log, steps_join_law, tidy_format_law}
+use Rattle.df_theory.proofs.Laws.{blank_law, format_law, is_first_of, making_sync_law, new_disk_law, safe_moments_law, same_log, steps_join_law, tidy_format_law}
 use Rattle.df_units.specs.Meaning.{content_of}
 use Rattle.df_units.specs.Format.{format_of, shape_of}
 use Rattle.df_units.specs.Puts.{header_unit, put_copies}
@@ -58,20 +58,13 @@ own_fields layout cluster = record { slots = refl; message_size = refl; clients 
 
 is_first : (layout : Layout) (cluster : ℕ) (named : 0 < cluster) (parse : ℕ → List ℕ → Option Units.Parts) → IsUsable (first_super layout cluster) → IsFirst (shape_of layout cluster named parse) (first_view layout cluster)
 unfolding first_super
-is_first layout cluster named parse is = record {
-  content = record {
-    tests = (usable_passes layout cluster named parse (first_content layout cluster) (own_fields layout cluster) is.rules).0;
-    sequence = refl;
-    numbers = (refl, no_number, refl, refl);
-    pin = (refl, refl, no_number);
-    trailer = (refl, no_number, refl);
-  };
-  chain = refl;
-  parts = refl;
-  tail = refl;
-  replies = refl;
-  stored = λ k. refl;
-}
+is_first layout cluster named parse is = is_first_of (shape_of layout cluster named parse) (content_of (first_content layout cluster)) (record {
+  tests = (usable_passes layout cluster named parse (first_content layout cluster) (own_fields layout cluster) is.rules).0;
+  sequence = refl;
+  numbers = (refl, no_number, refl, refl);
+  pin = (refl, refl, no_number);
+  trailer = (refl, no_number, refl);
+})
 
 pub new_is_making : NewIsMaking
 new_is_making layout cluster named parse [] is syncs =

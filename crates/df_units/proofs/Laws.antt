@@ -12,3 +12,4 @@ pub use Rattle.df_units.proofs.Chosen.{choice_chosen, chosen_choice, shown_check
 pub use Rattle.df_units.proofs.Usable.{passing_is_usable, usable_passes, zeros_check}
 pub use Rattle.df_units.proofs.Formats.{format_on_disk, new_is_making, headers_are_steps}
 pub use Rattle.df_units.proofs.Appended.{append_on_disk}
+pub use Rattle.df_units.proofs.Within.{none_within, part_within, steps_within, then_within}

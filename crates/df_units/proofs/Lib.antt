@@ -10,4 +10,5 @@ pub mod Told
 pub mod Classed
 pub mod Appended
 pub mod Formats
+pub mod Within
 pub mod Laws

@@ -14,7 +14,7 @@ use Rattle.df_format.specs.Shown
 use Rattle.df_format.specs.Copies.{content_at, content_of, copy_at, copy_in, if_here}
 use Rattle.df_format.proofs.Laws.{blank_copy_none, blank_none, has-from, is_here, none_unless, read_as, same_copy, same_shown, shown_belongs}
 use Rattle.df_theory.specs.Units
-use Rattle.df_theory.specs.Units.{AnyUnit, BlockPlace, CopyPlace, HeaderPlace, PreparePlace, ReplyPlace}
+use Rattle.df_theory.specs.Units.{BlockPlace, CopyPlace, HeaderPlace, PreparePlace, ReplyPlace}
 use Rattle.df_theory.specs.Device.{IsFormat}
 use Rattle.df_units.specs.Meaning.{place_of}
 use Rattle.df_units.specs.Bytes.{copy_unit, has, has_place, meets, message_unit, span_at, touches, unit_at}
@@ -82,6 +82,16 @@ not_met at first count bytes sector low high is =
     let from : at ≤ sector = leb-true _ _ parts.0 in
     let upto : 4096 * (sector - at) < length bytes = ltb-true _ _ parts.1 in
     and_from _ _ (lt-ltb at (first + count) (omega arith)) (lt-ltb (4096 * (first - at)) (length bytes) (omega arith))
+
+-- a write that fits a place has bytes for no sector beside the place's
+pub fits_there : (layout : Layout) (place : Units.Place) (bytes : List ℕ) (sector : ℕ) → has_place layout place ≡ true → length bytes ≤ 4096 * (span_at layout place).count → covers (span_at layout place).first bytes sector ≡ true → has layout place sector ≡ true
+unfolding covers
+fits_there layout place bytes sector there fits is =
+    let first = (span_at layout place).first in
+    let parts = and_parts (nat_le first sector) (nat_lt (4096 * (sector - first)) (length bytes)) is in
+    let from : first ≤ sector = leb-true _ _ parts.0 in
+    let upto : 4096 * (sector - first) < length bytes = ltb-true _ _ parts.1 in
+    has_inside layout place sector (sector - first) there (omega (arith, from)) (omega (arith, upto, fits))
 
 pub untouched : (layout : Layout) (at : ℕ) (bytes : List ℕ) (place : Units.Place) (sector : ℕ) → touches layout at bytes place ≡ false → has layout place sector ≡ true → covers at bytes sector ≡ false
 untouched layout at bytes place sector apart here =

@@ -1,4 +1,4 @@
--- A superblock can be used exactly where it passes the model's tests.
+-- A superblock can be used exactly where it passes the theory's tests.
 use Rattle.std.proofs.Common.{◌≡◌, ℕ, zero, suc, ◌<◌, List, ◌∷◌, Option, Some, None, refl, sym, ◌∙◌, ap, subst, arith}
 use Rattle.std.specs.Prelude.{slice_index}
 use Rattle.std.proofs.lemmas.List.{length-replicate}

@@ -3,13 +3,13 @@ use Rattle.std.proofs.Common.{◌≡◌, ◌≢◌, inl, inr, ℕ, ◌+◌, ◌-
 use Rattle.std.specs.Prelude.{slice_get}
 use Rattle.std.proofs.lemmas.Bool.{cases_Bool, cases_eq, both_ways, and_from, and_left, and_right, cond-false, cond-true, eq-eqb, eqb-true, eqb-false, le-ltb, lt-ltb, ne_eqb}
 use Rattle.std.proofs.lemmas.Option.{slice_get_cases}
-use Rattle.df_base.specs.Image.{Image, IsImage, IsPiece, written}
+use Rattle.df_base.specs.Image.{Image, IsImage, IsPiece, covers, written}
 use Rattle.df_layout.specs.declared.layout.Layout.{Layout}
 use Rattle.df_layout.specs.declared.places.Place.{Place}
 use Rattle.df_layout.specs.declared.places.Span.{Span}
 use Rattle.df_layout.specs.declared.places.Zone.TheVariants.{WalHeaders}
 use Rattle.df_layout.specs.Order.{AreApart, ShareHeaderSector}
-use Rattle.df_layout.specs.Spans.{HasPlace, place_sectors, sectors_before, span_of}
+use Rattle.df_layout.specs.Spans.{HasPlace, span_of}
 use Rattle.df_layout.proofs.Laws.{are_apart, lies_inside}
 use Rattle.df_format.specs.declared.header.Header.{Header}
 use Rattle.df_format.specs.Message.{Message}
@@ -27,11 +27,11 @@ use Rattle.df_theory.specs.Units.{AnyUnit, BlockPlace, BlockUnit, CopyPlace, Cop
 use Rattle.df_theory.specs.UnitLog.{put_one, same_place}
 use Rattle.df_theory.specs.Device.{IsPut}
 use Rattle.df_units.specs.Meaning.{block_of, content_of, header_of, message_of, place_of}
-use Rattle.df_units.specs.Bytes.{copy_unit, has_place, meets, message_unit, span_at, touches, unit_at}
+use Rattle.df_units.specs.Bytes.{copy_unit, has, has_place, meets, message_unit, span_at, touches, unit_at}
 use Rattle.df_units.specs.Format.{format_of}
 use Rattle.df_units.specs.Puts.{AreHeaders, BlockIsPut, CopyIsPut, HeadersArePut, IsNextSector, OneHeaderIsNew, PrepareIsPut, ReplyIsPut, header_unit, put_headers}
 use Rattle.df_theory.proofs.Laws.{put_shown_law}
-use Rattle.df_units.proofs.Local.{is_format, copy_count, copy_first}
+use Rattle.df_units.proofs.Local.{copy_count, copy_first, fits_there, is_format}
 
 -- ---- a write of one unit
 
@@ -98,7 +98,7 @@ one_put : (layout : Layout) (cluster : ℕ) (place : Units.Place) (x : AnyUnit) 
     → ((image : Image) → IsImage image → unit_at layout cluster (written (span_at layout place).first bytes image) place ≡ Some x)
     → IsPut (format_of layout cluster) (span_at layout place).first bytes (put_one place x)
 one_put layout cluster place x bytes there alone piece fits shown =
-    put_shown_law (format_of layout cluster) (span_at layout place).first bytes (put_one place x) (is_format layout cluster) piece (touches_one layout place x bytes there alone piece.some fits)
+    put_shown_law (format_of layout cluster) (span_at layout place).first bytes (put_one place x) (is_format layout cluster) piece (place, λ sector is. fits_there layout place bytes sector there fits is) (touches_one layout place x bytes there alone piece.some fits)
     (λ image other y whole is.
     let one = only_one place other x y (same_place place other) refl is in
     subst (λ (p : Units.Place). unit_at layout cluster (written (span_at layout place).first bytes image) p ≡ Some y) one.0 (shown image whole ∙ ap Some one.1))
@@ -179,6 +179,9 @@ module _ (layout : Layout) (cluster sector : ℕ) (headers : List Header) (are :
       ∙ sym (some_header headers (s % 16) (slice_get headers (s % 16)) refl (omega (arith, are.sixteen.count)))
   in_sector s here false is = absurd (eqb-false _ _ is here)
 
+  headers_within : (s : ℕ) → covers (span_of layout first).first bytes s ≡ true → has layout (HeaderPlace (16 * sector)) s ≡ true
+  headers_within s is = fits_there layout (HeaderPlace (16 * sector)) bytes s (has-from layout WalHeaders (16 * sector) has_first) fill.fits is
+
   headers_touch : (place : Units.Place) → touches layout (span_of layout first).first bytes place ≡ is_some (put_headers sector headers place)
   headers_touch (HeaderPlace s) = elim (cases_eq (s / 16) sector) [
     | inl here ↦ in_sector s here (s / 16 == sector) refl
@@ -211,6 +214,7 @@ pub headers_put : HeadersArePut
 headers_put layout cluster sector headers are =
     put_shown_law (format_of layout cluster) (span_of layout (place_in WalHeaders (16 * sector))).first (headers_bytes headers) (put_headers sector headers) (is_format layout cluster)
     (headers_fill layout (16 * sector) headers are.sixteen).piece
+    (HeaderPlace (16 * sector), headers_within layout cluster sector headers are)
     (headers_touch layout cluster sector headers are)
     (headers_shown layout cluster sector headers are)
 

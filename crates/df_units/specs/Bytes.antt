@@ -10,7 +10,7 @@ use Rattle.df_format.specs.Own.{has_index}
 use Rattle.df_format.specs.Shown
 use Rattle.df_format.specs.Copies.{Content, content_at}
 use Rattle.df_theory.specs.Units
-use Rattle.df_theory.specs.Units.{AnyUnit, BlockPlace, CopyPlace, CopyUnit, HeaderPlace, PreparePlace, ReplyPlace}
+use Rattle.df_theory.specs.Units.{AnyUnit, CopyPlace, CopyUnit}
 use Rattle.df_units.specs.Meaning.{content_of, place_of, unit_of}
 
 -- the unit that a copy's content is, if there is one

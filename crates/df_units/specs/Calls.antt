@@ -1,4 +1,4 @@
--- A call whose events are steps of the model has at each of its moments what the steps have, also where the disk fails midway and
+-- A call whose events are steps of the theory has at each of its moments what the steps have, also where the disk fails midway and
 -- only a part of the events was added, from the first on.
 use Rattle.std.specs.Prelude.{◌≡◌, List, Some}
 use Rattle.df_base.specs.Log.{Event, IsLog}

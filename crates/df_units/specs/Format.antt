@@ -1,4 +1,4 @@
--- What the model takes of a file of a layout and a cluster: how its units lie on sectors, and what is known of it beforehand.
+-- What the theory takes of a file of a layout and a cluster: how its units lie on sectors, and what is known of it beforehand.
 use Rattle.std.specs.Prelude.{◌<◌, ℕ, List, Option}
 use Rattle.df_layout.specs.declared.layout.Layout.{Layout}
 use Rattle.df_layout.proofs.Laws.{some_slots}

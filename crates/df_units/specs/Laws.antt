@@ -1,4 +1,4 @@
--- What the model asks of a format: a place is a matter of its own sectors, and nothing is shown where nothing was written.
+-- What the theory asks of a format: a place is a matter of its own sectors, and nothing is shown where nothing was written.
 use Rattle.std.specs.Prelude.{◌≡◌, ℕ, None}
 use Rattle.df_base.specs.Image.{blank}
 use Rattle.df_layout.specs.declared.layout.Layout.{Layout}

@@ -10,4 +10,5 @@ pub mod Tells
 pub mod Append
 pub mod Making
 pub mod Wanted
+pub mod Within
 pub mod Sample

@@ -1,5 +1,5 @@
--- The dictionary: which place, layout and unit of the model each one of the format is. It goes one way: the bytes learn the
--- model's words here, once, and the model never learns of bytes.
+-- The dictionary: which place, layout and unit of the theory each one of the format is. It goes one way: the bytes learn the
+-- theory's words here, once, and the theory never learns of bytes.
 use Rattle.std.specs.Prelude.{ℕ, suc, List, [], ◌∷◌, Option, Some, None}
 use Rattle.df_base.specs.Fields.{field_at}
 use Rattle.df_layout.specs.declared.layout.Layout.{Layout}
@@ -11,9 +11,9 @@ use Rattle.df_format.specs.Message.{Message}
 use Rattle.df_format.specs.Own.{place_in}
 use Rattle.df_format.specs.Copies.{Content}
 use Rattle.df_theory.specs.Units
-use Rattle.df_theory.specs.Units.{AnyUnit, BlockPlace, BlockUnit, CopyPlace, CopyUnit, HeaderPlace, HeaderUnit, PreparePlace, PrepareUnit, ReplyPlace, ReplyUnit}
+use Rattle.df_theory.specs.Units.{AnyUnit, BlockPlace, BlockUnit, CopyPlace, HeaderPlace, HeaderUnit, PreparePlace, PrepareUnit, ReplyPlace, ReplyUnit}
 
--- the place of the file that a place of the model is
+-- the place of the file that a place of the theory is
 abbrev pub place_of : Units.Place → Place
 place_of (CopyPlace n) = place_in Superblock n
 place_of (HeaderPlace s) = place_in WalHeaders s

@@ -1,4 +1,4 @@
--- What the code reads of a place is the unit that the model sees there.
+-- What the code reads of a place is the unit that the theory sees there.
 use Rattle.std.specs.Prelude.{◌≡◌, ◌≢◌, ◌<◌, ℕ, List, Option, Some, None, Result, Ok, Err}
 use Rattle.df_base.specs.Image.{Image, IsImage, bytes_at}
 use Rattle.df_layout.specs.declared.layout.Layout.{Layout}

@@ -1,4 +1,4 @@
--- The choice among the four copies is the model's, both ways, and a superblock can be used exactly where it passes the model's tests.
+-- The choice among the four copies is the theory's, both ways, and a superblock can be used exactly where it passes the theory's tests.
 use Rattle.std.specs.Prelude.{◌≡◌, ◌↔◌, ◌<◌, ℕ, List, Option, Some}
 use Rattle.df_base.specs.Image.{Image, IsImage}
 use Rattle.df_layout.specs.declared.layout.Layout.{Layout}
@@ -15,13 +15,13 @@ use Rattle.df_units.specs.Meaning.{content_of, layout_of}
 use Rattle.df_units.specs.Bytes.{unit_at}
 use Rattle.df_units.specs.Format.{shape_of}
 
--- the choice among the copies is the model's
+-- the choice among the copies is the theory's
 abbrev pub ChoiceIsChosen : Type 0
 ChoiceIsChosen =
     (layout : Layout) (cluster : ℕ) (image : Image) (c : Content) → IsImage image
     → Quorum.IsChosen (content_at image) c → Copies.IsChosen (unit_at layout cluster image) (content_of c)
 
--- and each choice of the model is one among the copies
+-- and each choice of the theory is one among the copies
 abbrev pub ChosenIsChoice : Type 0
 ChosenIsChoice =
     (layout : Layout) (cluster : ℕ) (image : Image) (d : Units.Content) → IsImage image → Copies.IsChosen (unit_at layout cluster image) d
@@ -40,7 +40,7 @@ pub record AreFieldsOf (layout : Layout) (cluster : ℕ) (f : SuperFields) : Typ
   pub blocks : f.blocks ≡ layout.blocks
   pub cluster_is : f.cluster ≡ cluster
 
--- a superblock that can be used passes the model's tests, and so do its fields on the trailer
+-- a superblock that can be used passes the theory's tests, and so do its fields on the trailer
 abbrev pub UsablePasses : Type 0
 UsablePasses =
     (layout : Layout) (cluster : ℕ) (named : 0 < cluster) (parse : ℕ → List ℕ → Option Units.Parts) (c : Content) → AreFieldsOf layout cluster c.fields → IsSuper c.fields
@@ -56,7 +56,7 @@ pub record HasChecks (c : Content) : Type 0 where
 abbrev pub ShownHasChecks : Type 0
 ShownHasChecks = (image : Image) (n : ℕ) (c : Content) → IsImage image → content_at image n ≡ Some c → HasChecks c
 
--- and one that passes the model's tests can be used
+-- and one that passes the theory's tests can be used
 abbrev pub PassingIsUsable : Type 0
 PassingIsUsable =
     (layout : Layout) (cluster : ℕ) (named : 0 < cluster) (parse : ℕ → List ℕ → Option Units.Parts) (c : Content) → HasChecks c → PassesTests (shape_of layout cluster named parse) (content_of c) → IsReference (layout_of layout) (content_of c)

@@ -1,4 +1,4 @@
--- What the units of the model tell of those of the file: their checksums, their kinds, and the headers of a sector.
+-- What the units of the theory tell of those of the file: their checksums, their kinds, and the headers of a sector.
 use Rattle.std.specs.Prelude.{◌≡◌, ◌↔◌, ◌<◌, ◌/◌, ◌%◌, ◌*◌, ◌+◌, ℕ, List, ◌∷◌, replicate, slice_get, Some}
 use Rattle.df_layout.specs.declared.layout.Layout.{Layout}
 use Rattle.df_layout.specs.declared.places.Zone.TheVariants.{Grid}

@@ -1,4 +1,4 @@
--- The unit that is wanted at a place: what the code answers of it, as a unit or as a class, is what the model sees there.
+-- The unit that is wanted at a place: what the code answers of it, as a unit or as a class, is what the theory sees there.
 use Rattle.std.specs.Prelude.{◌≡◌, ◌≢◌, ◌↔◌, ◌<◌, ℕ, ⊤, Some, None}
 use Rattle.df_base.specs.Image.{Image, IsImage}
 use Rattle.df_layout.specs.declared.damage.Class.{Class}
@@ -68,7 +68,7 @@ abbrev pub HasCheck : Wanted.Wanted → Type 0
 HasCheck (Checksum checksum) = IsCheck checksum
 HasCheck wanted = ⊤
 
--- a unit that is valid at a place is of a kind, and is wanted, exactly where the model says so of it
+-- a unit that is valid at a place is of a kind, and is wanted, exactly where the theory says so of it
 pub record IsTold (kind : Kind) (wanted : Wanted.Wanted) (u : Message) (x : AnyUnit) : Type 0 where
   pub of_kind : (u.header.kind ≡ kind) ↔ IsOfKind kind x
   pub is_wanted : Wanted.IsWanted wanted u ↔ IsWanted wanted x
@@ -79,7 +79,7 @@ UnitsAreTold =
     (layout : Layout) (cluster : ℕ) (place : Units.Place) (kind : Kind) (wanted : Wanted.Wanted) (u : Message) (x : AnyUnit) → HasCheck wanted → IsUnit layout cluster (place_of place) u
     → unit_of place u ≡ Some x → IsTold kind wanted u x
 
--- so where no unit that is valid at a place is the one wanted, the model sees none there
+-- so where no unit that is valid at a place is the one wanted, the theory sees none there
 abbrev pub NoneIsWanted : Type 0
 NoneIsWanted =
     (layout : Layout) (cluster : ℕ) (image : Image) (place : Units.Place) (kind : Kind) (wanted : Wanted.Wanted) → IsImage image → HasCheck wanted

@@ -1,5 +1,5 @@
-//! What the bytes of a data file are in the words of the model (`df_theory`): its units, place by place, which units each kind of
-//! write puts, and what a call has at its moments whose events are steps of the model. What is built above is to speak of places
+//! What the bytes of a data file are in the words of the theory (`df_theory`): its units, place by place, which units each kind of
+//! write puts, and what a call has at its moments whose events are steps of the theory. What is built above is to speak of places
 //! alone; what the program runs on today still speaks of sectors.
 #![tactic(auto)]
 

@@ -1,4 +1,4 @@
-// The making of a file on a disk that was never written, in the words of the model: laws, each the clause of a function that does
+// The making of a file on a disk that was never written, in the words of the theory: laws, each the clause of a function that does
 // nothing.
 ghost use Rattle.df_units.specs.Making.{NewIsMaking, FormatOnDisk};
 

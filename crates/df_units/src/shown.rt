@@ -1,4 +1,4 @@
-// What the code reads of a place is the unit that the model sees there: laws, each the clause of a function that does nothing.
+// What the code reads of a place is the unit that the theory sees there: laws, each the clause of a function that does nothing.
 ghost use Rattle.df_units.specs.Shown.{ReadIsUnit, HeaderReadIsUnit, CopyReadIsUnit, UnitsAreOfPlaces};
 
 /// The unit that the bytes of a place are is the one that the image shows there.

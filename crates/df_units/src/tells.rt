@@ -1,4 +1,4 @@
-// What the units of the model tell of those of the file: laws, each the clause of a function that does nothing.
+// What the units of the theory tell of those of the file: laws, each the clause of a function that does nothing.
 ghost use Rattle.df_units.specs.Tells.{ChecksumsAreNumbers, NoChecksumIsZero, FirstByteIsLowest, TrailersTell, SectorPuts, ReservedArePut, TableIsPut};
 
 /// Checksums are equal exactly where their numbers are; zeros are 0, and the first byte is the lowest.

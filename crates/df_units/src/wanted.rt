@@ -1,4 +1,4 @@
-// What the code answers where it wants a unit, and what the model sees there: laws, each the clause of a function that does
+// What the code answers where it wants a unit, and what the theory sees there: laws, each the clause of a function that does
 // nothing.
 ghost use Rattle.df_units.specs.Wanted.{ClassesTell, NoneIsWanted, UnitsAreTold};
 
@@ -7,8 +7,8 @@ pub fn classes_tell()
     ensures { ClassesTell }
 {}
 
-/// A valid unit is the one that is wanted exactly where the model's unit is; so where the code finds none and answers a
-/// class, the model sees no such unit there.
+/// A valid unit is the one that is wanted exactly where the theory's unit is; so where the code finds none and answers a
+/// class, the theory sees no such unit there.
 pub fn wanted_units_are_told()
     ensures told { UnitsAreTold }
     ensures none { NoneIsWanted }

@@ -1,5 +1,5 @@
 -- What crates above may cite: before the end a run may be told any outcome; its flag follows the commands and answers; and runs are joined.
-use Rattle.std.proofs.Common.{◌≡◌, Bool, true, false, if◌then◌else◌, List, [], ◌∷◌, ◌++◌, Option, Some, None, refl, sym, ◌∙◌, ap, subst}
+use Rattle.std.proofs.Common.{◌≡◌, Bool, true, false, if◌then◌else◌, List, [], ◌∷◌, ◌++◌, Some, None, refl, sym, ◌∙◌, ap, subst}
 use Rattle.df_model.specs.Commands.{Advance, Answer, Command}
 pub use Rattle.df_workload.proofs.Running.{runs_so, asks_end}
 use Rattle.df_workload.specs.Asking.{asks, asks_at}
@@ -7,7 +7,7 @@ use Rattle.df_workload.specs.Following.{Follows}
 use Rattle.df_workload.specs.Hearing.{heard, stepped, told, told_at}
 use Rattle.df_workload.specs.Sound.{MayBeTold, is_at_end}
 use Rattle.df_workload.specs.declared.outcome.Outcome.{Outcome}
-use Rattle.df_workload.specs.declared.outcome.Outcome.TheVariants.{Refused, Accepted, Wrote, Finished}
+use Rattle.df_workload.specs.declared.outcome.Outcome.TheVariants.{Refused}
 use Rattle.df_workload.specs.declared.state.Point.{Point}
 use Rattle.df_workload.specs.declared.state.Point.TheVariants.{Appending, Replying, Stepping, Writing, Releasing, Beginning, Ending}
 use Rattle.df_workload.specs.declared.state.State.{State}
@@ -62,9 +62,7 @@ is_ending Ending is = refl
 
 stepped_point : (o : Outcome) (s : State) → (stepped o s).point ≡ s.point
 stepped_point Refused s = refl
-stepped_point Accepted s = refl
-stepped_point (Wrote a) s = refl
-stepped_point Finished s = refl
+stepped_point o s = refl
 
 -- a step there leads no further
 pub still_ending : (o : Outcome) (s : State) → s.point ≡ Ending → (told o s).point ≡ Ending

@@ -1,6 +1,5 @@
 -- Each answer leaves a run sound, and brings its end nearer.
-use Rattle.std.proofs.Common.{ap, subst, sym, ◌≡◌, ◌≤◌, ◌<◌, ℕ, suc, ◌+◌, ◌-◌, ◌*◌, ◌/◌, ◌%◌, ◌^◌, Bool, true, false, List, [], ◌∷◌, ◌++◌, length, drop, length-append, length-drop, refl, arith}
-use Rattle.df_workload.specs.Draw.{body_length}
+use Rattle.std.proofs.Common.{ap, subst, sym, ◌≡◌, ◌≤◌, ◌<◌, ℕ, ◌+◌, ◌-◌, ◌*◌, ◌/◌, ◌%◌, true, false, List, [], ◌∷◌, ◌++◌, length, drop, length-append, length-drop, refl, arith}
 use Rattle.df_workload.specs.Hearing.{appended, begun, refused, released, replied, stepped, told, told_at, without_first, wrote}
 use Rattle.df_workload.specs.Rounds.{after_reply, to_begin, to_block, to_next, to_release, to_replies}
 use Rattle.df_workload.specs.Sound.{HasPoint, IsSound, IsWithin, MayBeTold, counted, flag, is_at_end, left, left_at}
@@ -69,9 +68,7 @@ appending_done s w few = as_of 9 s (appended Accepted s) _ refl refl (nearer 8 (
 
 appending : (o : Outcome) (s : State) → IsWithin 9 s → length s.held ≤ 8 → Nearer 9 s (to_replies (appended o s))
 appending Refused s w few = as_of 9 s (refused s) _ refl refl (nearer 8 (refused s) _ (comes_replies (refused s) (within_refused 8 s w) few))
-appending Accepted s w few = appending_done s w few
-appending (Wrote a) s w few = appending_done s w few
-appending Finished s w few = appending_done s w few
+appending o s w few = appending_done s w few
 
 replying_done : (op : ℕ) (s : State) → IsWithin (5 + (s.round - op)) s → length s.held ≤ 8 → Nearer (5 + (s.round - op)) s (after_reply op (replied Accepted s))
 replying_done op s w few =
@@ -82,9 +79,7 @@ replying : (op : ℕ) (o : Outcome) (s : State) → IsWithin (5 + (s.round - op)
 replying op Refused s w few =
     let c = comes_reply op (refused s) (within_refused (4 + (s.round - op)) s (less_to_come (5 + (s.round - op)) (4 + (s.round - op) + 1) s w (omega arith))) few in
     record { sound = c.sound; less = λ some. omega (arith, c.fits) }
-replying op Accepted s w few = replying_done op s w few
-replying op (Wrote a) s w few = replying_done op s w few
-replying op Finished s w few = replying_done op s w few
+replying op o s w few = replying_done op s w few
 
 stepping : (o : Outcome) (s : State) → IsWithin 4 s → length s.held ≤ 8 → Nearer 4 s (to_block (stepped o s))
 stepping Refused s w few = as_of 4 s (refused s) _ refl refl (nearer 3 (refused s) _ (comes_block (refused s) (within_refused 3 s w) few))
@@ -109,18 +104,14 @@ releasing_done s w nine = as_of 2 s (released Accepted s) _ refl refl (nearer 1 
 
 releasing : (o : Outcome) (s : State) → IsWithin 2 s → length s.held ≡ 9 → Nearer 2 s (to_begin (released o s))
 releasing Refused s w nine = as_of 2 s (refused (without_first s)) _ refl refl (nearer 1 (refused (without_first s)) _ (comes_begin (refused (without_first s)) (within_kept 1 s w) (one_less s.held nine)))
-releasing Accepted s w nine = releasing_done s w nine
-releasing (Wrote a) s w nine = releasing_done s w nine
-releasing Finished s w nine = releasing_done s w nine
+releasing o s w nine = releasing_done s w nine
 
 beginning_done : (s : State) → IsWithin 1 s → length s.held ≤ 8 → Nearer 1 s (to_next (begun Accepted s))
 beginning_done s w few = as_of 1 s (begun Accepted s) _ refl refl (nearer 0 (begun Accepted s) _ (comes_next (begun Accepted s) (within_begun 0 s w) few))
 
 beginning : (o : Outcome) (s : State) → IsWithin 1 s → length s.held ≤ 8 → Nearer 1 s (to_next (begun o s))
 beginning Refused s w few = as_of 1 s (refused s) _ refl refl (nearer 0 (refused s) _ (comes_next (refused s) (within_refused 0 s w) few))
-beginning Accepted s w few = beginning_done s w few
-beginning (Wrote a) s w few = beginning_done s w few
-beginning Finished s w few = beginning_done s w few
+beginning o s w few = beginning_done s w few
 
 nothing_left : (s : State) → s.round ≡ s.count → 0 < 12 * (s.count - s.round) + 0 → ⊥
 nothing_left s over some = omega arith

@@ -1,10 +1,9 @@
 -- What an answer makes of a generated run.
-use Rattle.std.specs.Prelude.{ℕ, ◌+◌, Bool, true, false, List, [], ◌∷◌, ◌++◌, drop, Ok, Err}
+use Rattle.std.specs.Prelude.{◌+◌, Bool, true, false, [], ◌∷◌, ◌++◌, drop, Ok, Err}
 use Rattle.df_model.specs.Commands.{Advance, Answer, Begin, Command, ToAdvance, ToAppend, ToBegin, ToReadBlock, ToReadPrepare, ToReadReply, ToRecent, ToRelease, ToReply, ToScrub, ToWriteBlock}
 use Rattle.df_model.specs.declared.answers.Progress.TheVariants as progress
 use Rattle.df_workload.specs.Draw.{body_length}
 use Rattle.df_workload.specs.Rounds.{after_reply, to_begin, to_block, to_next, to_release, to_replies}
-use Rattle.df_workload.specs.declared.counts.Counts.{Counts}
 use Rattle.df_workload.specs.declared.outcome.Outcome.{Outcome}
 use Rattle.df_workload.specs.declared.outcome.Outcome.TheVariants.{Refused, Accepted, Wrote, Finished}
 use Rattle.df_workload.specs.declared.state.Point.{Point}
@@ -31,7 +30,7 @@ outcome_of (ToReadPrepare read) = Accepted
 outcome_of (ToReadReply read) = Accepted
 outcome_of (ToReadBlock read) = Accepted
 outcome_of (ToScrub scrubbed) = Accepted
-outcome_of (ToRecent finding) = Accepted
+outcome_of (ToRecent findings) = Accepted
 
 -- ---- what is counted, and what the run has then
 

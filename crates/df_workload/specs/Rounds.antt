@@ -1,5 +1,5 @@
 -- The rounds of a generated run: where each of them goes on, point by point.
-use Rattle.std.specs.Prelude.{ℕ, ◌+◌, ◌-◌, ◌%◌, ◌==◌, ◌||◌, Bool, false, nat_lt, min, if◌then◌else◌, List, [], length}
+use Rattle.std.specs.Prelude.{ℕ, ◌+◌, ◌-◌, ◌%◌, ◌==◌, ◌||◌, Bool, false, nat_lt, min, if◌then◌else◌, [], length}
 use Rattle.df_workload.specs.Draw.{first_number, next_number}
 use Rattle.df_workload.specs.declared.counts.Counts.{Counts}
 use Rattle.df_workload.specs.declared.state.Point.{Point}

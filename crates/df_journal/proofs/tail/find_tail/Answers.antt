@@ -28,15 +28,15 @@ loop-last-preserved c =
       unstored = λ none. still_unstored h c.loop-last.sessions.sessions _ c.apply.result c.apply.ensures.there c.apply.ensures.others (c.loop-last.invariant.unstored none);
       numbered = λ within. still_numbered h c.loop-last.sessions.sessions _ c.apply.result c.in-Some.ensures.sound.request c.apply.ensures.there c.apply.ensures.others (c.loop-last.invariant.numbered within);
       walk = λ sh image b tells starts.
-          let more = walk_more c.args.layout.now c.args.found.now.start.cluster c.args.found.now.slots image c.requires.table tells.shows b last c.loop-last.sessions.sessions h starts.boot (c.loop-last.invariant.walk sh image b tells starts) next in
+          let more = walk_more c.args.layout.now c.args.found.now.start.cluster c.args.found.now.slots image c.requires.table tells.shows b last c.loop-last.sessions.sessions h (starts.boot ∙ tells.version.boot) (c.loop-last.invariant.walk sh image b tells starts) next in
           subst (λ (ss : List Session). IsWalk c.args.layout.now image b c.tail_to-last.result ss) (sym c.apply.ensures.sessions) (subst (λ (t : Tail). IsWalk c.args.layout.now image b t (with_request h.client h.request h.op c.loop-last.sessions.sessions)) is more);
     }
 
 pub returns-in-None-clause-tail : goal.returns-in-None-clause-tail
 returns-in-None-clause-tail c = λ sh image b tells starts.
     let none : GoesOn c.args.layout.now c.args.found.now.slots c.loop-last.last c.loop-last.sessions.sessions None = c.in-None.ensures.next in
-    walk_ends c.args.layout.now c.args.found.now.start.cluster c.args.found.now.slots image c.requires.table tells.shows sh b c.args.found.now.start.op c.args.checksum.now c.args.sessions.now.sessions c.loop-last.last c.loop-last.sessions.sessions starts (c.loop-last.invariant.walk sh image b tells starts) c.loop-last.invariant.within (λ h room next. none h next)
+    walk_ends c.args.layout.now c.args.found.now.start.cluster c.args.found.now.slots image c.requires.table tells.shows sh b c.args.found.now.start c.args.checksum.now c.args.sessions.now.sessions c.loop-last.last c.loop-last.sessions.sessions tells.version starts (c.loop-last.invariant.walk sh image b tells starts) c.loop-last.invariant.within (λ h room next. none h next)
 
 pub returns-clause-tail : goal.returns-clause-tail
 returns-clause-tail c = λ sh image b tells starts.
-    walk_ends c.args.layout.now c.args.found.now.start.cluster c.args.found.now.slots image c.requires.table tells.shows sh b c.args.found.now.start.op c.args.checksum.now c.args.sessions.now.sessions c.loop-last.last c.loop-last.sessions.sessions starts (c.loop-last.invariant.walk sh image b tells starts) c.loop-last.invariant.within (λ h room next. omega (arith, room, (let first : c.found.inside.start.op ≡ c.args.found.now.start.op = ap (λ (scan : Scan). scan.start.op) c.found.view_is in first), c.loop-last-test.false, c.from.ensures, c.loop-last.invariant.from))
+    walk_ends c.args.layout.now c.args.found.now.start.cluster c.args.found.now.slots image c.requires.table tells.shows sh b c.args.found.now.start c.args.checksum.now c.args.sessions.now.sessions c.loop-last.last c.loop-last.sessions.sessions tells.version starts (c.loop-last.invariant.walk sh image b tells starts) c.loop-last.invariant.within (λ h room next. omega (arith, room, (let first : c.found.inside.start.op ≡ c.args.found.now.start.op = ap (λ (scan : Scan). scan.start.op) c.found.view_is in first), c.loop-last-test.false, c.from.ensures, c.loop-last.invariant.from))

@@ -19,7 +19,7 @@ invariant-loop-last l = record {
   places : l.sessions.max ≡ l.layout.clients;
   unstored : AreUnstored l.initial.sessions.sessions → AreUnstored l.sessions.sessions;
   numbered : AreNumbered l.initial.sessions.sessions → AreNumbered l.sessions.sessions;
-  walk : (sh : Shape) (image : Units) (b : Checkpoint) → Tells l.layout image l.found → StartsAt sh b l.layout l.found.start.op l.checksum l.initial.sessions.sessions → IsWalk l.layout image b l.last l.sessions.sessions;
+  walk : (sh : Shape) (image : Units) (b : Checkpoint) → Tells l.layout image l.found → StartsAt sh b l.layout l.found.start l.checksum l.initial.sessions.sessions → IsWalk l.layout image b l.last l.sessions.sessions;
 }
 
 abbrev pub decreases-loop-last : goal.decreases-loop-last

@@ -6,7 +6,7 @@ use Rattle.df_units.specs.Meaning.{layout_of}
 use Rattle.df_trailer.specs.Sessions.{AreRead}
 use Rattle.df_grid.specs.Grid.{GridState}
 use Rattle.df_model.specs.declared.errors.OpenError.{OpenError}
-use Rattle.df_state.specs.State.{shape}
+use Rattle.df_rooms.specs.State.{shape}
 use Rattle.df_recovery.specs.Checkpoints.{TellsCheckpoint}
 use Rattle.df_recovery.proofs.Bases.{complete_gives, told_refused, told_text}
 use Rattle.df_recovery.proofs.checkpoint.read_text.Goals as goal

@@ -17,7 +17,7 @@ loop-slot-preserved c =
       room = put.room ∙ now.invariant.room;
       planned = planned_more c.args.cluster c.args.found.now now.slot now.headers c.plan_slot.new.headers (omega (arith, c.loop-slot-test.true, now.invariant.size)) now.invariant.planned put.header;
       list = λ image tells.
-          let needs = needs_header c.args.layout.now c.args.found.now.start.op image in
+          let needs = needs_header c.args.layout.now c.args.found.now.start image in
           let classes = shown_class c.args.found.now in
           put.list c.args.layout.now image tells ∙ ap (λ (xs : List Mend). xs ++ if_wanted (needs now.slot) (slot_mend classes now.slot)) (now.invariant.list image tells)
           ∙ append_assoc (copy_mends c.args.copies.now c.args.members.now) (slot_mends needs classes now.slot) (if_wanted (needs now.slot) (slot_mend classes now.slot))

@@ -12,7 +12,7 @@ invariant-loop-slot l = record {
   count : vec_len l.mends ≤ 4 + l.slot;
   room : vec_capacity l.mends ≡ vec_capacity l.fn.mends;
   planned : ArePlanned l.cluster l.found l.slot l.headers;
-  list : (image : Units) → Tells l.layout image l.found → l.mends.items ≡ copy_mends l.copies l.members ++ slot_mends (needs_header l.layout l.found.start.op image) (shown_class l.found) l.slot;
+  list : (image : Units) → Tells l.layout image l.found → l.mends.items ≡ copy_mends l.copies l.members ++ slot_mends (needs_header l.layout l.found.start image) (shown_class l.found) l.slot;
 }
 
 abbrev pub decreases-loop-slot : goal.decreases-loop-slot

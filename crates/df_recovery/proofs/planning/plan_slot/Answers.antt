@@ -1,4 +1,4 @@
--- The decision is the model's, at the op that belongs in the slot.
+-- The decision is the theory's, at the op that belongs in the slot.
 use Rattle.std.proofs.Common.{◌++◌, Bool, ap, ◌∙◌, arith}
 use Rattle.df_recovery.specs.Plan.{if_wanted, is_mended, op_in, shown_class, slot_mend}
 use Rattle.df_recovery.proofs.Plans.{op_in_is}

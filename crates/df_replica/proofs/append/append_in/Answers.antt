@@ -1,5 +1,5 @@
 -- What is written is the prepare that was made in the room.
-use Rattle.std.proofs.Common.{◌≡◌, ◌∙◌, ap, subst, sym}
+use Rattle.std.proofs.Common.{◌∙◌, ap, subst, sym}
 use Rattle.df_format.specs.Message.{Message}
 use Rattle.df_headers.specs.Ring.{IsTable}
 use Rattle.df_journal.specs.Below.{IsInOwnSlot}

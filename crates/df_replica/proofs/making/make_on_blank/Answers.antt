@@ -1,4 +1,4 @@
--- Where the disk isn't blank nothing is written; else the calls are the model's making, or a part of it.
+-- Where the disk isn't blank nothing is written; else the calls are the theory's making, or a part of it.
 use Rattle.std.proofs.Common.{subst}
 use Rattle.df_format.specs.SuperRules.{IsUsable}
 use Rattle.df_replica.proofs.Formatted.{failed_formats, made_formats, refused_formats}

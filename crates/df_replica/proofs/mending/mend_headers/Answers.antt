@@ -3,8 +3,10 @@ use Rattle.std.proofs.Common.{◌∷◌, [], List, sym, ◌∙◌, subst}
 use Rattle.df_base.specs.Log.{Event, Sync}
 use Rattle.df_disk.specs.Adds.{Adds}
 use Rattle.df_disk.proofs.Laws.{adds_then}
-use Rattle.df_replica.specs.Mending.{sector_writes, sectors_of}
-use Rattle.df_replica.proofs.MendEvents.{headers_fail, headers_some, sync_adds}
+use Rattle.df_headers.specs.Ring.{sector_writes}
+use Rattle.df_journal.proofs.Laws.{sync_adds}
+use Rattle.df_replica.specs.Mending.{sectors_of}
+use Rattle.df_replica.proofs.MendEvents.{headers_fail, headers_some}
 use Rattle.df_replica.proofs.mending.mend_headers.Goals as goal
 
 pub returns-in-Ok-true-clause-events : goal.returns-in-Ok-true-clause-events

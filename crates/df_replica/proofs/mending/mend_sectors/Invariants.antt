@@ -1,7 +1,8 @@
 -- The sectors before this one are written, where the list has a slot of them.
 use Rattle.std.proofs.Common.{◌≡◌, ◌≤◌, ◌-◌, ◌/◌}
 use Rattle.df_disk.specs.Adds.{after_all}
-use Rattle.df_replica.specs.Mending.{sector_writes, sectors_to, some_of}
+use Rattle.df_headers.specs.Ring.{sector_writes}
+use Rattle.df_replica.specs.Mending.{sectors_to, some_of}
 use Rattle.df_replica.proofs.mending.mend_sectors.Given as goal
 
 abbrev pub invariant-loop-sector : goal.invariant-loop-sector

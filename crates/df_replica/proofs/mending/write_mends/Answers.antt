@@ -1,4 +1,4 @@
--- The calls are the model's steps.
+-- The calls are the theory's steps.
 use Rattle.df_replica.proofs.MendSteps.{mending_is_steps}
 use Rattle.df_replica.proofs.mending.write_mends.Goals as goal
 

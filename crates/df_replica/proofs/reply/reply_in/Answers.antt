@@ -1,5 +1,5 @@
 -- What is written is the reply that was made in the room.
-use Rattle.std.proofs.Common.{◌≡◌, ◌∙◌, ap, subst}
+use Rattle.std.proofs.Common.{◌∙◌, ap, subst}
 use Rattle.df_format.specs.Message.{Message}
 use Rattle.df_replies.specs.Slots.{IsInOwnSlot}
 use Rattle.df_replica.proofs.MadeUnits.{is_made}

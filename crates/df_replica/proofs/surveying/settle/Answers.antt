@@ -1,6 +1,6 @@
 -- What is found of a file that was read is the answer to an open.
 use Rattle.std.proofs.Common.{◌∙◌, subst, sym}
-use Rattle.df_state.specs.State.{AreAsked}
+use Rattle.df_rooms.specs.State.{AreAsked}
 use Rattle.df_theory.specs.Sessions.{Tracks}
 use Rattle.df_replica.proofs.ReplyTests.{numbered_by}
 use Rattle.df_replica.proofs.Settled.{opened, refused}

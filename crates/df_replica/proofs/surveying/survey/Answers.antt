@@ -3,7 +3,7 @@ use Rattle.std.proofs.Common.{◌≡◌, ◌∙◌, ap}
 use Rattle.df_replica.specs.Mending.{IsPlanned, IsSettledFrom}
 use Rattle.df_replica.specs.Replica.{Survey}
 use Rattle.df_replica.specs.Surveying.{state_of}
-use Rattle.df_state.specs.declared.file.DataFile.{DataFile}
+use Rattle.df_rooms.specs.declared.file.DataFile.{DataFile}
 use Rattle.df_replica.proofs.Hurts.{read_hurt, tells_hurt}
 use Rattle.df_replica.proofs.Listed.{told_answer, told_mends}
 use Rattle.df_replica.proofs.SurveyPlans.{if_ok_more, lawful, survey_planned}

@@ -1,6 +1,7 @@
 -- A line that the case of its first word refuses says nothing.
 use Rattle.std.proofs.Common.{◌≡◌, codes, rules}
-use Rattle.df_rows.proofs.Words.{if_none, only}
+use Rattle.df_lines.proofs.Laws.{if_none}
+use Rattle.df_rows.proofs.Words.{only}
 use Rattle.df_rows.proofs.parser.parse.Goals as goal
 
 pub returns-then-eq-clause-none : goal.returns-then-eq-clause-none

@@ -1,10 +1,12 @@
 -- Words ask for one thing at most, so that the clauses of the others say nothing.
 use Rattle.std.proofs.Common.{ℕ, subst}
 use Rattle.df_layout.specs.declared.layout.Layout.{Layout}
+use Rattle.df_units.specs.Within.{AddsWithin}
 use Rattle.df_top.specs.Mode.{Means}
 use Rattle.df_top.specs.Formats.{Formats, MakesFile}
 use Rattle.df_top.specs.declared.mode.Mode.TheVariants.{Format, Inspect}
 use Rattle.df_top.proofs.Hurts.{runs_over_hurt}
+use Rattle.df_top.proofs.Within.{runs_within}
 use Rattle.df_top.proofs.Words.{makes_alone, same_layout_asked, same_cluster_asked}
 use Rattle.df_top.proofs.engine.run.Goals as goal
 
@@ -53,3 +55,21 @@ returns-in-Some-Format-clause-hurt g c = λ mode of asks.
 
 pub returns-in-Some-Run-clause-hurt : goal.returns-in-Some-Run-clause-hurt
 returns-in-Some-Run-clause-hurt g c = λ mode of asks. runs_over_hurt mode _ _ _ (c.run_file.ensures.runs mode asks)
+
+pub returns-in-Some-Format-clause-made_within : goal.returns-in-Some-Format-clause-made_within
+returns-in-Some-Format-clause-made_within g c = λ layout cluster asks.
+    subst (λ (l : Layout). AddsWithin l (g.D.Disk.told c.args.disk.now) (g.D.Disk.told c.make_file.new.disk))
+    (same_layout_asked _ c.in-Some-Format.layout layout c.in-Some-Format.cluster cluster (subst (Means _) c.in-Some-Format.field-0-is c.in-Some-Format.ensures.found) asks) c.make_file.ensures.within
+
+pub returns-in-None-clause-made_within : goal.returns-in-None-clause-made_within
+returns-in-None-clause-made_within g c = λ layout cluster asks. absurd (c.in-None.ensures.none (Format layout cluster) asks)
+
+pub returns-in-Some-Run-clause-within : goal.returns-in-Some-Run-clause-within
+returns-in-Some-Run-clause-within g c = λ mode of asks. runs_within mode _ _ _ (c.run_file.ensures.runs mode asks)
+
+pub returns-in-Some-Format-clause-within : goal.returns-in-Some-Format-clause-within
+returns-in-Some-Format-clause-within g c = λ mode of asks.
+    absurd (makes_alone _ c.in-Some-Format.layout c.in-Some-Format.cluster mode (subst (Means _) c.in-Some-Format.field-0-is c.in-Some-Format.ensures.found) asks of)
+
+pub returns-in-None-clause-within : goal.returns-in-None-clause-within
+returns-in-None-clause-within g c = λ mode of asks. absurd (c.in-None.ensures.none mode asks)

@@ -1,5 +1,6 @@
 -- What the making leaves is what is promised of the word.
 use Rattle.df_top.proofs.Made.{makes_on, not_done}
+use Rattle.df_top.proofs.Within.{making_within}
 use Rattle.df_top.proofs.making.make.Goals as goal
 
 pub returns-in-Ok-clause-makes : goal.returns-in-Ok-clause-makes
@@ -11,3 +12,11 @@ pub returns-in-Err-clause-makes : goal.returns-in-Err-clause-makes
 returns-in-Err-clause-makes g c = λ before may some is honest.
     makes_on c.args.rooms.now.layout c.args.cluster before may (g.D.Disk.told c.args.disk.now) (g.D.Disk.told c.format.new.disk) c.refuse_format.result is honest c.format.result c.format.ensures.events (λ n told. c.format.ensures.makes before n is told may)
     (λ yes. absurd (not_done c.in-Err.error (g.W.Sink.written c.args.sink.now) (g.W.Sink.written c.refuse_format.new.sink) c.refuse_format.result c.refuse_format.ensures.prints yes))
+
+pub returns-in-Ok-clause-within : goal.returns-in-Ok-clause-within
+returns-in-Ok-clause-within g c =
+    making_within c.args.rooms.now.layout c.args.cluster (g.D.Disk.told c.args.disk.now) (g.D.Disk.told c.format.new.disk) c.format.result c.format.ensures.cluster c.format.ensures.events c.format.ensures.steps
+
+pub returns-in-Err-clause-within : goal.returns-in-Err-clause-within
+returns-in-Err-clause-within g c =
+    making_within c.args.rooms.now.layout c.args.cluster (g.D.Disk.told c.args.disk.now) (g.D.Disk.told c.format.new.disk) c.format.result c.format.ensures.cluster c.format.ensures.events c.format.ensures.steps

@@ -1,7 +1,8 @@
 -- The places before this one were read.
-use Rattle.std.proofs.Common.{◌≡◌, ◌≤◌, ◌-◌, Option, length, take}
+use Rattle.std.proofs.Common.{◌≡◌, ◌≤◌, ◌<◌, ◌-◌, Option, Some, length, take}
 use Rattle.df_disk.specs.Told.{Told}
-use Rattle.df_top.specs.Step.{ShowsRing}
+use Rattle.df_model.specs.Commands.{Recent, ToRecent}
+use Rattle.df_replica.specs.Answering.{Serves}
 use Rattle.df_top.proofs.scrub_calls.fill.Given as goal
 
 abbrev pub invariant-loop-place : goal.invariant-loop-place
@@ -9,7 +10,9 @@ invariant-loop-place l = record {
   within : l.place ≤ 64;
   few : l.count ≤ l.place;
   room : length l.row ≡ 64;
-  so_far : (told : Option Told) → ShowsRing l.replica told l.place (take l.count l.row);
+  so_far : take l.count l.row ≡ take l.place l.replica.findings;
+  ring : 0 < l.place → length l.replica.findings ≤ 64;
+  call : 0 < l.place → (told : Option Told) → Serves Recent l.replica l.replica told told (Some (ToRecent l.replica.findings));
 }
 
 abbrev pub decreases-loop-place : goal.decreases-loop-place

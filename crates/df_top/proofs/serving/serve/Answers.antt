@@ -8,6 +8,7 @@ use Rattle.df_top.specs.declared.mode.Mode.{Mode}
 use Rattle.df_top.specs.declared.mode.Mode.TheVariants.{Run, Recover, Inspect, Scrub, Workload}
 use Rattle.df_top.proofs.Hurts.{serves_over_hurt}
 use Rattle.df_top.proofs.Modes.{one_mode}
+use Rattle.df_top.proofs.Within.{does_within}
 use Rattle.df_top.proofs.serving.serve.Goals as goal
 
 pub returns-in-Some-Run-clause-serves : goal.returns-in-Some-Run-clause-serves
@@ -76,3 +77,18 @@ returns-in-Some-Scrub-clause-hurt g c = λ mode asks. serves_over_hurt mode _ _ 
 
 pub returns-in-Some-Workload-clause-hurt : goal.returns-in-Some-Workload-clause-hurt
 returns-in-Some-Workload-clause-hurt g c = λ mode asks. serves_over_hurt mode _ _ _ _ (returns-in-Some-Workload-clause-serves g c mode asks)
+
+pub returns-in-Some-Run-clause-within : goal.returns-in-Some-Run-clause-within
+returns-in-Some-Run-clause-within g c = λ t told whole. does_within c.args.rooms.layout t _ _ _ Run (c.serve_file.ensures.serves t told whole)
+
+pub returns-in-Some-Recover-clause-within : goal.returns-in-Some-Recover-clause-within
+returns-in-Some-Recover-clause-within g c = λ t told whole. does_within c.args.rooms.layout t _ _ _ Recover (c.recover_file.ensures.recovers (g.S.Source.left c.args.source.now) t told whole)
+
+pub returns-in-Some-Inspect-clause-within : goal.returns-in-Some-Inspect-clause-within
+returns-in-Some-Inspect-clause-within g c = λ t told whole. does_within c.args.rooms.layout t _ _ _ Inspect (c.inspect_file.ensures.inspects (g.S.Source.left c.args.source.now) t told whole)
+
+pub returns-in-Some-Scrub-clause-within : goal.returns-in-Some-Scrub-clause-within
+returns-in-Some-Scrub-clause-within g c = λ t told whole. does_within c.args.rooms.layout t _ _ _ Scrub (c.scrub_file.ensures.scrubs (g.S.Source.left c.args.source.now) t told whole)
+
+pub returns-in-Some-Workload-clause-within : goal.returns-in-Some-Workload-clause-within
+returns-in-Some-Workload-clause-within g c = λ t told whole. does_within c.args.rooms.layout t _ _ _ (Workload c.in-Some-Workload.seed c.in-Some-Workload.count) (c.workload_file.ensures.works (g.S.Source.left c.args.source.now) t told whole)

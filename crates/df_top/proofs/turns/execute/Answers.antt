@@ -1,77 +1,52 @@
 -- The call is the one that the line asks for.
-use Rattle.std.proofs.Common.{List, ℕ, refl, subst, sym}
+use Rattle.std.proofs.Common.{◌≡◌, List, ℕ, Option, subst, sym}
+use Rattle.df_disk.specs.Told.{Told}
 use Rattle.df_lines.specs.declared.line.Line.{Line}
 use Rattle.df_lines.specs.Grammar.{said_with}
-use Rattle.df_lines.specs.declared.line.Line.TheVariants as asked
 use Rattle.df_model.specs.Commands.{Append, Begin, Reply, WriteBlock}
-use Rattle.df_top.specs.Step.{Answers, ServesLine}
-use Rattle.df_top.proofs.Answered.{serves_line}
+use Rattle.df_replica.specs.Below.{State as Replica}
+use Rattle.df_top.specs.Lines.{command_of}
+use Rattle.df_top.specs.Step.{Answers}
+use Rattle.df_top.specs.declared.turns.Turn.{Turn}
 use Rattle.df_top.proofs.turns.execute.Goals as goal
 
+-- what answers the line that was taken answers the line
+served : (body : List ℕ) (line l : Line) (s t : Replica) (old new : Option Told) (written took : Option (List ℕ)) (turn : Turn) → line ≡ l
+    → Answers (command_of (said_with body l)) s t old new written took turn → Answers (command_of (said_with body line)) s t old new written took turn
+served body line l s t old new written took turn is did = subst (λ (x : Line). Answers (command_of (said_with body x)) s t old new written took turn) (sym is) did
+
 pub returns-in-Append-clause-answers : goal.returns-in-Append-clause-answers
-returns-in-Append-clause-answers g c =
-    subst (λ (l : Line). ServesLine (said_with c.args.session.now.lines.body l) c.args.session.now.replica c.serve.new.replica (g.D.Disk.told c.args.disk.now) (g.D.Disk.told c.serve.new.disk) (g.W.Sink.written c.args.sink.now) (g.W.Sink.written c.serve.new.sink) c.serve.result) (sym c.in-Append.is)
-    (serves_line (said_with c.args.session.now.lines.body (asked.Append c.in-Append.client c.in-Append.request c.in-Append.length)) _ refl (λ x. refl) c.args.session.now.replica c.serve.new.replica (g.D.Disk.told c.args.disk.now) (g.D.Disk.told c.serve.new.disk) (g.W.Sink.written c.args.sink.now) (g.W.Sink.written c.serve.new.sink) c.serve.result
-    (subst (λ (b : List ℕ). Answers (Append c.in-Append.client c.in-Append.request b) c.args.session.now.replica c.serve.new.replica (g.D.Disk.told c.args.disk.now) (g.D.Disk.told c.serve.new.disk) (g.W.Sink.written c.args.sink.now) (g.W.Sink.written c.serve.new.sink) c.serve.result) c.body-body.ensures c.serve.ensures.answers))
+returns-in-Append-clause-answers g c = served c.args.session.now.lines.body _ _ _ _ _ _ _ _ _ c.in-Append.is (subst (λ (b : List ℕ). Answers (Append c.in-Append.client c.in-Append.request b) c.args.session.now.replica c.serve.new.replica (g.D.Disk.told c.args.disk.now) (g.D.Disk.told c.serve.new.disk) (g.W.Sink.written c.args.sink.now) (g.W.Sink.written c.serve.new.sink) c.serve.result) c.body-body.ensures c.serve.ensures.answers)
 
 pub returns-in-Reply-clause-answers : goal.returns-in-Reply-clause-answers
-returns-in-Reply-clause-answers g c =
-    subst (λ (l : Line). ServesLine (said_with c.args.session.now.lines.body l) c.args.session.now.replica c.serve-in-Reply.new.replica (g.D.Disk.told c.args.disk.now) (g.D.Disk.told c.serve-in-Reply.new.disk) (g.W.Sink.written c.args.sink.now) (g.W.Sink.written c.serve-in-Reply.new.sink) c.serve-in-Reply.result) (sym c.in-Reply.is)
-    (serves_line (said_with c.args.session.now.lines.body (asked.Reply c.in-Reply.op c.in-Reply.length)) _ refl (λ x. refl) c.args.session.now.replica c.serve-in-Reply.new.replica (g.D.Disk.told c.args.disk.now) (g.D.Disk.told c.serve-in-Reply.new.disk) (g.W.Sink.written c.args.sink.now) (g.W.Sink.written c.serve-in-Reply.new.sink) c.serve-in-Reply.result
-    (subst (λ (b : List ℕ). Answers (Reply c.in-Reply.op b) c.args.session.now.replica c.serve-in-Reply.new.replica (g.D.Disk.told c.args.disk.now) (g.D.Disk.told c.serve-in-Reply.new.disk) (g.W.Sink.written c.args.sink.now) (g.W.Sink.written c.serve-in-Reply.new.sink) c.serve-in-Reply.result) c.body-body-in-Reply.ensures c.serve-in-Reply.ensures.answers))
+returns-in-Reply-clause-answers g c = served c.args.session.now.lines.body _ _ _ _ _ _ _ _ _ c.in-Reply.is (subst (λ (b : List ℕ). Answers (Reply c.in-Reply.op b) c.args.session.now.replica c.serve-in-Reply.new.replica (g.D.Disk.told c.args.disk.now) (g.D.Disk.told c.serve-in-Reply.new.disk) (g.W.Sink.written c.args.sink.now) (g.W.Sink.written c.serve-in-Reply.new.sink) c.serve-in-Reply.result) c.body-body-in-Reply.ensures c.serve-in-Reply.ensures.answers)
 
 pub returns-in-Block-clause-answers : goal.returns-in-Block-clause-answers
-returns-in-Block-clause-answers g c =
-    subst (λ (l : Line). ServesLine (said_with c.args.session.now.lines.body l) c.args.session.now.replica c.serve-in-Block.new.replica (g.D.Disk.told c.args.disk.now) (g.D.Disk.told c.serve-in-Block.new.disk) (g.W.Sink.written c.args.sink.now) (g.W.Sink.written c.serve-in-Block.new.sink) c.serve-in-Block.result) (sym c.in-Block.is)
-    (serves_line (said_with c.args.session.now.lines.body (asked.Block c.in-Block.kind c.in-Block.length)) _ refl (λ x. refl) c.args.session.now.replica c.serve-in-Block.new.replica (g.D.Disk.told c.args.disk.now) (g.D.Disk.told c.serve-in-Block.new.disk) (g.W.Sink.written c.args.sink.now) (g.W.Sink.written c.serve-in-Block.new.sink) c.serve-in-Block.result
-    (subst (λ (b : List ℕ). Answers (WriteBlock c.in-Block.kind b) c.args.session.now.replica c.serve-in-Block.new.replica (g.D.Disk.told c.args.disk.now) (g.D.Disk.told c.serve-in-Block.new.disk) (g.W.Sink.written c.args.sink.now) (g.W.Sink.written c.serve-in-Block.new.sink) c.serve-in-Block.result) c.body-body-in-Block.ensures c.serve-in-Block.ensures.answers))
+returns-in-Block-clause-answers g c = served c.args.session.now.lines.body _ _ _ _ _ _ _ _ _ c.in-Block.is (subst (λ (b : List ℕ). Answers (WriteBlock c.in-Block.kind b) c.args.session.now.replica c.serve-in-Block.new.replica (g.D.Disk.told c.args.disk.now) (g.D.Disk.told c.serve-in-Block.new.disk) (g.W.Sink.written c.args.sink.now) (g.W.Sink.written c.serve-in-Block.new.sink) c.serve-in-Block.result) c.body-body-in-Block.ensures c.serve-in-Block.ensures.answers)
 
 pub returns-in-Release-clause-answers : goal.returns-in-Release-clause-answers
-returns-in-Release-clause-answers g c =
-    subst (λ (l : Line). ServesLine (said_with c.args.session.now.lines.body l) c.args.session.now.replica c.serve-in-Release.new.replica (g.D.Disk.told c.args.disk.now) (g.D.Disk.told c.serve-in-Release.new.disk) (g.W.Sink.written c.args.sink.now) (g.W.Sink.written c.serve-in-Release.new.sink) c.serve-in-Release.result) (sym c.in-Release.is)
-    (serves_line (said_with c.args.session.now.lines.body (asked.Release c.in-Release.address)) _ refl (λ x. refl) c.args.session.now.replica c.serve-in-Release.new.replica (g.D.Disk.told c.args.disk.now) (g.D.Disk.told c.serve-in-Release.new.disk) (g.W.Sink.written c.args.sink.now) (g.W.Sink.written c.serve-in-Release.new.sink) c.serve-in-Release.result
-    c.serve-in-Release.ensures.answers)
+returns-in-Release-clause-answers g c = served c.args.session.now.lines.body _ _ _ _ _ _ _ _ _ c.in-Release.is c.serve-in-Release.ensures.answers
 
 pub returns-in-Checkpoint-clause-answers : goal.returns-in-Checkpoint-clause-answers
-returns-in-Checkpoint-clause-answers g c =
-    subst (λ (l : Line). ServesLine (said_with c.args.session.now.lines.body l) c.args.session.now.replica c.serve-in-Checkpoint.new.replica (g.D.Disk.told c.args.disk.now) (g.D.Disk.told c.serve-in-Checkpoint.new.disk) (g.W.Sink.written c.args.sink.now) (g.W.Sink.written c.serve-in-Checkpoint.new.sink) c.serve-in-Checkpoint.result) (sym c.in-Checkpoint.is)
-    (serves_line (said_with c.args.session.now.lines.body (asked.Checkpoint c.in-Checkpoint.length)) _ refl (λ x. refl) c.args.session.now.replica c.serve-in-Checkpoint.new.replica (g.D.Disk.told c.args.disk.now) (g.D.Disk.told c.serve-in-Checkpoint.new.disk) (g.W.Sink.written c.args.sink.now) (g.W.Sink.written c.serve-in-Checkpoint.new.sink) c.serve-in-Checkpoint.result
-    (subst (λ (b : List ℕ). Answers (Begin b) c.args.session.now.replica c.serve-in-Checkpoint.new.replica (g.D.Disk.told c.args.disk.now) (g.D.Disk.told c.serve-in-Checkpoint.new.disk) (g.W.Sink.written c.args.sink.now) (g.W.Sink.written c.serve-in-Checkpoint.new.sink) c.serve-in-Checkpoint.result) c.body-root.ensures c.serve-in-Checkpoint.ensures.answers))
+returns-in-Checkpoint-clause-answers g c = served c.args.session.now.lines.body _ _ _ _ _ _ _ _ _ c.in-Checkpoint.is (subst (λ (b : List ℕ). Answers (Begin b) c.args.session.now.replica c.serve-in-Checkpoint.new.replica (g.D.Disk.told c.args.disk.now) (g.D.Disk.told c.serve-in-Checkpoint.new.disk) (g.W.Sink.written c.args.sink.now) (g.W.Sink.written c.serve-in-Checkpoint.new.sink) c.serve-in-Checkpoint.result) c.body-root.ensures c.serve-in-Checkpoint.ensures.answers)
 
 pub returns-in-Step-clause-answers : goal.returns-in-Step-clause-answers
-returns-in-Step-clause-answers g c =
-    subst (λ (l : Line). ServesLine (said_with c.args.session.now.lines.body l) c.args.session.now.replica c.serve-in-Step.new.replica (g.D.Disk.told c.args.disk.now) (g.D.Disk.told c.serve-in-Step.new.disk) (g.W.Sink.written c.args.sink.now) (g.W.Sink.written c.serve-in-Step.new.sink) c.serve-in-Step.result) (sym c.in-Step.is)
-    (serves_line (said_with c.args.session.now.lines.body asked.Step) _ refl (λ x. refl) c.args.session.now.replica c.serve-in-Step.new.replica (g.D.Disk.told c.args.disk.now) (g.D.Disk.told c.serve-in-Step.new.disk) (g.W.Sink.written c.args.sink.now) (g.W.Sink.written c.serve-in-Step.new.sink) c.serve-in-Step.result
-    c.serve-in-Step.ensures.answers)
+returns-in-Step-clause-answers g c = served c.args.session.now.lines.body _ _ _ _ _ _ _ _ _ c.in-Step.is c.serve-in-Step.ensures.answers
 
 pub returns-in-Prepare-clause-answers : goal.returns-in-Prepare-clause-answers
-returns-in-Prepare-clause-answers g c =
-    subst (λ (l : Line). ServesLine (said_with c.args.session.now.lines.body l) c.args.session.now.replica c.prepare.new.replica (g.D.Disk.told c.args.disk.now) (g.D.Disk.told c.prepare.new.disk) (g.W.Sink.written c.args.sink.now) (g.W.Sink.written c.prepare.new.sink) c.prepare.result) (sym c.in-Prepare.is)
-    (serves_line (said_with c.args.session.now.lines.body (asked.Prepare c.in-Prepare.op)) _ refl (λ x. refl) c.args.session.now.replica c.prepare.new.replica (g.D.Disk.told c.args.disk.now) (g.D.Disk.told c.prepare.new.disk) (g.W.Sink.written c.args.sink.now) (g.W.Sink.written c.prepare.new.sink) c.prepare.result
-    c.prepare.ensures.answers)
+returns-in-Prepare-clause-answers g c = served c.args.session.now.lines.body _ _ _ _ _ _ _ _ _ c.in-Prepare.is c.prepare.ensures.answers
 
 pub returns-in-Lookup-clause-answers : goal.returns-in-Lookup-clause-answers
-returns-in-Lookup-clause-answers g c =
-    subst (λ (l : Line). ServesLine (said_with c.args.session.now.lines.body l) c.args.session.now.replica c.lookup.new.replica (g.D.Disk.told c.args.disk.now) (g.D.Disk.told c.lookup.new.disk) (g.W.Sink.written c.args.sink.now) (g.W.Sink.written c.lookup.new.sink) c.lookup.result) (sym c.in-Lookup.is)
-    (serves_line (said_with c.args.session.now.lines.body (asked.Lookup c.in-Lookup.client)) _ refl (λ x. refl) c.args.session.now.replica c.lookup.new.replica (g.D.Disk.told c.args.disk.now) (g.D.Disk.told c.lookup.new.disk) (g.W.Sink.written c.args.sink.now) (g.W.Sink.written c.lookup.new.sink) c.lookup.result
-    c.lookup.ensures.answers)
+returns-in-Lookup-clause-answers g c = served c.args.session.now.lines.body _ _ _ _ _ _ _ _ _ c.in-Lookup.is c.lookup.ensures.answers
 
 pub returns-in-Read-clause-answers : goal.returns-in-Read-clause-answers
-returns-in-Read-clause-answers g c =
-    subst (λ (l : Line). ServesLine (said_with c.args.session.now.lines.body l) c.args.session.now.replica c.read_block.new.replica (g.D.Disk.told c.args.disk.now) (g.D.Disk.told c.read_block.new.disk) (g.W.Sink.written c.args.sink.now) (g.W.Sink.written c.read_block.new.sink) c.read_block.result) (sym c.in-Read.is)
-    (serves_line (said_with c.args.session.now.lines.body (asked.Read c.in-Read.address)) _ refl (λ x. refl) c.args.session.now.replica c.read_block.new.replica (g.D.Disk.told c.args.disk.now) (g.D.Disk.told c.read_block.new.disk) (g.W.Sink.written c.args.sink.now) (g.W.Sink.written c.read_block.new.sink) c.read_block.result
-    c.read_block.ensures.answers)
+returns-in-Read-clause-answers g c = served c.args.session.now.lines.body _ _ _ _ _ _ _ _ _ c.in-Read.is c.read_block.ensures.answers
 
 pub returns-in-Scrub-clause-answers : goal.returns-in-Scrub-clause-answers
-returns-in-Scrub-clause-answers g c =
-    subst (λ (l : Line). ServesLine (said_with c.args.session.now.lines.body l) c.args.session.now.replica c.scrub.new.replica (g.D.Disk.told c.args.disk.now) (g.D.Disk.told c.scrub.new.disk) (g.W.Sink.written c.args.sink.now) (g.W.Sink.written c.scrub.new.sink) c.scrub.result) (sym c.in-Scrub.is)
-    (serves_line (said_with c.args.session.now.lines.body asked.Scrub) _ refl (λ x. refl) c.args.session.now.replica c.scrub.new.replica (g.D.Disk.told c.args.disk.now) (g.D.Disk.told c.scrub.new.disk) (g.W.Sink.written c.args.sink.now) (g.W.Sink.written c.scrub.new.sink) c.scrub.result
-    c.scrub.ensures.answers)
+returns-in-Scrub-clause-answers g c = served c.args.session.now.lines.body _ _ _ _ _ _ _ _ _ c.in-Scrub.is c.scrub.ensures.answers
 
 pub returns-in-Recent-clause-answers : goal.returns-in-Recent-clause-answers
-returns-in-Recent-clause-answers g c =
-    subst (λ (l : Line). ServesLine (said_with c.args.session.now.lines.body l) c.args.session.now.replica c.args.session.now.replica (g.D.Disk.told c.args.disk.now) (g.D.Disk.told c.args.disk.now) (g.W.Sink.written c.args.sink.now) (g.W.Sink.written c.recent.new.sink) c.recent.result) (sym c.in-Recent.is)
-    (c.recent.ensures.answers (g.D.Disk.told c.args.disk.now))
+returns-in-Recent-clause-answers g c = served c.args.session.now.lines.body _ _ _ _ _ _ _ _ _ c.in-Recent.is (c.recent.ensures.answers (g.D.Disk.told c.args.disk.now))
 
 pub returns-in-Recent-clause-disk : goal.returns-in-Recent-clause-disk
 returns-in-Recent-clause-disk g c = c.recent.ensures.disk (g.D.Disk.faults c.args.disk.now)

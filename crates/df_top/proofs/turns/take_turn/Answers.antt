@@ -3,7 +3,7 @@ use Rattle.std.proofs.Common.{refl, subst}
 use Rattle.df_lines.specs.Reads.{GivesNext}
 use Rattle.df_top.specs.Outside.{Outside}
 use Rattle.df_top.specs.Session.{state}
-use Rattle.df_top.proofs.LineEnds.{ends_refused, line_turns, refused_next}
+use Rattle.df_top.proofs.LineEnds.{ends_refused, held_next, line_turns, refused_next}
 use Rattle.df_top.proofs.Progress.{ends_done, ends_read}
 use Rattle.df_top.proofs.turns.take_turn.Goals as goal
 
@@ -20,6 +20,8 @@ returns-in-Ok-Refused-clause-turns g c =
     let before : Outside = record { told = g.D.Disk.told c.args.disk.now; left = g.S.Source.left c.args.source.now; written = g.W.Sink.written c.args.sink.now } in
     ends_refused c.args.session.now.lines.reading.bound (state before c.args.session.now) _ refl refl
     (refused_next before (g.S.Source.left c.next.new.source) c.args.session.now c.next.new.self c.requires.ready.at_end
+    (λ text tells. subst (GivesNext c.args.session.now.lines c.next.new.self text (g.S.Source.left c.next.new.source)) c.in-Ok-Refused.field-0-is (c.in-Ok-Refused.ensures.gives text tells)))
+    (held_next before (g.S.Source.left c.next.new.source) c.args.session.now c.next.new.self c.requires.ready.at_end c.next.ensures.bound
     (λ text tells. subst (GivesNext c.args.session.now.lines c.next.new.self text (g.S.Source.left c.next.new.source)) c.in-Ok-Refused.field-0-is (c.in-Ok-Refused.ensures.gives text tells)))
     c.refuse.result c.refuse.ensures.line
 

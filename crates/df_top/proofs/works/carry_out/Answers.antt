@@ -1,7 +1,6 @@
 -- What a run hears of an answer is what the call came to.
-use Rattle.std.proofs.Common.{◌≡◌, subst, sym, Result}
+use Rattle.std.proofs.Common.{subst, sym, Result}
 use Rattle.df_inspect.specs.Answers.{command_of}
-use Rattle.df_model.specs.Commands.{Advance}
 use Rattle.df_workload.specs.declared.outcome.Outcome.{Outcome}
 use Rattle.df_top.specs.declared.works.Fault.{Fault}
 use Rattle.df_top.proofs.RunCalls.{Call, heard_call}

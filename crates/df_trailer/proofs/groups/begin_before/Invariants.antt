@@ -5,5 +5,5 @@ use Rattle.df_trailer.proofs.groups.begin_before.Given as goal
 abbrev pub invariant-loop-groups : goal.invariant-loop-groups
 invariant-loop-groups g l =
     (l.begin.place ≤ l.blocks)
-    × (l.begin.at ≡ l.fn.start + 16 * referenced_among (g.G.Captured.captured l.grid) l.begin.place)
+    × (l.begin.at ≡ l.fn.start + 16 * referenced_among (g.G.CapturedBlocks.captured l.grid) l.begin.place)
     × (0 < l.begin.place → l.begin.at ≤ l.fn.from)

@@ -12,5 +12,5 @@ returns-clause-piece g c =
     let front : List ℕ = take body c.args.into.now in
     let size : length front ≡ body = length-take-le body c.args.into.now c.requires.room in
     piece_is c.put_window.result (length front) (c.from.result * c.args.index) body c.args.index c.put_window.new.room (drop body c.args.into.now)
-    (spell (layout_of c.args.layout.now) (captured_parts c.args.root.now c.args.sessions.now (g.G.Captured.captured c.args.grid.now)))
+    (spell (layout_of c.args.layout.now) (captured_parts c.args.root.now c.args.sessions.now (g.G.CapturedBlocks.captured c.args.grid.now)))
     (omega (arith, c.put_window.ensures.within, c.put_window.ensures.length)) c.put_window.ensures.shown size (ap (λ (b : ℕ). b * c.args.index) c.from.ensures)

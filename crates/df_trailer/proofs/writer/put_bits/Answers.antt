@@ -12,12 +12,12 @@ pub loop-number-init : goal.loop-number-init
 loop-number-init g c = (
   refl,
   λ text size were.
-      bytes_begun c.args.from c.args.start (captured_bits (g.G.Captured.captured c.args.grid.now) c.args.blocks) c.saturating_sub-number.result c.args.room.now text size c.saturating_sub-number.ensures were,
+      bytes_begun c.args.from c.args.start (captured_bits (g.G.CapturedBlocks.captured c.args.grid.now) c.args.blocks) c.saturating_sub-number.result c.args.room.now text size c.saturating_sub-number.ensures were,
 )
 
 pub loop-number-preserved : goal.loop-number-preserved
 loop-number-preserved g c =
-    let x : ℕ = captured_bits (g.G.Captured.captured c.args.grid.now) c.args.blocks in
+    let x : ℕ = captured_bits (g.G.CapturedBlocks.captured c.args.grid.now) c.args.blocks in
     let n : ℕ = c.loop-number.number in (
       c.put.ensures.length ∙ c.loop-number.invariant.0,
       λ text size were.
@@ -35,7 +35,7 @@ behind first last n size from start until most late past = elim (cases_lt last f
 
 pub returns-clause-shown : goal.returns-clause-shown
 returns-clause-shown g c = λ text size were.
-    bytes_shown c.args.from c.args.start (captured_bits (g.G.Captured.captured c.args.grid.now) c.args.blocks) c.loop-number.number ((c.args.blocks + 7) / 8) c.loop-number.room text size
+    bytes_shown c.args.from c.args.start (captured_bits (g.G.CapturedBlocks.captured c.args.grid.now) c.args.blocks) c.loop-number.number ((c.args.blocks + 7) / 8) c.loop-number.room text size
     (λ less. omega (arith, c.loop-number.invariant.0))
     (behind c.saturating_sub-number.result c.min-number-end.result c.loop-number.number ((c.args.blocks + 7) / 8) c.args.from c.args.start c.loop-number.auto.number-end (omega arith) (λ none. omega arith))
     (c.loop-number.invariant.1 text size were)

@@ -7,4 +7,4 @@ abbrev pub invariant-loop-number : goal.invariant-loop-number
 invariant-loop-number g l =
     (length l.room ≡ length l.fn.room)
     × ((text : List ℕ) → length text ≡ l.fn.start → IsShown text l.fn.from l.fn.room
-    → IsShown (text ++ spelled l.number (captured_bits (g.G.Captured.captured l.grid) l.blocks)) l.fn.from l.room)
+    → IsShown (text ++ spelled l.number (captured_bits (g.G.CapturedBlocks.captured l.grid) l.blocks)) l.fn.from l.room)

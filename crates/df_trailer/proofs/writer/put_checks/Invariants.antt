@@ -5,7 +5,7 @@ use Rattle.df_trailer.proofs.writer.put_checks.Given as goal
 
 abbrev pub invariant-loop-place : goal.invariant-loop-place
 invariant-loop-place g l =
-    (l.at ≡ l.fn.start + length (spell_checks (captured_blocks (g.G.Captured.captured l.grid) l.place)))
+    (l.at ≡ l.fn.start + length (spell_checks (captured_blocks (g.G.CapturedBlocks.captured l.grid) l.place)))
     × (length l.room ≡ length l.fn.room)
     × ((text : List ℕ) → length text ≡ l.fn.start → IsShown text l.fn.from l.fn.room
-    → IsShown (text ++ spell_checks (captured_blocks (g.G.Captured.captured l.grid) l.place)) l.fn.from l.room)
+    → IsShown (text ++ spell_checks (captured_blocks (g.G.CapturedBlocks.captured l.grid) l.place)) l.fn.from l.room)

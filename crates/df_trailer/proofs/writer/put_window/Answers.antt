@@ -11,7 +11,7 @@ use Rattle.df_trailer.proofs.writer.put_window.Goals as goal
 
 pub returns-clause-shown : goal.returns-clause-shown
 returns-clause-shown g c =
-    let f = g.G.Captured.captured c.args.grid.now in
+    let f = g.G.CapturedBlocks.captured c.args.grid.now in
     let blocks : ℕ = c.args.layout.now.blocks in
     let root : List ℕ = c.args.root.now in
     let ss : List ℕ = spell_sessions (sessions_of c.args.sessions.now) in

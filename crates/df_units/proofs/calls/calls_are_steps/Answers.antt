@@ -1,4 +1,5 @@
 use Rattle.df_units.proofs.Parts.{call_good, call_good_units, call_safe, call_whole, call_ends}
+use Rattle.df_units.proofs.Within.{steps_within}
 use Rattle.df_units.proofs.calls.calls_are_steps.Goals as goal
 
 pub returns-clause-good : goal.returns-clause-good
@@ -15,3 +16,6 @@ returns-clause-whole c = call_whole
 
 pub returns-clause-ends : goal.returns-clause-ends
 returns-clause-ends c = call_ends
+
+pub returns-clause-within : goal.returns-clause-within
+returns-clause-within c = steps_within

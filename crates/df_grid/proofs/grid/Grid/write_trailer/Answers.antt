@@ -1,15 +1,13 @@
 -- The block that was made is the running trailer's next one.
-use Rattle.std.proofs.Common.{◌≡◌, ℕ, List, length, sym, ap, subst, ◌∙◌, arith}
+use Rattle.std.proofs.Common.{◌≡◌, ℕ, List, ap, subst, ◌∙◌, arith}
 use Rattle.std.specs.Prelude.{slice_get}
 use Rattle.df_disk.specs.Adds.{AddsPart, after_all}
 use Rattle.df_format.specs.declared.header.Header.{Header}
-use Rattle.df_theory.specs.Device.{AreSteps}
-use Rattle.df_units.specs.Format.{format_of}
 use Rattle.df_units.specs.Meaning.{number_of}
 use Rattle.df_grid.specs.Grid.{GridState, with_blocks}
 use Rattle.df_grid.specs.Table.{TableState, next_written}
-use Rattle.df_grid.specs.Writes.{address_in, checksum_in, block_steps, made, made_events, next_header, next_unit}
-use Rattle.df_grid.proofs.Writing.{state_of, header_is, header_owns, next_is}
+use Rattle.df_grid.specs.Writes.{address_in, checksum_in, made, made_events, next_header, next_unit}
+use Rattle.df_grid.proofs.Writing.{state_of, header_next, header_owns, next_is, next_steps}
 use Rattle.df_grid.proofs.grid.Grid.write_trailer.Goals as goal
 
 pub put_made-requires-clause-own : goal.put_made-requires-clause-own
@@ -21,38 +19,28 @@ put_made-requires-clause-own g c =
 pub returns-in-Ok-clause-events : goal.returns-in-Ok-clause-events
 returns-in-Ok-clause-events g c =
     let s = c.self.inside in
-    let b = c.last_written-before in
-    let header : c.trailer_header-header.result ≡ next_header s.cluster c.args.sequence s.table.blocks =
-    c.trailer_header-header.ensures.header ∙ header_is s.cluster c.args.sequence c.in-Some.address c.args.index s.table.blocks b.result c.in-Some.ensures.next (c.requires.index ∙ ap (λ (v : GridState). length v.blocks.written) (sym c.self.view_is)) b.ensures.pair c.trailer_header-header.ensures.parent in
+    let header = header_next _ c.args.self.now c.args.sequence c.in-Some.address c.args.index c.trailer_header-header.result c.last_written-before.result c.self.view_is c.trailer_header-header.ensures.header c.in-Some.ensures.next c.requires.index c.last_written-before.ensures.pair c.trailer_header-header.ensures.parent in
     subst (λ (v : GridState). g.D.Disk.told c.put_made.new.disk ≡ after_all (made_events v.layout (next_unit v c.args.sequence c.args.piece.now)) (g.D.Disk.told c.args.disk.now)) c.self.view_is
     (subst (λ (h : Header). g.D.Disk.told c.put_made.new.disk ≡ after_all (made_events s.layout (made h c.args.piece.now)) (g.D.Disk.told c.args.disk.now)) header c.in-Ok.ensures.events)
 
 pub returns-in-Err-clause-events : goal.returns-in-Err-clause-events
 returns-in-Err-clause-events g c =
     let s = c.self.inside in
-    let b = c.last_written-before in
-    let header : c.trailer_header-header.result ≡ next_header s.cluster c.args.sequence s.table.blocks =
-    c.trailer_header-header.ensures.header ∙ header_is s.cluster c.args.sequence c.in-Some.address c.args.index s.table.blocks b.result c.in-Some.ensures.next (c.requires.index ∙ ap (λ (v : GridState). length v.blocks.written) (sym c.self.view_is)) b.ensures.pair c.trailer_header-header.ensures.parent in
+    let header = header_next _ c.args.self.now c.args.sequence c.in-Some.address c.args.index c.trailer_header-header.result c.last_written-before.result c.self.view_is c.trailer_header-header.ensures.header c.in-Some.ensures.next c.requires.index c.last_written-before.ensures.pair c.trailer_header-header.ensures.parent in
     subst (λ (v : GridState). AddsPart (made_events v.layout (next_unit v c.args.sequence c.args.piece.now)) (g.D.Disk.told c.args.disk.now) (g.D.Disk.told c.put_made.new.disk)) c.self.view_is
     (subst (λ (h : Header). AddsPart (made_events s.layout (made h c.args.piece.now)) (g.D.Disk.told c.args.disk.now) (g.D.Disk.told c.put_made.new.disk)) header c.in-Err.ensures.events)
 
 pub returns-in-Ok-clause-steps : goal.returns-in-Ok-clause-steps
 returns-in-Ok-clause-steps g c =
-    let s = c.self.inside in
-    let b = c.last_written-before in
-    let header : c.trailer_header-header.result ≡ next_header s.cluster c.args.sequence s.table.blocks =
-    c.trailer_header-header.ensures.header ∙ header_is s.cluster c.args.sequence c.in-Some.address c.args.index s.table.blocks b.result c.in-Some.ensures.next (c.requires.index ∙ ap (λ (v : GridState). length v.blocks.written) (sym c.self.view_is)) b.ensures.pair c.trailer_header-header.ensures.parent in
-    subst (λ (v : GridState). AreSteps (format_of v.layout v.cluster) (made_events v.layout (next_unit v c.args.sequence c.args.piece.now)) (block_steps (next_unit v c.args.sequence c.args.piece.now))) c.self.view_is
-    (subst (λ (h : Header). AreSteps (format_of s.layout h.cluster) (made_events s.layout (made h c.args.piece.now)) (block_steps (made h c.args.piece.now))) header c.put_made.ensures.steps)
+    next_steps _ c.args.self.now c.args.sequence c.args.piece.now c.trailer_header-header.result c.self.view_is
+    (header_next _ c.args.self.now c.args.sequence c.in-Some.address c.args.index c.trailer_header-header.result c.last_written-before.result c.self.view_is c.trailer_header-header.ensures.header c.in-Some.ensures.next c.requires.index c.last_written-before.ensures.pair c.trailer_header-header.ensures.parent)
+    c.put_made.ensures.steps
 
 pub returns-in-Err-clause-steps : goal.returns-in-Err-clause-steps
 returns-in-Err-clause-steps g c =
-    let s = c.self.inside in
-    let b = c.last_written-before in
-    let header : c.trailer_header-header.result ≡ next_header s.cluster c.args.sequence s.table.blocks =
-    c.trailer_header-header.ensures.header ∙ header_is s.cluster c.args.sequence c.in-Some.address c.args.index s.table.blocks b.result c.in-Some.ensures.next (c.requires.index ∙ ap (λ (v : GridState). length v.blocks.written) (sym c.self.view_is)) b.ensures.pair c.trailer_header-header.ensures.parent in
-    subst (λ (v : GridState). AreSteps (format_of v.layout v.cluster) (made_events v.layout (next_unit v c.args.sequence c.args.piece.now)) (block_steps (next_unit v c.args.sequence c.args.piece.now))) c.self.view_is
-    (subst (λ (h : Header). AreSteps (format_of s.layout h.cluster) (made_events s.layout (made h c.args.piece.now)) (block_steps (made h c.args.piece.now))) header c.put_made.ensures.steps)
+    next_steps _ c.args.self.now c.args.sequence c.args.piece.now c.trailer_header-header.result c.self.view_is
+    (header_next _ c.args.self.now c.args.sequence c.in-Some.address c.args.index c.trailer_header-header.result c.last_written-before.result c.self.view_is c.trailer_header-header.ensures.header c.in-Some.ensures.next c.requires.index c.last_written-before.ensures.pair c.trailer_header-header.ensures.parent)
+    c.put_made.ensures.steps
 
 pub returns-in-Ok-clause-unit : goal.returns-in-Ok-clause-unit
 returns-in-Ok-clause-unit g c =
@@ -67,9 +55,7 @@ returns-in-Err-clause-unit g c =
 pub returns-in-Ok-clause-written : goal.returns-in-Ok-clause-written
 returns-in-Ok-clause-written g c =
     let s = c.self.inside in
-    let b = c.last_written-before in
-    let header : c.trailer_header-header.result ≡ next_header s.cluster c.args.sequence s.table.blocks =
-    c.trailer_header-header.ensures.header ∙ header_is s.cluster c.args.sequence c.in-Some.address c.args.index s.table.blocks b.result c.in-Some.ensures.next (c.requires.index ∙ ap (λ (v : GridState). length v.blocks.written) (sym c.self.view_is)) b.ensures.pair c.trailer_header-header.ensures.parent in
+    let header = header_next _ c.args.self.now c.args.sequence c.in-Some.address c.args.index c.trailer_header-header.result c.last_written-before.result c.self.view_is c.trailer_header-header.ensures.header c.in-Some.ensures.next c.requires.index c.last_written-before.ensures.pair c.trailer_header-header.ensures.parent in
     let sum : c.in-Ok.checksum ≡ (made (next_header s.cluster c.args.sequence s.table.blocks) c.args.piece.now).header.checksum = c.in-Ok.ensures.checksum ∙ ap (λ (h : Header). (made h c.args.piece.now).header.checksum) header in
     ap (λ (t : TableState). state_of s.layout s.cluster t.blocks) c.put_trailer.ensures
     ∙ ap (λ (n : List ℕ). state_of s.layout s.cluster (next_written s.table.blocks (number_of n))) sum

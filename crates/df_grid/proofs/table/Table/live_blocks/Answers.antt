@@ -10,4 +10,4 @@ use Rattle.df_grid.proofs.table.Table.live_blocks.Goals as goal
 
 pub returns-clause-captured : goal.returns-clause-captured
 returns-clause-captured c =
-    c.count_live.ensures.count ∙ counted is_live c.self.inside.entries ∙ ap (λ (v : TableState). ones (map is_referenced (captured_blocks (λ a. sum_at a v.blocks.live) v.size))) c.self.view_is
+    c.count_held.ensures.count ∙ counted is_live c.self.inside.entries ∙ ap (λ (v : TableState). ones (map is_referenced (captured_blocks (λ a. sum_at a v.blocks.live) v.size))) c.self.view_is

@@ -5,4 +5,4 @@ use Rattle.df_grid.proofs.table.Table.referenced.Goals as goal
 
 pub returns : goal.returns
 returns c = let s = c.self.inside in
-    rw (← c.self.view_is) (c.count_marked.ensures ∙ sym (ap (λ (l : List (ℕ × ℕ)). length l) (referenced_marked s.entries s.free s.written.items s.left.items s.chain.items c.self.invariant.0)))
+    rw (← c.self.view_is) (c.count_held.ensures.count ∙ sym (ap (λ (l : List (ℕ × ℕ)). length l) (referenced_marked s.entries s.free s.written.items s.left.items s.chain.items c.self.invariant.0)))

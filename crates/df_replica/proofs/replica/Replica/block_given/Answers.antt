@@ -6,7 +6,7 @@ use Rattle.df_format.specs.Making.{for_body}
 use Rattle.df_format.specs.Rules.{ObeysRules}
 use Rattle.df_format.proofs.Laws.{given_obeys}
 use Rattle.df_model.specs.Making.{next_address}
-use Rattle.df_state.specs.State.{IsState, memory}
+use Rattle.df_rooms.specs.State.{IsState, memory}
 use Rattle.df_replica.specs.Blocks.{block_given}
 use Rattle.df_replica.proofs.replica.Replica.block_given.Goals as goal
 
@@ -16,7 +16,7 @@ returns-clause-value c = search rules
 pub returns-clause-rules : goal.returns-clause-rules
 returns-clause-rules c =
     let s = c.args.self.now in
-    let is = subst IsState c.self.view_is c.self.invariant.0 in
+    let is = subst IsState c.self.view_is c.self.invariant.state in
     subst (λ (h : Header). ObeysRules (for_body h c.args.body.now)) (sym (returns-clause-value c))
     (given_obeys s.file.cluster (s.file.named, is.cluster) (block_given s (next_address (memory s)) c.args.kind) c.args.body.now AsBlock (
       record {

@@ -6,22 +6,22 @@ use Rattle.df_sessions.specs.declared.session.Session.{Session}
 use Rattle.df_model.specs.Blocks.{Blocks, blocks_captured, free_in}
 use Rattle.df_units.specs.Meaning.{layout_of}
 use Rattle.df_grid.specs.Grid.{GridState}
-use Rattle.df_state.specs.State.{IsRunning, State}
-use Rattle.df_replica.specs.contracts.replica.Replica.{the_view}
+use Rattle.df_rooms.specs.State.{IsRunning, State}
+use Rattle.df_replica.specs.Parts.{state_in}
 use Rattle.df_replica.specs.Beginning.{MayBegin, begun, captured}
 use Rattle.df_replica.proofs.BeginState.{is_running, with_course}
 use Rattle.df_replica.proofs.replica.Replica.capture.Goals as goal
 
 pub invariant_of-self : goal.invariant_of-self
 invariant_of-self c =
-    let s : State = the_view c.self.inside in
+    let s : State = state_in c.self.inside.parts in
     let root = c.args.root.now in
     let plan = c.args.plan in
-    let old = c.self.invariant.0 in
+    let old = c.self.invariant.state in
     let may = subst (λ (x : State). MayBegin x root plan) (sym c.self.view_is) c.requires in
     let blocks : (begun s root).blocks ≡ c.capture.new.self.blocks =
     ap (λ (n : ℕ). blocks_captured s.blocks (take n (free_in (layout_of s.file.layout) s.blocks))) (sym may.planned.blocks)
-    ∙ ap (λ (l : Layout). blocks_captured s.blocks (take plan.blocks (free_in (layout_of l) s.blocks))) (sym c.self.invariant.2)
+    ∙ ap (λ (l : Layout). blocks_captured s.blocks (take plan.blocks (free_in (layout_of l) s.blocks))) (sym c.self.invariant.grid_fits)
     ∙ ap (λ (g : GridState). g.blocks) (sym c.capture.ensures) in
     let one = is_running s root plan old c.sessions_in.ensures.table may in
     let two = subst (λ (n : ℕ). IsRunning s.file s.fields s.head (begun s root).blocks (record (captured s root) { size = n })) (sym may.planned.size) one in
@@ -29,11 +29,12 @@ invariant_of-self c =
     let four = subst (λ (r : List ℕ). IsRunning s.file s.fields s.head (begun s root).blocks (record (captured s root) { root = r; size = plan.size; blocks = plan.blocks })) (sym c.root_of.ensures) three in
     let five = subst (λ (ss : List Session). IsRunning s.file s.fields s.head (begun s root).blocks (record (captured s root) { root = c.root_of.result.items; sessions = ss; size = plan.size; blocks = plan.blocks })) (sym c.sessions_in.ensures.items) four in
     let six = subst (λ (f : SuperFields). IsRunning s.file s.fields s.head (begun s root).blocks (record (captured s root) { root = c.root_of.result.items; sessions = c.sessions_in.result.items; sequence = f.sequence + 1; size = plan.size; blocks = plan.blocks })) (sym c.fields.ensures.value) five in
-    let course = subst (λ (b : Blocks). IsRunning s.file s.fields s.head b (record (captured s root) { root = c.root_of.result.items; sessions = c.sessions_in.result.items; sequence = c.fields.result.now.sequence + 1; size = plan.size; blocks = plan.blocks })) blocks six in (
-      with_course s c.capture.new.self.blocks (Some (record (captured s root) { root = c.root_of.result.items; sessions = c.sessions_in.result.items; sequence = c.fields.result.now.sequence + 1; size = plan.size; blocks = plan.blocks })) old course,
-      c.self.invariant.1,
-      ap (λ (g : GridState). g.layout) c.capture.ensures ∙ c.self.invariant.2,
-      ap (λ (g : GridState). g.cluster) c.capture.ensures ∙ c.self.invariant.3,
-      c.self.invariant.4,
-      c.self.invariant.5,
-    )
+    let course = subst (λ (b : Blocks). IsRunning s.file s.fields s.head b (record (captured s root) { root = c.root_of.result.items; sessions = c.sessions_in.result.items; sequence = c.fields.result.now.sequence + 1; size = plan.size; blocks = plan.blocks })) blocks six in
+    record {
+      state = with_course s c.capture.new.self.blocks (Some (record (captured s root) { root = c.root_of.result.items; sessions = c.sessions_in.result.items; sequence = c.fields.result.now.sequence + 1; size = plan.size; blocks = plan.blocks })) old course;
+      rooms_fit = c.self.invariant.rooms_fit;
+      grid_fits = ap (λ (g : GridState). g.layout) c.capture.ensures ∙ c.self.invariant.grid_fits;
+      grid_named = ap (λ (g : GridState). g.cluster) c.capture.ensures ∙ c.self.invariant.grid_named;
+      trailer_fits = c.self.invariant.trailer_fits;
+      scrub_fits = c.self.invariant.scrub_fits;
+    }

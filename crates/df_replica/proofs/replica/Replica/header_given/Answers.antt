@@ -6,9 +6,9 @@ use Rattle.df_format.specs.declared.kind.Kind.TheVariants.{Prepare as AsPrepare}
 use Rattle.df_format.specs.Making.{for_body}
 use Rattle.df_format.specs.Rules.{ObeysRules}
 use Rattle.df_format.proofs.Laws.{given_obeys}
-use Rattle.df_state.specs.State.{State}
+use Rattle.df_rooms.specs.State.{State}
 use Rattle.df_replica.specs.Appending.{header_given}
-use Rattle.df_replica.specs.contracts.replica.Replica.{the_view}
+use Rattle.df_replica.specs.Parts.{state_in}
 use Rattle.df_replica.proofs.replica.Replica.header_given.Goals as goal
 
 small_slot : (op slots : ℕ) → 0 < slots → slots ≤ 1024 → op % slots < 2 ^ 32
@@ -19,20 +19,20 @@ returns-clause-value c = search rules
 
 pub returns-clause-rules : goal.returns-clause-rules
 returns-clause-rules c =
-    let s : State = the_view c.self.inside in
+    let s : State = state_in c.self.inside.parts in
     let head_is = ap (λ (x : State). x.head) c.self.view_is in
     let value = returns-clause-value c ∙ sym (ap (λ (x : State). header_given x c.args.client c.args.request) c.self.view_is) in
     subst (λ (h : Header). ObeysRules (for_body h c.args.body.now)) (sym value)
-    (given_obeys s.file.cluster (s.file.named, c.self.invariant.0.cluster) (header_given s c.args.client c.args.request) c.args.body.now AsPrepare (
+    (given_obeys s.file.cluster (s.file.named, c.self.invariant.state.cluster) (header_given s c.args.client c.args.request) c.args.body.now AsPrepare (
       record {
-        parent = c.self.invariant.0.parent;
+        parent = c.self.invariant.state.parent;
         first = λ one. search rules;
         client = (c.requires.note.named, c.ranges.client.fits);
         op = (omega arith, omega (arith, c.requires.note.op, head_is));
         request = c.requires.note.request;
-        mark = search (rules, c.self.invariant.0.waiting);
-        checkpoint = search (rules, c.self.invariant.0.sequence);
+        mark = search (rules, c.self.invariant.state.waiting);
+        checkpoint = search (rules, c.self.invariant.state.sequence);
         slot = small_slot (s.head + 1) s.file.layout.slots (omega (arith, s.file.layout.slots_within.0)) (omega (arith, s.file.layout.slots_within.1));
       },
-      omega (arith, c.requires.fits, c.self.inside.file.layout.message_size_within.1),
+      omega (arith, c.requires.fits, c.self.inside.parts.file.layout.message_size_within.1),
     ))

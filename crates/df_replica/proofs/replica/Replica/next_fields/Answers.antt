@@ -5,11 +5,11 @@ use Rattle.df_format.specs.SuperRules.{fault_of}
 use Rattle.df_format.specs.declared.superblock.SuperFields.{SuperFields}
 use Rattle.df_grid.specs.Writes.{first_address, first_sum}
 use Rattle.df_layout.specs.declared.layout.Layout.{Layout}
-use Rattle.df_state.specs.Captures.{capture_of}
-use Rattle.df_state.specs.State.{State}
+use Rattle.df_rooms.specs.Courses.{running_state}
+use Rattle.df_rooms.specs.State.{State}
 use Rattle.df_units.specs.Meaning.{number_of}
 use Rattle.df_units.proofs.Laws.{whole_check}
-use Rattle.df_replica.specs.contracts.replica.Replica.{the_view}
+use Rattle.df_replica.specs.Parts.{state_in}
 use Rattle.df_replica.specs.Stepping.{MayFinish, fields_for, next_fields}
 use Rattle.df_replica.proofs.FinishState.{first_pair, no_fault}
 use Rattle.df_replica.proofs.StepState.{of_running, taken_runs}
@@ -17,35 +17,35 @@ use Rattle.df_replica.proofs.replica.Replica.next_fields.Goals as goal
 
 pub returns-clause-fields : goal.returns-clause-fields
 returns-clause-fields c =
-    let i = c.self.inside in
-    let s : State = the_view i in
+    let i = c.self.inside.parts in
+    let s : State = state_in i in
     let r = c.in-Some.running in
     let last = c.in-Some-trailer.last in
     let may = subst MayFinish (sym c.self.view_is) c.requires in
     let pair = first_pair i.grid.blocks.written i.grid.blocks.left last.address (number_of last.checksum) may.done (c.in-Some-trailer.ensures {u = tt}).pair in
     let checksum : last.checksum ≡ spelled 16 (first_sum i.grid.blocks.written) = sym (whole_check last.checksum c.fields_for.ensures.check) ∙ ap (spelled 16) (sym pair.1) in
     of_running (λ x q. c.fields_for.result ≡ next_fields x q) s c.args.self.now i.running r c.in-Some.is refl c.self.view_is
-    (c.fields_for.ensures.fields ∙ (λ k. fields_for i.file (capture_of r) i.head i.replies (sym pair.0 k) (checksum k)))
+    (c.fields_for.ensures.fields ∙ (λ k. fields_for i.file (running_state r) i.head i.replies (sym pair.0 k) (checksum k)))
 
 pub returns-clause-rules : goal.returns-clause-rules
 returns-clause-rules c =
-    let i = c.self.inside in
-    let s : State = the_view i in
+    let i = c.self.inside.parts in
+    let s : State = state_in i in
     let r = c.in-Some.running in
     let last = c.in-Some-trailer.last in
     let may = subst MayFinish (sym c.self.view_is) c.requires in
     let pair = first_pair i.grid.blocks.written i.grid.blocks.left last.address (number_of last.checksum) may.done (c.in-Some-trailer.ensures {u = tt}).pair in
     let inside = (c.in-Some-trailer.ensures {u = tt}).inside in
     let checksum : last.checksum ≡ spelled 16 (first_sum i.grid.blocks.written) = sym (whole_check last.checksum c.fields_for.ensures.check) ∙ ap (spelled 16) (sym pair.1) in
-    let runs = taken_runs i.file i.content i.head i.grid.blocks i.running r c.in-Some.is c.self.invariant.0.course in
+    let runs = taken_runs i.file i.content i.head i.grid.blocks i.running r c.in-Some.is c.self.invariant.state.course in
     let some : 1 ≤ first_address i.grid.blocks.written = omega (arith, inside.0, pair.0) in
-    let within : first_address i.grid.blocks.written ≤ i.file.layout.blocks = omega (arith, inside.1, pair.0, ap (λ (l : Layout). l.blocks) c.self.invariant.2) in
-    subst (λ (f : SuperFields). fault_of f ≡ None) (sym (c.fields_for.ensures.fields ∙ (λ k. fields_for i.file (capture_of r) i.head i.replies (sym pair.0 k) (checksum k))))
-    (no_fault s (capture_of r) c.self.invariant.0 runs some within)
+    let within : first_address i.grid.blocks.written ≤ i.file.layout.blocks = omega (arith, inside.1, pair.0, ap (λ (l : Layout). l.blocks) c.self.invariant.grid_fits) in
+    subst (λ (f : SuperFields). fault_of f ≡ None) (sym (c.fields_for.ensures.fields ∙ (λ k. fields_for i.file (running_state r) i.head i.replies (sym pair.0 k) (checksum k))))
+    (no_fault s (running_state r) c.self.invariant.state runs some within)
 
 pub returns-clause-sum : goal.returns-clause-sum
 returns-clause-sum c =
-    let i = c.self.inside in
+    let i = c.self.inside.parts in
     let last = c.in-Some-trailer.last in
     let may = subst MayFinish (sym c.self.view_is) c.requires in
     let pair = first_pair i.grid.blocks.written i.grid.blocks.left last.address (number_of last.checksum) may.done (c.in-Some-trailer.ensures {u = tt}).pair in

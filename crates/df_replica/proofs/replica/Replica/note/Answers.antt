@@ -3,9 +3,9 @@ use Rattle.std.proofs.Common.{◌≡◌, ◌+◌, ℕ, List, length, refl, sym, 
 use Rattle.std.proofs.lemmas.List.{length_push}
 use Rattle.df_journal.specs.Tail.{AreNumbered}
 use Rattle.df_replica.specs.Appending.{MayNote}
-use Rattle.df_state.specs.State.{AreAsked, State}
-use Rattle.df_state.proofs.Laws.{asked_noted, course_on}
-use Rattle.df_state.specs.Captures.{running_of}
+use Rattle.df_rooms.specs.State.{AreAsked, State}
+use Rattle.df_rooms.proofs.Laws.{asked_noted, course_on}
+use Rattle.df_rooms.specs.Courses.{running_of}
 use Rattle.df_sessions.specs.Requests.{sessions_of}
 use Rattle.df_theory.specs.Sessions.{Tracks, noted}
 use Rattle.df_theory.specs.Units
@@ -17,11 +17,12 @@ pub invariant_of-self : goal.invariant_of-self
 invariant_of-self c =
     let may = subst (λ (s : State). MayNote s c.args.made.now.client c.args.made.now.request) (sym c.self.view_is) c.requires.may in
     let op = subst (λ (s : State). c.args.made.now.op ≡ s.head + 1) (sym c.self.view_is) c.requires.op in
-    let old = c.self.invariant.0 in
-    let h : Units.Header = asker c.args.made.now.client c.args.made.now.request c.args.made.now.op c.self.inside.replies in
-    let sessions : sessions_of c.apply.new.self.sessions ≡ noted h (sessions_of c.self.inside.sessions.sessions) = c.apply.ensures.noted h refl in
-    let more : length c.push.new.self.items ≡ length c.self.inside.waiting.items + 1 = ap length c.push.ensures.items ∙ length_push c.self.inside.waiting.items c.args.made.now.checksum in (
-      record {
+    let old = c.self.invariant.state in
+    let h : Units.Header = asker c.args.made.now.client c.args.made.now.request c.args.made.now.op c.self.inside.parts.replies in
+    let sessions : sessions_of c.apply.new.self.sessions ≡ noted h (sessions_of c.self.inside.parts.sessions.sessions) = c.apply.ensures.noted h refl in
+    let more : length c.push.new.self.items ≡ length c.self.inside.parts.waiting.items + 1 = ap length c.push.ensures.items ∙ length_push c.self.inside.parts.waiting.items c.args.made.now.checksum in
+    record {
+      state = record {
         cluster = old.cluster;
         parent = c.requires.sum;
         sequence = old.sequence;
@@ -33,18 +34,18 @@ invariant_of-self c =
         few = omega (arith, may.few, more);
         places = c.apply.ensures.places ∙ old.places;
         first = λ zero_head. absurd (omega (arith, op, zero_head));
-        requests = subst AreNumbered (sym c.apply.ensures.sessions) (numbered_on c.args.made.now.client c.args.made.now.request c.args.made.now.op c.self.inside.sessions.sessions old.requests may.request.1);
-        asked = subst AreAsked (sym sessions) (asked_noted h (sessions_of c.self.inside.sessions.sessions) old.asked may.request.0);
+        requests = subst AreNumbered (sym c.apply.ensures.sessions) (numbered_on c.args.made.now.client c.args.made.now.request c.args.made.now.op c.self.inside.parts.sessions.sessions old.requests may.request.1);
+        asked = subst AreAsked (sym sessions) (asked_noted h (sessions_of c.self.inside.parts.sessions.sessions) old.asked may.request.0);
         tracks =
-            subst (λ (ss : List Units.Session). Tracks c.self.inside.replies c.args.made.now.op ss) (sym sessions)
-            (subst (λ (top : ℕ). Tracks c.self.inside.replies top (noted h (sessions_of c.self.inside.sessions.sessions))) (sym op)
-            (tracks_noted c.self.inside.file.layout.clients c.self.inside.replies c.self.inside.replies c.self.inside.head h (sessions_of c.self.inside.sessions.sessions) old.tracks (may.asks h refl refl refl) op (omega arith) (omega arith)));
+            subst (λ (ss : List Units.Session). Tracks c.self.inside.parts.replies c.args.made.now.op ss) (sym sessions)
+            (subst (λ (top : ℕ). Tracks c.self.inside.parts.replies top (noted h (sessions_of c.self.inside.parts.sessions.sessions))) (sym op)
+            (tracks_noted c.self.inside.parts.file.layout.clients c.self.inside.parts.replies c.self.inside.parts.replies c.self.inside.parts.head h (sessions_of c.self.inside.parts.sessions.sessions) old.tracks (may.asks h refl refl refl) op (omega arith) (omega arith)));
         ring = old.ring;
-        course = course_on c.self.inside.file c.self.inside.content c.self.inside.head c.args.made.now.op c.self.inside.grid.blocks (running_of c.self.inside.running) (omega (arith, op)) old.course;
-      },
-      c.self.invariant.1,
-      c.self.invariant.2,
-      c.self.invariant.3,
-      c.self.invariant.4,
-      c.self.invariant.5,
-    )
+        course = course_on c.self.inside.parts.file c.self.inside.parts.content c.self.inside.parts.head c.args.made.now.op c.self.inside.parts.grid.blocks (running_of c.self.inside.parts.running) (omega (arith, op)) old.course;
+      };
+      rooms_fit = c.self.invariant.rooms_fit;
+      grid_fits = c.self.invariant.grid_fits;
+      grid_named = c.self.invariant.grid_named;
+      trailer_fits = c.self.invariant.trailer_fits;
+      scrub_fits = c.self.invariant.scrub_fits;
+    }

@@ -2,17 +2,18 @@
 use Rattle.std.proofs.Common.{◌≡◌, ◌<◌, ◌+◌, length, sym, subst, ◌∙◌, arith}
 use Rattle.df_sessions.specs.Requests.{sessions_of}
 use Rattle.df_theory.specs.Sessions.{Tracks}
-use Rattle.df_state.specs.State.{AreAsked, State}
+use Rattle.df_rooms.specs.State.{AreAsked, State}
 use Rattle.df_replica.proofs.ReplyTests.{numbered_by}
 use Rattle.df_replica.proofs.replica.Replica.note_reply.Goals as goal
 
 pub invariant_of-self : goal.invariant_of-self
 invariant_of-self c =
     let waits = subst (λ (s : State). s.replies < s.head) (sym c.self.view_is) c.requires.waits in
-    let old = c.self.invariant.0 in
-    let fewer : length c.remove.new.self.items + 1 ≡ length c.self.inside.waiting.items = c.remove.ensures.len in
-    let same : sessions_of c.store.new.self.sessions ≡ sessions_of c.self.inside.sessions.sessions = c.store.ensures.unnoted in (
-      record {
+    let old = c.self.invariant.state in
+    let fewer : length c.remove.new.self.items + 1 ≡ length c.self.inside.parts.waiting.items = c.remove.ensures.len in
+    let same : sessions_of c.store.new.self.sessions ≡ sessions_of c.self.inside.parts.sessions.sessions = c.store.ensures.unnoted in
+    record {
+      state = record {
         cluster = old.cluster;
         parent = old.parent;
         sequence = old.sequence;
@@ -24,17 +25,17 @@ invariant_of-self c =
         few = omega (arith, old.few, fewer);
         places = c.store.ensures.places ∙ old.places;
         first = old.first;
-        requests = numbered_by c.self.inside.sessions.sessions c.store.new.self.sessions same old.requests;
+        requests = numbered_by c.self.inside.parts.sessions.sessions c.store.new.self.sessions same old.requests;
         asked = subst AreAsked (sym same) old.asked;
         tracks =
-            subst (Tracks (c.self.inside.replies + 1) c.self.inside.head) (sym same)
+            subst (Tracks (c.self.inside.parts.replies + 1) c.self.inside.parts.head) (sym same)
             (record { below = old.tracks.below; apart = old.tracks.apart; pending = λ o above within. old.tracks.pending o (omega (arith, above)) within });
         ring = old.ring;
         course = old.course;
-      },
-      c.self.invariant.1,
-      c.self.invariant.2,
-      c.self.invariant.3,
-      c.self.invariant.4,
-      c.self.invariant.5,
-    )
+      };
+      rooms_fit = c.self.invariant.rooms_fit;
+      grid_fits = c.self.invariant.grid_fits;
+      grid_named = c.self.invariant.grid_named;
+      trailer_fits = c.self.invariant.trailer_fits;
+      scrub_fits = c.self.invariant.scrub_fits;
+    }

@@ -7,9 +7,10 @@ use Rattle.df_disk.specs.Adds.{after_all}
 use Rattle.df_disk.specs.Told.{Told, after, did}
 use Rattle.df_damage.specs.Anew.{told_after}
 use Rattle.df_damage.proofs.Laws.{added_is_told}
+use Rattle.df_units.proofs.Laws.{steps_within}
 use Rattle.df_units.specs.Bytes.{unit_at}
 use Rattle.df_model.specs.Work.{opened}
-use Rattle.df_state.specs.State.{State, shape}
+use Rattle.df_rooms.specs.State.{State, shape}
 use Rattle.df_replica.specs.Mending.{live_state, mending_events, mending_steps}
 use Rattle.df_replica.specs.Opened.{MendsAll}
 use Rattle.df_replica.specs.Serving.{IsGoodFor, StandsFor, format}
@@ -41,6 +42,7 @@ returns-in-Ok-mend-clause-opened g c = λ t is.
       mending = record {
         events = es;
         told = c.in-Ok-mend.ensures.events ∙ ap (after_all es) synced;
+        within = steps_within s.state.file.layout s.state.file.cluster es (mending_steps s.state.file.layout s.state.headers s.mends s.state.fields s.chosen.members) c.in-Ok-mend.ensures.steps;
         spares = mending_spares s.state.file s.state.headers s.mends s.state.fields s.chosen.members c.in-Ok-mend.ensures.steps;
       };
       over = λ grade view base same may stands.
@@ -73,6 +75,7 @@ returns-in-Err-mend-clause-stopped g c = λ t is whole fault.
       mending = record {
         events = part.part;
         told = part.is;
+        within = steps_within s.state.file.layout s.state.file.cluster part.part done.steps done.are;
         spares = front_spares s.state.file s.state.headers s.mends s.state.fields s.chosen.members part.part done;
       };
       moments = λ grade view base same may stands.

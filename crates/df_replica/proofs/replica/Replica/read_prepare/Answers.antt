@@ -5,9 +5,9 @@ use Rattle.df_buffers.specs.Sounds.{Holding}
 use denote.Ref.{Bor}
 use Rattle.df_model.specs.Faults.{is_prepare_fault}
 use Rattle.df_model.specs.Refusals.{first_refusal, prepare_refusals}
-use Rattle.df_state.specs.State.{State, memory}
+use Rattle.df_rooms.specs.State.{State, memory}
 use Rattle.df_replica.specs.Stopping.{stopped}
-use Rattle.df_replica.specs.contracts.replica.Replica.{the_view}
+use Rattle.df_replica.specs.Parts.{state_in}
 use Rattle.df_replica.proofs.Lent.{lends_written_prepare}
 use Rattle.df_replica.proofs.ReadCalls.{LendsAs, TellsOf, lends_as, prepare_stopped, refused_reads, refused_serves, tells_of}
 use Rattle.df_replica.proofs.Unblamed.{prepare_unblamed, refused_blames, refused_leaves}
@@ -37,7 +37,7 @@ returns-in-Err g c =
     let told = g.D.Disk.told c.args.disk.now in
     let rooms = c.load_prepare.ensures.rooms in
     let none = subst (λ (s : State). first_refusal (prepare_refusals (memory s) c.args.op) ≡ None) c.self.view_is (sym c.prepare_refusal.ensures.why ∙ c.in_default.is) in (
-      (refl, (λ _. tt), ap (λ (b : Bool). record (the_view c.self.inside) { headers = c.load_prepare.new.rooms.headers; live = b }) c.end_calls.ensures ∙ ap stopped (ap (λ (hs : List Header). record (the_view c.self.inside) { headers = hs }) rooms.headers ∙ c.self.view_is)),
+      (refl, (λ _. tt), ap (λ (b : Bool). record (state_in c.self.inside.parts) { headers = c.load_prepare.new.rooms.headers; live = b }) c.end_calls.ensures ∙ ap stopped (ap (λ (hs : List Header). record (state_in c.self.inside.parts) { headers = hs }) rooms.headers ∙ c.self.view_is)),
       record {
         after = tt;
         exact = none;
@@ -53,7 +53,7 @@ pub returns-in-Some-wrong : goal.returns-in-Some-wrong
 returns-in-Some-wrong g c =
     let told = g.D.Disk.told c.args.disk.now in
     let op = c.args.op in
-    let v : State = the_view c.self.inside in
+    let v : State = state_in c.self.inside.parts in
     let none : first_refusal (prepare_refusals (memory v) op) ≡ None = sym c.prepare_refusal.ensures.why ∙ c.in_default.is in
     let live = subst (λ (s : State). s.live ≡ true) (sym c.self.view_is) c.requires.live in
     let rooms = c.load_prepare.ensures.rooms in
@@ -68,7 +68,7 @@ pub returns-in-None : goal.returns-in-None
 returns-in-None g c =
     let told = g.D.Disk.told c.args.disk.now in
     let op = c.args.op in
-    let v : State = the_view c.self.inside in
+    let v : State = state_in c.self.inside.parts in
     let none : first_refusal (prepare_refusals (memory v) op) ≡ None = sym c.prepare_refusal.ensures.why ∙ c.in_default.is in
     let live = subst (λ (s : State). s.live ≡ true) (sym c.self.view_is) c.requires.live in
     let rooms = c.load_prepare.ensures.rooms in

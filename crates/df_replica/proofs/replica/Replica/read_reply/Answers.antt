@@ -3,10 +3,10 @@ use Rattle.std.proofs.Common.{◌≡◌, Bool, Some, true, refl, sym, ap, subst,
 use Rattle.df_buffers.specs.Sounds.{Holding}
 use Rattle.df_model.specs.Faults.{is_lookup_fault}
 use Rattle.df_model.specs.Refusals.{first_refusal, lookup_refusals}
-use Rattle.df_state.specs.State.{State, memory}
+use Rattle.df_rooms.specs.State.{State, memory}
 use Rattle.df_replica.specs.Lookups.{IsStoredFor}
 use Rattle.df_replica.specs.Stopping.{stopped}
-use Rattle.df_replica.specs.contracts.replica.Replica.{the_view}
+use Rattle.df_replica.specs.Parts.{state_in}
 use Rattle.df_replica.proofs.Lent.{lends_written_reply}
 use Rattle.df_replica.proofs.LookupCalls.{LendsAs, TellsOf, lends_as, lookup_stopped, refused_reads, refused_serves, tells_of}
 use Rattle.df_replica.proofs.Unblamed.{lookup_unblamed, refused_blames, refused_leaves}
@@ -36,7 +36,7 @@ pub returns-in-Err-load_reply : goal.returns-in-Err-load_reply
 returns-in-Err-load_reply g c =
     let told = g.D.Disk.told c.args.disk.now in
     let for = subst (λ (s : State). IsStoredFor s c.args.client c.in-Ok.stored) c.self.view_is c.in-Ok.ensures.stored in (
-      (refl, (λ _. tt), ap (λ (b : Bool). record (the_view c.self.inside) { live = b }) c.end_calls.ensures ∙ ap stopped c.self.view_is),
+      (refl, (λ _. tt), ap (λ (b : Bool). record (state_in c.self.inside.parts) { live = b }) c.end_calls.ensures ∙ ap stopped c.self.view_is),
       record {
         after = tt;
         exact = for.served;
@@ -53,7 +53,7 @@ returns-in-Some g c =
     let told = g.D.Disk.told c.args.disk.now in
     let client = c.args.client in
     let stored = c.in-Ok.stored in
-    let v : State = the_view c.self.inside in
+    let v : State = state_in c.self.inside.parts in
     let live = subst (λ (s : State). s.live ≡ true) (sym c.self.view_is) c.requires.live in
     let held = c.load_reply.new.room.held in
     let loaded = c.in-Ok-load_reply.ensures in
@@ -67,7 +67,7 @@ returns-in-None g c =
     let told = g.D.Disk.told c.args.disk.now in
     let client = c.args.client in
     let stored = c.in-Ok.stored in
-    let v : State = the_view c.self.inside in
+    let v : State = state_in c.self.inside.parts in
     let live = subst (λ (s : State). s.live ≡ true) (sym c.self.view_is) c.requires.live in
     let held = c.load_reply.new.room.held in
     let loaded = c.in-Ok-load_reply.ensures in

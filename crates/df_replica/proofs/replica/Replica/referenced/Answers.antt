@@ -1,12 +1,12 @@
 -- What the grid counts is what the machine references.
 use Rattle.std.proofs.Common.{refl, length, subst, ◌≡◌}
 use Rattle.df_model.specs.Memory.{referenced_of}
-use Rattle.df_state.specs.State.{State, memory}
-use Rattle.df_replica.specs.contracts.replica.Replica.{the_view}
+use Rattle.df_rooms.specs.State.{State, memory}
+use Rattle.df_replica.specs.Parts.{state_in}
 use Rattle.df_replica.proofs.ScrubTours.{counted}
 use Rattle.df_replica.proofs.replica.Replica.referenced.Goals as goal
 
 pub returns : goal.returns
 returns c =
-    let i = c.self.inside in
-    subst (λ (s : State). c.referenced.result ≡ length (referenced_of (memory s))) c.self.view_is (counted (the_view i) i.grid c.referenced.result c.referenced.ensures c.self.invariant.2 refl)
+    let i = c.self.inside.parts in
+    subst (λ (s : State). c.referenced.result ≡ length (referenced_of (memory s))) c.self.view_is (counted (state_in i) i.grid c.referenced.result c.referenced.ensures c.self.invariant.grid_fits refl)

@@ -5,47 +5,61 @@ use Rattle.df_grid.specs.Grid.{GridState}
 use Rattle.df_model.specs.Blocks.{Blocks, sum_at, without_entry}
 use Rattle.df_model.specs.Commands.{Release, ToRelease}
 use Rattle.df_model.specs.Work.{is_known}
-use Rattle.df_state.specs.State.{IsState, State}
+use Rattle.df_rooms.specs.State.{State}
 use Rattle.df_replica.specs.Answering.{Serves}
 use Rattle.df_replica.specs.Blocks.{released}
-use Rattle.df_replica.specs.contracts.replica.Replica.{the_view}
+use Rattle.df_replica.specs.Parts.{AreWhole, state_in}
 use Rattle.df_replica.proofs.BlockStates.{live_state, not_live_stays}
 use Rattle.df_replica.proofs.ReleaseAnswers.{none_is, refused_is, refused_release, released_serves}
 use Rattle.df_replica.proofs.replica.Replica.release.Goals as goal
 
 pub invariant_of-self : goal.invariant_of-self
 invariant_of-self c =
-    let s = c.self.inside in
+    let s = c.self.inside.parts in
     let old = c.self.invariant in
-    subst (λ (x : GridState). IsState (record (the_view s) { blocks = x.blocks }) × (s.rooms.layout ≡ s.file.layout) × (x.layout ≡ s.file.layout) × (x.cluster ≡ s.file.cluster) × (s.trailer.layout ≡ s.file.layout) × (s.scrub.layout ≡ s.file.layout))
-    (sym c.release.ensures.released) (live_state (the_view s) (without_entry c.args.address s.grid.blocks.live) old.0, old.1, old.2, old.3, old.4, old.5)
+    subst (λ (x : GridState). AreWhole (record s { grid = x })) (sym c.release.ensures.released)
+    (record {
+      state = live_state (state_in s) (without_entry c.args.address s.grid.blocks.live) old.state;
+      rooms_fit = old.rooms_fit;
+      grid_fits = old.grid_fits;
+      grid_named = old.grid_named;
+      trailer_fits = old.trailer_fits;
+      scrub_fits = old.scrub_fits;
+    })
 
 pub invariant_of-self-2 : goal.invariant_of-self-2
 invariant_of-self-2 c =
-    let s = c.self.inside in
+    let s = c.self.inside.parts in
     let old = c.self.invariant in
-    subst (λ (x : GridState). IsState (record (the_view s) { blocks = x.blocks }) × (s.rooms.layout ≡ s.file.layout) × (x.layout ≡ s.file.layout) × (x.cluster ≡ s.file.cluster) × (s.trailer.layout ≡ s.file.layout) × (s.scrub.layout ≡ s.file.layout))
-    (sym c.release.ensures.released) (live_state (the_view s) (without_entry c.args.address s.grid.blocks.live) old.0, old.1, old.2, old.3, old.4, old.5)
+    subst (λ (x : GridState). AreWhole (record s { grid = x })) (sym c.release.ensures.released)
+    (record {
+      state = live_state (state_in s) (without_entry c.args.address s.grid.blocks.live) old.state;
+      rooms_fit = old.rooms_fit;
+      grid_fits = old.grid_fits;
+      grid_named = old.grid_named;
+      trailer_fits = old.trailer_fits;
+      scrub_fits = old.scrub_fits;
+    })
 
 pub returns-then-not-release-clause-exact : goal.returns-then-not-release-clause-exact
 returns-then-not-release-clause-exact c =
-    let s = c.self.inside in
+    let s = c.self.inside.parts in
     let dead : is_known (sum_at c.args.address s.grid.blocks.live) ≡ false = sym c.release.ensures.answer ∙ c.if-not-release.true in
-    let stays : record (the_view s) { blocks = c.release.new.self.blocks } ≡ c.args.self.now =
-    ap (λ (x : GridState). record (the_view s) { blocks = x.blocks }) c.release.ensures.released ∙ ap (λ (b : Blocks). record (the_view s) { blocks = b }) (not_live_stays s.grid.blocks c.args.address dead) ∙ c.self.view_is in
+    let stays : record (state_in s) { blocks = c.release.new.self.blocks } ≡ c.args.self.now =
+    ap (λ (x : GridState). record (state_in s) { blocks = x.blocks }) c.release.ensures.released ∙ ap (λ (b : Blocks). record (state_in s) { blocks = b }) (not_live_stays s.grid.blocks c.args.address dead) ∙ c.self.view_is in
     (refused_is c.args.self.now c.args.address (ap (λ (x : State). is_known (sum_at c.args.address x.blocks.live)) (sym c.self.view_is) ∙ dead), stays)
 
 pub returns-then-not-release-clause-call : goal.returns-then-not-release-clause-call
 returns-then-not-release-clause-call c =
     let exact = returns-then-not-release-clause-exact c in
     let v = c.args.self.now in
-    let s = c.self.inside in
+    let s = c.self.inside.parts in
     λ told. subst (λ (x : State). Serves (Release c.args.address) v x told told (Some (ToRelease (Err (record {}))))) (sym exact.1) (refused_release v c.args.address c.requires.live (record {}) exact.0 told)
 
 pub returns-clause-call : goal.returns-clause-call
 returns-clause-call c =
-    let s = c.self.inside in
+    let s = c.self.inside.parts in
     let alive : is_known (sum_at c.args.address s.grid.blocks.live) ≡ true = sym c.release.ensures.answer ∙ c.if-not-release.false in
-    let lets : record (the_view s) { blocks = c.release.new.self.blocks } ≡ released c.args.self.now c.args.address =
-    ap (λ (x : GridState). record (the_view s) { blocks = x.blocks }) c.release.ensures.released ∙ ap (λ (x : State). released x c.args.address) c.self.view_is in
+    let lets : record (state_in s) { blocks = c.release.new.self.blocks } ≡ released c.args.self.now c.args.address =
+    ap (λ (x : GridState). record (state_in s) { blocks = x.blocks }) c.release.ensures.released ∙ ap (λ (x : State). released x c.args.address) c.self.view_is in
     λ told. released_serves c.args.self.now c.args.address c.requires.live (none_is c.args.self.now c.args.address (ap (λ (x : State). is_known (sum_at c.args.address x.blocks.live)) (sym c.self.view_is) ∙ alive)) _ lets told

@@ -8,8 +8,8 @@ use Rattle.df_format.specs.Own.{own_place}
 use Rattle.df_format.specs.Rules.{ObeysRules}
 use Rattle.df_format.specs.Spelling.{IsCheck}
 use Rattle.df_sessions.specs.Table.{IsTable}
-use Rattle.df_state.specs.State.{IsState, State}
-use Rattle.df_replica.specs.contracts.replica.Replica.{the_view}
+use Rattle.df_rooms.specs.State.{IsState, State}
+use Rattle.df_replica.specs.Parts.{state_in}
 use Rattle.df_replica.specs.Replying.{first_check, reply_given}
 use Rattle.df_replica.proofs.ReplyGiven.{given_own, given_rules, header_is, place_small}
 use Rattle.df_replica.proofs.ReplyTests.{place_inside}
@@ -18,16 +18,16 @@ use Rattle.df_replica.proofs.replica.Replica.reply_given.Goals as goal
 pub session_in-session-requires : goal.session_in-session-requires
 session_in-session-requires c =
     let waits = subst (λ (s : State). s.replies < s.head) (sym c.self.view_is) c.requires.waits in
-    subst (λ (n : ℕ). n < length c.self.inside.sessions.sessions) (sym c.place_of_op-place.ensures.place) (place_inside _ c.self.invariant.0 waits)
+    subst (λ (n : ℕ). n < length c.self.inside.parts.sessions.sessions) (sym c.place_of_op-place.ensures.place) (place_inside _ c.self.invariant.state waits)
 
 pub overflow_cast-result : goal.overflow_cast-result
 overflow_cast-result c =
     let waits = subst (λ (s : State). s.replies < s.head) (sym c.self.view_is) c.requires.waits in
-    omega (arith, c.place_of_op-place.ensures.place, place_small _ c.self.invariant.0 c.place_of_op-place.ensures.table waits)
+    omega (arith, c.place_of_op-place.ensures.place, place_small _ c.self.invariant.state c.place_of_op-place.ensures.table waits)
 
 pub returns-clause-value : goal.returns-clause-value
 returns-clause-value c =
-    let s : State = the_view c.self.inside in
+    let s : State = state_in c.self.inside.parts in
     let same : s ≡ c.args.self.now = c.self.view_is in
     header_is s c.of.result c.first_waiting-parent.result c.client_of-client.result c.place_of_op-place.result c.fields.result.now.sequence c.session_in-session.result c.of.ensures c.client_of-client.ensures.value
     (c.first_waiting-parent.ensures.value ∙ ap (λ (x : State). first_check x.waiting) (sym same)) c.place_of_op-place.ensures.place c.session_in-session.ensures (ap (λ (f : SuperFields). f.sequence) c.fields.ensures.value)
@@ -36,7 +36,7 @@ returns-clause-value c =
 pub returns-clause-rules : goal.returns-clause-rules
 returns-clause-rules c =
     let value = returns-clause-value c in
-    let is = subst IsState c.self.view_is c.self.invariant.0 in
+    let is = subst IsState c.self.view_is c.self.invariant.state in
     let table = subst IsTable (ap (λ (s : State). s.table) c.self.view_is) c.place_of_op-place.ensures.table in
     let parent = subst IsCheck c.first_waiting-parent.ensures.value c.first_waiting-parent.ensures.check in
     let small = subst (λ (n : ℕ). n < 2 ^ 128) (ap (λ (h : Header). h.client) value) c.client_of-client.ensures.small in
@@ -44,6 +44,6 @@ returns-clause-rules c =
 
 pub returns-clause-own : goal.returns-clause-own
 returns-clause-own c =
-    let is = subst IsState c.self.view_is c.self.invariant.0 in
+    let is = subst IsState c.self.view_is c.self.invariant.state in
     let table = subst IsTable (ap (λ (s : State). s.table) c.self.view_is) c.place_of_op-place.ensures.table in
     subst (λ (h : Header). IsSome (own_place c.args.self.now.file.layout ClientReplies h)) (sym (returns-clause-value c)) (given_own c.args.self.now is table c.requires.waits)

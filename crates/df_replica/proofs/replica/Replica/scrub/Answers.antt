@@ -4,10 +4,10 @@ use Rattle.df_layout.specs.declared.damage.Finding.{Finding}
 use Rattle.df_grid.specs.Grid.{GridState}
 use Rattle.df_model.specs.After.{newest}
 use Rattle.df_model.specs.Work.{Tour, first_tour}
-use Rattle.df_state.specs.Below.{ListsFailing}
-use Rattle.df_state.specs.State.{State, grid_with}
+use Rattle.df_rooms.specs.Below.{ListsFailing}
+use Rattle.df_rooms.specs.State.{State, grid_with}
 use Rattle.df_replica.specs.Scrubbing.{toured}
-use Rattle.df_replica.specs.contracts.replica.Replica.{the_view}
+use Rattle.df_replica.specs.Parts.{state_in}
 use Rattle.df_replica.proofs.ScrubTours.{tour_serves}
 use Rattle.df_replica.proofs.StepState.{grid_is}
 use Rattle.df_replica.proofs.replica.Replica.scrub.Goals as goal
@@ -15,8 +15,8 @@ use Rattle.df_replica.proofs.replica.Replica.scrub.Goals as goal
 pub returns-in-Ok : goal.returns-in-Ok
 returns-in-Ok g c =
     let told = g.D.Disk.told c.args.disk.now in
-    let i = c.self.inside in
-    let s : State = the_view i in
+    let i = c.self.inside.parts in
+    let s : State = state_in i in
     let v = c.args.self.now in
     let list = c.as_slice.result.now in
     let now = c.scrub-done.new in
@@ -28,7 +28,7 @@ returns-in-Ok g c =
     ∙ ap (λ (x : List Finding). record s { tour = first_tour; findings = newest (s.findings ++ x) }) (sym items)
     ∙ ap (λ (x : State). toured x list) c.self.view_is in
     let lists = subst (λ (x : List Finding). ListsFailing i.grid told x) (sym items) c.in-Ok.ensures.failing in
-    let exact = subst (λ (x : State). ListsFailing (grid_with x.file x.blocks) told list) c.self.view_is (subst (λ (x : GridState). ListsFailing x told list) (grid_is i.file i.grid c.self.invariant.2 c.self.invariant.3) lists) in (
+    let exact = subst (λ (x : State). ListsFailing (grid_with x.file x.blocks) told list) c.self.view_is (subst (λ (x : GridState). ListsFailing x told list) (grid_is i.file i.grid c.self.invariant.grid_fits c.self.invariant.grid_named) lists) in (
       (refl, (λ _. tt), after),
       record { after = tt; exact = exact; call = tour_serves v told list; same = c.scrub-done.ensures.same; cause = record { later = c.in-Ok.ensures.cause.later; failed = tt; same = c.in-Ok.ensures.cause.same } },
     )

@@ -2,11 +2,11 @@
 use Rattle.std.proofs.Common.{◌≡◌, true, refl, sym, ap, subst}
 use Rattle.std.specs.Prelude.{Ok}
 use Rattle.df_grid.specs.Grid.{GridState}
-use Rattle.df_state.specs.Below.{IsMachines}
-use Rattle.df_state.specs.State.{State}
+use Rattle.df_rooms.specs.Below.{IsMachines}
+use Rattle.df_rooms.specs.State.{State}
 use Rattle.df_replica.specs.Answering.{ServesScrub}
 use Rattle.df_replica.specs.Scrubbing.{with_scrub}
-use Rattle.df_replica.specs.contracts.replica.Replica.{the_view}
+use Rattle.df_replica.specs.Parts.{state_in}
 use Rattle.df_replica.proofs.ScrubCalls.{scrub_serves, scrub_stopped}
 use Rattle.df_replica.proofs.StepState.{grid_is}
 use Rattle.df_replica.proofs.replica.Replica.scrub_step.Goals as goal
@@ -14,12 +14,12 @@ use Rattle.df_replica.proofs.replica.Replica.scrub_step.Goals as goal
 pub returns-in-Ok-clause-call : goal.returns-in-Ok-clause-call
 returns-in-Ok-clause-call g c =
     let told = g.D.Disk.told c.args.disk.now in
-    let i = c.self.inside in
-    let s : State = the_view i in
+    let i = c.self.inside.parts in
+    let s : State = state_in i in
     let answer = c.in-Ok.scrubbed in
     let scrub = c.step.new.self in
     let live : s.live ≡ true = subst (λ (x : State). x.live ≡ true) (sym c.self.view_is) c.requires.live in
-    let machines = subst (λ (x : GridState). IsMachines x i.scrub.scrubber scrub told answer) (grid_is i.file i.grid c.self.invariant.2 c.self.invariant.3) c.in-Ok.ensures.machine in
+    let machines = subst (λ (x : GridState). IsMachines x i.scrub.scrubber scrub told answer) (grid_is i.file i.grid c.self.invariant.grid_fits c.self.invariant.grid_named) c.in-Ok.ensures.machine in
     let after : with_scrub s scrub ≡ record (with_scrub s scrub) { blocks = c.step.new.grid.blocks } = ap (λ (x : GridState). record (with_scrub s scrub) { blocks = x.blocks }) (sym c.step.ensures.grid) in
     subst (λ (x : State). ServesScrub x (record (with_scrub s scrub) { blocks = c.step.new.grid.blocks }) told (Ok answer)) c.self.view_is
     (subst (λ (x : State). ServesScrub s x told (Ok answer)) after (scrub_serves s live told answer scrub machines))

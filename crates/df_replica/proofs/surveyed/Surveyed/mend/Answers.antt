@@ -7,7 +7,7 @@ use Rattle.df_theory.specs.View.{View}
 use Rattle.df_replica.specs.Mending.{IsMended, IsPlanned, RestsOnDisk, mending_events}
 use Rattle.df_replica.specs.Replica.{Survey}
 use Rattle.df_replica.specs.Serving.{Grade, IsGoodFor, format}
-use Rattle.df_state.specs.State.{shape}
+use Rattle.df_rooms.specs.State.{shape}
 use Rattle.df_replica.proofs.Mendable.{planned_may_mend}
 use Rattle.df_replica.proofs.MendSteps.{all_mended, all_moments}
 use Rattle.df_replica.proofs.surveyed.Surveyed.mend.Goals as goal
@@ -22,30 +22,30 @@ Ends v = (base : Told) (grade : Grade) (view : View) → IsPlanned v.state.file 
 
 pub returns-in-Ok-clause-moments : goal.returns-in-Ok-clause-moments
 returns-in-Ok-clause-moments g c =
-    let s = c.self.inside in
+    let s = c.self.inside.parts in
     subst Moments c.self.view_is
-    (λ base grade view plan on. all_moments s.file s.rooms.headers s.rooms.mends.items s.content s.chosen.members base
-    (record { grade = grade; view = view; is_log = on.is_log; standing = on.standing; may = planned_may_mend grade s.file view s.rooms.headers s.rooms.mends.items s.content s.chosen.members base c.mend_rooms.ensures.size plan on }) c.mend_rooms.ensures.steps)
+    (λ base grade view plan on. all_moments s.file s.rooms.headers s.rooms.mends.items s.content c.self.inside.chosen.members base
+    (record { grade = grade; view = view; is_log = on.is_log; standing = on.standing; may = planned_may_mend grade s.file view s.rooms.headers s.rooms.mends.items s.content c.self.inside.chosen.members base c.mend.ensures.size plan on }) c.mend.ensures.steps)
 
 pub returns-in-Ok-clause-mended : goal.returns-in-Ok-clause-mended
 returns-in-Ok-clause-mended g c =
-    let s = c.self.inside in
+    let s = c.self.inside.parts in
     subst Ends c.self.view_is
-    (λ base grade view plan on. all_mended s.file s.rooms.headers s.rooms.mends.items s.content s.chosen.members base
-    (record { grade = grade; view = view; is_log = on.is_log; standing = on.standing; may = planned_may_mend grade s.file view s.rooms.headers s.rooms.mends.items s.content s.chosen.members base c.mend_rooms.ensures.size plan on }) c.mend_rooms.ensures.steps
-    c.self.invariant.0.ring)
+    (λ base grade view plan on. all_mended s.file s.rooms.headers s.rooms.mends.items s.content c.self.inside.chosen.members base
+    (record { grade = grade; view = view; is_log = on.is_log; standing = on.standing; may = planned_may_mend grade s.file view s.rooms.headers s.rooms.mends.items s.content c.self.inside.chosen.members base c.mend.ensures.size plan on }) c.mend.ensures.steps
+    c.self.invariant.whole.state.ring)
 
 pub returns-in-Err-clause-moments : goal.returns-in-Err-clause-moments
 returns-in-Err-clause-moments g c =
-    let s = c.self.inside in
+    let s = c.self.inside.parts in
     subst Moments c.self.view_is
-    (λ base grade view plan on. all_moments s.file s.rooms.headers s.rooms.mends.items s.content s.chosen.members base
-    (record { grade = grade; view = view; is_log = on.is_log; standing = on.standing; may = planned_may_mend grade s.file view s.rooms.headers s.rooms.mends.items s.content s.chosen.members base c.mend_rooms.ensures.size plan on }) c.mend_rooms.ensures.steps)
+    (λ base grade view plan on. all_moments s.file s.rooms.headers s.rooms.mends.items s.content c.self.inside.chosen.members base
+    (record { grade = grade; view = view; is_log = on.is_log; standing = on.standing; may = planned_may_mend grade s.file view s.rooms.headers s.rooms.mends.items s.content c.self.inside.chosen.members base c.mend.ensures.size plan on }) c.mend.ensures.steps)
 
 pub returns-in-Err-clause-mended : goal.returns-in-Err-clause-mended
 returns-in-Err-clause-mended g c =
-    let s = c.self.inside in
+    let s = c.self.inside.parts in
     subst Ends c.self.view_is
-    (λ base grade view plan on. all_mended s.file s.rooms.headers s.rooms.mends.items s.content s.chosen.members base
-    (record { grade = grade; view = view; is_log = on.is_log; standing = on.standing; may = planned_may_mend grade s.file view s.rooms.headers s.rooms.mends.items s.content s.chosen.members base c.mend_rooms.ensures.size plan on }) c.mend_rooms.ensures.steps
-    c.self.invariant.0.ring)
+    (λ base grade view plan on. all_mended s.file s.rooms.headers s.rooms.mends.items s.content c.self.inside.chosen.members base
+    (record { grade = grade; view = view; is_log = on.is_log; standing = on.standing; may = planned_may_mend grade s.file view s.rooms.headers s.rooms.mends.items s.content c.self.inside.chosen.members base c.mend.ensures.size plan on }) c.mend.ensures.steps
+    c.self.invariant.whole.state.ring)

@@ -1,4 +1,4 @@
--- What is found in the table is so in the model's image.
+-- What is found in the table is so in the theory's image.
 use Rattle.std.proofs.Common.{◌∙◌, List, subst}
 use Rattle.std.specs.Prelude.{Result}
 use Rattle.df_layout.specs.declared.damage.Class.{Class}
@@ -8,7 +8,7 @@ use Rattle.df_replies.proofs.Stored.{lacking_class, lacking_within, lacks_shown}
 use Rattle.df_replies.proofs.table.ReplyTable.first_lacking.Goals as goal
 
 pub returns-clause-lacks : goal.returns-clause-lacks
-returns-clause-lacks c = λ image content shows names. lacks_shown image content c.args.self.now c.args.sessions.now.sessions c.args.stored shows names c.first_lacking.result
+returns-clause-lacks c = λ image content shows own names. lacks_shown image content c.args.self.now c.args.sessions.now.sessions c.args.stored shows own names c.first_lacking.result
     (subst (λ (l : List (Result Header Class)). LacksHere c.args.sessions.now.sessions c.args.stored l c.first_lacking.result) (c.deref.ensures.value ∙ c.self.view_is) c.first_lacking.ensures)
 
 pub returns-clause-class : goal.returns-clause-class

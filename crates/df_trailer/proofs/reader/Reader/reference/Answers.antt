@@ -14,10 +14,7 @@ returns-then-is_set-clause-value c =
 
 pub returns-then-is_set-clause-said : goal.returns-then-is_set-clause-said
 returns-then-is_set-clause-said c = λ layout op text none read.
-    kept_here c.args.self.now c.args.address c.deref.result.now c.deref-then-is_set.result.now true c.check_at.result c.requires.inside c.deref.ensures.value c.deref-then-is_set.ensures.value
-    (λ bytes h. sym c.if-is_set.true ∙ c.is_set.ensures bytes h)
-    (λ _. c.check_at.ensures ∙ ap (λ (n : ℕ). get_or c.deref-then-is_set.result.now n []) c.requires.before)
-    ∙ kept_said layout op text c.args.self.now c.args.address none read c.requires.inside.0 (inside_of layout op text c.args.self.now read c.args.address c.requires.inside)
+    returns-then-is_set-clause-value c ∙ kept_said layout op text c.args.self.now c.args.address none read c.requires.inside.0 (inside_of layout op text c.args.self.now read c.args.address c.requires.inside)
 
 pub returns-then-is_set-clause-more : goal.returns-then-is_set-clause-more
 returns-then-is_set-clause-more c =
@@ -33,9 +30,7 @@ returns-else-is_set-clause-value c =
 
 pub returns-else-is_set-clause-said : goal.returns-else-is_set-clause-said
 returns-else-is_set-clause-said c = λ layout op text none read.
-    kept_here c.args.self.now c.args.address c.deref.result.now c.args.self.now.parts.checks.items false [] c.requires.inside c.deref.ensures.value refl
-    (λ bytes h. sym c.if-is_set.false ∙ c.is_set.ensures bytes h) (λ no. cc)
-    ∙ kept_said layout op text c.args.self.now c.args.address none read c.requires.inside.0 (inside_of layout op text c.args.self.now read c.args.address c.requires.inside)
+    returns-else-is_set-clause-value c ∙ kept_said layout op text c.args.self.now c.args.address none read c.requires.inside.0 (inside_of layout op text c.args.self.now read c.args.address c.requires.inside)
 
 pub returns-else-is_set-clause-same : goal.returns-else-is_set-clause-same
 returns-else-is_set-clause-same c =

@@ -1,6 +1,5 @@
 -- The run stays sound, and its room has the body that was drawn last.
-use Rattle.std.proofs.Common.{◌≡◌, ◌<◌, false, subst, sym, ap}
-use Rattle.df_workload.specs.Hearing.{told}
+use Rattle.std.proofs.Common.{◌≡◌, ◌<◌, false, subst, sym}
 use Rattle.df_workload.specs.Sound.{IsSound, MayBeTold, is_at_end, left}
 use Rattle.df_workload.specs.declared.state.State.{State}
 use Rattle.df_workload.proofs.Nearing.{heard_on, some_left}

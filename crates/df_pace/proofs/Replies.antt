@@ -1,0 +1,79 @@
+-- What is read at the places of the replies, and the table of sessions, after a prepare or a reply more.
+use Rattle.std.proofs.Common.{◌≡◌, ℕ, zero, suc, ◌+◌, ◌<◌, ◌==◌, nat_lt, Bool, true, false, if◌then◌else◌, List, [], ◌∷◌, ◌++◌, map, length, Option, Some, None, Result, Ok, Err, refl, ◌∙◌, ap, arith, eq-eqb}
+use Rattle.std.specs.List.{range_with_len, slice_get}
+use Rattle.df_layout.specs.declared.damage.Class.{Class}
+use Rattle.df_layout.specs.declared.damage.Class.TheVariants.{Stale}
+use Rattle.df_theory.specs.Units.{AnyUnit, BlockUnit, CopyUnit, Header, HeaderUnit, Message, PrepareUnit, ReplyUnit, Session, or_else}
+use Rattle.df_theory.specs.Sessions.{noted, session_of, sessions_after}
+use Rattle.df_theory.specs.Next.{kept}
+use Rattle.df_theory.proofs.Laws.{sessions-append}
+use Rattle.df_model.specs.Memory.{stored_sum}
+use Rattle.df_model.specs.Refusals.{is_new, session_of_client}
+use Rattle.df_model.specs.After.{place_of_client}
+use Rattle.df_model.specs.Supply.{class_or, given_if, is_sum, reply_given}
+use Rattle.df_pace.proofs.Told.{plain, plainly}
+
+-- ---- the table of sessions, by sessions
+
+abbrev pub put_session : Session → List Session → List Session
+put_session s [] = s ∷ []
+put_session s (x ∷ xs) = if x.client == s.client then s ∷ xs else x ∷ put_session s xs
+
+noted_is : (h : Header) (ss : List Session) → noted h ss ≡ put_session (session_of h) ss
+noted_is h [] = refl
+noted_is h (s ∷ ss) = ap (λ (rest : List Session). if s.client == h.client then session_of h ∷ ss else s ∷ rest) (noted_is h ss)
+
+pub sessions_more : (ss : List Session) (ps : List Message) (p : Message) → sessions_after ss (ps ++ p ∷ []) ≡ put_session (session_of p.header) (sessions_after ss ps)
+sessions_more ss ps p = sessions-append ss ps (p ∷ []) ∙ noted_is p.header (sessions_after ss ps)
+
+-- ---- reads of replies
+
+-- what is shown stays, and isn't known any more
+abbrev gone : Result Message Class → Result Message Class
+gone (Ok r) = Err Stale
+gone (Err class) = Err class
+
+abbrev pub kept_read : Option Session → ℕ → Result Message Class → Result Message Class
+kept_read None op old = gone old
+kept_read (Some s) op old = if nat_lt op s.op then gone old else old
+
+given_gone : (b : Bool) (r : Message) → Err Stale ≡ gone (plainly (given_if b r Stale))
+given_gone true r = refl
+given_gone false r = refl
+
+read_gone : (known : Option ℕ) (u : Option AnyUnit) (d : Class) → plainly (reply_given None u (class_or u d)) ≡ gone (plainly (reply_given known u (class_or u d)))
+read_gone known None d = refl
+read_gone known (Some (CopyUnit x)) d = refl
+read_gone known (Some (HeaderUnit x)) d = refl
+read_gone known (Some (PrepareUnit x)) d = refl
+read_gone known (Some (ReplyUnit r)) d = given_gone (is_sum known r.header.checksum) r
+read_gone known (Some (BlockUnit x)) d = refl
+
+read_kept_case : (b : Bool) (stored : Option Message) (u : Option AnyUnit) (d : Class) → plainly (reply_given (stored_sum (if b then None else stored)) u (class_or u d)) ≡ (if b then gone (plainly (reply_given (stored_sum stored) u (class_or u d))) else plainly (reply_given (stored_sum stored) u (class_or u d)))
+read_kept_case true stored u d = read_gone (stored_sum stored) u d
+read_kept_case false stored u d = refl
+
+pub read_kept : (o : Option Session) (op : ℕ) (stored : Option Message) (u : Option AnyUnit) (d : Class) → plainly (reply_given (stored_sum (kept o op stored)) u (class_or u d)) ≡ kept_read o op (plainly (reply_given (stored_sum stored) u (class_or u d)))
+read_kept None op stored u d = read_gone (stored_sum stored) u d
+read_kept (Some s) op stored u d = read_kept_case (nat_lt op s.op) stored u d
+
+-- a reply that was just written
+pub read_new : (b c : Bool) → c ≡ b → (r : Message) (stored : Option Message) (u : Option AnyUnit) (d : Class) → let there = or_else (if c then Some (ReplyUnit r) else None) u in
+    plainly (reply_given (stored_sum (if b then Some r else stored)) there (class_or there d)) ≡ (if b then Ok (plain r) else plainly (reply_given (stored_sum stored) u (class_or u d)))
+read_new true true same r stored u d = ap (λ (e : Bool). plainly (given_if e r Stale)) (eq-eqb r.header.checksum r.header.checksum refl)
+read_new true false same r stored u d = absurd (cc)
+read_new false true same r stored u d = absurd (cc)
+read_new false false same r stored u d = refl
+
+pub get_mapped : (f : ℕ → Option ℕ) (s n k j : ℕ) → k < n → j ≡ s + k → slice_get (map f (range_with_len s n)) k ≡ Some (f j)
+get_mapped f s zero k j less is = absurd (omega arith)
+get_mapped f s (suc n) zero j less is = let same : s ≡ j = omega arith in ap (λ (i : ℕ). Some (f i)) same
+get_mapped f s (suc n) (suc k) j less is = get_mapped f (s + 1) n k j (omega arith) (omega arith)
+
+pub place_known : (client : ℕ) (ss : List Session) → is_new (session_of_client client ss) ≡ false → place_of_client client ss < length ss
+place_known client [] known = absurd (cc)
+place_known client (s ∷ ss) known = go (s.client == client) known (place_known client ss)
+  where
+    go : (b : Bool) → is_new (if b then Some s else session_of_client client ss) ≡ false → (is_new (session_of_client client ss) ≡ false → place_of_client client ss < length ss) → (if b then 0 else suc (place_of_client client ss)) < suc (length ss)
+    go true known more = omega arith
+    go false known more = omega (arith, more known)

@@ -1,0 +1,23 @@
+// How much work is done beside a script, so that no line waits for a whole checkpoint.
+
+/// How much work is done behind each line of a script.
+#[derive(Clone, Copy, Debug, PartialEq, Eq)]
+pub struct Pace {
+    /// So many steps of the scrubber.
+    pub scrub: u64,
+    /// A checkpoint is begun once so many prepares were accepted since the loop last began one; with 0 none ever is.
+    pub every: u64,
+    /// At most so many steps of the running checkpoint.
+    pub steps: u64,
+}
+
+/// The work that is due behind a line, in this order.
+#[derive(Clone, Copy, Debug, PartialEq, Eq)]
+pub struct Due {
+    /// A checkpoint is to be begun, with the durable root. One that is refused is due again behind the next line.
+    pub begin: bool,
+    /// At most so many steps, as long as a checkpoint runs.
+    pub steps: u64,
+    /// So many steps of the scrubber.
+    pub scrub: u64,
+}

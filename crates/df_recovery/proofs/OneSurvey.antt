@@ -1,0 +1,117 @@
+-- An image has one refusal: of its superblock, or else of the one file that its superblock is of.
+use Rattle.std.proofs.Common.{◌≡◌, ℕ, refl, sym, ◌∙◌, ap, subst, inl, inr}
+use Rattle.std.specs.Prelude.{◌⊎◌, ◌≢◌, Err}
+use Rattle.df_base.specs.Image.{Image}
+use Rattle.df_layout.proofs.Laws.{same_layout}
+use Rattle.df_layout.specs.declared.damage.Class.{Class}
+use Rattle.df_layout.specs.declared.fields.Field.{Field}
+use Rattle.df_layout.specs.declared.layout.Layout.{Layout}
+use Rattle.df_layout.specs.declared.places.Place.{Place}
+use Rattle.df_format.proofs.Laws.{faults}
+use Rattle.df_format.specs.SuperRules.{IsSuper}
+use Rattle.df_format.specs.declared.superblock.SuperFields.{SuperFields}
+use Rattle.df_theory.specs.Units
+use Rattle.df_theory.specs.Opens.{Answer, BadField as BadTest, Damaged as Damages, Opens, Refused}
+use Rattle.df_theory.proofs.Laws.{one_answer_law}
+use Rattle.df_model.specs.declared.errors.OpenError.{OpenError}
+use Rattle.df_model.specs.declared.errors.OpenError.TheVariants.{NotFormatted, NoQuorum, Version, BadField, LayoutDiffers, Damaged, DiskFault}
+use Rattle.df_units.specs.Bytes.{unit_at}
+use Rattle.df_units.specs.Meaning.{place_of}
+use Rattle.df_grid.specs.Reads.{shown_of}
+use Rattle.df_checkpoint.specs.Chain.{content_in}
+use Rattle.df_checkpoint.specs.Tests.{FailsTest}
+use Rattle.df_checkpoint.proofs.Laws.{one_test}
+use Rattle.df_rooms.proofs.Laws.{same_file}
+use Rattle.df_rooms.specs.State.{shape}
+use Rattle.df_rooms.specs.declared.file.DataFile.{DataFile}
+use Rattle.df_recovery.specs.Opening.{HasSuper, IsLayoutOf, Refuses}
+use Rattle.df_recovery.specs.SurveyLaws.{OneSurvey}
+use Rattle.df_recovery.specs.Surveys.{FailsTrailer, HasFile, HasOther, IsDamaged, Surveys, class_there}
+use Rattle.df_recovery.proofs.OneAnswer.{one_refusal, one_super, super_or_refusal}
+
+one_layout : (a b : Layout) (f : SuperFields) → IsLayoutOf a f → IsLayoutOf b f → a ≡ b
+one_layout a b f one two = same_layout a b (one.slots ∙ sym two.slots) (one.message_size ∙ sym two.message_size) (one.clients ∙ sym two.clients) (one.block_size ∙ sym two.block_size) (one.blocks ∙ sym two.blocks)
+
+module _ (layout : Layout) (image : Image) where
+  -- a superblock that can be used is of one file of this layout
+  one_file : (a b : DataFile) (f g : SuperFields) → HasFile image a f → HasFile image b g → a.layout ≡ layout → b.layout ≡ layout → (a ≡ b) × (f ≡ g)
+  one_file a b f g one two first second =
+      let same = one_super image f g one.super two.super in
+      (same_file a b (first ∙ sym second) (sym one.cluster ∙ ap (λ (x : SuperFields). x.cluster) same ∙ two.cluster), same)
+
+  -- ---- refusals behind the superblock
+
+  one_field : (field other : Field) (value number : ℕ) → FailsTrailer layout image field value → FailsTrailer layout image other number → (field ≡ other) × (value ≡ number)
+  one_field field other value number one two =
+      let same = one_file one.file two.file one.fields two.fields one.has two.has one.of two.of in
+      let usable : IsSuper one.fields = (faults one.fields).0 one.has.super.usable in
+      let of_file : FailsTest (shape one.file) (shown_of layout one.file.cluster image) (content_in two.fields) other number =
+      subst (λ (x : DataFile). FailsTest (shape x) (shown_of layout x.cluster image) (content_in two.fields) other number) (sym same.0) two.fails in
+      one_test (shape one.file) (shown_of layout one.file.cluster image) (content_in one.fields) field other value number refl usable.op one.fails
+      (subst (λ (g : SuperFields). FailsTest (shape one.file) (shown_of layout one.file.cluster image) (content_in g) other number) (sym same.1) of_file)
+
+  same_answer : (a b : DataFile) (f g : SuperFields) (x y : Answer) → HasFile image a f → HasFile image b g → a.layout ≡ layout → b.layout ≡ layout → Opens (shape a) (unit_at layout a.cluster image) x → Opens (shape b) (unit_at layout b.cluster image) y → x ≡ y
+  same_answer a b f g x y one two first second opens other =
+      one_answer_law (shape a) (unit_at layout a.cluster image) x y opens (subst (λ (z : DataFile). Opens (shape z) (unit_at layout z.cluster image) y) (sym (one_file a b f g one two first second).0) other)
+
+  one_place : (place other : Place) (class kind : Class) → IsDamaged layout image place class → IsDamaged layout image other kind → (place ≡ other) × (class ≡ kind)
+  one_place place other class kind one two =
+      let same = one_file one.file two.file one.fields two.fields one.has two.has one.of two.of in
+      let both : Refused (Damages one.at) ≡ Refused (Damages two.at) = same_answer one.file two.file one.fields two.fields (Refused (Damages one.at)) (Refused (Damages two.at)) one.has two.has one.of two.of one.opens two.opens in
+      let at : one.at ≡ two.at = cc in (
+        sym one.at_is ∙ ap place_of at ∙ two.at_is,
+        one.class_is ∙ ap (λ (p : Units.Place). class_there layout one.file.cluster image p) at ∙ ap (λ (x : DataFile). class_there layout x.cluster image two.at) same.0 ∙ sym two.class_is,
+      )
+
+  one_other : (a b c d : Layout) → HasOther layout a b image → HasOther layout c d image → (a ≡ c) × (b ≡ d)
+  one_other a b c d one two = (one.reserved_is ∙ sym two.reserved_is, one_layout b d two.fields (subst (IsLayoutOf b) (one_super image one.fields two.fields one.super two.super) one.found_is) two.found_is)
+
+  no_other : (reserved found : Layout) (file : DataFile) (f : SuperFields) → HasOther layout reserved found image → HasFile image file f → file.layout ≡ layout → ⊥
+  no_other reserved found file f other has of = other.differ (one_layout found file.layout f (subst (IsLayoutOf found) (one_super image other.fields f other.super has.super) other.found_is) has.layout ∙ of)
+
+  not_both : (field : Field) (value : ℕ) (place : Place) (class : Class) → FailsTrailer layout image field value → IsDamaged layout image place class → ⊥
+  not_both field value place class one two =
+      let both : Refused BadTest ≡ Refused (Damages two.at) = same_answer one.file two.file one.fields two.fields (Refused BadTest) (Refused (Damages two.at)) one.has two.has one.of two.of one.opens two.opens in
+      cc
+
+  -- ---- which refusal it is
+
+  -- of the trailer, of another layout, or of a place
+  abbrev IsBehind : OpenError → Type 0
+  IsBehind e = ((field : Field) × (value : ℕ) × (e ≡ BadField field value) × FailsTrailer layout image field value)
+      ⊎ (((reserved : Layout) × (found : Layout) × (e ≡ LayoutDiffers reserved found) × HasOther layout reserved found image) ⊎ ((place : Place) × (class : Class) × (e ≡ Damaged place class) × IsDamaged layout image place class))
+
+  apart : (e : OpenError) → e ≢ DiskFault → Surveys layout image (Err e) → Refuses image e ⊎ IsBehind e
+  apart NotFormatted other is = inl is
+  apart (NoQuorum classes) other is = inl is
+  apart (Version found) other is = inl is
+  apart (BadField field value) other (inl fault) = inl fault
+  apart (BadField field value) other (inr fails) = inr (inl (field, value, refl, fails))
+  apart (LayoutDiffers reserved found) other is = inr (inr (inl (reserved, found, refl, is)))
+  apart (Damaged place class) other is = inr (inr (inr (place, class, refl, is)))
+  apart DiskFault other is = absurd (other refl)
+
+  behind_super : (e : OpenError) → IsBehind e → (f : SuperFields) × HasSuper image f
+  behind_super e (inl p) = (p.3.fields, p.3.has.super)
+  behind_super e (inr (inl p)) = (p.3.fields, p.3.super)
+  behind_super e (inr (inr p)) = (p.3.fields, p.3.has.super)
+
+  one_behind : (e d : OpenError) → IsBehind e → IsBehind d → e ≡ d
+  one_behind e d (inl p) (inl q) = let same = one_field p.0 q.0 p.1 q.1 p.3 q.3 in p.2 ∙ ap (λ (field : Field). BadField field p.1) same.0 ∙ ap (λ (value : ℕ). BadField q.0 value) same.1 ∙ sym q.2
+  one_behind e d (inl p) (inr (inl q)) = absurd (no_other q.0 q.1 p.3.file p.3.fields q.3 p.3.has p.3.of)
+  one_behind e d (inl p) (inr (inr q)) = absurd (not_both p.0 p.1 q.0 q.1 p.3 q.3)
+  one_behind e d (inr (inl p)) (inl q) = absurd (no_other p.0 p.1 q.3.file q.3.fields p.3 q.3.has q.3.of)
+  one_behind e d (inr (inl p)) (inr (inl q)) = let same = one_other p.0 p.1 q.0 q.1 p.3 q.3 in p.2 ∙ ap (λ (l : Layout). LayoutDiffers l p.1) same.0 ∙ ap (λ (l : Layout). LayoutDiffers q.0 l) same.1 ∙ sym q.2
+  one_behind e d (inr (inl p)) (inr (inr q)) = absurd (no_other p.0 p.1 q.3.file q.3.fields p.3 q.3.has q.3.of)
+  one_behind e d (inr (inr p)) (inl q) = absurd (not_both q.0 q.1 p.0 p.1 q.3 p.3)
+  one_behind e d (inr (inr p)) (inr (inl q)) = absurd (no_other q.0 q.1 p.3.file p.3.fields q.3 p.3.has p.3.of)
+  one_behind e d (inr (inr p)) (inr (inr q)) = let same = one_place p.0 q.0 p.1 q.1 p.3 q.3 in p.2 ∙ ap (λ (place : Place). Damaged place p.1) same.0 ∙ ap (λ (class : Class). Damaged q.0 class) same.1 ∙ sym q.2
+
+  one_of : (e d : OpenError) → Refuses image e ⊎ IsBehind e → Refuses image d ⊎ IsBehind d → e ≡ d
+  one_of e d (inl p) (inl q) = one_refusal image e d p q
+  one_of e d (inl p) (inr q) = let found = behind_super d q in absurd (super_or_refusal image found.0 e found.1 p)
+  one_of e d (inr p) (inl q) = let found = behind_super e p in absurd (super_or_refusal image found.0 d found.1 q)
+  one_of e d (inr p) (inr q) = one_behind e d p q
+
+pub one_survey : OneSurvey
+one_survey layout image e d first second one two = one_of layout image e d (apart layout image e first one) (apart layout image d second two)

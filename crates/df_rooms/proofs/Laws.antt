@@ -1,0 +1,36 @@
+-- What the crates above cite of a file, and of a state that goes on.
+use Rattle.std.proofs.Common.{◌<◌, ◌≤◌, inl, inr, ℕ, List, Option, Some, None, ap, arith}
+use Rattle.df_format.specs.declared.superblock.SuperFields.{SuperFields}
+use Rattle.df_theory.specs.Sessions.{noted}
+use Rattle.df_theory.specs.Units
+use Rattle.df_theory.proofs.Laws.{noted_get}
+use Rattle.df_model.specs.Blocks.{Blocks}
+use Rattle.df_rooms.specs.declared.file.DataFile.{DataFile}
+use Rattle.df_rooms.specs.State.{AreAsked, RunningState, IsCourse}
+pub use Rattle.df_rooms.proofs.SameFile.{same_file}
+
+-- a request that is noted is the last one of its client
+pub asked_noted : (h : Units.Header) (ss : List Units.Session) → AreAsked ss → 0 < h.request → AreAsked (noted h ss)
+asked_noted h ss asked some k t at = elim (noted_get h ss k t at) [
+  | inl new ↦ omega (arith, some, ap (λ (s : Units.Session). s.request) new)
+  | inr old ↦ asked k t old
+]
+
+-- a running checkpoint goes with a log that grew
+pub course_on : (file : DataFile) (f : SuperFields) (head later : ℕ) (b : Blocks) (r : Option RunningState) → head ≤ later → IsCourse file f head b r → IsCourse file f later b r
+course_on file f head later b None more idle = idle
+course_on file f head later b (Some r) more is = record {
+  op_from = is.op_from;
+  op_to = omega (arith, is.op_to);
+  parent = is.parent;
+  first = is.first;
+  root = is.root;
+  sessions = is.sessions;
+  sequence = is.sequence;
+  size = is.size;
+  fits = is.fits;
+  count = is.count;
+  few = is.few;
+  all = is.all;
+  written = is.written;
+}

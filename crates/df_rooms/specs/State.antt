@@ -1,0 +1,172 @@
+-- What a replica keeps in memory of its file, and what that is in the words of the machine.
+use Rattle.std.specs.Prelude.{◌≡◌, ◌<◌, ◌≤◌, ◌+◌, ◌-◌, ◌%◌, ◌^◌, ℕ, Bool, List, length, map, slice_get, Option, Some, None}
+use Rattle.std.specs.List.{range_with_len}
+use Rattle.df_format.specs.Copies.{content_with}
+use Rattle.df_format.specs.Spelling.{IsCheck, no_checksum}
+use Rattle.df_format.specs.declared.header.Header.{Header}
+use Rattle.df_format.specs.declared.superblock.SuperFields.{SuperFields}
+use Rattle.df_layout.specs.declared.damage.Finding.{Finding}
+use Rattle.df_headers.specs.Ring.{IsTable}
+use Rattle.df_journal.specs.Tail.{AreNumbered}
+use Rattle.df_sessions.specs.Requests.{sessions_of}
+use Rattle.df_sessions.specs.declared.session.Session.{Session}
+use Rattle.df_sessions.specs.Table.{Table}
+use Rattle.df_theory.specs.Sessions.{Tracks}
+use Rattle.df_theory.specs.Trailer.{IsCount, greatest_trailer}
+use Rattle.df_theory.specs.Units
+use Rattle.df_theory.specs.Units.{Parts}
+use Rattle.df_theory.specs.Shape.{Shape}
+use Rattle.df_model.specs.Blocks.{Blocks, sum_at}
+use Rattle.df_model.specs.Memory.{Course, Memory, memory_of}
+use Rattle.df_model.specs.Work.{Tour, Work}
+use Rattle.df_checkpoint.specs.Below.{spell, parse_of, captured_parts, shape_of, content_of, layout_of, number_of}
+use Rattle.df_grid.specs.Grid.{GridState}
+use Rattle.df_grid.specs.Table.{IsIdle}
+use Rattle.df_grid.specs.Writes.{first_address, first_sum}
+use Rattle.df_rooms.specs.declared.file.DataFile.{DataFile}
+
+-- what the running checkpoint captured, beside the blocks that the grid marks, and how far its trailer is written
+pub record RunningState : Type 0 where
+  pub op : ℕ
+  pub op_checksum : List ℕ
+  pub root : List ℕ
+  pub sessions : List Session
+  pub sequence : ℕ  -- of the superblock that ends it
+  pub size : ℕ  -- bytes of its trailer's text
+  pub blocks : ℕ  -- how many blocks the trailer has, and how many of them are written
+  pub written : ℕ
+
+pub record State : Type 0 where
+  pub file : DataFile
+  pub fields : SuperFields  -- what the superblock says
+  pub root : List ℕ  -- what the durable checkpoint's trailer has as its root
+  pub head : ℕ
+  pub head_checksum : List ℕ
+  pub replies : ℕ
+  pub table : Table
+  pub waiting : List (List ℕ)  -- the checksums of the prepares that wait for their replies, in order of op
+  pub headers : List Header  -- what the header ring shows, or is to show once it is mended, slot by slot
+  pub blocks : Blocks  -- what the grid holds
+  pub running : Option RunningState
+  pub tour : Tour
+  pub findings : List Finding
+  pub live : Bool  -- whether calls may go on: not before the file is mended, and not after a fault
+
+-- ---- in the words of the machine
+
+-- the checksum of a header of the ring
+abbrev pub sum_of : Option Header → ℕ
+sum_of None = 0
+sum_of (Some h) = number_of h.checksum
+
+-- that of the prepare with this op, by the header in its slot
+abbrev pub prepare_sum : State → ℕ → ℕ
+prepare_sum s op = sum_of (slice_get s.headers (op % s.file.layout.slots))
+
+-- the checksum of a session's reply, where it is stored
+abbrev pub reply_sum : Option (List ℕ) → Option ℕ
+reply_sum None = None
+reply_sum (Some check) = Some (number_of check)
+
+abbrev pub stored_sum : Session → Option ℕ
+stored_sum s = reply_sum s.reply
+
+-- how a trailer of the file is spelled
+abbrev pub spelling : DataFile → Parts → List ℕ
+spelling file = spell (layout_of file.layout)
+
+-- the text of the running checkpoint's trailer: of the grid's blocks those that are captured
+abbrev pub captured_text : DataFile → Blocks → RunningState → List ℕ
+captured_text file b r = spelling file (captured_parts r.root r.sessions (λ a. sum_at a b.captured))
+
+abbrev pub course_of : DataFile → Blocks → RunningState → Course
+course_of file b r = record {
+  op = r.op;
+  op_checksum = number_of r.op_checksum;
+  root = r.root;
+  text = captured_text file b r;
+  count = length b.written;
+  last = first_address b.written;
+  last_checksum = first_sum b.written;
+  left = b.left;
+}
+
+abbrev pub course_in : DataFile → Blocks → Option RunningState → Option Course
+course_in file b None = None
+course_in file b (Some r) = Some (course_of file b r)
+
+abbrev pub memory : State → Memory
+memory s = record {
+  layout = layout_of s.file.layout;
+  content = content_of (content_with s.fields);
+  root = s.root;
+  head = s.head;
+  head_checksum = number_of s.head_checksum;
+  replies = s.replies;
+  sessions = sessions_of s.table.sessions;
+  prepares = map (prepare_sum s) (range_with_len (s.fields.op + 1) (s.head - s.fields.op));
+  stored = map stored_sum s.table.sessions;
+  waiting = map number_of s.waiting;
+  blocks = s.blocks;
+  running = course_in s.file s.blocks s.running;
+  tour = s.tour;
+  findings = s.findings;
+}
+
+-- the shape of its file
+abbrev pub shape : DataFile → Shape
+shape file = shape_of file.layout file.cluster file.named (parse_of (layout_of file.layout))
+
+-- the replica stands for this state of the machine
+abbrev pub Represents : State → Work → Type 0
+Represents s w = memory s ≡ memory_of (shape s.file) (spelling s.file) w
+
+-- the grid of the file with these blocks
+abbrev pub grid_with : DataFile → Blocks → GridState
+grid_with file b = record { layout = file.layout; cluster = file.cluster; blocks = b }
+
+-- ---- by itself
+
+-- each session's last request is a client's first or a later one
+abbrev pub AreAsked : List Units.Session → Type 0
+AreAsked ss = (k : ℕ) (s : Units.Session) → slice_get ss k ≡ Some s → 0 < s.request
+
+-- a running checkpoint goes with the superblock and the log that it was begun from, and with the blocks of the grid
+pub record IsRunning (file : DataFile) (f : SuperFields) (head : ℕ) (b : Blocks) (r : RunningState) : Type 0 where
+  pub op_from : f.op ≤ r.op
+  pub op_to : r.op ≤ head
+  pub parent : IsCheck r.op_checksum
+  pub first : r.op ≡ 0 → r.op_checksum ≡ no_checksum
+  pub root : length r.root ≤ 1024
+  pub sessions : length r.sessions ≤ file.layout.clients
+  pub sequence : (r.sequence ≡ f.sequence + 1) × (r.sequence ≤ 2 ^ 62)
+  pub size : r.size ≡ length (captured_text file b r)
+  pub fits : (0 < r.size) × (r.size ≤ greatest_trailer (layout_of file.layout))
+  pub count : IsCount (file.layout.block_size - 256) r.size r.blocks
+  pub few : r.blocks ≤ 70
+  pub all : length b.written + length b.left ≡ r.blocks
+  pub written : r.written ≡ length b.written
+
+-- the running checkpoint, if there is one, is the grid's
+abbrev pub IsCourse : DataFile → SuperFields → (head : ℕ) → Blocks → Option RunningState → Type 0
+IsCourse file f head b None = IsIdle b
+IsCourse file f head b (Some r) = IsRunning file f head b r
+
+-- the state makes sense by itself: its numbers are in their ranges, and the header ring is one of the file
+pub record IsState (s : State) : Type 0 where
+  pub cluster : s.file.cluster < 2 ^ 128
+  pub parent : IsCheck s.head_checksum
+  pub sequence : (0 < s.fields.sequence) × (s.fields.sequence ≤ 2 ^ 62)
+  pub root : length s.root ≤ 1024
+  pub order : s.fields.op ≤ s.head
+  pub room : s.head ≤ s.fields.op + s.file.layout.slots
+  pub head_to : s.head ≤ 2 ^ 62
+  pub waiting : s.replies + length s.waiting ≡ s.head
+  pub few : length s.waiting ≤ 8
+  pub places : s.table.max ≡ s.file.layout.clients
+  pub first : s.head ≡ 0 → s.head_checksum ≡ no_checksum  -- the first prepare has no parent
+  pub requests : AreNumbered s.table.sessions
+  pub asked : AreAsked (sessions_of s.table.sessions)
+  pub tracks : Tracks s.replies s.head (sessions_of s.table.sessions)  -- each prepare that waits for its reply is its client's last request
+  pub ring : IsTable s.file.layout s.file.cluster s.headers
+  pub course : IsCourse s.file s.fields s.head s.blocks s.running

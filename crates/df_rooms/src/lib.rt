@@ -1,0 +1,18 @@
+//! What a replica keeps of its file: the state, in the words of the machine too, and the rooms that serve it.
+#![tactic(auto)]
+
+mod file;
+mod grid_rooms;
+mod log_rooms;
+mod rooms;
+mod running;
+mod scrub_rooms;
+mod trailer_rooms;
+
+pub use file::DataFile;
+pub use grid_rooms::GridRooms;
+pub use log_rooms::LogRooms;
+pub use rooms::Rooms;
+pub use running::RunningCheckpoint;
+pub use scrub_rooms::ScrubRooms;
+pub use trailer_rooms::TrailerRooms;

@@ -1,0 +1,9 @@
+mod Untouched
+mod Joins
+mod Exact
+mod Kept
+mod Resulted
+mod Acknowledged
+mod Spared
+mod Keepings
+pub mod Laws

@@ -1,0 +1,83 @@
+-- A session's answers are the result.
+use Rattle.std.proofs.Common.{◌≡◌, List, [], ◌∷◌, map, Option, Some, None, refl, sym, ◌∙◌, subst}
+use Rattle.df_base.specs.Image.{Image, IsImage}
+use Rattle.df_base.specs.Log.{Sync}
+use Rattle.df_disk.specs.Told.{Told, did}
+use Rattle.df_theory.specs.Units.{BlockPlace, CopyPlace, HeaderPlace, Place, PreparePlace, ReplyPlace}
+use Rattle.df_units.specs.Bytes.{unit_at}
+use Rattle.df_model.specs.Commands.{Answer}
+use Rattle.df_model.specs.Memory.{Memory, memory_of}
+use Rattle.df_model.specs.Supply.{Shown, next, result, shown_after}
+use Rattle.df_model.specs.Work.{Work}
+use Rattle.df_replica.specs.Below.{DataFile, State as Replica, shape, told_after}
+use Rattle.df_replica.specs.Leaving.{IsReadPlace, SparesReads}
+use Rattle.df_replica.specs.Opened.{MendsAll}
+use Rattle.df_replica.specs.Reading.{shown_of}
+use Rattle.df_replica.specs.Serving.{Firm, IsCall, Keeps}
+use Rattle.df_replica.specs.Session.{Act}
+use Rattle.df_replica.proofs.Laws.{added_is_told, shown_after as shown_then}
+use Rattle.df_result.specs.Agreeing.{AgreeShown}
+use Rattle.df_result.specs.Calls.{IsResult}
+use Rattle.df_result.specs.Codec.{codec}
+use Rattle.df_result.proofs.Laws.{one_more_is_result}
+use Rattle.df_session.specs.Links.{AreCalls, EndsCalls, command_in}
+use Rattle.df_session.specs.Resulting.{AnswersResult}
+
+-- ---- answers
+
+-- calls one after the other answer the result
+pub calls_result : (file : DataFile) (s u : Replica) (old new : Option Told) (acts : List Act) (answers : List Answer) (t : Told) (w : Work) (shown : Shown) → s.file ≡ file → old ≡ Some t → AreCalls s old acts answers u new → Keeps Firm s w None → IsImage t.shown
+    → AgreeShown file.layout (shown_of file t.shown) shown → answers ≡ result (shape file) (codec file) shown w (map command_in acts)
+calls_result file s u old new [] [] t w shown of told calls k whole agree = refl
+calls_result file s u old new [] (x ∷ answers) t w shown of told calls k whole agree = absurd calls
+calls_result file s u old new (a ∷ acts) [] t w shown of told calls k whole agree = absurd calls
+calls_result file s u old new (a ∷ acts) (x ∷ answers) t w shown of told calls k whole agree =
+    let v = calls.0 in
+    let call : IsCall a.given a.command s v (Some t) calls.1 (Some x) = subst (λ (o : Option Told). IsCall a.given a.command s v o calls.1 (Some x)) told calls.2.call in
+    let one = one_more_is_result a.given a.command s v t calls.1 x w shown call k whole (subst (λ (f : DataFile). AgreeShown f.layout (shown_of f t.shown) shown) (sym of) agree) in
+    let is : IsResult file shown w a.command x v (told_after call.events t) = subst (λ (f : DataFile). IsResult f shown w a.command x v (told_after call.events t)) of one.1 in
+    let m : Memory = memory_of (shape file) (codec file).spell w in
+    let rest = calls_result file v u calls.1 new acts answers (told_after call.events t) (next (shape file) (codec file) shown w a.command).0 (shown_after (codec file) shown m a.command) is.file_is one.0 calls.3 is.keeps is.whole is.shown_is in
+    (λ i. is.answer_is i ∷ rest i)
+
+-- ---- a session that was opened
+
+-- what spares the places that calls read agrees with what was there
+pub unit_spared : (file : DataFile) (before after : Image) → SparesReads file before after → (place : Place) → IsReadPlace file.layout place → unit_at file.layout file.cluster after place ≡ unit_at file.layout file.cluster before place
+unit_spared file before after spares (CopyPlace k) read = absurd read
+unit_spared file before after spares (HeaderPlace k) read = absurd read
+unit_spared file before after spares (PreparePlace k) read = spares.units.prepare k
+unit_spared file before after spares (ReplyPlace k) read = spares.units.reply k
+unit_spared file before after spares (BlockPlace k) read = spares.units.block k
+
+agree_spared : (file : DataFile) (before after : Image) (shown : Shown) → SparesReads file before after → AgreeShown file.layout (shown_of file before) shown → AgreeShown file.layout (shown_of file after) shown
+agree_spared file before after shown spares agree = record {
+  units = record {
+    prepare = λ k. spares.units.prepare k ∙ agree.units.prepare k;
+    reply = λ k. spares.units.reply k ∙ agree.units.reply k;
+    block = λ k. spares.units.block k ∙ agree.units.block k;
+  };
+  classes = λ place read none. spares.classes place read ∙ agree.classes place read (sym (unit_spared file before after spares place read) ∙ none);
+}
+
+-- the calls that were answered
+calls_answered : (s t : Replica) (old new : Option Told) (acts : List Act) (answers : List Answer) (failed : Option Act) → EndsCalls s t old new acts answers failed → (u : Replica) × (mid : Option Told) × AreCalls s old acts answers u mid
+calls_answered s t old new acts answers None calls = (t, new, calls)
+calls_answered s t old new acts answers (Some a) calls = (calls.0, calls.1, calls.2)
+
+module _ (s : Replica) (t : Told) (mended : Option Told) (over : MendsAll t s mended) (whole : IsImage t.shown) (w : Work) (k : Keeps Firm s w None) (last : Replica) (new : Option Told) (failed : Option Act) (shown : Shown)
+    (agree : AgreeShown s.file.layout (shown_of s.file t.shown) shown) where
+  abbrev first : Told
+  first = told_after over.mending.events (did Sync t)
+
+  told_first : mended ≡ Some first
+  told_first = over.mending.told ∙ added_is_told over.mending.events (did Sync t)
+
+  spared : SparesReads s.file t.shown first.shown
+  spared = subst (SparesReads s.file t.shown) (sym (shown_then over.mending.events (did Sync t))) (over.mending.spares t.shown whole)
+
+  -- its calls answer the result over what the disk showed before the mending
+  pub opened_answers : (acts : List Act) (answers : List Answer) → EndsCalls s last mended new acts answers failed → AnswersResult s.file shown w acts answers
+  opened_answers acts answers ends =
+      let calls = calls_answered s last mended new acts answers failed ends in
+      calls_result s.file s calls.0 mended calls.1 acts answers first w shown refl told_first calls.2 k spared.whole (agree_spared s.file t.shown first.shown shown spared agree)

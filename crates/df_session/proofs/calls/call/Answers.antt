@@ -1,0 +1,33 @@
+-- Each call is exact, and its answer is the machine's.
+use Rattle.df_session.proofs.Exact.{append_called, begin_called, for_command, release_called, reply_called, step_called, write_called}
+use Rattle.df_session.proofs.calls.call.Goals as goal
+
+pub returns-in-Append : goal.returns-in-Append
+returns-in-Append g c =
+    let called = for_command c.in-Append.is (append_called c.args.replica.now c.append.new.self (g.D.Disk.told c.args.disk.now) (g.D.Disk.told c.append.new.disk) (g.D.Disk.faults c.args.disk.now) (g.D.Disk.faults c.append.new.disk) c.in-Append.client c.in-Append.request c.in-Append.body.now c.append.result c.append.ensures.exact c.append.ensures.call c.append.ensures.cause) in
+    record { exact = called.exact; makes = called.makes; cause = called.cause }
+
+pub returns-in-Reply : goal.returns-in-Reply
+returns-in-Reply g c =
+    let called = for_command c.in-Reply.is (reply_called c.args.replica.now c.reply.new.self (g.D.Disk.told c.args.disk.now) (g.D.Disk.told c.reply.new.disk) (g.D.Disk.faults c.args.disk.now) (g.D.Disk.faults c.reply.new.disk) c.in-Reply.op c.in-Reply.body.now c.reply.result c.reply.ensures.exact c.reply.ensures.call c.reply.ensures.cause) in
+    record { exact = called.exact; makes = called.makes; cause = called.cause }
+
+pub returns-in-WriteBlock : goal.returns-in-WriteBlock
+returns-in-WriteBlock g c =
+    let called = for_command c.in-WriteBlock.is (write_called c.args.replica.now c.write_block.new.self (g.D.Disk.told c.args.disk.now) (g.D.Disk.told c.write_block.new.disk) (g.D.Disk.faults c.args.disk.now) (g.D.Disk.faults c.write_block.new.disk) c.in-WriteBlock.kind c.in-WriteBlock.body.now c.write_block.result c.write_block.ensures.exact c.write_block.ensures.call c.write_block.ensures.cause) in
+    record { exact = called.exact; makes = called.makes; cause = called.cause }
+
+pub returns-in-Advance : goal.returns-in-Advance
+returns-in-Advance g c =
+    let called = for_command c.in-Advance.is (step_called c.args.replica.now c.checkpoint_step.new.self (g.D.Disk.told c.args.disk.now) (g.D.Disk.told c.checkpoint_step.new.disk) (g.D.Disk.faults c.args.disk.now) (g.D.Disk.faults c.checkpoint_step.new.disk) c.checkpoint_step.result c.checkpoint_step.ensures.exact c.checkpoint_step.ensures.call c.checkpoint_step.ensures.cause) in
+    record { exact = called.exact; makes = called.makes; cause = called.cause }
+
+pub returns-in-Release : goal.returns-in-Release
+returns-in-Release g c =
+    let called = for_command c.in-Release.is (release_called c.args.replica.now c.release.new.self (g.D.Disk.told c.args.disk.now) (g.D.Disk.faults c.args.disk.now) c.in-Release.address c.release.result c.release.ensures.exact (c.release.ensures.call (g.D.Disk.told c.args.disk.now))) in
+    record { exact = called.exact; makes = called.makes; cause = called.cause }
+
+pub returns-in-Begin : goal.returns-in-Begin
+returns-in-Begin g c =
+    let called = for_command c.in-Begin.is (begin_called c.args.replica.now c.checkpoint_begin.new.self (g.D.Disk.told c.args.disk.now) (g.D.Disk.faults c.args.disk.now) c.in-Begin.root.now c.checkpoint_begin.result c.checkpoint_begin.ensures.exact (c.checkpoint_begin.ensures.call (g.D.Disk.told c.args.disk.now))) in
+    record { exact = called.exact; makes = called.makes; cause = called.cause }

@@ -1,0 +1,3 @@
+-- What the contracts above cite of the crates below this one.
+pub use Rattle.df_result.specs.Agreeing.{AgreeShown}
+pub use Rattle.df_result.specs.Codec.{codec}

@@ -1,0 +1,86 @@
+-- The calls that commands ask for: which have an answer of their own, what each does, and what it answers in the machine's words.
+use Rattle.std.specs.Prelude.{◌≡◌, ℕ, Bool, true, false, List, Option, Some, None, Result, Ok, Err}
+use Rattle.df_disk.specs.Told.{Told}
+use Rattle.df_format.specs.declared.reference.Reference.{Reference}
+use Rattle.df_model.specs.Commands.{Advance, Answer as Answered, Append, Begin, Command, ReadBlock, ReadPrepare, ReadReply, Recent, Release, Reply, Scrub, ToAdvance, ToReadBlock, ToReadPrepare, ToReadReply, ToScrub, WriteBlock}
+use Rattle.df_model.specs.declared.answers.Progress.{Progress}
+use Rattle.df_model.specs.declared.answers.Receipt.{Receipt}
+use Rattle.df_model.specs.declared.commands.Answer.{Answer}
+use Rattle.df_model.specs.declared.commands.Answer.TheVariants as answers
+use Rattle.df_model.specs.declared.errors.AppendError.{AppendError}
+use Rattle.df_model.specs.declared.errors.BeginError.{BeginError}
+use Rattle.df_model.specs.declared.errors.BlockError.{BlockError}
+use Rattle.df_model.specs.declared.errors.NotLive.{NotLive}
+use Rattle.df_model.specs.declared.errors.ReplyError.{ReplyError}
+use Rattle.df_model.specs.declared.errors.StepError.{StepError}
+use Rattle.df_model.specs.declared.errors.StepError.TheVariants as step
+use Rattle.df_model.specs.Faults.{is_append_fault, is_block_fault, is_lookup_fault, is_prepare_fault, is_read_fault, is_reply_fault, is_step_fault}
+use Rattle.df_replica.specs.Answering.{answer_of, as_append, as_reply, as_write_block, begin_answer, is_step_unanswered, release_answer}
+use Rattle.df_replica.specs.Appending.{IsAppend}
+use Rattle.df_replica.specs.Beginning.{IsBegin}
+use Rattle.df_replica.specs.Below.{State as Replica}
+use Rattle.df_replica.specs.Blocks.{IsRelease, IsWriteBlock}
+use Rattle.df_replica.specs.Replying.{IsReply}
+use Rattle.df_replica.specs.Stepping.{IsStep}
+
+-- an answer tells all of it: a read lends its unit and the ring its findings, and a check has none that tells of a failing disk
+abbrev pub HasAnswer : Command → Type 0
+HasAnswer (ReadPrepare op) = ⊥
+HasAnswer (ReadReply client) = ⊥
+HasAnswer (ReadBlock address) = ⊥
+HasAnswer Scrub = ⊥
+HasAnswer Recent = ⊥
+HasAnswer command = Unit {0}
+
+-- the disk is blamed
+abbrev pub blames : {T E : Type 0} → (is_fault : E → Bool) → Result T E → Bool
+blames is_fault (Ok x) = false
+blames is_fault (Err e) = is_fault e
+
+-- the answer says that the disk failed
+abbrev pub is_fault : Answer → Bool
+is_fault (answers.Append r) = blames is_append_fault r
+is_fault (answers.Reply r) = blames is_reply_fault r
+is_fault (answers.WriteBlock r) = blames is_block_fault r
+is_fault (answers.Advance r) = blames is_step_fault r
+is_fault (answers.ReadPrepare r) = blames is_prepare_fault r
+is_fault (answers.ReadReply r) = blames is_lookup_fault r
+is_fault (answers.ReadBlock r) = blames is_read_fault r
+is_fault answer = false
+
+-- no unit that was read is lent with it, nor what the ring holds
+abbrev pub LendsNothing : Answer → Type 0
+LendsNothing (answers.ReadPrepare (Ok done)) = ⊥
+LendsNothing (answers.ReadReply (Ok done)) = ⊥
+LendsNothing (answers.ReadBlock (Ok done)) = ⊥
+LendsNothing answers.Recent = ⊥
+LendsNothing answer = Unit {0}
+
+-- the answer is that of the call, which is exact
+abbrev pub IsExact : Command → (s t : Replica) → (old new : Option Told) → Answer → Type 0
+IsExact (Append client request body) s t old new answer = (r : Result Receipt AppendError) × (answer ≡ answers.Append r) × IsAppend client request body s t old new r
+IsExact (Reply op body) s t old new answer = (r : Result (List ℕ) ReplyError) × (answer ≡ answers.Reply r) × IsReply op body s t old new r
+IsExact (WriteBlock kind body) s t old new answer = (r : Result Reference BlockError) × (answer ≡ answers.WriteBlock r) × IsWriteBlock kind body s t old new r
+IsExact (Release address) s t old new answer = (r : Result (Unit {0}) NotLive) × (answer ≡ answers.Release r) × IsRelease address s t r × (new ≡ old)
+IsExact (Begin root) s t old new answer = (r : Result ℕ BeginError) × (answer ≡ answers.Begin r) × IsBegin root s t r × (new ≡ old)
+IsExact Advance s t old new answer = (r : Result Progress StepError) × (answer ≡ answers.Advance r) × IsStep s t old new r
+IsExact command s t old new answer = ⊥
+
+-- the machine's answer: none where the disk failed, or where a step found the superblock damaged that it wrote; a unit that was read is no part of an answer, nor is what the ring holds
+abbrev pub machine_answer : Answer → Option Answered
+machine_answer (answers.Append r) = answer_of is_append_fault as_append r
+machine_answer (answers.Reply r) = answer_of is_reply_fault as_reply r
+machine_answer (answers.WriteBlock r) = answer_of is_block_fault as_write_block r
+machine_answer (answers.Release r) = release_answer r
+machine_answer (answers.Begin r) = begin_answer r
+machine_answer (answers.Advance r) = answer_of is_step_unanswered ToAdvance r
+machine_answer (answers.ReadPrepare (Err e)) = answer_of is_prepare_fault ToReadPrepare (Err e)
+machine_answer (answers.ReadReply (Err e)) = answer_of is_lookup_fault ToReadReply (Err e)
+machine_answer (answers.ReadBlock (Err e)) = answer_of is_read_fault ToReadBlock (Err e)
+machine_answer (answers.Scrub scrubbed) = Some (ToScrub scrubbed)
+machine_answer answer = None
+
+-- it is that of a step that found the superblock damaged
+abbrev pub is_damaged : Answer → Bool
+is_damaged (answers.Advance (Err (step.Damaged place class))) = true
+is_damaged answer = false

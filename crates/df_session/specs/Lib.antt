@@ -1,0 +1,10 @@
+pub mod Links
+pub mod Calls
+pub mod Endings
+pub mod Keeping
+pub mod Acknowledging
+pub mod Sparing
+pub mod Owning
+pub mod Resulting
+pub mod Laws
+pub mod Below

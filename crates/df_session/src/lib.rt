@@ -1,0 +1,9 @@
+//! A list of calls on an open file, whatever they are and whoever asks for them: each is made and answered, and what of all of them is
+//! kept. The programs that work with a file make their calls through it, and cite what it says of them.
+#![tactic(auto)]
+
+mod calls;
+mod keeping;
+
+pub use calls::call;
+pub use keeping::calls_on_an_open_file_keep_it;

@@ -1,0 +1,124 @@
+-- Whatever a word adds lies within the zones of the file.
+use Rattle.std.proofs.Common.{◌≡◌, ◌<◌, inl, inr, ℕ, List, [], ◌∷◌, Option, Some, None, refl, ◌∙◌, ap, subst, Result, Ok, Err}
+use Rattle.df_base.specs.Log.{Sync}
+use Rattle.df_disk.specs.Told.{Told, did}
+use Rattle.df_layout.specs.declared.layout.Layout.{Layout}
+use Rattle.df_theory.specs.Device.{AreSteps}
+use Rattle.df_units.proofs.Laws.{none_within, part_within, steps_within, then_within}
+use Rattle.df_units.specs.Format.{format_of}
+use Rattle.df_units.specs.Within.{AddsWithin, AreWithin}
+use Rattle.df_model.specs.Commands.{Answer}
+use Rattle.df_model.specs.declared.errors.FormatError.{FormatError}
+use Rattle.df_model.specs.declared.errors.FormatError.TheVariants as formats
+use Rattle.df_replica.specs.Below.{DataFile, State as Replica}
+use Rattle.df_replica.specs.Formatting.{AddsFormat, RefusesCluster}
+use Rattle.df_replica.specs.Making.{making_events, making_steps}
+use Rattle.df_replica.specs.Opened.{Mends, StopsOpening}
+use Rattle.df_replica.specs.Serving.{IsCall}
+use Rattle.df_replica.specs.Session.{Act}
+use Rattle.df_session.specs.Links.{AreCalls, CallsMade, EndsCalls}
+use Rattle.df_top.specs.Acknowledging.{run_calls, script_calls}
+use Rattle.df_top.specs.Outside.{Outside}
+use Rattle.df_top.specs.Run.{Does, Runs, ServesScript}
+use Rattle.df_top.specs.Within.{WritesOwn}
+use Rattle.df_top.specs.Working.{WorksThrough}
+use Rattle.df_top.specs.declared.mode.Mode.{Mode}
+use Rattle.df_top.specs.declared.mode.Mode.TheVariants.{Format, Run, Recover, Inspect, Scrub, Workload}
+use Rattle.df_top.specs.declared.status.Status.{Status}
+
+-- ---- calls
+
+module _ (file : DataFile) where
+  call_within : (a : Act) (s t : Replica) (old new : Option Told) (answer : Option Answer) → s.file ≡ file → IsCall a.given a.command s t old new answer → AddsWithin file.layout old new
+  call_within a s t old new answer same call = record { events = call.events; told = call.told; within = subst (λ (f : DataFile). AreWithin f.layout call.events) same call.within }
+
+  -- those of a list, each answered, and the file is the same behind them
+  calls_within : (s : Replica) (old : Option Told) (acts : List Act) (answers : List Answer) (t : Replica) (new : Option Told) → s.file ≡ file → AreCalls s old acts answers t new → AddsWithin file.layout old new × (t.file ≡ file)
+  calls_within s old [] [] t new same calls = (none_within file.layout old new calls.1, ap (λ (r : Replica). r.file) calls.0 ∙ same)
+  calls_within s old [] (x ∷ answers) t new same calls = absurd calls
+  calls_within s old (a ∷ acts) [] t new same calls = absurd calls
+  calls_within s old (a ∷ acts) (x ∷ answers) t new same calls =
+      let call = calls.2.call in
+      let rest = calls_within calls.0 calls.1 acts answers t new (call.file ∙ same) calls.3 in
+      (then_within file.layout old calls.1 new (call_within a s calls.0 old calls.1 (Some x) same call) rest.0, rest.1)
+
+  ends_within : (s t : Replica) (old new : Option Told) (acts : List Act) (answers : List Answer) (failed : Option Act) → s.file ≡ file → EndsCalls s t old new acts answers failed → AddsWithin file.layout old new
+  ends_within s t old new acts answers None same calls = (calls_within s old acts answers t new same calls).0
+  ends_within s t old new acts answers (Some a) same calls =
+      let before = calls_within s old acts answers calls.0 calls.1 same calls.2 in
+      then_within file.layout old calls.1 new before.0 (call_within a calls.0 t calls.1 new None before.1 calls.3.call)
+
+  made_within : (c : CallsMade) → c.from.file ≡ file → AddsWithin file.layout c.old c.new
+  made_within c same = ends_within c.from c.to c.old c.new c.acts c.answers c.failed same c.calls
+
+-- ---- a word on a file
+
+module _ (layout : Layout) (t : Told) where
+  -- the barrier, and what is added behind it
+  behind : (new : Option Told) → AddsWithin layout (Some (did Sync t)) new → AddsWithin layout (Some t) new
+  behind new more = record { events = Sync ∷ more.events; told = more.told; within = (tt, more.within) }
+
+  barrier_within : (new : Option Told) → new ≡ Some (did Sync t) → AddsWithin layout (Some t) new
+  barrier_within new synced = behind new (none_within layout (Some (did Sync t)) new synced)
+
+  mends_within : (file : DataFile) (new : Option Told) → file.layout ≡ layout → Mends file (Some (did Sync t)) new → AddsWithin layout (Some t) new
+  mends_within file new of mends = behind new (record { events = mends.events; told = mends.told; within = subst (λ (l : Layout). AreWithin l mends.events) of mends.within })
+
+  stops_within : (new : Option Told) → StopsOpening layout t new → AddsWithin layout (Some t) new
+  stops_within new (inl same) = none_within layout (Some t) new same
+  stops_within new (inr (inl synced)) = barrier_within new synced
+  stops_within new (inr (inr part)) = mends_within part.state.file new part.opened.of part.mending
+
+  -- a mending, and calls behind it
+  session_within : (file : DataFile) (mended new : Option Told) → file.layout ≡ layout → Mends file (Some (did Sync t)) mended → AddsWithin file.layout mended new → AddsWithin layout (Some t) new
+  session_within file mended new of mends added = then_within layout (Some t) mended new (mends_within file mended of mends) (subst (λ (l : Layout). AddsWithin l mended new) of added)
+
+module _ (layout : Layout) (t : Told) (old new : Outside) (status : Status) where
+  script_within : ServesScript layout t old new status → AddsWithin layout (Some t) new.told
+  script_within serves =
+      let added = made_within serves.replica.file (script_calls serves.session) refl in
+      session_within layout t serves.replica.file serves.mended new.told serves.is_opened.of serves.mending
+      (subst (λ (o : Outside). AddsWithin serves.replica.file.layout serves.mended o.told) serves.last_is added)
+
+  works_within : (seed count : ℕ) → WorksThrough seed count layout t old new status → AddsWithin layout (Some t) new.told
+  works_within seed count works =
+      session_within layout t works.replica.file works.mended new.told works.is_opened.of works.mending (made_within works.replica.file (run_calls works.worked) refl)
+
+  pub does_within : (mode : Mode) → Does mode layout t old new status → AddsWithin layout (Some t) new.told
+  does_within (Format shape cluster) does = absurd does
+  does_within Run (inl refuses) = barrier_within layout t new.told refuses.barrier
+  does_within Run (inr (inl fails)) = stops_within layout t new.told fails.disk
+  does_within Run (inr (inr serves)) = script_within serves
+  does_within Recover (inl refuses) = barrier_within layout t new.told refuses.barrier
+  does_within Recover (inr (inl fails)) = stops_within layout t new.told fails.disk
+  does_within Recover (inr (inr recovers)) = mends_within layout t recovers.replica.file new.told recovers.is_opened.of recovers.mending
+  does_within Inspect (inl refuses) = barrier_within layout t new.told refuses.barrier
+  does_within Inspect (inr (inl fails)) = part_within layout (Sync ∷ []) (Some t) new.told (tt, tt) fails.disk
+  does_within Inspect (inr (inr inspects)) = barrier_within layout t new.told inspects.barrier
+  does_within Scrub (inl refuses) = barrier_within layout t new.told refuses.barrier
+  does_within Scrub (inr (inl fails)) = stops_within layout t new.told fails.disk
+  does_within Scrub (inr (inr scrubs)) = mends_within layout t scrubs.replica.file new.told scrubs.is_opened.of scrubs.mending
+  does_within (Workload seed count) (inl refuses) = barrier_within layout t new.told refuses.barrier
+  does_within (Workload seed count) (inr (inl fails)) = stops_within layout t new.told fails.disk
+  does_within (Workload seed count) (inr (inr works)) = works_within seed count works
+
+-- in rooms of its own
+pub runs_within : (mode : Mode) (old new : Outside) (status : Status) → Runs mode old new status → WritesOwn old.told new.told
+runs_within mode old new status runs t told whole = elim (runs t told whole) [
+  | inl nothing ↦ inl (nothing.without.same ∙ told)
+  | inr other ↦ elim other [
+    | inl refuses ↦ inl (refuses.same ∙ told)
+    | inr own ↦ inr (own.layout, own.shown, does_within own.layout t old new status mode own.serves)
+  ]
+]
+
+-- ---- a making
+
+pub making_within : {T : Type 0} → (layout : Layout) (cluster : ℕ) (old new : Option Told) (result : Result T FormatError) → RefusesCluster cluster result → AddsFormat (making_events layout cluster) old new result
+    → (0 < cluster → AreSteps (format_of layout cluster) (making_events layout cluster) (making_steps layout cluster)) → AddsWithin layout old new
+making_within layout cluster old new (Ok x) named all steps =
+    record { events = making_events layout cluster; told = all; within = steps_within layout cluster (making_events layout cluster) (making_steps layout cluster) (steps named) }
+making_within layout cluster old new (Err formats.DiskFault) named part steps =
+    part_within layout (making_events layout cluster) old new (steps_within layout cluster (making_events layout cluster) (making_steps layout cluster) (steps named)) part.0
+making_within layout cluster old new (Err formats.ClusterZero) none same steps = none_within layout old new same
+making_within layout cluster old new (Err (formats.NotBlank copy)) named same steps = none_within layout old new same

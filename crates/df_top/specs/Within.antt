@@ -1,0 +1,15 @@
+-- Where the writes of a word that works on a file lie.
+use Rattle.std.specs.Prelude.{◌≡◌, ◌⊎◌, Option, Some}
+use Rattle.df_base.specs.Image.{IsImage}
+use Rattle.df_disk.specs.Told.{Told}
+use Rattle.df_layout.specs.declared.layout.Layout.{Layout}
+use Rattle.df_units.specs.Within.{AddsWithin}
+use Rattle.df_replica.specs.Below.{IsLayoutShown}
+
+-- in rooms of a layout: all that is added to the log of a disk that tells lies within the zones of a file of that layout
+abbrev pub WritesIn : Layout → (old new : Option Told) → Type 0
+WritesIn layout old new = (t : Told) → old ≡ Some t → IsImage t.shown → AddsWithin layout (Some t) new
+
+-- in rooms of its own: nothing is added, or it lies within the zones of the file whose layout the superblock names
+abbrev pub WritesOwn : (old new : Option Told) → Type 0
+WritesOwn old new = (t : Told) → old ≡ Some t → IsImage t.shown → (new ≡ Some t) ⊎ ((layout : Layout) × IsLayoutShown t.shown layout × AddsWithin layout (Some t) new)
