@@ -23,6 +23,7 @@ use Rattle.df_workload.specs.Asking.{asks}
 use Rattle.df_workload.specs.Following.{Follows}
 use Rattle.df_workload.specs.Rounds.{start}
 use Rattle.df_workload.specs.declared.state.State.{State as Run}
+use Rattle.df_top.specs.Works.{workload_with}
 use Rattle.df_top.specs.OneText.{ShowSame, text_by}
 use Rattle.df_top.specs.Outside.{Outside}
 use Rattle.df_top.specs.Reporting.{Recovers}
@@ -89,18 +90,7 @@ OneRun = (seed count : ℕ) (file : DataFile) (image : Image) (view : View) (run
 
 -- what it counted, and the numbers of the file: head, replies and sequence went on by what was appended and replied, and by the checkpoints that were finished
 abbrev pub workload_by : View → Run → Workload
-workload_by view run = record {
-  appended = run.counts.appended;
-  replied = run.counts.replied;
-  wrote = run.counts.wrote;
-  released = run.counts.released;
-  checkpoints = run.counts.checkpoints;
-  refused = run.counts.refused;
-  bytes = run.counts.bytes;
-  head = head view + run.counts.appended;
-  replies = view.replies + run.counts.replied;
-  sequence = sequence view + run.counts.checkpoints;
-}
+workload_by view run = workload_with run (head view + run.counts.appended) (view.replies + run.counts.replied) (sequence view + run.counts.checkpoints)
 
 abbrev pub run_text : View → Run → List ℕ
 run_text view run = workload_text (workload_by view run)

@@ -115,9 +115,9 @@ pub record Worked (begun : Run) (s : Replica) (old : Option Told) (run : Run) (t
   pub follows : Follows begun (map command_in acts) answers run
   pub asked : asks run ≡ asked_by failed
 
--- what was counted, and the file at the end
-abbrev pub workload_of : Run → Replica → Workload
-workload_of run t = record {
+-- what was counted, with these numbers of the file at the end: the head, how many replies, and the sequence
+abbrev pub workload_with : Run → (last stored number : ℕ) → Workload
+workload_with run last stored number = record {
   appended = run.counts.appended;
   replied = run.counts.replied;
   wrote = run.counts.wrote;
@@ -125,10 +125,13 @@ workload_of run t = record {
   checkpoints = run.counts.checkpoints;
   refused = run.counts.refused;
   bytes = run.counts.bytes;
-  head = t.head;
-  replies = t.replies;
-  sequence = t.fields.sequence;
+  head = last;
+  replies = stored;
+  sequence = number;
 }
+
+abbrev pub workload_of : Run → Replica → Workload
+workload_of run t = workload_with run t.head t.replies t.fields.sequence
 
 -- What is written at the end: the report, nothing where the disk failed, the line of a step that is damaged; or a front of it where the sink failed.
 abbrev pub Writes : Run → Replica → (told : Option Told) → (failed : Option Act) → (old new : Option (List ℕ)) → Status → Type 0
