@@ -13,7 +13,6 @@ use Rattle.df_model.specs.declared.errors.BlockError.{BlockError}
 use Rattle.df_model.specs.declared.errors.NotLive.{NotLive}
 use Rattle.df_model.specs.declared.errors.ReplyError.{ReplyError}
 use Rattle.df_model.specs.declared.errors.StepError.{StepError}
-use Rattle.df_model.specs.declared.errors.StepError.TheVariants as step
 use Rattle.df_model.specs.Faults.{is_append_fault, is_block_fault, is_lookup_fault, is_prepare_fault, is_read_fault, is_reply_fault, is_step_fault}
 use Rattle.df_replica.specs.Answering.{answer_of, as_append, as_reply, as_write_block, begin_answer, is_step_unanswered, release_answer}
 use Rattle.df_replica.specs.Appending.{IsAppend}
@@ -79,8 +78,3 @@ machine_answer (answers.ReadReply (Err e)) = answer_of is_lookup_fault ToReadRep
 machine_answer (answers.ReadBlock (Err e)) = answer_of is_read_fault ToReadBlock (Err e)
 machine_answer (answers.Scrub scrubbed) = Some (ToScrub scrubbed)
 machine_answer answer = None
-
--- it is that of a step that found the superblock damaged
-abbrev pub is_damaged : Answer → Bool
-is_damaged (answers.Advance (Err (step.Damaged place class))) = true
-is_damaged answer = false
