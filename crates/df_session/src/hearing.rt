@@ -83,11 +83,7 @@ pub fn hear(answer: Answer) -> Result<Answer, Fault>
 
 /// Makes the call that a command asks for, and answers what is heard of it. What a read reads is lent by the call itself, so no
 /// read is made here.
-pub fn make<D: Disk>(
-    disk: &mut D,
-    replica: &mut Replica,
-    command: Command,
-) -> Result<Answer, Fault>
+pub fn make<D: Disk>(disk: &mut D, replica: &mut Replica, command: Command) -> Result<Answer, Fault>
     requires live { replica.old.live ≡ true }
     requires answer { HasAnswer (command_of command) }
     ensures makes { MakesTo (command_of command.entry) replica.old replica.new (D.told disk.old) (D.told disk.new) result }

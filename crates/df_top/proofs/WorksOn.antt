@@ -18,14 +18,16 @@ use Rattle.df_replica.specs.Opened.{MendsAll, ToldBy}
 use Rattle.df_replica.specs.Session.{Act}
 use Rattle.df_workload.specs.Rounds.{start}
 use Rattle.df_workload.specs.declared.state.State.{State as Run}
+use Rattle.df_session.specs.Endings.{is_disk}
 use Rattle.df_session.specs.Laws.{CallsKeep}
+use Rattle.df_session.specs.declared.hearing.Fault.{Fault}
+use Rattle.df_session.specs.declared.hearing.Fault.TheVariants.{Disk, Damaged}
 use Rattle.df_session.proofs.Laws.{calls_keep, ends_told}
 use Rattle.df_top.specs.Acknowledging.{run_calls}
-use Rattle.df_top.specs.Outside.{Blames, HasCauses, Outside, PrintsLine}
+use Rattle.df_top.specs.Outside.{Blames, HasCauses, Outside, PrintsLine, status_or}
+use Rattle.df_top.specs.Refusing.{PrintsFault}
 use Rattle.df_top.specs.Working.{WorksThrough}
-use Rattle.df_top.specs.Works.{PrintsFault, PrintsRun, Writes, is_disk, status_or, workload_of}
-use Rattle.df_top.specs.declared.works.Fault.{Fault}
-use Rattle.df_top.specs.declared.works.Fault.TheVariants.{Disk, Damaged}
+use Rattle.df_top.specs.Works.{PrintsRun, Writes, workload_of}
 use Rattle.df_top.specs.declared.status.Status.{Status}
 use Rattle.df_top.specs.declared.status.Status.TheVariants.{Done, Words, Refused, DiskFault, ReadFault, WriteFault, Memory}
 use Rattle.df_top.proofs.Causes.{calm_done, calm_refused, disk_blame, line_ends, never_printed, no_blame}

@@ -11,7 +11,8 @@ use Rattle.df_workload.specs.Rounds.{start}
 use Rattle.df_workload.specs.declared.state.State.{State as Run}
 use Rattle.df_top.specs.Outside.{Outside}
 use Rattle.df_top.specs.Working.{WorksThrough}
-use Rattle.df_top.specs.Works.{Comes, is_disk}
+use Rattle.df_session.specs.Endings.{is_disk}
+use Rattle.df_top.specs.Works.{Comes}
 use Rattle.df_top.proofs.Causes.{open_causes, refused_never}
 use Rattle.df_top.proofs.Runs.{ends_run}
 use Rattle.df_top.proofs.Served.{not_opened}
