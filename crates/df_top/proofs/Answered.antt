@@ -2,7 +2,6 @@
 use Rattle.std.proofs.Common.{◌≡◌, ℕ, List, Option, Some, None, inl, inr, refl, sym, subst, Result, Ok, Err}
 use Rattle.df_base.specs.Causes.{IsBlamed, Rose}
 use Rattle.df_disk.specs.Told.{Told}
-use Rattle.df_inspect.specs.Answers.{text_of}
 use Rattle.df_inspect.specs.Prints.{Prints}
 use Rattle.df_layout.specs.declared.damage.Class.{Class}
 use Rattle.df_layout.specs.declared.places.Place.{Place}
