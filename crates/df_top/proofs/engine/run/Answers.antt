@@ -19,14 +19,14 @@ use Rattle.df_top.proofs.engine.run.Goals as goal
 
 pub run_file-requires : goal.run_file-requires
 run_file-requires g c = record {
-  runnable = runnable (map string_bytes c.args.words.now) c.in-Some-mode_of.mode c.in-Some-mode_of.ensures.found (works_on_file c.in-Some-mode_of.mode (sym c.new_file.ensures ∙ c.in-None-new_file.is));
+  runnable = runnable (map string_bytes c.args.words.now) c.in-Some.mode c.in-Some.ensures.found (works_on_file c.in-Some.mode (sym c.new_file.ensures ∙ c.in-None-new_file.is));
 }
 
 pub returns-in-None-new_file : goal.returns-in-None-new_file
 returns-in-None-new_file g c =
     let words = map string_bytes c.args.words.now in
-    let mode = c.in-Some-mode_of.mode in
-    let mine = c.in-Some-mode_of.ensures.found in
+    let mode = c.in-Some.mode in
+    let mine = c.in-Some.ensures.found in
     let of = works_on_file mode (sym c.new_file.ensures ∙ c.in-None-new_file.is) in
     let old : Outside = record { told = g.D.Disk.told c.args.disk.now; left = g.S.Source.left c.args.source.now; written = g.W.Sink.written c.args.sink.now } in
     let new : Outside = record { told = g.D.Disk.told c.run_file.new.disk; left = g.S.Source.left c.run_file.new.source; written = g.W.Sink.written c.run_file.new.sink } in
@@ -49,16 +49,16 @@ returns-in-None-new_file g c =
 -- ---- `format`
 
 pub returns-in-Some-new_file-clause-usage : goal.returns-in-Some-new_file-clause-usage
-returns-in-Some-new_file-clause-usage g c = λ nothing. absurd (nothing c.in-Some-mode_of.mode c.in-Some-mode_of.ensures.found)
+returns-in-Some-new_file-clause-usage g c = λ nothing. absurd (nothing c.in-Some.mode c.in-Some.ensures.found)
 
 pub returns-in-Some-new_file-clause-untouched : goal.returns-in-Some-new_file-clause-untouched
-returns-in-Some-new_file-clause-untouched g c = λ nothing. absurd (nothing c.in-Some-mode_of.mode c.in-Some-mode_of.ensures.found)
+returns-in-Some-new_file-clause-untouched g c = λ nothing. absurd (nothing c.in-Some.mode c.in-Some.ensures.found)
 
 pub returns-in-Some-new_file-clause-formats : goal.returns-in-Some-new_file-clause-formats
 returns-in-Some-new_file-clause-formats g c = λ layout cluster asks.
     let words = map string_bytes c.args.words.now in
     let file = c.in-Some-new_file.file in
-    let mine = subst (Means (map string_bytes c.args.words.now)) (makes_file c.in-Some-mode_of.mode file (sym c.new_file.ensures ∙ c.in-Some-new_file.is)) c.in-Some-mode_of.ensures.found in
+    let mine = subst (Means (map string_bytes c.args.words.now)) (makes_file c.in-Some.mode file (sym c.new_file.ensures ∙ c.in-Some-new_file.is)) c.in-Some.ensures.found in
     subst (λ (l : Layout). Formats l cluster (g.D.Disk.told c.args.disk.now) (g.D.Disk.told c.make_file.new.disk) (g.W.Sink.written c.args.sink.now) (g.W.Sink.written c.make_file.new.sink) c.make_file.result)
     (same_layout_asked words file.layout layout file.cluster cluster mine asks)
     (subst (λ (n : ℕ). Formats c.in-Some-new_file.file.layout n (g.D.Disk.told c.args.disk.now) (g.D.Disk.told c.make_file.new.disk) (g.W.Sink.written c.args.sink.now) (g.W.Sink.written c.make_file.new.sink) c.make_file.result)
@@ -68,7 +68,7 @@ pub returns-in-Some-new_file-clause-makes : goal.returns-in-Some-new_file-clause
 returns-in-Some-new_file-clause-makes g c = λ layout cluster asks.
     let words = map string_bytes c.args.words.now in
     let file = c.in-Some-new_file.file in
-    let mine = subst (Means (map string_bytes c.args.words.now)) (makes_file c.in-Some-mode_of.mode file (sym c.new_file.ensures ∙ c.in-Some-new_file.is)) c.in-Some-mode_of.ensures.found in
+    let mine = subst (Means (map string_bytes c.args.words.now)) (makes_file c.in-Some.mode file (sym c.new_file.ensures ∙ c.in-Some-new_file.is)) c.in-Some.ensures.found in
     subst (λ (l : Layout). MakesFile l cluster (g.D.Disk.told c.args.disk.now) (g.D.Disk.told c.make_file.new.disk) c.make_file.result)
     (same_layout_asked words file.layout layout file.cluster cluster mine asks)
     (subst (λ (n : ℕ). MakesFile c.in-Some-new_file.file.layout n (g.D.Disk.told c.args.disk.now) (g.D.Disk.told c.make_file.new.disk) c.make_file.result)
@@ -77,53 +77,53 @@ returns-in-Some-new_file-clause-makes g c = λ layout cluster asks.
 pub returns-in-Some-new_file-clause-made_within : goal.returns-in-Some-new_file-clause-made_within
 returns-in-Some-new_file-clause-made_within g c = λ layout cluster asks.
     let file = c.in-Some-new_file.file in
-    let mine = subst (Means (map string_bytes c.args.words.now)) (makes_file c.in-Some-mode_of.mode file (sym c.new_file.ensures ∙ c.in-Some-new_file.is)) c.in-Some-mode_of.ensures.found in
+    let mine = subst (Means (map string_bytes c.args.words.now)) (makes_file c.in-Some.mode file (sym c.new_file.ensures ∙ c.in-Some-new_file.is)) c.in-Some.ensures.found in
     subst (λ (l : Layout). AddsWithin l (g.D.Disk.told c.args.disk.now) (g.D.Disk.told c.make_file.new.disk))
     (same_layout_asked (map string_bytes c.args.words.now) file.layout layout file.cluster cluster mine asks) c.make_file.ensures.within
 
 pub returns-in-Some-new_file-clause-runs : goal.returns-in-Some-new_file-clause-runs
 returns-in-Some-new_file-clause-runs g c = λ mode of asks.
     let file = c.in-Some-new_file.file in
-    let mine = subst (Means (map string_bytes c.args.words.now)) (makes_file c.in-Some-mode_of.mode file (sym c.new_file.ensures ∙ c.in-Some-new_file.is)) c.in-Some-mode_of.ensures.found in
+    let mine = subst (Means (map string_bytes c.args.words.now)) (makes_file c.in-Some.mode file (sym c.new_file.ensures ∙ c.in-Some-new_file.is)) c.in-Some.ensures.found in
     absurd (makes_alone (map string_bytes c.args.words.now) file.layout file.cluster mode mine asks of)
 
 pub returns-in-Some-new_file-clause-inspects : goal.returns-in-Some-new_file-clause-inspects
 returns-in-Some-new_file-clause-inspects g c = λ asks.
     let file = c.in-Some-new_file.file in
-    let mine = subst (Means (map string_bytes c.args.words.now)) (makes_file c.in-Some-mode_of.mode file (sym c.new_file.ensures ∙ c.in-Some-new_file.is)) c.in-Some-mode_of.ensures.found in
+    let mine = subst (Means (map string_bytes c.args.words.now)) (makes_file c.in-Some.mode file (sym c.new_file.ensures ∙ c.in-Some-new_file.is)) c.in-Some.ensures.found in
     absurd (makes_alone (map string_bytes c.args.words.now) file.layout file.cluster Inspect mine asks tt)
 
 pub returns-in-Some-new_file-clause-within : goal.returns-in-Some-new_file-clause-within
 returns-in-Some-new_file-clause-within g c = λ mode of asks.
     let file = c.in-Some-new_file.file in
-    let mine = subst (Means (map string_bytes c.args.words.now)) (makes_file c.in-Some-mode_of.mode file (sym c.new_file.ensures ∙ c.in-Some-new_file.is)) c.in-Some-mode_of.ensures.found in
+    let mine = subst (Means (map string_bytes c.args.words.now)) (makes_file c.in-Some.mode file (sym c.new_file.ensures ∙ c.in-Some-new_file.is)) c.in-Some.ensures.found in
     absurd (makes_alone (map string_bytes c.args.words.now) file.layout file.cluster mode mine asks of)
 
 pub returns-in-Some-new_file-clause-hurt : goal.returns-in-Some-new_file-clause-hurt
 returns-in-Some-new_file-clause-hurt g c = λ mode of asks.
     let file = c.in-Some-new_file.file in
-    let mine = subst (Means (map string_bytes c.args.words.now)) (makes_file c.in-Some-mode_of.mode file (sym c.new_file.ensures ∙ c.in-Some-new_file.is)) c.in-Some-mode_of.ensures.found in
+    let mine = subst (Means (map string_bytes c.args.words.now)) (makes_file c.in-Some.mode file (sym c.new_file.ensures ∙ c.in-Some-new_file.is)) c.in-Some.ensures.found in
     absurd (makes_alone (map string_bytes c.args.words.now) file.layout file.cluster mode mine asks of)
 
 -- ---- words without a meaning
 
-pub returns-in-None-mode_of-clause-formats : goal.returns-in-None-mode_of-clause-formats
-returns-in-None-mode_of-clause-formats g c = λ layout cluster asks. absurd (c.in-None-mode_of.ensures.none (Format layout cluster) asks)
+pub returns-in-None-clause-formats : goal.returns-in-None-clause-formats
+returns-in-None-clause-formats g c = λ layout cluster asks. absurd (c.in-None.ensures.none (Format layout cluster) asks)
 
-pub returns-in-None-mode_of-clause-makes : goal.returns-in-None-mode_of-clause-makes
-returns-in-None-mode_of-clause-makes g c = λ layout cluster asks. absurd (c.in-None-mode_of.ensures.none (Format layout cluster) asks)
+pub returns-in-None-clause-makes : goal.returns-in-None-clause-makes
+returns-in-None-clause-makes g c = λ layout cluster asks. absurd (c.in-None.ensures.none (Format layout cluster) asks)
 
-pub returns-in-None-mode_of-clause-made_within : goal.returns-in-None-mode_of-clause-made_within
-returns-in-None-mode_of-clause-made_within g c = λ layout cluster asks. absurd (c.in-None-mode_of.ensures.none (Format layout cluster) asks)
+pub returns-in-None-clause-made_within : goal.returns-in-None-clause-made_within
+returns-in-None-clause-made_within g c = λ layout cluster asks. absurd (c.in-None.ensures.none (Format layout cluster) asks)
 
-pub returns-in-None-mode_of-clause-runs : goal.returns-in-None-mode_of-clause-runs
-returns-in-None-mode_of-clause-runs g c = λ mode of asks. absurd (c.in-None-mode_of.ensures.none mode asks)
+pub returns-in-None-clause-runs : goal.returns-in-None-clause-runs
+returns-in-None-clause-runs g c = λ mode of asks. absurd (c.in-None.ensures.none mode asks)
 
-pub returns-in-None-mode_of-clause-inspects : goal.returns-in-None-mode_of-clause-inspects
-returns-in-None-mode_of-clause-inspects g c = λ asks. absurd (c.in-None-mode_of.ensures.none Inspect asks)
+pub returns-in-None-clause-inspects : goal.returns-in-None-clause-inspects
+returns-in-None-clause-inspects g c = λ asks. absurd (c.in-None.ensures.none Inspect asks)
 
-pub returns-in-None-mode_of-clause-hurt : goal.returns-in-None-mode_of-clause-hurt
-returns-in-None-mode_of-clause-hurt g c = λ mode of asks. absurd (c.in-None-mode_of.ensures.none mode asks)
+pub returns-in-None-clause-hurt : goal.returns-in-None-clause-hurt
+returns-in-None-clause-hurt g c = λ mode of asks. absurd (c.in-None.ensures.none mode asks)
 
-pub returns-in-None-mode_of-clause-within : goal.returns-in-None-mode_of-clause-within
-returns-in-None-mode_of-clause-within g c = λ mode of asks. absurd (c.in-None-mode_of.ensures.none mode asks)
+pub returns-in-None-clause-within : goal.returns-in-None-clause-within
+returns-in-None-clause-within g c = λ mode of asks. absurd (c.in-None.ensures.none mode asks)

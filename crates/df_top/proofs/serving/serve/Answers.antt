@@ -18,20 +18,20 @@ carry_out-requires g c =
     let means = c.in-Some.ensures.found in
     record { runnable = runnable words c.in-Some.mode means (of_file_asked words c.in-Some.mode c.requires.words means); lines = c.requires.lines }
 
-pub returns-in-Some-clause-serves : goal.returns-in-Some-clause-serves
-returns-in-Some-clause-serves g c = λ mode asks.
+pub returns-clause-serves : goal.returns-clause-serves
+returns-clause-serves g c = λ mode asks.
     let old : Outside = record { told = g.D.Disk.told c.args.disk.now; left = g.S.Source.left c.args.source.now; written = g.W.Sink.written c.args.sink.now } in
     let new : Outside = record { told = g.D.Disk.told c.carry_out.new.disk; left = g.S.Source.left c.carry_out.new.source; written = g.W.Sink.written c.carry_out.new.sink } in
     subst (λ (m : Mode). ServesIn m c.args.rooms.layout old new c.carry_out.result) (one_mode (map string_bytes c.args.words.now) c.in-Some.mode mode c.in-Some.ensures.found asks) c.carry_out.ensures.serves
 
-pub returns-in-Some-clause-inspects : goal.returns-in-Some-clause-inspects
-returns-in-Some-clause-inspects g c = λ asks. c.carry_out.ensures.inspects (one_mode (map string_bytes c.args.words.now) c.in-Some.mode Inspect c.in-Some.ensures.found asks)
+pub returns-clause-inspects : goal.returns-clause-inspects
+returns-clause-inspects g c = λ asks. c.carry_out.ensures.inspects (one_mode (map string_bytes c.args.words.now) c.in-Some.mode Inspect c.in-Some.ensures.found asks)
 
-pub returns-in-Some-clause-hurt : goal.returns-in-Some-clause-hurt
-returns-in-Some-clause-hurt g c = λ mode asks. serves_over_hurt mode _ _ _ _ (returns-in-Some-clause-serves g c mode asks)
+pub returns-clause-hurt : goal.returns-clause-hurt
+returns-clause-hurt g c = λ mode asks. serves_over_hurt mode _ _ _ _ (returns-clause-serves g c mode asks)
 
-pub returns-in-Some-clause-within : goal.returns-in-Some-clause-within
-returns-in-Some-clause-within g c = λ t told whole. does_within c.args.rooms.layout t _ _ _ c.in-Some.mode (c.carry_out.ensures.serves t told whole)
+pub returns-clause-within : goal.returns-clause-within
+returns-clause-within g c = λ t told whole. does_within c.args.rooms.layout t _ _ _ c.in-Some.mode (c.carry_out.ensures.serves t told whole)
 
-pub returns-in-Some-clause-unread : goal.returns-in-Some-clause-unread
-returns-in-Some-clause-unread g c = λ no. c.carry_out.ensures.unread (λ is. no (subst (Means (map string_bytes c.args.words.now)) is c.in-Some.ensures.found))
+pub returns-clause-unread : goal.returns-clause-unread
+returns-clause-unread g c = λ no. c.carry_out.ensures.unread (λ is. no (subst (Means (map string_bytes c.args.words.now)) is c.in-Some.ensures.found))
