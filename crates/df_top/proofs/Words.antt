@@ -1,5 +1,5 @@
 -- What the words ask for, and which clauses of a run speak of them.
-use Rattle.std.proofs.Common.{◌≡◌, ℕ, List, Option, Some, None, sym, subst}
+use Rattle.std.proofs.Common.{◌≡◌, ℕ, List, Some, None, sym, subst}
 use Rattle.std.proofs.lemmas.Option.{none-some}
 use Rattle.df_layout.specs.declared.layout.Layout.{Layout}
 use Rattle.df_top.specs.Mode.{AsksOfFile, IsOfFile, IsRunnable, Means, new_file}
