@@ -8,6 +8,9 @@ use df_base::Check;
 /// What stands in place of a checksum where there is none, or where it is set later.
 pub const NO_CHECKSUM: Check = [0; 16];
 
+/// What stands in place of the checksums of the replies where none is named.
+pub const NO_CHECKSUMS: [Check; 64] = [NO_CHECKSUM; 64];
+
 /// The header of a unit, 256 bytes in the file.
 #[derive(Clone, Copy, Debug, PartialEq, Eq)]
 pub struct Header {

@@ -18,11 +18,11 @@ mod unit_laws;
 
 pub use codec::{decode_header, encode_header, seal_header};
 pub use copy_laws::{
-    blank_shows_no_copy, copies_have_one_spelling, same_sector_same_copy, valid_copy_is_stale,
-    written_copy_is_shown,
+    blank_shows_no_copy, copies_have_one_spelling, nameless_copy_ends_in_zeros,
+    same_sector_same_copy, valid_copy_is_stale, written_copy_is_shown,
 };
 pub use decode::decode_unit;
-pub use header::{Header, NO_CHECKSUM};
+pub use header::{Header, NO_CHECKSUM, NO_CHECKSUMS};
 pub use kind::Kind;
 pub use make::{Made, make_unit};
 pub use own::own_place;
