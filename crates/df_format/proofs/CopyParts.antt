@@ -32,12 +32,6 @@ number_rest at n x old new fits is =
 pub joined : (at : ℕ) (bytes front rest : List ℕ) → take at bytes ≡ front → drop at bytes ≡ rest → bytes ≡ front ++ rest
 joined at bytes front rest before behind = sym (take-append-drop at bytes) ∙ (λ i. before i ++ behind i)
 
--- what stands behind the first bytes, where a piece and a rest fill the list
-pub behind_front : (at end : ℕ) (old new piece rest : List ℕ) → at ≤ length old → length new ≡ end → take end new ≡ (take at old ++ piece) ++ rest → drop at new ≡ piece ++ rest
-behind_front at end old new piece rest fits size is =
-    ap (λ (l : List ℕ). drop at l) (sym (take_all end new (omega arith)) ∙ is ∙ append_assoc (take at old) piece rest)
-    ∙ drop_at (take at old) (piece ++ rest) at (length-take-le at old fits)
-
 -- how many zeros stand in front
 abbrev zeros_in : List ℕ → ℕ
 zeros_in bytes = prefix_len (λ b. not (not (b == 0))) bytes
