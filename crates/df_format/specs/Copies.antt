@@ -1,5 +1,5 @@
 -- The copy of the superblock that a sector is, and what the four sectors of an image say.
-use Rattle.std.specs.Prelude.{◌+◌, ◌-◌, ◌==◌, ◌&&◌, ℕ, zero, suc, Bool, not, nat_lt, if◌then◌else◌, List, [], ◌∷◌, take, drop, replicate, position, option_map, Option, Some, None, Result, Ok, Err}
+use Rattle.std.specs.Prelude.{◌+◌, ◌-◌, ◌*◌, ◌==◌, ◌&&◌, ℕ, zero, suc, Bool, not, nat_lt, if◌then◌else◌, List, [], ◌∷◌, take, drop, replicate, position, option_map, Option, Some, None, Result, Ok, Err}
 use Rattle.std.specs.Option.{option_or}
 use Rattle.std.specs.Str.{bytes_eq}
 use Rattle.df_base.specs.Fields.{field_at, check_of}
@@ -92,9 +92,9 @@ content_at image number = content_of (copy_at image number)
 abbrev pub content_with : SuperFields → Content
 content_with f = record { checksum = check_of (covered_bytes f); fields = f }
 
--- the order of contents: the later one is greater
+-- the order of contents, whatever their version: by sequence, and by boot where these are equal; a boot is below 2^64
 abbrev pub rank_of : Content → ℕ
-rank_of c = c.fields.sequence
+rank_of c = 18446744073709551616 * c.fields.sequence + c.fields.boot
 
 -- all bytes of the sector are zero, as one that was never written shows
 unfoldable pub is_blank_copy : List ℕ → Bool

@@ -1,3 +1,4 @@
 pub mod Choices
 pub mod Candidates
 pub mod Laws
+pub mod Pairs
