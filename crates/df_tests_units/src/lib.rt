@@ -23,6 +23,10 @@ mod room_examples;
 #[cfg(test)]
 mod rooms;
 #[cfg(test)]
+mod second_headers;
+#[cfg(test)]
+mod second_superblocks;
+#[cfg(test)]
 mod super_examples;
 #[cfg(test)]
 mod superblocks;
