@@ -7,16 +7,19 @@ fn each_limit_is_still_allowed(rt: HostRuntime) {
         ring_op: 40,
         reply_top: 39,
         checkpoint: 3,
+        boot: 5,
     };
-    for (sequence, op, slots, answer) in [
-        (3, 8, 32, false),
-        (2, 8, 32, true),
-        (3, 7, 32, true),
-        (u64::MAX, u64::MAX, u32::MAX, false),
+    for (sequence, op, slots, boot, answer) in [
+        (3, 8, 32, 5, false),
+        (2, 8, 32, 5, true),
+        (3, 7, 32, 5, true),
+        (3, 8, 32, 4, true),
+        (3, 8, 32, 0, true),
+        (u64::MAX, u64::MAX, u32::MAX, u64::MAX, false),
     ] {
         assert!(rt;
-            behind(&seen, sequence, op, slots) == answer,
-            "{sequence} {op}"
+            behind(&seen, sequence, op, slots, boot) == answer,
+            "{sequence} {op} {boot}"
         );
     }
     for (superblock_head, head, answer) in [
