@@ -13,7 +13,7 @@ use Rattle.df_theory.specs.Found.{IsReplies}
 use Rattle.df_theory.specs.Tails.{last_mark}
 use Rattle.df_units.specs.Meaning.{header_of}
 use Rattle.df_replies.specs.Shown.{AreOfBoot, ShowsReplies, ShowsReply}
-use Rattle.df_replies.specs.Counts.{AreWithin, CountsSome, IsGreatest, NoReplyIsAbove, NoReplyIsLater, checkpoint_in, mark_in, op_in, with_reply}
+use Rattle.df_replies.specs.Counts.{AreWithin, CountsSome, IsGreatest, RepliesWithin, boot_in, checkpoint_in, mark_in, op_in, with_reply}
 
 -- ---- numbers of the first entries
 
@@ -39,6 +39,10 @@ counts_next start replies k seen reply at is = record {
   checkpoint = λ n. (
     λ le. let old = (is.checkpoint n).0 (omega arith) in (old.0, within_more checkpoint_in n k replies reply at old.1 (omega (arith, le))),
     λ all. let old = (is.checkpoint n).1 (all.0, within_fewer checkpoint_in n k replies all.1) in omega (arith, old, all.1 k reply (omega arith) at),
+  );
+  boot = λ n. (
+    λ le. let old = (is.boot n).0 (omega arith) in (old.0, within_more boot_in n k replies reply at old.1 (omega (arith, le))),
+    λ all. let old = (is.boot n).1 (all.0, within_fewer boot_in n k replies all.1) in omega (arith, old, all.1 k reply (omega arith) at),
   );
   reply_top = λ n. (
     λ le. let old = (is.reply_top n).0 (omega arith) in (old.0, within_more op_in n k replies reply at old.1 (omega (arith, le)), within_more mark_in n k replies reply at old.2 (omega (arith, le))),
@@ -97,31 +101,44 @@ reply_there image replies k m shows shown = elim (slice_get_cases replies k).1 [
 pub entry_shown : (image : Units.Units) (replies : List (Result Header Class)) (k : ℕ) (h : Header) → ShowsReplies image replies → slice_get replies k ≡ Some (Ok h) → (m : Message) × (image (ReplyPlace k) ≡ Some (ReplyUnit m)) × (m.header ≡ header_of h)
 entry_shown image replies k h shows at = shows.each k (Ok h) at
 
-later_of : (image : Units.Units) (replies : List (Result Header Class)) (c : Content) (n : ℕ) → n ≡ c.sequence → ShowsReplies image replies → AreOfBoot c.boot replies → AreWithin checkpoint_in n (length replies) replies → NoReplyIsLater image c
-later_of image replies c n is shows own all k r shown =
-    let there = reply_there image replies k r shows shown in
-    let le = all k (Ok there.0) there.1 there.2 in
-    (omega (arith, le, is, ap (λ (h : Units.Header). h.checkpoint) there.3), omega (arith, own k there.0 there.2, ap (λ (h : Units.Header). h.boot) there.3))
+-- the first entries have numbers of at most n exactly where the replies that the image shows have
+within_shown : (number : Units.Header → ℕ) (entry : Result Header Class → ℕ) → ((h : Header) → entry (Ok h) ≡ number (header_of h)) → ((class : Class) → entry (Err class) ≡ 0)
+    → (image : Units.Units) (replies : List (Result Header Class)) (n : ℕ) → ShowsReplies image replies → AreWithin entry n (length replies) replies ↔ RepliesWithin image number n
+within_shown number entry same none image replies n shows = (to, from)
+  where
+    to : AreWithin entry n (length replies) replies → RepliesWithin image number n
+    to all k r shown =
+        let there = reply_there image replies k r shows shown in
+        omega (arith, all k (Ok there.0) there.1 there.2, same there.0, ap number there.3)
 
-of_later : (image : Units.Units) (replies : List (Result Header Class)) (c : Content) → ShowsReplies image replies → NoReplyIsLater image c → AreWithin checkpoint_in c.sequence (length replies) replies
-of_later image replies c shows none k (Err class) less at = omega arith
-of_later image replies c shows none k (Ok h) less at =
-    let there = entry_shown image replies k h shows at in
-    omega (arith, (none k there.0 there.1).0, ap (λ (x : Units.Header). x.checkpoint) there.2)
+    from : RepliesWithin image number n → AreWithin entry n (length replies) replies
+    from all k (Err class) less at = omega (arith, none class)
+    from all k (Ok h) less at =
+        let there = entry_shown image replies k h shows at in
+        omega (arith, same h, all k there.0 there.1, ap number there.2)
 
-pub counts_later : (start seen : Counters) (replies : List (Result Header Class)) (image : Units.Units) (c : Content) → CountsSome start replies (length replies) seen → ShowsReplies image replies → AreOfBoot c.boot replies
-    → (seen.checkpoint ≤ c.sequence) ↔ ((start.checkpoint ≤ c.sequence) × NoReplyIsLater image c)
-counts_later start seen replies image c counts shows own = (
-  λ le. let both = (counts.checkpoint c.sequence).0 le in (both.0, later_of image replies c c.sequence refl shows own both.1),
-  λ both. (counts.checkpoint c.sequence).1 (both.0, of_later image replies c shows both.1),
-)
+module _ (start seen : Counters) (replies : List (Result Header Class)) (counts : CountsSome start replies (length replies) seen) (image : Units.Units) (n : ℕ) (shows : ShowsReplies image replies) where
+  pub counts_checkpoint : (seen.checkpoint ≤ n) ↔ ((start.checkpoint ≤ n) × RepliesWithin image (λ h. h.checkpoint) n)
+  counts_checkpoint =
+      let shown = within_shown (λ h. h.checkpoint) checkpoint_in (λ h. refl) (λ class. refl) image replies n shows in (
+        λ le. let both = (counts.checkpoint n).0 le in (both.0, shown.0 both.1),
+        λ both. (counts.checkpoint n).1 (both.0, shown.1 both.1),
+      )
 
-above_of : (image : Units.Units) (replies : List (Result Header Class)) (c : Content) (n : ℕ) → ShowsReplies image replies → AreWithin op_in n (length replies) replies → AreWithin mark_in n (length replies) replies → NoReplyIsAbove image c n
-above_of image replies c n shows ops marks k r shown of_boot =
-    let there = reply_there image replies k r shows shown in
-    let op = ops k (Ok there.0) there.1 there.2 in
-    let mark = marks k (Ok there.0) there.1 there.2 in
-    (omega (arith, op, ap (λ (h : Units.Header). h.op) there.3), omega (arith, mark, ap (λ (h : Units.Header). h.mark) there.3))
+  pub counts_boot : (seen.boot ≤ n) ↔ ((start.boot ≤ n) × RepliesWithin image (λ h. h.boot) n)
+  counts_boot =
+      let shown = within_shown (λ h. h.boot) boot_in (λ h. refl) (λ class. refl) image replies n shows in (
+        λ le. let both = (counts.boot n).0 le in (both.0, shown.0 both.1),
+        λ both. (counts.boot n).1 (both.0, shown.1 both.1),
+      )
+
+  pub counts_top : (seen.reply_top ≤ n) ↔ ((start.reply_top ≤ n) × RepliesWithin image (λ h. h.op) n × RepliesWithin image (λ h. h.mark) n)
+  counts_top =
+      let ops = within_shown (λ h. h.op) op_in (λ h. refl) (λ class. refl) image replies n shows in
+      let marks = within_shown (λ h. h.mark) mark_in (λ h. refl) (λ class. refl) image replies n shows in (
+        λ le. let all = (counts.reply_top n).0 le in (all.0, ops.0 all.1, marks.0 all.2),
+        λ all. (counts.reply_top n).1 (all.0, ops.1 all.1, marks.1 all.2),
+      )
 
 of_boot : (c : Content) (h : Header) (m : Message) → (header_of h).boot ≡ c.boot → m.header ≡ header_of h → m.header.boot ≡ c.boot
 of_boot c h m own is = ap (λ (x : Units.Header). x.boot) is ∙ own
@@ -131,25 +148,6 @@ pub replies_are_of : (image : Units.Units) (replies : List (Result Header Class)
 replies_are_of image replies boot shows own k r shown =
     let there = reply_there image replies k r shows shown in
     ap (λ (h : Units.Header). h.boot) there.3 ∙ own k there.0 there.2
-
-ops_of_above : (image : Units.Units) (replies : List (Result Header Class)) (c : Content) (n : ℕ) → ShowsReplies image replies → AreOfBoot c.boot replies → NoReplyIsAbove image c n → AreWithin op_in n (length replies) replies
-ops_of_above image replies c n shows own none k (Err class) less at = omega arith
-ops_of_above image replies c n shows own none k (Ok h) less at =
-    let there = entry_shown image replies k h shows at in
-    omega (arith, (none k there.0 there.1 (of_boot c h there.0 (own k h at) there.2)).0, ap (λ (x : Units.Header). x.op) there.2)
-
-marks_of_above : (image : Units.Units) (replies : List (Result Header Class)) (c : Content) (n : ℕ) → ShowsReplies image replies → AreOfBoot c.boot replies → NoReplyIsAbove image c n → AreWithin mark_in n (length replies) replies
-marks_of_above image replies c n shows own none k (Err class) less at = omega arith
-marks_of_above image replies c n shows own none k (Ok h) less at =
-    let there = entry_shown image replies k h shows at in
-    omega (arith, (none k there.0 there.1 (of_boot c h there.0 (own k h at) there.2)).1, ap (λ (x : Units.Header). x.mark) there.2)
-
-pub counts_above : (start seen : Counters) (replies : List (Result Header Class)) (image : Units.Units) (c : Content) (n : ℕ) → CountsSome start replies (length replies) seen → ShowsReplies image replies → AreOfBoot c.boot replies
-    → (seen.reply_top ≤ n) ↔ ((start.reply_top ≤ n) × NoReplyIsAbove image c n)
-counts_above start seen replies image c n counts shows own = (
-  λ le. let all = (counts.reply_top n).0 le in (all.0, above_of image replies c n shows all.1 all.2),
-  λ both. (counts.reply_top n).1 (both.0, ops_of_above image replies c n shows own both.1, marks_of_above image replies c n shows own both.1),
-)
 
 -- the greatest of the superblock's number, the mark and the ops is the theory's number of replies
 pub greatest_is_replies : (superblock mark top : ℕ) (replies : List (Result Header Class)) (image : Units.Units) (c : Content) (tail : List Message) → IsGreatest (max superblock mark) replies (length replies) top → ShowsReplies image replies

@@ -1,6 +1,6 @@
 // The greatest numbers of the replies that are shown.
 ghost use Rattle.std.specs.Prelude.{◌≡◌, length};
-ghost use Rattle.df_replies.specs.Counts.{CountsSome, checkpoint_in, mark_in, op_in, with_reply};
+ghost use Rattle.df_replies.specs.Counts.{CountsSome, boot_in, checkpoint_in, mark_in, op_in, with_reply};
 
 use df_format::Header;
 use df_layout::Class;
@@ -33,6 +33,15 @@ fn checkpoint_in(seen: &Result<Header, Class>) -> u64
     }
 }
 
+fn boot_in(seen: &Result<Header, Class>) -> u64
+    ensures { result ≡ boot_in seen.now }
+{
+    match seen {
+        Ok(header) => header.boot,
+        Err(_) => 0,
+    }
+}
+
 // The counters with one more reply.
 fn with_reply(seen: &Counters, reply: &Result<Header, Class>) -> Counters
     ensures { result ≡ with_reply seen.now reply.now }
@@ -41,6 +50,7 @@ fn with_reply(seen: &Counters, reply: &Result<Header, Class>) -> Counters
         ring_op: seen.ring_op,
         reply_top: seen.reply_top.max(op_in(reply).max(mark_in(reply))),
         checkpoint: seen.checkpoint.max(checkpoint_in(reply)),
+        boot: seen.boot.max(boot_in(reply)),
     }
 }
 

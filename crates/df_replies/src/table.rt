@@ -2,7 +2,7 @@
 ghost use Rattle.std.specs.Prelude.{◌≡◌, ◌↔◌, ◌<◌, ◌≤◌, List, ℕ, Some, Err, length, replicate, slice_get, IfOk, IfSome, OnOk};
 ghost use Rattle.df_replies.specs.Below.{HasCause, Blank, IsReplies, last_mark, Content, Message, Units};
 ghost use Rattle.df_replies.specs.Answers.{HasClass, Lacks, NamesNone};
-ghost use Rattle.df_replies.specs.Counts.{NoReplyIsAbove, NoReplyIsLater};
+ghost use Rattle.df_replies.specs.Counts.{RepliesWithin};
 ghost use Rattle.df_replies.specs.Shown.{AreOfBoot, IsScanned, ShowsReplies};
 
 use crate::Lacking;
@@ -77,10 +77,12 @@ impl ReplyTable {
     /// The counters of the rings with those of the replies: none is above a number exactly where no reply is.
     pub fn count(&self, rings: &Counters) -> Counters
         ensures rings { result.ring_op ≡ rings.now.ring_op }
-        ensures behind { (image : Units) (c : Content) → ShowsReplies image self.now → AreOfBoot c.boot self.now
-            → (result.checkpoint ≤ c.sequence) ↔ ((rings.now.checkpoint ≤ c.sequence) × NoReplyIsLater image c) }
-        ensures lost { (image : Units) (c : Content) (head : ℕ) → ShowsReplies image self.now → AreOfBoot c.boot self.now
-            → (result.reply_top ≤ head) ↔ ((rings.now.reply_top ≤ head) × NoReplyIsAbove image c head) }
+        ensures checkpoint { (image : Units) (n : ℕ) → ShowsReplies image self.now
+            → (result.checkpoint ≤ n) ↔ ((rings.now.checkpoint ≤ n) × RepliesWithin image (λ h. h.checkpoint) n) }
+        ensures boot { (image : Units) (n : ℕ) → ShowsReplies image self.now
+            → (result.boot ≤ n) ↔ ((rings.now.boot ≤ n) × RepliesWithin image (λ h. h.boot) n) }
+        ensures top { (image : Units) (n : ℕ) → ShowsReplies image self.now
+            → (result.reply_top ≤ n) ↔ ((rings.now.reply_top ≤ n) × RepliesWithin image (λ h. h.op) n × RepliesWithin image (λ h. h.mark) n) }
     {
         count_replies(rings, &self.replies)
     }
