@@ -18,12 +18,11 @@ use Rattle.df_theory.specs.Sessions.{sessions_after}
 use Rattle.df_theory.specs.Shape.{Shape}
 use Rattle.df_theory.specs.View.{Checkpoint, View}
 use Rattle.df_units.specs.Meaning.{content_of}
-use Rattle.df_journal.specs.Counts.{CountsAll, CountsRings, RepliesAreOf, RingsWithin}
+use Rattle.df_journal.specs.Counts.{AllAreOf, CountsAll, CountsRings, RepliesWithin, RingsWithin}
 use Rattle.df_journal.specs.declared.table.Start.{Start}
 use Rattle.df_journal.specs.Tail.{FindsTail, StartsAt}
 use Rattle.df_journal.specs.declared.tail.Tail.{Tail}
 use Rattle.df_replies.specs.Answers.{AllAnswered, NamesNone, StoredAreFound, stored_by}
-use Rattle.df_replies.specs.Counts.{NoReplyIsAbove, NoReplyIsLater}
 use Rattle.df_replies.specs.Shown.{AreOfBoot, ShowsReplies}
 use Rattle.df_replies.proofs.Laws.{replies_are_of}
 use Rattle.df_recovery.specs.Finding.{FindsView, IsReadFrom, Read, lowest_of}
@@ -31,53 +30,26 @@ use Rattle.df_recovery.specs.Starting.{start_of}
 
 -- ---- the counters
 
-abbrev pub CountsLater : List (Result Header Class) → Counters → Counters → Type 0
-CountsLater replies rings seen = (image : Units.Units) (c : Content) → ShowsReplies image replies → AreOfBoot c.boot replies → (seen.checkpoint ≤ c.sequence) ↔ ((rings.checkpoint ≤ c.sequence) × NoReplyIsLater image c)
-
-abbrev pub CountsAbove : List (Result Header Class) → Counters → Counters → Type 0
-CountsAbove replies rings seen = (image : Units.Units) (c : Content) (head : ℕ) → ShowsReplies image replies → AreOfBoot c.boot replies → (seen.reply_top ≤ head) ↔ ((rings.reply_top ≤ head) × NoReplyIsAbove image c head)
-
--- any content of this sequence and boot
-abbrev content : (sequence boot : ℕ) → Content
-content n boot = record {
-  checksum = 0;
-  version = 1;
-  cluster = 0;
-  layout = record { slots = 0; message_size = 0; clients = 0; block_size = 0; blocks = 0 };
-  sequence = n;
-  boot = boot;
-  op = 0;
-  op_checksum = 0;
-  head = 0;
-  replies = 0;
-  pin = 0;
-  pin_checksum = 0;
-  answered = 0;
-  reply_checksums = [];
-  trailer = 0;
-  trailer_checksum = 0;
-  trailer_size = 0;
-  rest = [];
-}
-
 -- the counters of the rings with those of the replies count both
-pub counts_all : (image : Units.Units) (replies : List (Result Header Class)) (rings seen : Counters) (boot : ℕ) → CountsRings image boot rings → rings.reply_top ≡ 0 → seen.ring_op ≡ rings.ring_op
-    → CountsLater replies rings seen → CountsAbove replies rings seen → ShowsReplies image replies → AreOfBoot boot replies → CountsAll image boot seen
-counts_all image replies rings seen boot counts none ring_op later above shows own = record {
+pub counts_all : (image : Units.Units) (rings seen : Counters) → CountsRings image rings → rings.reply_top ≡ 0 → seen.ring_op ≡ rings.ring_op
+    → ((n : ℕ) → (seen.checkpoint ≤ n) ↔ ((rings.checkpoint ≤ n) × RepliesWithin image (λ h. h.checkpoint) n))
+    → ((n : ℕ) → (seen.boot ≤ n) ↔ ((rings.boot ≤ n) × RepliesWithin image (λ h. h.boot) n))
+    → ((n : ℕ) → (seen.reply_top ≤ n) ↔ ((rings.reply_top ≤ n) × RepliesWithin image (λ h. h.op) n × RepliesWithin image (λ h. h.mark) n)) → CountsAll image seen
+counts_all image rings seen counts none ring_op checkpoint boot top = record {
   ring_op = λ n. subst (λ (x : ℕ). (x ≤ n) ↔ RingsWithin image (λ h. h.op) n) (sym ring_op) (counts.ring_op n);
   reply_top = λ n. (
-    λ le. let all = ((above image (content n boot) n shows own).0 le).1 in (λ k r at. (all k r at (boots k r at)).0, λ k r at. (all k r at (boots k r at)).1),
-    λ both. (above image (content n boot) n shows own).1 (omega (arith, none), λ k r at of. (both.0 k r at, both.1 k r at)),
+    λ le. let all = (top n).0 le in (all.1, all.2),
+    λ both. (top n).1 (omega (arith, none), both.0, both.1),
   );
   checkpoint = λ n. (
-    λ le. let all = (later image (content n boot) shows own).0 le in ((counts.checkpoint n).0 all.0, λ k r at. (all.1 k r at).0),
-    λ both. (later image (content n boot) shows own).1 ((counts.checkpoint n).1 both.0, λ k r at. (both.1 k r at, (let same = boots k r at in omega (arith, same)))),
+    λ le. let all = (checkpoint n).0 le in ((counts.checkpoint n).0 all.0, all.1),
+    λ both. (checkpoint n).1 ((counts.checkpoint n).1 both.0, both.1),
   );
-  boots = (counts.boots, boots);
+  boot = λ n. (
+    λ le. let all = (boot n).0 le in ((counts.boot n).0 all.0, all.1),
+    λ both. (boot n).1 ((counts.boot n).1 both.0, both.1),
+  );
 }
-  where
-    boots : RepliesAreOf image boot
-    boots = replies_are_of image replies boot shows own
 
 -- ---- the steps
 

@@ -72,9 +72,9 @@ fn reply_damage(lacking: &Lacking) -> OpenError
     damage(Zone::ClientReplies, lacking.place, lacking.class)
 }
 
-// The counters of all units, in the rings and in the reply slots, of a file of version 1.
+// The counters of all units, in the rings and in the reply slots.
 fn count_all(slots: &SlotTable, replies: &ReplyTable) -> Counters
-    ensures { (image : Units) → IsOfVersionOne slots.now.start → ShowsTable image slots.now.slots → ShowsReplies image replies.now → CountsAll image slots.now.start.boot result }
+    ensures { (image : Units) → ShowsTable image slots.now.slots → ShowsReplies image replies.now → CountsAll image result }
 {
     replies.count(&count_rings(slots))
 }
@@ -110,7 +110,13 @@ pub fn find_state(
 {
     let seen = count_all(slots, replies);
     let content = found.content.fields();
-    if is_behind(&seen, content.sequence, content.op, layout.slots) {
+    if is_behind(
+        &seen,
+        content.sequence,
+        content.op,
+        layout.slots,
+        content.boot,
+    ) {
         return Err(behind_damage(found));
     }
     let tail = find_tail(layout, slots, &content.op_checksum, sessions);

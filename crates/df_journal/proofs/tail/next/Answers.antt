@@ -10,11 +10,11 @@ taken-requires c = slot_checks c.args.layout.now c.args.found.now.start.cluster 
 
 pub fits-requires-clause-parent : goal.fits-requires-clause-parent
 fits-requires-clause-parent c =
-    taken_parent c.args.layout.now c.args.found.now.start.cluster _ c.in_ok-header.header (taken_unit c.args.layout.now c.args.found.now.start.cluster _ (c.args.last.now.op + 1) c.args.found.now.slots c.seen-seen.result c.in_ok-header.header c.requires.table c.seen-seen.ensures c.in_ok-header.ensures)
+    taken_parent c.args.layout.now c.args.found.now.start.cluster _ c.in_ok-header.header (taken_unit c.args.layout.now c.args.found.now.start.cluster _ c.args.boot (c.args.last.now.op + 1) c.args.found.now.slots c.seen-seen.result c.in_ok-header.header c.requires.table c.seen-seen.ensures c.in_ok-header.ensures)
 
 pub returns-then-fits-clause-sound : goal.returns-then-fits-clause-sound
 returns-then-fits-clause-sound c =
-    let there = taken_unit c.args.layout.now c.args.found.now.start.cluster _ (c.args.last.now.op + 1) c.args.found.now.slots c.seen-seen.result c.in_ok-header.header c.requires.table c.seen-seen.ensures c.in_ok-header.ensures in
+    let there = taken_unit c.args.layout.now c.args.found.now.start.cluster _ c.args.boot (c.args.last.now.op + 1) c.args.found.now.slots c.seen-seen.result c.in_ok-header.header c.requires.table c.seen-seen.ensures c.in_ok-header.ensures in
     let fits = c.fits.ensures.0 c.if-fits.true in
     let client : 0 < c.in_ok-header.header.client = taken_client c.args.layout.now c.args.found.now.start.cluster _ c.in_ok-header.header there in
     record {
