@@ -183,8 +183,5 @@ fn has_version(header: &Header) -> bool
 pub(crate) fn has_numbers(header: &Header) -> bool
     ensures { result ≡ has_numbers header.now }
 {
-    0 < header.cluster
-        && HEADER as u32 <= header.size
-        && is_of_kind(header)
-        && has_version(header)
+    0 < header.cluster && HEADER as u32 <= header.size && is_of_kind(header) && has_version(header)
 }

@@ -20,11 +20,11 @@ below_by_rank s b t d small_b small_d =
           lt-ltb _ _ (omega (arith, same, less))
     ])
     (λ is.
-        let below : 18446744073709551616 * s + b < 18446744073709551616 * t + d = ltb-true _ _ is in
-        elim (cases_lt s t) [
-          | inl less ↦ or_left (nat_lt s t) ((s == t) && nat_lt b d) (lt-ltb s t less)
-          | inr not_less ↦
-              let same : s ≡ t = omega (arith, below, not_less, small_d) in
-              let less : b < d = omega (arith, below, same) in
-              or_right (nat_lt s t) ((s == t) && nat_lt b d) (and_from _ _ (eq-eqb s t same) (lt-ltb b d less))
-        ])
+    let below : 18446744073709551616 * s + b < 18446744073709551616 * t + d = ltb-true _ _ is in
+    elim (cases_lt s t) [
+      | inl less ↦ or_left (nat_lt s t) ((s == t) && nat_lt b d) (lt-ltb s t less)
+      | inr not_less ↦
+          let same : s ≡ t = omega (arith, below, not_less, small_d) in
+          let less : b < d = omega (arith, below, same) in
+          or_right (nat_lt s t) ((s == t) && nat_lt b d) (and_from _ _ (eq-eqb s t same) (lt-ltb b d less))
+    ])

@@ -21,10 +21,7 @@ const TWIN: SuperFields = SuperFields {
 };
 
 // Of the sequence of the early one and of a later boot.
-const BOOTED: SuperFields = SuperFields {
-    boot: 7,
-    ..EARLY
-};
+const BOOTED: SuperFields = SuperFields { boot: 7, ..EARLY };
 
 // The same of a version that isn't known.
 const STRANGE: SuperFields = SuperFields {
