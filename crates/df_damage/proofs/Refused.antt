@@ -8,7 +8,6 @@ use Rattle.df_layout.specs.Zones.{file_sectors}
 use Rattle.df_format.specs.declared.superblock.SuperFault.TheVariants.{BadField as BrokenField, Version as OtherVersion}
 use Rattle.df_format.specs.Message.{Message}
 use Rattle.df_format.specs.Shown
-use Rattle.df_format.proofs.Laws.{faults}
 use Rattle.df_model.specs.declared.errors.OpenError.{OpenError}
 use Rattle.df_model.specs.declared.errors.OpenError.TheVariants.{BadField, Damaged, DiskFault, LayoutDiffers, NoQuorum, NotFormatted, Version}
 use Rattle.df_theory.specs.Copies.{Agree}
@@ -26,13 +25,13 @@ use Rattle.df_units.specs.Meaning.{message_of, place_of}
 use Rattle.df_units.proofs.Laws.{chosen_choice, is_format}
 use Rattle.df_recovery.specs.Opening.{Refuses}
 use Rattle.df_recovery.specs.Surveys.{Surveys}
-use Rattle.df_recovery.proofs.Laws.{super_or_refusal}
+use Rattle.df_recovery.proofs.Laws.{asked_none, super_or_refusal}
 use Rattle.df_recovery.specs.Below.{DataFile, shape}
 use Rattle.df_damage.specs.Disks.{MayBeHurt}
 use Rattle.df_damage.specs.Hurt.{IsHurtFile, IsHurtPlace, IsUnhurt}
 use Rattle.df_damage.specs.Refusals.{BlamesHurt, IsBlamed, MayBeOfDamage, ProbeIsOfHurt, RefusalsAreOfDamage, RefusalsBlameHurt}
 use Rattle.df_damage.proofs.Barriers.{agreed_rest, left, log, pooled, rests, shown}
-use Rattle.df_damage.proofs.Files.{no_bad_field, no_fault, own_layout, refused_here, rules}
+use Rattle.df_damage.proofs.Files.{no_bad_field, no_fault, own_layout, refused_here, rules, tests}
 use Rattle.df_damage.proofs.NotRefused.{found_is_not_refused}
 use Rattle.df_damage.proofs.Sectors.{in_zone, place_differs, search}
 
@@ -122,7 +121,7 @@ module _ (file : DataFile) (view : View) (t : Told) (may : MayBeHurt file view t
     usable e refuses =
         let chosen = (never_behind_law (shape file) (log file view t may) view (shown file view t may) (rests file view t may) (pooled file view t may) agreed).0 in
         let choice = chosen_choice file.layout file.cluster t.shown view.checkpoint.content may.whole chosen in
-        super_or_refusal t.shown choice.0.fields e (record { content = choice.0; chosen = choice.2; fields = refl; usable = (faults choice.0.fields).1 (rules file view t may choice.0 choice.2).1 }) refuses
+        super_or_refusal t.shown choice.0.fields e (record { content = choice.0; chosen = choice.2; fields = refl; usable = asked_none choice.0.fields (tests file view t may choice.0 choice.2).0.version (rules file view t may choice.0 choice.2).1 }) refuses
 
     pub blames : (e : OpenError) → Surveys file.layout t.shown (Err e) → (e ≡ DiskFault → ⊥) → BlamesHurt file view t e
     blames NotFormatted is other = usable NotFormatted is

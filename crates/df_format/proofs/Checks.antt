@@ -1,11 +1,11 @@
 -- Checksums one behind the other: their bytes, how they are read again, and what stands where none of them is named.
 use Rattle.std.proofs.Common.{◌≡◌, ◌<◌, ◌≤◌, ◌+◌, ◌-◌, ◌*◌, ℕ, zero, suc, List, [], ◌∷◌, ◌++◌, length, take, drop, replicate, get_or, refl, sym, ◌∙◌, ap, arith, append_assoc, length-append}
 use Rattle.std.specs.Prelude.{All}
-use Rattle.std.proofs.lemmas.List.{take_at, take_all, take-replicate, drop-replicate, take-append-drop, drop-drop, length-take-le, length-drop, replicate-append-replicate, ext_get_or}
+use Rattle.std.proofs.lemmas.List.{take_at, take_all, take-replicate, drop-replicate, take-append-drop, drop-drop, length-take-le, length-drop, length-replicate, get_or-replicate, replicate-append-replicate, ext_get_or}
 use Rattle.df_base.specs.Fields.{AreBytes}
 use Rattle.df_base.proofs.Laws.{AreBytes-nil, AreBytes-append, AreBytes-take, AreBytes-drop}
 use Rattle.df_format.specs.Spelling.{IsCheck, no_checksum}
-use Rattle.df_format.specs.Super.{AreNone, checks_bytes}
+use Rattle.df_format.specs.Super.{AreNone, checks_bytes, no_checksums}
 use Rattle.df_format.specs.Copies.{checks_at}
 use Rattle.df_format.proofs.Parts.{past}
 
@@ -113,3 +113,8 @@ none_at zero at m bytes is fits k d inside = absurd (omega arith)
 none_at (suc n) at m bytes is fits zero d inside = ap (λ (l : List ℕ). take 16 l) is ∙ take-replicate 16 m 0 (omega (arith, fits))
 none_at (suc n) at m bytes is fits (suc k) d inside =
     none_at n (at + 16) (m - 16) bytes (sym (drop-drop 16 at bytes) ∙ ap (λ (l : List ℕ). drop 16 l) is ∙ drop-replicate 16 m 0) (omega (arith, fits)) k d (omega arith)
+
+-- zeros for each place name none
+pub no_names : AreNone no_checksums
+unfolding no_checksums
+no_names k past inside = get_or-replicate 64 k no_checksum past (omega (arith, inside, length-replicate {A = List ℕ} 64 no_checksum))

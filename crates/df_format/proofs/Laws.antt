@@ -9,7 +9,7 @@ pub use Rattle.df_format.proofs.Front.{front_brings, made_brings}
 pub use Rattle.df_format.proofs.Makes.{sealed_is}
 pub use Rattle.df_format.proofs.Given.{Gives, GivesBlock, GivesPrepare, GivesReply, GivesTrailer, given_obeys, made_again, no_check, of_first}
 pub use Rattle.df_format.proofs.CopySpelled.{named_zeros, one_copy_spelling, read_as, was_written}
-pub use Rattle.df_format.proofs.Checks.{are_checks, length-checks_at}
+pub use Rattle.df_format.proofs.Checks.{are_checks, length-checks_at, no_names}
 pub use Rattle.df_format.proofs.CopyClasses.{blank_copy_none, copy_is_not_blank, is_here, stale_copy, valid_is_stale}
 pub use Rattle.df_format.proofs.CopyShown.{one_sector, same_copy, written_copy}
 pub use Rattle.df_format.proofs.SuperFaults.{faults}

@@ -4,7 +4,7 @@ use Rattle.std.proofs.lemmas.List.{take_all}
 use Rattle.std.proofs.lemmas.Option.{same_Some}
 use Rattle.df_base.specs.Fields.{spelled}
 use Rattle.df_base.proofs.Laws.{spelled-field_at}
-use Rattle.df_format.proofs.Laws.{faults}
+use Rattle.df_format.proofs.Laws.{faults, no_names}
 use Rattle.df_format.specs.Spelling.{IsCheck}
 use Rattle.df_format.specs.SuperRules.{IsSuper, fault_of}
 use Rattle.df_grid.specs.Table.{last_of}
@@ -24,7 +24,7 @@ first_pair (x ∷ xs) [] address sum done is =
 module _ (s : State) (r : RunningState) (is : IsState s) (runs : IsRunning s.file s.fields s.head s.blocks r) (some : 1 ≤ first_address s.blocks.written) (inside : first_address s.blocks.written ≤ s.file.layout.blocks) where
   is_super : IsSuper (next_fields s r)
   is_super = record {
-    version = refl;
+    version = inl (record { version = refl; boot = refl; named = record { head = refl; replies = no_names } });
     layout = record {
       slots_within = s.file.layout.slots_within;
       message_size_within = s.file.layout.message_size_within;
@@ -42,7 +42,6 @@ module _ (s : State) (r : RunningState) (is : IsState s) (runs : IsRunning s.fil
     trailer_checksum = λ none. absurd (omega (arith, some, none));
     no_trailer = λ none. absurd (omega (arith, some, none));
     trailer_size = λ other. runs.fits;
-    boot = refl;
     zero = refl;
   }
 

@@ -7,7 +7,6 @@ use Rattle.df_disk.specs.Told.{Told, after, did}
 use Rattle.df_layout.specs.declared.layout.Layout.{Layout}
 use Rattle.df_format.specs.declared.superblock.SuperFields.{SuperFields}
 use Rattle.df_format.specs.Copies.{content_at}
-use Rattle.df_format.specs.SuperRules.{fault_of}
 use Rattle.df_quorum.specs.declared.choice.Chosen.{Chosen}
 use Rattle.df_quorum.specs.Quorum.{AreMembers}
 use Rattle.df_units.specs.Bytes.{unit_at}
@@ -56,7 +55,7 @@ module _ (x : Scanned) (s : Survey) (layout : Layout) (settled : IsSettledFrom x
           content = is.choice.content;
           chosen = is.choice.is;
           fields = sym is.choice.fields ∙ sym is.content ∙ sym settled.fields_are;
-          usable = ap fault_of settled.fields_are ∙ is.super.usable;
+          usable = ap fault_asked settled.fields_are ∙ is.super.usable;
         };
         members_are = subst (λ (c : Chosen). AreMembers (content_at t.shown) is.choice.content c.members) (sym settled.chosen_is) is.choice.members;
         start = read.start ∙ ap start_of (sym settled.fields_are);
