@@ -19,7 +19,7 @@ use Rattle.df_format.specs.Own.{own_place, place_in}
 use Rattle.df_format.specs.Rules.{ObeysRules}
 use Rattle.df_format.specs.Spelling.{IsCheck, no_checksum}
 use Rattle.df_format.specs.Valid.{Belongs, IsAtAddress, IsUnit}
-use Rattle.df_format.proofs.Laws.{given_obeys, valid_belongs}
+use Rattle.df_format.proofs.Laws.{given_obeys, of_first, valid_belongs}
 use Rattle.df_buffers.specs.Sounds.{Holding, IsSound}
 use Rattle.df_theory.specs.Device.{AreSteps}
 use Rattle.df_theory.specs.Units
@@ -145,7 +145,7 @@ before_first index (Some r) is = (λ none. absurd (omega (arith, is.1, none)), �
 pub header_obeys : (cluster a index sequence : ℕ) (before : Option Reference) (piece : List ℕ) → (0 < cluster) × (cluster < 2 ^ 128) → (0 < a) × (a < 2 ^ 64) → index < 2 ^ 64 → (2 ≤ sequence) × (sequence ≤ 2 ^ 62) → IsBefore index before → IsCheck (checksum_in before)
     → address_in before < 2 ^ 64 → 256 + length piece < 2 ^ 32 → ObeysRules (for_body (header_with cluster a index sequence (address_in before) (checksum_in before)) piece)
 header_obeys cluster a index sequence before piece named at count running is fits low size =
-    given_obeys cluster named (header_with cluster a index sequence (address_in before) (checksum_in before)) piece Trailer (
+    given_obeys cluster named (header_with cluster a index sequence (address_in before) (checksum_in before)) piece Trailer (of_first Trailer (header_with cluster a index sequence (address_in before) (checksum_in before)) refl refl refl refl) (
       record {
         parent = fits;
         first = parent_first index before is;

@@ -1,5 +1,5 @@
 -- What the superblock says that ends a checkpoint obeys the rules.
-use Rattle.std.proofs.Common.{◌≡◌, ◌∙◌, ℕ, ◌≤◌, List, [], ◌∷◌, Some, None, refl, sym, ap, arith}
+use Rattle.std.proofs.Common.{inl, ◌≡◌, ◌∙◌, ℕ, ◌≤◌, List, [], ◌∷◌, Some, None, refl, sym, ap, arith}
 use Rattle.std.proofs.lemmas.List.{take_all}
 use Rattle.std.proofs.lemmas.Option.{same_Some}
 use Rattle.df_base.specs.Fields.{spelled}

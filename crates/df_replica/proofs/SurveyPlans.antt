@@ -16,6 +16,7 @@ use Rattle.df_recovery.specs.Starting.{start_of}
 use Rattle.df_recovery.proofs.Laws.{version_one}
 use Rattle.df_journal.proofs.Laws.{scanned_shown}
 use Rattle.df_recovery.specs.Found.{IsFound}
+use Rattle.df_recovery.specs.Opening.{fault_asked}
 use Rattle.df_recovery.specs.Scanning.{IsReadBehind, IsScan, TellsRead}
 use Rattle.df_recovery.specs.Surveys.{IsOpened}
 use Rattle.df_recovery.specs.declared.scanned.Scanned.{Scanned}
