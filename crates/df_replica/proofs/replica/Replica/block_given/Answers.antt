@@ -1,5 +1,5 @@
 -- What the maker says obeys the rules of a block, with any body that fits.
-use Rattle.std.proofs.Common.{sym, subst, arith, rules}
+use Rattle.std.proofs.Common.{sym, subst, arith, rules, refl}
 use Rattle.df_format.specs.declared.header.Header.{Header}
 use Rattle.df_format.specs.declared.kind.Kind.TheVariants.{Block as AsBlock}
 use Rattle.df_format.specs.Making.{for_body}
