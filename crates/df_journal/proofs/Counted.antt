@@ -1,9 +1,9 @@
 -- The counters are the greatest numbers.
-use Rattle.std.proofs.Common.{◌≡◌, ◌↔◌, inl, inr, ℕ, ◌+◌, ◌-◌, ◌<◌, ◌≤◌, Bool, true, false, List, length, get_or, Option, Some, None, refl, sym, ◌∙◌, ap, subst, arith, max}
+use Rattle.std.proofs.Common.{◌≡◌, ◌==◌, ◌↔◌, inl, inr, ℕ, ◌+◌, ◌-◌, ◌<◌, ◌≤◌, Bool, true, false, List, length, get_or, Option, Some, None, refl, sym, ◌∙◌, ap, subst, arith, max}
 use Rattle.std.specs.Prelude.{Result, Ok, Err, IsTrue, IsFalse}
 use Rattle.std.specs.Bool.{OnFalse}
 use Rattle.std.specs.List.{slice_get}
-use Rattle.std.proofs.lemmas.Bool.{cases_lt}
+use Rattle.std.proofs.lemmas.Bool.{cases_eq, cases_lt, cond-true, cond-false, eq-eqb, ne_eqb}
 use Rattle.std.proofs.lemmas.Option.{slice_get_cases, slice_get-get_or}
 use Rattle.df_layout.specs.declared.damage.Class.{Class}
 use Rattle.df_format.specs.declared.header.Header.{Header as FileHeader}
@@ -15,7 +15,7 @@ use Rattle.df_theory.specs.Found.{NotBehind, NotLost}
 use Rattle.df_units.specs.Meaning.{header_of}
 use Rattle.df_buffers.specs.declared.slots.SlotSeen.{SlotSeen}
 use Rattle.df_journal.specs.Shows.{ShowsHeader, ShowsPrepare, ShowsTable}
-use Rattle.df_journal.specs.Counts.{AllAreOf, CountsAll, CountsRings, RingsWithin, UnbootedAreOfNone, boot_in, checkpoint_in, op_in, with_unit}
+use Rattle.df_journal.specs.Counts.{CountsAll, CountsOps, CountsOwn, CountsRings, OwnAreAlone, RingsWithin, boot_in, checkpoint_in, in_boot, op_in, own_op, with_unit}
 
 -- ---- the rings
 
@@ -31,6 +31,10 @@ op_is (Err class) = refl
 pub checkpoint_is : (r : Result FileHeader Class) → checkpoint_in r ≡ number_in (λ h. h.checkpoint) r
 checkpoint_is (Ok h) = refl
 checkpoint_is (Err class) = refl
+
+pub own_op_is : (boot : ℕ) (r : Result FileHeader Class) → own_op boot r ≡ number_in (in_boot boot (λ h. h.op)) r
+own_op_is boot (Ok h) = refl
+own_op_is boot (Err class) = refl
 
 pub boot_is : (r : Result FileHeader Class) → boot_in r ≡ number_in (λ h. h.boot) r
 boot_is (Ok h) = refl
@@ -158,34 +162,38 @@ up_to_date sh image c seen counts = (
   },
 )
 
-pub complete : (image : Units) (c : Content) (head : ℕ) (seen : Counters) → CountsAll image seen → AllAreOf image c.boot → IsComplete seen c.head head ↔ NotLost image c head
-complete image c head seen counts boots = (
+-- the number of a unit of this boot
+own_is : (boot : ℕ) (number : Header → ℕ) (h : Header) → h.boot ≡ boot → in_boot boot number h ≡ number h
+own_is boot number h own = cond-true (h.boot == boot) (number h) 0 (eq-eqb h.boot boot own)
+
+within_own : (boot n : ℕ) (number : Header → ℕ) (h : Header) → (h.boot ≡ boot → number h ≤ n) → in_boot boot number h ≤ n
+within_own boot n number h all = elim (cases_eq h.boot boot) [
+  | inl own ↦ omega (arith, own_is boot number h own, all own)
+  | inr other ↦ omega (arith, cond-false (h.boot == boot) (number h) 0 (ne_eqb h.boot boot other))
+]
+
+pub own_within : (boot n : ℕ) (number : Header → ℕ) (h : Header) → in_boot boot number h ≤ n → h.boot ≡ boot → number h ≤ n
+own_within boot n number h le own = omega (arith, le, own_is boot number h own)
+
+pub complete : (image : Units) (c : Content) (head : ℕ) (seen : Counters) → CountsOwn c.boot image seen → OwnAreAlone image c.boot → IsComplete seen c.head head ↔ NotLost image c head
+complete image c head seen counts alone = (
   λ is.
       let op = (counts.ring_op head).0 is.ring_op in
-      let reply = (counts.reply_top head).0 is.reply_top in
-      record { header = λ s h shown own. op.header s h shown; prepare = λ s p shown own. inl (op.prepare s p shown); superblock = is.superblock; reply = λ k r shown own. (reply.0 k r shown, reply.1 k r shown) },
-  λ is.
-      let header : (s : ℕ) (h : Header) → image (HeaderPlace s) ≡ Some (HeaderUnit h) → h.op ≤ head = λ s h shown. is.header s h shown (boots.0.header s h shown) in
-      let prepare : (s : ℕ) (p : Message) → image (PreparePlace s) ≡ Some (PrepareUnit p) → p.header.op ≤ head = λ s p shown. elim (is.prepare s p shown (boots.0.prepare s p shown)) [ inl below ↦ below | inr cut ↦ let own = boots.0.alone s p shown in absurd (omega (arith, own.first, own.last, cut.several)) ] in
-      let reply : (k : ℕ) (r : Message) → image (ReplyPlace k) ≡ Some (ReplyUnit r) → (r.header.op ≤ head) × (r.header.mark ≤ head) = λ k r shown. is.reply k r shown (boots.1 k r shown) in
+      let reply = (counts.replies head).0 is.reply_top in
       record {
-        ring_op = (counts.ring_op head).1 (record { header = header; prepare = prepare });
-        reply_top = (counts.reply_top head).1 (λ k r shown. (reply k r shown).0, λ k r shown. (reply k r shown).1);
+        header = λ s h shown. own_within c.boot head (λ x. x.op) h (op.header s h shown);
+        prepare = λ s p shown own. inl (own_within c.boot head (λ x. x.op) p.header (op.prepare s p shown) own);
+        superblock = is.superblock;
+        reply = λ k r shown own. (own_within c.boot head (λ x. x.op) r.header (reply.0 k r shown) own, own_within c.boot head (λ x. x.mark) r.header (reply.1 k r shown) own);
+      },
+  λ is.
+      let prepare : (s : ℕ) (p : Message) → image (PreparePlace s) ≡ Some (PrepareUnit p) → p.header.boot ≡ c.boot → p.header.op ≤ head = λ s p shown own. elim (is.prepare s p shown own) [ inl below ↦ below | inr cut ↦ let one = alone s p shown own in absurd (omega (arith, one.first, one.last, cut.several)) ] in
+      record {
+        ring_op = (counts.ring_op head).1 (record { header = λ s h shown. within_own c.boot head (λ x. x.op) h (is.header s h shown); prepare = λ s p shown. within_own c.boot head (λ x. x.op) p.header (prepare s p shown) });
+        reply_top = (counts.replies head).1 (λ k r shown. within_own c.boot head (λ x. x.op) r.header (λ own. (is.reply k r shown own).0), λ k r shown. within_own c.boot head (λ x. x.mark) r.header (λ own. (is.reply k r shown own).1));
         superblock = is.superblock;
       },
 )
-
--- where nothing is behind a superblock without a boot, all units are of none
-pub unbooted : UnbootedAreOfNone
-unbooted sh image c none early alone =
-    let prepare : (s : ℕ) (p : Message) → image (PreparePlace s) ≡ Some (PrepareUnit p) → p.header.boot ≡ 0 = λ s p shown. omega (arith, (early.prepare s p shown).2, none) in (
-      record {
-        header = λ s h shown. omega (arith, (early.header s h shown).2, none);
-        prepare = λ s p shown. omega (arith, (early.prepare s p shown).2, none);
-        alone = λ s p shown. alone s p shown (prepare s p shown);
-      },
-      λ k r shown. omega (arith, (early.reply k r shown).1, none),
-    )
 
 pub record Tells (b : Bool) (N : Type 0) : Type 0 where
   pub yes : IsTrue b ↔ (N → ⊥)
@@ -210,9 +218,9 @@ behind_tells sh image c seen b boot sequence op slot_count found none counts boo
     ])
 
 pub lost_tells : (image : Units) (c : Content) (seen : Counters) (b : Bool) (superblock_head head : ℕ) → IsTrue b ↔ IsLost seen superblock_head head → OnFalse b (IsComplete seen superblock_head head)
-    → CountsAll image seen → AllAreOf image c.boot → c.head ≡ superblock_head → Tells b (NotLost image c head)
-lost_tells image c seen b superblock_head head found none counts boots is =
-    let iff : IsComplete seen superblock_head head ↔ NotLost image c head = subst (λ (k : ℕ). IsComplete seen k head ↔ NotLost image c head) is (complete image c head seen counts boots) in
+    → CountsOwn c.boot image seen → OwnAreAlone image c.boot → c.head ≡ superblock_head → Tells b (NotLost image c head)
+lost_tells image c seen b superblock_head head found none counts alone is =
+    let iff : IsComplete seen superblock_head head ↔ NotLost image c head = subst (λ (k : ℕ). IsComplete seen k head ↔ NotLost image c head) is (complete image c head seen counts alone) in
     tells b found none iff (λ bad good. elim bad [ inl ring ↦ omega (arith, ring, good.ring_op) | inr (inl reply) ↦ omega (arith, reply, good.reply_top) | inr (inr own) ↦ omega (arith, own, good.superblock) ])
 
 -- ---- turns of the loops, by what is read at an index
@@ -225,3 +233,18 @@ slot_turn table k seen one two d e within first second is =
     let same : get_or table k e ≡ get_or table k d = cc in
     let counted : two ≡ with_unit (with_unit seen (get_or table k d).header) (get_or table k d).prepare = second ∙ ap (λ (x : SlotSeen). with_unit one x.prepare) same ∙ ap (λ (x : Counters). with_unit x (get_or table k d).prepare) first in
     subst (CountsSlots table (k + 1)) (sym counted) (slots_more table k seen (get_or table k d) at is)
+
+-- the same of the greatest op of a boot
+pub own_turn : (boot : ℕ) (table : List SlotSeen) (k top one two : ℕ) (d e : SlotSeen) → k < length table → one ≡ max top (own_op boot (get_or table k d).header) → two ≡ max one (own_op boot (get_or table k e).prepare)
+    → IsTop (in_boot boot (λ h. h.op)) table k top → IsTop (in_boot boot (λ h. h.op)) table (k + 1) two
+own_turn boot table k top one two d e within first second is =
+    let at : slice_get table k ≡ Some (get_or table k d) = slice_get-get_or table k d within in
+    let other : slice_get table k ≡ Some (get_or table k e) = slice_get-get_or table k e within in
+    let both : Some (get_or table k e) ≡ Some (get_or table k d) = sym other ∙ at in
+    let same : get_or table k e ≡ get_or table k d = cc in
+    let counted : two ≡ max (max top (own_op boot (get_or table k d).header)) (own_op boot (get_or table k d).prepare) = second ∙ ap (λ (x : SlotSeen). max one (own_op boot x.prepare)) same ∙ ap (λ (x : ℕ). max x (own_op boot (get_or table k d).prepare)) first in
+    subst (IsTop (in_boot boot (λ h. h.op)) table (k + 1)) (sym counted)
+    (top_more (in_boot boot (λ h. h.op)) table k top (own_op boot (get_or table k d).header) (own_op boot (get_or table k d).prepare) (get_or table k d) at (own_op_is boot (get_or table k d).header) (own_op_is boot (get_or table k d).prepare) is)
+
+pub ops_count : (boot : ℕ) (table : List SlotSeen) (top : ℕ) (image : Units) → IsTop (in_boot boot (λ h. h.op)) table (length table) top → ShowsTable image table → CountsOps boot image top
+ops_count boot table top image is shows n = then_iff (is n) (rings_within image table shows (in_boot boot (λ h. h.op)) n)

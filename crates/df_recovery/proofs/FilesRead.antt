@@ -22,7 +22,7 @@ use Rattle.df_theory.specs.View.{PassesTests}
 use Rattle.df_units.specs.Bytes.{copy_unit, unit_at}
 use Rattle.df_units.specs.Meaning.{content_of, layout_of}
 use Rattle.df_units.specs.Superblocks.{AreFieldsOf, HasChecks}
-use Rattle.df_units.proofs.Laws.{choice_chosen, first_usable_passes, one_content, shown_checks, copy_parts}
+use Rattle.df_units.proofs.Laws.{choice_chosen, first_usable_passes, one_content, shown_checks, copy_parts, unbooted_alone}
 use Rattle.df_journal.specs.Shows.{Tells}
 use Rattle.df_journal.proofs.Laws.{scanned_shown as slots_shown}
 use Rattle.df_replies.specs.Shown.{ShowsReplies}
@@ -116,6 +116,8 @@ file_is_read t file read base is = record {
   clients_are = ap (λ (l : Layout). l.clients) (sym is.layout);
   content_is = refl;
   readable = readable t file read base is;
+  first = (asked_super read.found.content is.has.super.usable).0;
+  alone = λ s p shown own. unbooted_alone file.layout file.cluster t.shown is.image s p shown (own ∙ ((passes t file read base is).0.of.one (asked_super read.found.content is.has.super.usable).0).0);
   lowest_is = lowest t file read base is;
   sessions_are = is.checkpoint.sessions_are ∙ ap sessions_of is.sessions;
 }

@@ -53,16 +53,16 @@ fn the_second_reply_of_the_third_of_four_clients_is_torn(rt: HostRuntime) {
     let sessions = four_sessions();
     let mut table = new_table(&rt, rt.alloc());
     assert!(rt; scan(&rt, rt.alloc(), &mut board, &mut table) == Ok(()));
-    assert!(rt; table.replies(4, 3) == 8 && table.first_lacking(&sessions, 8) == None);
+    assert!(rt; table.replies(4, 3, 0) == 8 && table.first_lacking(&sessions, 8, 0) == None);
     assert!(rt; board.write(75, &before) == Ok(()));
     assert!(rt; scan(&rt, rt.alloc(), &mut board, &mut table) == Ok(()));
-    assert!(rt; table.get(2).err() == Some(Class::Garbled) && table.replies(4, 3) == 8);
+    assert!(rt; table.get(2).err() == Some(Class::Garbled) && table.replies(4, 3, 0) == 8);
     let lacking = Lacking {
         place: 2,
         class: Class::Garbled,
     };
-    assert!(rt; table.first_lacking(&sessions, 8) == Some(lacking));
-    assert!(rt; table.first_lacking(&sessions, 6) == None);
+    assert!(rt; table.first_lacking(&sessions, 8, 0) == Some(lacking));
+    assert!(rt; table.first_lacking(&sessions, 6, 0) == None);
 }
 
 const FIRST: Stored = Stored {
@@ -166,13 +166,13 @@ fn found_behind(rt: &impl Abort, alloc: Global, replies: &[Stored; 3]) -> Findin
     ask(&mut sessions, &SECOND);
     let mut table = new_table(rt, alloc);
     assert!(rt; scan(rt, alloc, &mut board, &mut table) == Ok(()));
-    let seen = table.count(&Counters::default());
+    let seen = table.count(&Counters::default(), 0);
     assert!(rt; seen.ring_op == 0);
     Finding {
         top: seen.reply_top,
         checkpoint: seen.checkpoint,
-        replies: table.replies(0, 0),
-        lacking: table.first_lacking(&sessions, 6),
+        replies: table.replies(0, 0, 0),
+        lacking: table.first_lacking(&sessions, 6, 0),
     }
 }
 

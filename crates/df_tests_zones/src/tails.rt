@@ -85,7 +85,7 @@ fn found(
     let mut sessions = SessionTable::new(4);
     let tail = find_tail(layout, &found, &[0; 16], &mut sessions);
     let seen = count_rings(&found);
-    (tail, is_behind(&seen, 1, 0, 32), is_lost(&seen, 0, tail.op))
+    (tail, is_behind(&seen, 1, 0, 32, 0), is_lost(&seen, 0, tail.op))
 }
 
 // The decisions on the first eight slots.
