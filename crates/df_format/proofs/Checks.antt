@@ -1,7 +1,7 @@
 -- Checksums one behind the other: their bytes, how they are read again, and what stands where none of them is named.
 use Rattle.std.proofs.Common.{◌≡◌, ◌<◌, ◌≤◌, ◌+◌, ◌-◌, ◌*◌, ℕ, zero, suc, List, [], ◌∷◌, ◌++◌, length, take, drop, replicate, get_or, refl, sym, ◌∙◌, ap, arith, append_assoc, length-append}
 use Rattle.std.specs.Prelude.{All}
-use Rattle.std.proofs.lemmas.List.{take_at, take_all, take-replicate, drop-replicate, take-append-drop, drop-drop, length-take-le, length-drop, length-replicate, get_or-replicate, replicate-append-replicate, ext_get_or}
+use Rattle.std.proofs.lemmas.List.{take_at, take_all, take-replicate, drop-replicate, take-append-drop, drop-drop, length-take-le, length-drop, length-replicate, get_or-replicate, replicate-append-replicate, ext_get_or, append-nil}
 use Rattle.df_base.specs.Fields.{AreBytes}
 use Rattle.df_base.proofs.Laws.{AreBytes-nil, AreBytes-append, AreBytes-take, AreBytes-drop}
 use Rattle.df_format.specs.Spelling.{IsCheck, no_checksum}
@@ -11,15 +11,15 @@ use Rattle.df_format.proofs.Parts.{past}
 
 -- ---- their bytes
 
-behind : {P : List ℕ → Type 0} (check : List ℕ) (checks : List (List ℕ)) → All P (check ∷ checks) → All P checks
-behind check checks each k d inside = each (suc k) d (omega arith)
+behind : (P : List ℕ → Type 0) (check : List ℕ) (checks : List (List ℕ)) → All P (check ∷ checks) → All P checks
+behind P check checks each k d inside = each (suc k) d (omega arith)
 
 pub length-checks : (checks : List (List ℕ)) → All IsCheck checks → length (checks_bytes checks) ≡ 16 * length checks
 unfolding checks_bytes
 length-checks [] each = refl
 length-checks (check ∷ checks) each =
     let first : IsCheck check = each 0 check (omega arith) in
-    let rest = length-checks checks (behind check checks each) in
+    let rest = length-checks checks (behind IsCheck check checks each) in
     omega (arith, length-append check (checks_bytes checks), first.size, rest)
 
 pub AreBytes-checks : (checks : List (List ℕ)) → All IsCheck checks → AreBytes (checks_bytes checks)
@@ -27,7 +27,7 @@ unfolding checks_bytes
 AreBytes-checks [] each = AreBytes-nil
 AreBytes-checks (check ∷ checks) each =
     let first : IsCheck check = each 0 check (omega arith) in
-    AreBytes-append check (checks_bytes checks) first.each (AreBytes-checks checks (behind check checks each))
+    AreBytes-append check (checks_bytes checks) first.each (AreBytes-checks checks (behind IsCheck check checks each))
 
 -- where none is named they are zeros
 pub checks_zero : (checks : List (List ℕ)) (n : ℕ) → 16 * length checks ≡ n → AreNone checks → checks_bytes checks ≡ replicate n 0
@@ -35,7 +35,7 @@ unfolding checks_bytes no_checksum
 checks_zero [] n size none = ap (λ (m : ℕ). replicate m 0) (let empty : 0 ≡ n = omega (arith, size) in empty)
 checks_zero (check ∷ checks) n size none =
     let first : check ≡ replicate 16 0 = none 0 check (omega arith) in
-    let rest = checks_zero checks (n - 16) (omega (arith, size)) (behind check checks none) in
+    let rest = checks_zero checks (n - 16) (omega (arith, size)) (behind (λ (c : List ℕ). c ≡ no_checksum) check checks none) in
     (λ i. first i ++ rest i)
     ∙ replicate-append-replicate 16 (n - 16) 0
     ∙ ap (λ (m : ℕ). replicate m 0) (let all : 16 + (n - 16) ≡ n = omega (arith, size) in all)
@@ -50,11 +50,11 @@ unfolding checks_bytes
 one_check check = refl
 
 -- one checksum more
-pub checks_more : (checks : List (List ℕ)) (k : ℕ) (past : List ℕ) → take (k + 1) checks ≡ take k checks ++ get_or checks k past ∷ [] → checks_bytes (take (k + 1) checks) ≡ checks_bytes (take k checks) ++ get_or checks k past
+pub checks_more : (checks : List (List ℕ)) (k : ℕ) (d : List ℕ) → take (k + 1) checks ≡ take k checks ++ get_or checks k d ∷ [] → checks_bytes (take (k + 1) checks) ≡ checks_bytes (take k checks) ++ get_or checks k d
 unfolding checks_bytes
-checks_more checks k past more =
-    let check : List ℕ = get_or checks k past in
-    ap checks_bytes more ∙ appended (take k checks) (check ∷ []) ∙ ap (λ (l : List ℕ). checks_bytes (take k checks) ++ l) (one_check check ∙ simp append_assoc)
+checks_more checks k d more =
+    let check : List ℕ = get_or checks k d in
+    ap checks_bytes more ∙ appended (take k checks) (check ∷ []) ∙ ap (λ (l : List ℕ). checks_bytes (take k checks) ++ l) (one_check check ∙ append-nil check)
 
 -- ---- how they are read
 
@@ -103,7 +103,7 @@ read_checks (check ∷ checks) at bytes rest each is =
     let size : length check ≡ 16 = (each 0 check (omega arith)).size in
     let here : drop at bytes ≡ check ++ (checks_bytes checks ++ rest) = is ∙ append_assoc check (checks_bytes checks) rest in
     let first : take 16 (drop at bytes) ≡ check = ap (λ (l : List ℕ). take 16 l) here ∙ take_at check (checks_bytes checks ++ rest) 16 size in
-    let others = read_checks checks (at + 16) bytes rest (behind check checks each) (past at 16 bytes check (checks_bytes checks ++ rest) here size) in
+    let others = read_checks checks (at + 16) bytes rest (behind IsCheck check checks each) (past at 16 bytes check (checks_bytes checks ++ rest) here size) in
     λ i. first i ∷ others i
 
 -- among zeros none is named

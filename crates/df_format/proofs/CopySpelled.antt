@@ -164,7 +164,7 @@ module _ (number : ℕ) (f : SuperFields) (small : number < 4) (fits : FitsSuper
 
   -- version 2 has zeros between and behind what it names
   zero_between : nonzero_between 176 192 sector ≡ None
-  zero_between = nothing_between 176 192 16 sector (ap (λ (l : List ℕ). take 16 l) f176 ∙ take_at (replicate 16 0) _ 16 (length-replicate {A = ℕ} 16 0))
+  zero_between = nothing_between 176 192 16 sector (ap (λ (l : List ℕ). take 16 l) f176 ∙ take_at (replicate 16 0) (checks_bytes f.reply_checksums ++ replicate 2880 0) 16 (length-replicate {A = ℕ} 16 0))
 
   zero_behind : nonzero_between 1216 4096 sector ≡ None
   zero_behind = nothing_between 1216 4096 2880 sector (ap (λ (l : List ℕ). take 2880 l) f1216 ∙ take_all 2880 (replicate 2880 0) (omega (arith, length-replicate {A = ℕ} 2880 0)))

@@ -1,6 +1,8 @@
 // The rules of a superblock's fields: whether it can be used, or which field is the first that breaks its rule.
 ghost use Rattle.std.specs.Prelude.{◌≡◌, ◌==◌, ◌<◌, [], ◌∷◌, length, if◌then◌else◌, IfOk, IfErr, IfSome, None, Some};
 ghost use Rattle.std.specs.Result.{result_err};
+ghost use Rattle.df_format.specs.Spelling.{IsCheck};
+ghost use Rattle.df_format.specs.Super.{AreChecks};
 ghost use Rattle.df_format.specs.SuperRules.{IsSuper, IsUsable, FaultsAreBrokenRules, is_whole_between, is_zero_check, greatest_trailer, has_trailer_size, test, size_tests, checkpoint_tests, progress_tests, trailer_tests, first_named, first_spare, names_none, first_tests, has_head_checksum, second_tests, version_tests, field_tests, first_failing, is_known_version, fault_of};
 
 use crate::{NO_CHECKSUM, SuperFault, SuperFields};
@@ -15,6 +17,9 @@ const SECOND: u32 = 2;
 
 // The greatest op, the greatest sequence and the greatest boot.
 const GREATEST: u64 = 1 << 62;
+
+// The places of the checksums of replies.
+const PLACES: usize = 64;
 
 // How many more ops than replies there may be.
 const PIPELINE: u64 = 8;
@@ -310,12 +315,42 @@ fn test_all(fields: &SuperFields) -> Result<(), SuperFault>
     test_each(fields)
 }
 
+// A checksum has sixteen bytes, as its type says.
+fn as_check(check: Check) -> Check
+    ensures value { result ≡ check }
+    ensures check { IsCheck check }
+{
+    check
+}
+
+// And so has each of these.
+fn are_checks(checks: &[Check; 64])
+    ensures { AreChecks checks.now }
+{
+    let mut place = 0;
+    while place < PLACES {
+        as_check(checks[place]);
+        place += 1;
+    }
+}
+
 // The superblock of fields that have passed their tests.
 fn usable(fields: SuperFields) -> Super
     requires { IsSuper fields }
     ensures { result ≡ fields }
 {
-    Super { fields }
+    let op_checksum = as_check(fields.op_checksum);
+    let trailer_checksum = as_check(fields.trailer_checksum);
+    let head_checksum = as_check(fields.head_checksum);
+    are_checks(&fields.reply_checksums);
+    Super {
+        fields: SuperFields {
+            op_checksum,
+            trailer_checksum,
+            head_checksum,
+            ..fields
+        },
+    }
 }
 
 /// The superblock of these fields, if it can be used. Else why not: the version, which is tested first and is neither 1 nor 2, or

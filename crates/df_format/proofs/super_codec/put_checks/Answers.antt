@@ -1,8 +1,13 @@
 use Rattle.std.proofs.Common.{◌≡◌, ◌<◌, ◌≤◌, ◌+◌, ◌*◌, ◌++◌, ◌∙◌, ℕ, List, length, take, get_or, sym, ap, arith, append_assoc}
-use Rattle.std.proofs.lemmas.List.{take_all, take_more}
+use Rattle.std.proofs.lemmas.List.{append-nil, take_all, take_more}
 use Rattle.df_format.specs.Super.{checks_bytes}
 use Rattle.df_format.proofs.Checks.{checks_more}
 use Rattle.df_format.proofs.super_codec.put_checks.Goals as goal
+
+-- before the first there is none
+front_none : (checks : List (List ℕ)) (entry : List ℕ) → take (192 + 16 * 0) entry ≡ take 192 entry ++ checks_bytes (take 0 checks)
+unfolding checks_bytes
+front_none checks entry = sym (append-nil (take 192 entry))
 
 -- one checksum more stands behind the others
 front_more : (checks : List (List ℕ)) (k : ℕ) (past entry old new : List ℕ) → k < length checks → take (192 + 16 * k + 16) new ≡ take (192 + 16 * k) old ++ get_or checks k past
@@ -20,6 +25,9 @@ front_all : (checks : List (List ℕ)) (k : ℕ) (entry new : List ℕ) → leng
 front_all checks k entry new size end is =
     let all : 1216 ≡ 192 + 16 * k = omega (arith, end) in
     ap (λ (n : ℕ). take n new) all ∙ is ∙ ap (λ (l : List (List ℕ)). take 192 entry ++ checks_bytes l) (take_all k checks (omega (arith, size, end)))
+
+pub loop-place-init : goal.loop-place-init
+loop-place-init c = record { within = omega arith; size = c.requires; front = front_none c.args.checks.now c.args.into.now }
 
 pub loop-place-preserved : goal.loop-place-preserved
 loop-place-preserved c = record {
