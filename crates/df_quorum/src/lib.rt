@@ -4,6 +4,7 @@
 mod best;
 mod choice;
 mod choice_laws;
+mod fields;
 mod slot;
 mod votes;
 
