@@ -136,7 +136,7 @@ none_from : (checks : List (List ℕ)) → All IsCheck checks → ((k : ℕ) →
 none_from checks each zeros k past inside = zero_number (get_or checks k past) (each k past inside) (sym (get_or-map number_of checks k past 0 inside) ∙ zeros k inside)
 
 front_zero : (xs ys : List ℕ) (k : ℕ) → ((i : ℕ) → slice_index (xs ++ ys) i ≡ 0) → k < length xs → slice_index xs k ≡ 0
-front_zero xs ys k zeros inside = sym (get_or_append_left xs ys k 0 inside) ∙ zeros k
+front_zero xs ys k zeros inside = sym (get_or_append_left xs ys 0 k inside) ∙ zeros k
 
 module _ (c : Content) (checks : HasChecks c) where
   abbrev f : SuperFields
