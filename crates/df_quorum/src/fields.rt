@@ -60,9 +60,9 @@ fn same_checks(one: &[Check; 64], other: &[Check; 64]) -> bool
     true
 }
 
-// All fields are equal.
+/// Whether all fields are equal.
 #[tactic(auto, using(crate::proofs::SameFields::fields_same, crate::proofs::SameFields::sizes_same, crate::proofs::SameFields::progress_same, crate::proofs::SameFields::names_same, crate::proofs::SameFields::checks_same))]
-pub(crate) fn same_fields(one: &SuperFields, other: &SuperFields) -> bool
+pub fn same_fields(one: &SuperFields, other: &SuperFields) -> bool
     ensures { IsTrue result ↔ (one.now ≡ other.now) }
 {
     same_sizes(one, other)

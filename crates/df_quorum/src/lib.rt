@@ -12,4 +12,5 @@ pub use choice::{Chosen, choose};
 pub use choice_laws::{
     copies_decide, one_is_chosen, three_equal_are_chosen, two_newest_are_chosen,
 };
+pub use fields::same_fields;
 pub use slot::Slot;
