@@ -14,6 +14,7 @@ use Rattle.df_replica.specs.Below.{DataFile, FindsHad, MayBeHurt, begun, told_af
 use Rattle.df_replica.specs.Following.{MayOpen}
 use Rattle.df_replica.specs.Serving.{Grade, StandsFor, format}
 use Rattle.df_replica.specs.Session.{Act, work_after}
+use Rattle.df_session.specs.Found.{FoundFile}
 use Rattle.df_session.specs.Links.{CallsMade, events_made, list_of}
 use Rattle.df_session.specs.Acknowledging.{KeepsAnswered, WereAnswered}
 use Rattle.df_top.specs.Acknowledging.{run_calls, script_calls}
@@ -58,24 +59,24 @@ pub record KeepsOn (file : DataFile) (g : Grade) (w : Work) (base : Told) (mendi
 -- so does each session, whatever was done to the disk before: by each log that shows what it shows, and by which the file may be opened
 abbrev pub ScriptsKeepOn : Type 0
 ScriptsKeepOn =
-    (g : Grade) (file : DataFile) (view : View) (t base : Told) (old new : Outside) (status : Status) (serves : ServesScript file.layout t old new status) → base.shown ≡ t.shown → MayOpen file view base
-    → StandsFor g (unit_at file.layout file.cluster t.shown) view → KeepsOn file g (start_of file t.shown view) base serves.mending.events (script_calls serves.session)
+    (g : Grade) (file : DataFile) (view : View) (t base : Told) (old new : Outside) (status : Status) (found : FoundFile file.layout t) (serves : ServesScript file.layout t found old new status) → base.shown ≡ t.shown → MayOpen file view base
+    → StandsFor g (unit_at file.layout file.cluster t.shown) view → KeepsOn file g (start_of file t.shown view) base found.mending.events (script_calls serves.session)
 
 abbrev pub RunsKeepOn : Type 0
 RunsKeepOn =
-    (g : Grade) (file : DataFile) (view : View) (t base : Told) (old new : Outside) (status : Status) (seed count : ℕ) (works : WorksThrough seed count file.layout t old new status) → base.shown ≡ t.shown → MayOpen file view base
-    → StandsFor g (unit_at file.layout file.cluster t.shown) view → KeepsOn file g (start_of file t.shown view) base works.mending.events (run_calls works.worked)
+    (g : Grade) (file : DataFile) (view : View) (t base : Told) (old new : Outside) (status : Status) (seed count : ℕ) (found : FoundFile file.layout t) (works : WorksThrough seed count file.layout t found old new status) → base.shown ≡ t.shown → MayOpen file view base
+    → StandsFor g (unit_at file.layout file.cluster t.shown) view → KeepsOn file g (start_of file t.shown view) base found.mending.events (run_calls works.worked)
 
 -- A session on a hurt disk keeps it by the log that is begun anew, where its open finds the file's own checkpoint, as it does at rest while two copies stand.
 abbrev pub HurtScriptsKeep : Type 0
 HurtScriptsKeep =
-    (g : Grade) (file : DataFile) (view : View) (t : Told) (old new : Outside) (status : Status) (serves : ServesScript file.layout t old new status) (had : FindsHad file view t serves.replica) → had.found.checkpoint ≡ view.checkpoint
-    → StandsFor g (unit_at file.layout file.cluster t.shown) had.found → KeepsOn file g (start_of file t.shown had.found) (begun t) serves.mending.events (script_calls serves.session)
+    (g : Grade) (file : DataFile) (view : View) (t : Told) (old new : Outside) (status : Status) (found : FoundFile file.layout t) (serves : ServesScript file.layout t found old new status) (had : FindsHad file view t found.replica) → had.found.checkpoint ≡ view.checkpoint
+    → StandsFor g (unit_at file.layout file.cluster t.shown) had.found → KeepsOn file g (start_of file t.shown had.found) (begun t) found.mending.events (script_calls serves.session)
 
 abbrev pub HurtRunsKeep : Type 0
 HurtRunsKeep =
-    (g : Grade) (file : DataFile) (view : View) (t : Told) (old new : Outside) (status : Status) (seed count : ℕ) (works : WorksThrough seed count file.layout t old new status) (had : FindsHad file view t works.replica) → had.found.checkpoint ≡ view.checkpoint
-    → StandsFor g (unit_at file.layout file.cluster t.shown) had.found → KeepsOn file g (start_of file t.shown had.found) (begun t) works.mending.events (run_calls works.worked)
+    (g : Grade) (file : DataFile) (view : View) (t : Told) (old new : Outside) (status : Status) (seed count : ℕ) (found : FoundFile file.layout t) (works : WorksThrough seed count file.layout t found old new status) (had : FindsHad file view t found.replica) → had.found.checkpoint ≡ view.checkpoint
+    → StandsFor g (unit_at file.layout file.cluster t.shown) had.found → KeepsOn file g (start_of file t.shown had.found) (begun t) found.mending.events (run_calls works.worked)
 
 -- ---- damage at any time of a life
 

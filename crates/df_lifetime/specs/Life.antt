@@ -20,14 +20,15 @@ use Rattle.df_replica.specs.HeldBlocks.{AreInputs}
 use Rattle.df_replica.specs.Making.{MayMakeOn}
 use Rattle.df_replica.specs.Serving.{format}
 use Rattle.df_replica.specs.Session.{Act, answers_of, work_after}
+use Rattle.df_session.specs.Found.{FoundFile}
 use Rattle.df_session.specs.Links.{CallsMade, list_of}
 use Rattle.df_session.specs.Acknowledging.{WereAnswered}
 use Rattle.df_top.specs.Acknowledging.{run_calls, script_calls}
 use Rattle.df_top.specs.Formats.{Formats, MakesFile}
 use Rattle.df_top.specs.Outside.{Outside}
-use Rattle.df_top.specs.Run.{DidNothing, Does, RefusesSuperblock, Runs, ServesIn, ServesOwn}
+use Rattle.df_top.specs.Run.{ComesTo, DidNothing, Does, RefusesSuperblock, Runs, ServesIn, ServesOwn, Works}
 use Rattle.df_top.specs.declared.mode.Mode.{Mode}
-use Rattle.df_top.specs.declared.mode.Mode.TheVariants.{Format, Run, Recover, Inspect, Scrub, Workload}
+use Rattle.df_top.specs.declared.mode.Mode.TheVariants.{Run, Workload}
 use Rattle.df_top.specs.declared.status.Status.{Status}
 use Rattle.df_top.specs.declared.status.Status.TheVariants.{Done, Memory}
 
@@ -99,18 +100,19 @@ HaveAnswers zero log calls = Unit {0}
 HaveAnswers (suc k) log None = ⊥
 HaveAnswers (suc k) log (Some c) = WereAnswered (suc k) c.old log c
 
--- what a word did is a session where it served a script, or carried out a generated run
+-- what a word did with the file that it found is a session where it served a script, or carried out a generated run
+abbrev pub word_calls : (mode : Mode) → (layout : Layout) → (t : Told) → (found : FoundFile layout t) → (old new : Outside) → (status : Status) → Works mode layout t found old new status → Option CallsMade
+word_calls Run layout t found old new status serves = Some (script_calls serves.session)
+word_calls (Workload seed count) layout t found old new status works = Some (run_calls works.worked)
+word_calls mode layout t found old new status works = None
+
+abbrev pub calls_to : (mode : Mode) → (layout : Layout) → (t : Told) → (old new : Outside) → (status : Status) → ComesTo mode layout t old new status → Option CallsMade
+calls_to mode layout t old new status (inl refuses) = None
+calls_to mode layout t old new status (inr (inl fails)) = None
+calls_to mode layout t old new status (inr (inr works)) = word_calls mode layout t works.0 old new status works.1
+
 abbrev pub calls_of : (mode : Mode) (layout : Layout) (t : Told) (old new : Outside) (status : Status) → Does mode layout t old new status → Option CallsMade
-calls_of (Format shape cluster) layout t old new status does = None
-calls_of Run layout t old new status (inl refuses) = None
-calls_of Run layout t old new status (inr (inl fails)) = None
-calls_of Run layout t old new status (inr (inr serves)) = Some (script_calls serves.session)
-calls_of Recover layout t old new status does = None
-calls_of Inspect layout t old new status does = None
-calls_of Scrub layout t old new status does = None
-calls_of (Workload seed count) layout t old new status (inl refuses) = None
-calls_of (Workload seed count) layout t old new status (inr (inl fails)) = None
-calls_of (Workload seed count) layout t old new status (inr (inr works)) = Some (run_calls works.worked)
+calls_of mode layout t old new status does = calls_to mode layout t old new status does.1
 
 -- a word on a file was carried out: by `run`, in rooms that it took, or by `serve`, in rooms of any layout
 abbrev pub IsCarried : Mode → Outside → Outside → Status → Type 0

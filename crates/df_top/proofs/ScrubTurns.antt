@@ -56,7 +56,7 @@ module _ (s t : Replica) (old new : Option Told) (same : new ≡ old) where
     };
   }
 
-  pub scrub_done : (written took : Option (List ℕ)) (before now : ℕ) (turn : Turn) (x : Scrubbed) → ServesScrub s t old (Ok x) → now ≡ before → Tells Scrub (answers.Scrub x) written took turn → Comes Scrub s t old new written took before now turn
+  pub scrub_done : (written took : Option (List ℕ)) (before now : ℕ) (turn : Turn) (x : Scrubbed) → ServesScrub s t old (Ok x) → now ≡ before → Tells Scrub (Ok (answers.Scrub x)) written took turn → Comes Scrub s t old new written took before now turn
   scrub_done written took before now turn x serves still tells = comes_answered Scrub s t old new written took before now turn (ToScrub x) (makes (Ok x) serves) still tells
 
 -- ---- the ring
