@@ -13,7 +13,7 @@ use Rattle.df_theory.specs.View.{View}
 use Rattle.df_units.specs.Bytes.{unit_at}
 use Rattle.df_model.specs.After.{after_running, after_step_of, outcome, to_check, with_prepare, with_reply}
 use Rattle.df_model.specs.Changing.{appended_in, begun_in, checked_in, course_on, memory_after, replied_in, step_in, unless_refused}
-use Rattle.df_model.specs.Commands.{Advance, Answer, Append, Begin, Command, Given, ReadBlock, ReadPrepare, ReadReply, Recent, Release, Reply, Scrub, ToAdvance, ToAppend, ToReply, WriteBlock, after}
+use Rattle.df_model.specs.Commands.{Advance, Answer, Append, Begin, Command, Given, ReadBlock, ReadPrepare, ReadReply, Recent, Release, Reply, Scrub, ToAdvance, ToAppend, ToReply, WriteBlock, after, supplied_sum, supplied_verdict}
 use Rattle.df_model.specs.Making.{needed_of, place_of_reply, prepare_of, reply_of}
 use Rattle.df_model.specs.Memory.{Course, Memory, course, course_of, memory_of}
 use Rattle.df_model.specs.Refusals.{append_refusals, begin_refusals, first_refusal, reply_refusals}
@@ -115,11 +115,11 @@ module _ (sh : Shape) (spell : Parts → List ℕ) (w : Work) (given : Given) wh
   abbrev m : Memory
   m = memory_of sh spell w
 
-  left_counts : (r : Running) (l : List ℕ) → numbers_in (course_on m given.checksum (course spell r) l) ≡ after_answer (ToAdvance (after_running sh spell w given.checksum r l).1) (numbers_in m)
+  left_counts : (r : Running) (l : List ℕ) → numbers_in (course_on m (supplied_sum given) (course spell r) l) ≡ after_answer (ToAdvance (after_running sh spell w (supplied_sum given) r l).1) (numbers_in m)
   left_counts r [] = refl
   left_counts r (a ∷ more) = refl
 
-  step_counts : (o : Option Running) → numbers_in (step_in m given.checksum (course_of spell o)) ≡ after_answer (ToAdvance (after_step_of sh spell w given.checksum o).1) (numbers_in m)
+  step_counts : (o : Option Running) → numbers_in (step_in m (supplied_sum given) (course_of spell o)) ≡ after_answer (ToAdvance (after_step_of sh spell w (supplied_sum given) o).1) (numbers_in m)
   step_counts None = refl
   step_counts (Some r) = left_counts r r.left
 
@@ -130,9 +130,9 @@ module _ (sh : Shape) (spell : Parts → List ℕ) (w : Work) (given : Given) wh
 
   pub counted_one : (c : Command) → numbers_in (memory_after spell m given c) ≡ after_answer (after sh spell w given c).1 (numbers_in m)
   counted_one (Append client request body) =
-      let p = prepare_of m given.checksum client request body in
-      append_counts (first_refusal (append_refusals m client request body)) w (with_prepare w p) m p (p.header.op, given.checksum)
-  counted_one (Reply op body) = reply_counts (first_refusal (reply_refusals m op body)) w (with_reply w (place_of_reply m) (reply_of m given.checksum body)) m given.checksum
+      let p = prepare_of m (supplied_sum given) client request body in
+      append_counts (first_refusal (append_refusals m client request body)) w (with_prepare w p) m p (p.header.op, supplied_sum given)
+  counted_one (Reply op body) = reply_counts (first_refusal (reply_refusals m op body)) w (with_reply w (place_of_reply m) (reply_of m (supplied_sum given) body)) m (supplied_sum given)
   counted_one (WriteBlock kind body) = refl
   counted_one (Release address) = refl
   counted_one (Begin root) = begin_counts (first_refusal (begin_refusals m (needed_of spell m root) root)) m (Some (begun_in spell m root))
@@ -140,7 +140,7 @@ module _ (sh : Shape) (spell : Parts → List ℕ) (w : Work) (given : Given) wh
   counted_one (ReadPrepare op) = refl
   counted_one (ReadReply client) = refl
   counted_one (ReadBlock address) = refl
-  counted_one Scrub = check_counts given.verdict (to_check m)
+  counted_one Scrub = check_counts (supplied_verdict given) (to_check m)
   counted_one Recent = refl
 
 -- behind calls they are what the answers make of them

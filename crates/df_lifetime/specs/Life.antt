@@ -13,6 +13,7 @@ use Rattle.df_theory.specs.View.{View}
 use Rattle.df_units.specs.Bytes.{unit_at}
 use Rattle.df_units.specs.Making.{first_view}
 use Rattle.df_model.specs.Commands.{Answer}
+use Rattle.df_model.specs.Views.{KeepsView}
 use Rattle.df_model.specs.Work.{Work, kept, opened}
 use Rattle.df_replica.specs.Below.{shape, DataFile}
 use Rattle.df_replica.specs.Following.{MayOpen}
@@ -60,13 +61,13 @@ pub record GoesBy (file : DataFile) (c : Chapter) (acts : List Act) (v u : View)
   pub inputs : AreInputs (c.answered ++ c.perhaps)
   pub answers_are : c.answers ≡ answers_of file (start_of file c.shown v) c.answered
   pub came : CameThrough c acts
-  pub view : u ≡ kept (work_after file (start_of file c.shown v) acts)
+  pub view : KeepsView (kept (work_after file (start_of file c.shown v) acts)) u
 
 -- nothing was answered, and the view is as it was
 pub record IsUntouched (c : Chapter) (v u : View) : Type 0 where
   pub none : c.answered ≡ []
   pub no_answers : c.answers ≡ []
-  pub same : u ≡ v
+  pub same : KeepsView v u
 
 -- a session leads from one view to the next
 abbrev pub LeadsTo : DataFile → Chapter → (v u : View) → Type 0
@@ -74,7 +75,7 @@ LeadsTo file c v u = IsUntouched c v u ⊎ ((acts : List Act) × GoesBy file c a
 
 -- a view that a file may have come to after these sessions, the newest first, from its first view on
 abbrev pub MayHave : DataFile → List Chapter → View → Type 0
-MayHave file [] u = u ≡ first_view file.layout file.cluster
+MayHave file [] u = KeepsView (first_view file.layout file.cluster) u
 MayHave file (c ∷ chapters) u = (v : View) × MayHave file chapters v × LeadsTo file c v u
 
 -- ---- what happens to a file

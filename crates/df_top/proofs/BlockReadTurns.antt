@@ -10,9 +10,8 @@ use Rattle.df_inspect.specs.Messages.{shown_block}
 use Rattle.df_inspect.specs.Prints.{Prints}
 use Rattle.df_theory.specs.Units.{Block}
 use Rattle.df_units.specs.Meaning.{block_of}
-use Rattle.df_model.specs.Commands.{Answer, Given, ReadBlock, ToReadBlock}
+use Rattle.df_model.specs.Commands.{Answer, ForReadBlock, Given, ReadBlock, ToReadBlock}
 use Rattle.df_model.specs.declared.commands.Answer.TheVariants as answers
-use Rattle.df_model.specs.declared.answers.Verdict.TheVariants.{Sound}
 use Rattle.df_model.specs.declared.reading.ReadError.{ReadError}
 use Rattle.df_model.specs.declared.reading.ReadError.TheVariants as read
 use Rattle.df_model.specs.Faults.{is_read_fault}
@@ -37,7 +36,7 @@ block_for s address None (Some found) = found
 block_for s address None None = Err Blank
 
 abbrev supply : Replica → (address : ℕ) → Option Told → Option (Result Block Class) → Given
-supply s address told found = record { checksum = 0; message = Err Blank; block = block_for s address told found; verdict = Sound }
+supply s address told found = ForReadBlock (block_for s address told found)
 
 found_by : (s : Replica) (address : ℕ) (told : Option Told) (found : Option (Result Block Class)) → IsBlockFound s address told (block_for s address told found)
 found_by s address (Some t) found = refl

@@ -11,9 +11,8 @@ use Rattle.df_inspect.specs.Messages.{shown_text}
 use Rattle.df_inspect.specs.Prints.{Prints}
 use Rattle.df_theory.specs.Units.{Message}
 use Rattle.df_units.specs.Meaning.{message_of}
-use Rattle.df_model.specs.Commands.{Answer, Command, Given, ReadPrepare, ReadReply, ToReadPrepare, ToReadReply}
+use Rattle.df_model.specs.Commands.{Answer, Command, ForReadPrepare, ForReadReply, Given, ReadPrepare, ReadReply, ToReadPrepare, ToReadReply, supplied_message}
 use Rattle.df_model.specs.declared.commands.Answer.TheVariants as answers
-use Rattle.df_model.specs.declared.answers.Verdict.TheVariants.{Sound}
 use Rattle.df_model.specs.declared.reading.LookupError.{LookupError}
 use Rattle.df_model.specs.declared.reading.LookupError.TheVariants as lookup
 use Rattle.df_model.specs.declared.reading.PrepareError.{PrepareError}
@@ -40,19 +39,20 @@ message_for s command (Some t) found = message_at s command t.shown
 message_for s command None (Some found) = found
 message_for s command None None = Err Blank
 
-abbrev supply : Replica → Command → Option Told → Option (Result Message Class) → Given
-supply s command told found = record { checksum = 0; message = message_for s command told found; block = Err Blank; verdict = Sound }
+-- in the command's own case
+abbrev supply : (Result Message Class → Given) → Replica → Command → Option Told → Option (Result Message Class) → Given
+supply form s command told found = form (message_for s command told found)
 
 found_by : (s : Replica) (command : Command) (told : Option Told) (found : Option (Result Message Class)) → IsFoundBy s command told (message_for s command told found)
 found_by s command (Some t) found = refl
 found_by s command None (Some found) = tt
 found_by s command None None = tt
 
-gives : (s : Replica) (command : Command) (told : Option Told) (found : Option (Result Message Class)) → Gives told found (supply s command told found)
-gives s command (Some t) (Some found) = tt
-gives s command (Some t) None = tt
-gives s command None (Some found) = refl
-gives s command None None = tt
+gives : (form : Result Message Class → Given) (own : (m : Result Message Class) → supplied_message (form m) ≡ m) (s : Replica) (command : Command) (told : Option Told) (found : Option (Result Message Class)) → Gives told found (supply form s command told found)
+gives form own s command (Some t) (Some found) = tt
+gives form own s command (Some t) None = tt
+gives form own s command None (Some found) = own found
+gives form own s command None None = tt
 
 -- what was printed of a unit's header and body is the unit's text
 pub shown_turn : {T E : Type 0} (word : List ℕ) (u : Shown) (h : Header) (b : List ℕ) (written took : Option (List ℕ)) (r : Result T E) (turn : Turn) → h ≡ u.header → b ≡ u.body → turn ≡ printed_turn r → Prints (shown_text word h b) written took r
@@ -63,22 +63,23 @@ shown_turn word u h b written took r turn h_is b_is turn_is prints =
 
 module _ (s t : Replica) (old new : Option Told) (same : new ≡ old) where
   -- what was found serves the command, where that is what it is rightly supplied with
-  makes : (command : Command) (found : Option (Result Message Class)) (answer : Option Answer) → IsSupplied s old command (supply s command old found) → ServesRead command s t old found answer → Makes command s t old new answer
-  makes command found answer supplied serves = record {
-    act = record { command = command; given = supply s command old found };
+  makes : (form : Result Message Class → Given) (own : (m : Result Message Class) → supplied_message (form m) ≡ m) (command : Command) (found : Option (Result Message Class)) (answer : Option Answer)
+      → IsSupplied s old command (supply form s command old found) → ServesRead command s t old found answer → Makes command s t old new answer
+  makes form own command found answer supplied serves = record {
+    act = record { command = command; given = supply form s command old found };
     is = refl;
     calls = record {
       call =
-          subst (λ (o : Option Told). IsCall (supply s command old found) command s t old o answer) (sym same) (serves (supply s command old found) supplied (gives s command old found));
+          subst (λ (o : Option Told). IsCall (supply form s command old found) command s t old o answer) (sym same) (serves (supply form s command old found) supplied (gives form own s command old found));
       told = ([], same);
     };
   }
 
   makes_prepare : (op : ℕ) (found : Option (Result Message Class)) (answer : Option Answer) → ServesRead (ReadPrepare op) s t old found answer → Makes (ReadPrepare op) s t old new answer
-  makes_prepare op found answer serves = makes (ReadPrepare op) found answer (refl, found_by s (ReadPrepare op) old found) serves
+  makes_prepare op found answer serves = makes ForReadPrepare (λ m. refl) (ReadPrepare op) found answer (refl, found_by s (ReadPrepare op) old found) serves
 
   makes_reply : (client : ℕ) (found : Option (Result Message Class)) (answer : Option Answer) → ServesRead (ReadReply client) s t old found answer → Makes (ReadReply client) s t old new answer
-  makes_reply client found answer serves = makes (ReadReply client) found answer (refl, found_by s (ReadReply client) old found) serves
+  makes_reply client found answer serves = makes ForReadReply (λ m. refl) (ReadReply client) found answer (refl, found_by s (ReadReply client) old found) serves
 
   module _ (written took : Option (List ℕ)) (before now : ℕ) (turn : Turn) where
     abbrev Reads : Command → Type 0
