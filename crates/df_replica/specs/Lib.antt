@@ -7,7 +7,6 @@ pub mod Replica
 pub mod Mending
 pub mod Surveying
 pub mod Held
-pub mod Parts
 pub mod Refusing
 pub mod Stopping
 pub mod Appending

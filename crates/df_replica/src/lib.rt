@@ -15,7 +15,6 @@ mod making;
 mod mended;
 mod mending;
 mod opened;
-mod parts;
 mod reading;
 mod refusing;
 mod replica;

@@ -3,17 +3,16 @@ ghost use Rattle.std.specs.Prelude.{◌≡◌, length, OnErr, OnOk};
 ghost use Rattle.df_replica.specs.Below.{HasCause, Adds, AreSteps};
 ghost use Rattle.df_replica.specs.Held.{AreAsBefore, AreRoomsOf};
 ghost use Rattle.df_replica.specs.Mending.{live_state, mending_events, mending_steps};
-ghost use Rattle.df_replica.specs.Parts.{AreWhole, state_in};
+ghost use Rattle.df_rooms.specs.Parts.{AreWhole, state_in};
 ghost use Rattle.df_replica.specs.Serving.{format};
 
 use crate::DataFile;
 use crate::mending::{are_four, write_mends};
-use crate::parts::Parts;
 use df_base::Failed;
 use df_disk::Disk;
 use df_format::Super;
 use df_quorum::Chosen;
-use df_rooms::LogRooms;
+use df_rooms::{LogRooms, Parts};
 
 // Writes what the rooms list, from the table that they have.
 fn mend_rooms<D: Disk>(

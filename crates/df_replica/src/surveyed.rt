@@ -5,13 +5,13 @@ ghost use Rattle.df_replica.specs.Replica.{summary_of};
 ghost use Rattle.df_replica.specs.Mending.{IsMended, IsPlanned, RestsOnDisk, live_state, mending_events, mending_steps};
 ghost use Rattle.df_replica.specs.Serving.{Grade, IsGoodFor, format};
 
-use crate::parts::Parts;
 use crate::{Replica, Rooms};
 use df_base::Failed;
 use df_disk::Disk;
 use df_layout::Mend;
 use df_model::Summary;
 use df_quorum::Chosen;
+use df_rooms::Parts;
 use df_sessions::Session;
 use std::marker::Model;
 
@@ -25,7 +25,7 @@ pub struct Surveyed {
 
 impl Model for Surveyed {
     ghost use Rattle.df_replica.specs.Replica.{Survey};
-    ghost use Rattle.df_replica.specs.Parts.{AreFound, state_in};
+    ghost use Rattle.df_rooms.specs.Parts.{AreFound, state_in};
 
     ghost Value = { Survey };
 

@@ -5,7 +5,6 @@ ghost use Rattle.df_journal.specs.Shows.{IsTable as AreSlots};
 ghost use Rattle.df_replica.specs.Mending.{ArePlannedFrom, IsPlanned, IsSettledFrom};
 ghost use Rattle.df_replica.specs.Surveying.{AreAfter, EndsBehind, IsLawful, IsReadOf, IsSettled, TellsMends, TellsSurvey, state_of};
 
-use crate::parts::{Parts, rooms_of};
 use crate::{DataFile, OpenError, Rooms, Surveyed};
 use arrayvec::ArrayVec;
 use df_base::Check;
@@ -14,7 +13,7 @@ use df_layout::ROOT;
 use df_recovery::{
     Copies, Scanned, Traces, find_state, plan, scan_file, store_replies, waiting_of,
 };
-use df_rooms::LogRooms;
+use df_rooms::{LogRooms, Parts, rooms_of};
 
 // Plans the mending in the rooms: the header that each slot is to have, and the list.
 fn plan_rooms(file: &DataFile, copies: &Copies, rooms: &mut LogRooms)

@@ -8,7 +8,7 @@ use Rattle.df_format.specs.Rules.{ObeysRules}
 use Rattle.df_format.proofs.Laws.{given_obeys}
 use Rattle.df_rooms.specs.State.{State}
 use Rattle.df_replica.specs.Appending.{header_given}
-use Rattle.df_replica.specs.Parts.{state_in}
+use Rattle.df_rooms.specs.Parts.{state_in}
 use Rattle.df_replica.proofs.replica.Replica.header_given.Goals as goal
 
 small_slot : (op slots : ℕ) → 0 < slots → slots ≤ 1024 → op % slots < 2 ^ 32

@@ -9,7 +9,7 @@ use Rattle.df_rooms.specs.Courses.{running_state}
 use Rattle.df_rooms.specs.State.{State}
 use Rattle.df_units.specs.Meaning.{number_of}
 use Rattle.df_units.proofs.Laws.{whole_check}
-use Rattle.df_replica.specs.Parts.{state_in}
+use Rattle.df_rooms.specs.Parts.{state_in}
 use Rattle.df_replica.specs.Stepping.{MayFinish, fields_for, next_fields}
 use Rattle.df_replica.proofs.FinishState.{first_pair, no_fault}
 use Rattle.df_replica.proofs.StepState.{of_running, taken_runs}

@@ -2,7 +2,7 @@
 use Rattle.std.proofs.Common.{refl, length, subst, ◌≡◌}
 use Rattle.df_model.specs.Memory.{referenced_of}
 use Rattle.df_rooms.specs.State.{State, memory}
-use Rattle.df_replica.specs.Parts.{state_in}
+use Rattle.df_rooms.specs.Parts.{state_in}
 use Rattle.df_replica.proofs.ScrubTours.{counted}
 use Rattle.df_replica.proofs.replica.Replica.referenced.Goals as goal
 

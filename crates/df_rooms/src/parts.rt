@@ -1,36 +1,35 @@
 // What is kept in memory of a file, whether calls may work on it or not: the state that contracts see, and the rooms that serve it.
 ghost use Rattle.std.specs.Prelude.{◌≡◌};
-ghost use Rattle.df_replica.specs.Parts.{AreWhole, state_in};
-ghost use Rattle.df_replica.specs.Replica.{summary_of};
+ghost use Rattle.df_rooms.specs.Parts.{AreWhole, state_in, summary_of};
 
-use crate::{DataFile, Rooms};
+use crate::{DataFile, GridRooms, LogRooms, Rooms, RunningCheckpoint, ScrubRooms, TrailerRooms};
 use arrayvec::ArrayVec;
 use df_base::Check;
 use df_format::Super;
 use df_grid::Grid;
 use df_layout::{Layout, ROOT};
 use df_model::Summary;
-use df_rooms::{GridRooms, LogRooms, RunningCheckpoint, ScrubRooms, TrailerRooms};
 use df_sessions::SessionTable;
 
-/// The parts of a replica, and of a file that was surveyed.
-pub(crate) struct Parts {
-    pub(crate) file: DataFile,
-    pub(crate) content: Super,
-    // The durable checkpoint's root.
-    pub(crate) root: ArrayVec<u8, ROOT>,
-    pub(crate) head: u64,
-    pub(crate) head_checksum: Check,
-    pub(crate) replies: u64,
-    pub(crate) sessions: SessionTable,
-    // The checksums of the prepares that wait for their replies, in order of op.
-    pub(crate) waiting: ArrayVec<Check, 8>,
-    pub(crate) live: bool,
-    pub(crate) rooms: LogRooms,
-    pub(crate) grid: Grid,
-    pub(crate) running: Option<RunningCheckpoint>,
-    pub(crate) trailer: TrailerRooms,
-    pub(crate) scrub: ScrubRooms,
+/// The parts of a replica, and of a file that was surveyed: the file and its superblock, the log and its sessions, and the rooms.
+pub struct Parts {
+    pub file: DataFile,
+    pub content: Super,
+    /// The durable checkpoint's root.
+    pub root: ArrayVec<u8, ROOT>,
+    pub head: u64,
+    pub head_checksum: Check,
+    pub replies: u64,
+    pub sessions: SessionTable,
+    /// The checksums of the prepares that wait for their replies, in order of op.
+    pub waiting: ArrayVec<Check, 8>,
+    /// Whether calls may go on.
+    pub live: bool,
+    pub rooms: LogRooms,
+    pub grid: Grid,
+    pub running: Option<RunningCheckpoint>,
+    pub trailer: TrailerRooms,
+    pub scrub: ScrubRooms,
 }
 
 // Their owner lets go of them in one call, and not field by field.
@@ -55,8 +54,8 @@ impl Drop for Parts {
     }
 }
 
-// All the rooms of a file that is done with.
-pub(crate) fn rooms_of(
+/// All the rooms of a file that is done with.
+pub fn rooms_of(
     layout: Layout,
     log: LogRooms,
     grid: Grid,
@@ -79,8 +78,8 @@ pub(crate) fn rooms_of(
 }
 
 impl Parts {
-    // The numbers of the state.
-    pub(crate) fn summary(&self) -> Summary
+    /// The numbers of the state.
+    pub fn summary(&self) -> Summary
         ensures { result ≡ summary_of (state_in self.now) }
     {
         let fields = self.content.fields();
@@ -96,8 +95,8 @@ impl Parts {
         }
     }
 
-    // All the rooms, of parts that are done with.
-    pub(crate) fn into_rooms(self) -> Rooms
+    /// All the rooms, of parts that are done with.
+    pub fn into_rooms(self) -> Rooms
         requires { AreWhole self }
         ensures { result.layout ≡ self.file.layout }
     {

@@ -1,9 +1,10 @@
--- What a replica keeps in memory, live or not: the state that it stands for, and how its parts go together.
-use Rattle.std.specs.Prelude.{◌≡◌, false, None}
-use Rattle.df_rooms.specs.Below.{new_scrub}
+-- What a replica keeps in memory, live or not: the state that it stands for, its numbers, and how its parts go together.
+use Rattle.std.specs.Prelude.{◌≡◌, false, None, length}
+use Rattle.df_model.specs.declared.answers.Summary.{Summary}
+use Rattle.df_scrub.specs.Scrubber.{new_scrub}
 use Rattle.df_rooms.specs.Courses.{running_of}
 use Rattle.df_rooms.specs.State.{IsState, State}
-use Rattle.df_replica.specs.declared.parts.Parts.{Parts}
+use Rattle.df_rooms.specs.declared.parts.Parts.{Parts}
 
 -- the state
 abbrev pub state_in : Parts → State
@@ -39,3 +40,16 @@ pub record AreFound (p : Parts) : Type 0 where
   pub dead : p.live ≡ false
   pub idle : p.running ≡ None
   pub fresh : p.scrub.scrubber ≡ new_scrub
+
+-- the numbers of a state, how many sessions there are, and how many blocks the durable checkpoint references
+abbrev pub summary_of : State → Summary
+summary_of s = record {
+  cluster = s.file.cluster;
+  layout = s.file.layout;
+  sequence = s.fields.sequence;
+  checkpoint_op = s.fields.op;
+  head = s.head;
+  replies = s.replies;
+  sessions = length s.table.sessions;
+  references = length s.blocks.durable;
+}
