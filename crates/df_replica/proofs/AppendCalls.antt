@@ -42,7 +42,8 @@ use Rattle.df_model.proofs.Laws.{append_may_law}
 use Rattle.df_rooms.specs.State.{IsState, Represents, State, memory, shape, spelling}
 use Rattle.df_replica.specs.Appending.{append_events, next_unit}
 use Rattle.df_replica.specs.Serving.{Grade, IsKept, format}
-use Rattle.df_replica.proofs.Calls.{AreCalls, firmly}
+use Rattle.df_replica.proofs.Calls.{AreCalls}
+use Rattle.df_replica.proofs.KeptFiles.{firmly}
 use Rattle.df_replica.proofs.Leaves.{Makes, makes_nothing}
 use Rattle.df_replica.proofs.Makes.{OfMade, Unless}
 use Rattle.df_replica.proofs.WritesOn.{StandsIn, steps_stand}

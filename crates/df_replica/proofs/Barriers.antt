@@ -10,7 +10,7 @@ use Rattle.df_theory.specs.View.{View}
 use Rattle.df_units.specs.Bytes.{unit_at}
 use Rattle.df_theory.proofs.Laws.{disk_barrier_law, now_units, quiet_synced}
 use Rattle.df_replica.specs.Mending.{BarrierRests}
-use Rattle.df_replica.specs.Serving.{Firm, Grade, StandingFor, StandsFor, Whole, format}
+use Rattle.df_replica.specs.Keeping.{Firm, Grade, StandingFor, StandsFor, Whole, format}
 use Rattle.df_rooms.specs.State.{shape}
 use Rattle.df_replica.proofs.Followed.{in_pools}
 

@@ -18,7 +18,7 @@ use Rattle.df_units.specs.Meaning.{layout_of}
 use Rattle.df_units.proofs.Laws.{is_format, of_places}
 use Rattle.df_rooms.specs.State.{shape}
 use Rattle.df_replica.specs.Following.{BegunMayOpen, FaultedMayOpen, StoppedMayOpen, TidyMayOpen}
-use Rattle.df_replica.specs.Serving.{format}
+use Rattle.df_replica.specs.Keeping.{format}
 
 -- a unit of the pool is one of the pools
 pub in_pools : (start : Units.Units) (es : List UnitEvent) (place : Place) (x : AnyUnit) → InPool (record { start = start; events = es }) place x → InPools start es place x

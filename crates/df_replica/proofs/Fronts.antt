@@ -1,16 +1,15 @@
--- A front of a call's device calls: which steps it is, and what it leaves as it was.
-use Rattle.std.proofs.Common.{◌≡◌, List, [], ◌∷◌, Option, Some, None, refl, ◌∙◌, ap}
-use Rattle.df_base.specs.Image.{Image, IsImage}
+-- A front of device calls: which steps it is, and which log it leaves.
+use Rattle.std.proofs.Common.{◌≡◌, List, [], ◌∷◌, Option, Some, None, refl, ◌∙◌, ap, ℕ, Bool, ◌||◌, inl, inr, true, false}
+use Rattle.df_base.specs.Image.{covers}
 use Rattle.df_base.specs.Log.{Event, Stop, Sync, Write}
 use Rattle.df_theory.specs.Device.{AreSteps, Format}
 use Rattle.df_theory.specs.Runs.{Puts, Step, Syncs}
 use Rattle.df_theory.specs.Units.{AnyUnit, Place, Units, or_else}
-use Rattle.df_units.specs.Bytes.{unit_at}
-use Rattle.df_model.specs.Commands.{Command, Given, supplied_sum}
-use Rattle.df_rooms.specs.State.{State, memory}
-use Rattle.df_replica.specs.Leaving.{SparesOthers, image_after}
-use Rattle.df_replica.specs.Serving.{format}
-use Rattle.df_replica.proofs.Leaves.{Makes, none_put, same_class, same_sector, shown_by, some_stays, unit_after, unwritten}
+use Rattle.df_replica.specs.Sparing.{writes_to}
+use Rattle.df_replica.proofs.StepShows.{some_stays, unit_after}
+use Rattle.df_disk.specs.Told as told
+use Rattle.df_disk.specs.Told.{Told}
+use Rattle.df_disk.specs.Adds.{AddsPart, after_all}
 
 -- it is a front of the steps, and puts nothing where these put nothing
 pub record FrontSteps (f : Format) (part : List Event) (whole : List Step) : Type 0 where
@@ -62,17 +61,38 @@ module _ (f : Format) (es part : List Event) (rest : (ss : List Step) → AreSte
   one_more Sync ((Puts put) ∷ ss) are = absurd are
   one_more (Stop changes) ss are = absurd are
 
--- what a front of a call's device calls leaves of the places at which its command puts nothing
-module _ (given : Given) (command : Command) (s : State) (events : List Event) (makes : Makes given command s events) (part : List Event) (front : FrontSteps (format s.file) part makes.steps) (image : Image) (whole : IsImage image) where
-  pub others_spared : SparesOthers s.file (memory s) (supplied_sum given) command image (image_after part image)
-  others_spared =
-      let layout = s.file.layout in
-      let cluster = s.file.cluster in
-      record {
-        units = λ place read none.
-            shown_by layout cluster part front.steps image front.are whole place ∙ front.aside place (unit_at layout cluster image place) (none_put given command s events makes place read none);
-        classes = λ place read none.
-            let aside = front.aside place None (none_put given command s events makes place read none) in
-            same_class layout cluster (image_after part image) image place read
-            (λ sector here. same_sector layout cluster part front.steps front.are image sector (unwritten layout cluster part front.steps front.are place aside sector here));
-      }
+-- ---- told of any log
+
+-- a front of the events, told of any log
+pub record Front (events : List Event) (old new : Option Told) : Type 0 where
+  pub part : List Event
+  pub is : new ≡ after_all part old
+  pub again : (base : Option Told) → AddsPart events base (after_all part base)
+  pub dry : (sector : ℕ) → writes_to events sector ≡ false → writes_to part sector ≡ false
+  pub steps : (f : Format) (ss : List Step) → AreSteps f events ss → FrontSteps f part ss
+
+none_added : (events : List Event) (base : Option Told) → AddsPart events base base
+none_added [] base = refl
+none_added (e ∷ es) base = inl refl
+
+both_dry : (x y z : Bool) → (y ≡ false → z ≡ false) → (x || y) ≡ false → (x || z) ≡ false
+both_dry true y z on dry = dry
+both_dry false y z on dry = on dry
+
+dry_on : (e : Event) (es part : List Event) (sector : ℕ) → (writes_to es sector ≡ false → writes_to part sector ≡ false) → writes_to (e ∷ es) sector ≡ false → writes_to (e ∷ part) sector ≡ false
+dry_on (Write at bytes) es part sector on dry = both_dry (covers at bytes sector) (writes_to es sector) (writes_to part sector) on dry
+dry_on Sync es part sector on dry = on dry
+dry_on (Stop changes) es part sector on dry = on dry
+
+pub front_of : (events : List Event) (old new : Option Told) → AddsPart events old new → Front events old new
+front_of [] old new is = record { part = []; is = is; again = none_added []; dry = λ sector dry. refl; steps = λ f ss are. no_front f ss }
+front_of (e ∷ es) old new (inl is) = record { part = []; is = is; again = none_added (e ∷ es); dry = λ sector dry. refl; steps = λ f ss are. no_front f ss }
+front_of (e ∷ es) old new (inr more) =
+    let rest = front_of es (told.after e old) new more in
+    record {
+      part = e ∷ rest.part;
+      is = rest.is;
+      again = λ base. inr (rest.again (told.after e base));
+      dry = λ sector dry. dry_on e es rest.part sector (rest.dry sector) dry;
+      steps = λ f ss are. one_more f es rest.part (rest.steps f) e ss are;
+    }

@@ -34,7 +34,8 @@ use Rattle.df_rooms.specs.State.{RunningState, IsCourse, IsRunning, IsState, Rep
 use Rattle.df_replica.specs.Answering.{Serves, answer_of, is_step_unanswered}
 use Rattle.df_replica.specs.Serving.{Grade, IsCall, IsKept, format, next}
 use Rattle.df_replica.specs.Stepping.{IsMade, OfRunning, finished, last_events, made_by, made_for, next_fields}
-use Rattle.df_replica.proofs.Calls.{AreCalls, firmly}
+use Rattle.df_replica.proofs.Calls.{AreCalls}
+use Rattle.df_replica.proofs.KeptFiles.{firmly}
 use Rattle.df_replica.proofs.Leaves.{Makes, copies_made, copies_over}
 use Rattle.df_replica.proofs.RingSpared.{ring_spared}
 use Rattle.df_replica.proofs.Makes.{OfStep}

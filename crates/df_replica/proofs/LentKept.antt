@@ -16,7 +16,7 @@ use Rattle.df_rooms.specs.State.{shape, spelling}
 use Rattle.df_replica.specs.Lending.{KeptIsWritten, OpenedIsWrittenFor}
 use Rattle.df_replica.specs.Serving.{Firm, Grade, KeptFor, Whole, format}
 use Rattle.df_replica.specs.WrittenFor.{IsWrittenFor}
-use Rattle.df_replica.proofs.Calls.{firm_of}
+use Rattle.df_replica.proofs.KeptFiles.{firm_of}
 
 pub kept_is_written : KeptIsWritten
 kept_is_written g s w log is =

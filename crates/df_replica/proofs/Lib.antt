@@ -18,6 +18,8 @@ pub mod Settled
 pub mod Barriers
 pub mod Listed
 pub mod Opens
+pub mod StepShows
+pub mod KeptFiles
 pub mod Leaves
 pub mod Fronts
 pub mod Makes

@@ -14,11 +14,11 @@ use Rattle.df_theory.specs.Runs.{Puts, Step, Syncs}
 use Rattle.df_theory.specs.Units.{AnyUnit, BlockPlace, Place, PreparePlace, ReplyPlace, or_else}
 use Rattle.df_units.specs.Puts.{put_copy}
 use Rattle.df_rooms.specs.declared.file.DataFile.{DataFile}
-use Rattle.df_replica.specs.Leaving.{SparesReads, image_after}
+use Rattle.df_replica.specs.Sparing.{SparesReads, image_after}
 use Rattle.df_replica.specs.Mending.{mending_events, mending_steps, sector_put, sector_puts, sectors_of}
-use Rattle.df_replica.specs.Serving.{format}
+use Rattle.df_replica.specs.Keeping.{format}
 use Rattle.df_replica.proofs.Fronts.{FrontSteps, all_front}
-use Rattle.df_replica.proofs.Leaves.{spared_by, unit_after}
+use Rattle.df_replica.proofs.StepShows.{spared_by, unit_after}
 
 module _ (place : Place) where
   after_both : (ss ts : List Step) (o : Option AnyUnit) → unit_after (ss ++ ts) place o ≡ unit_after ts place (unit_after ss place o)

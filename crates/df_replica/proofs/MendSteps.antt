@@ -39,7 +39,7 @@ use Rattle.df_superblock.specs.Steps.{repaired}
 use Rattle.df_rooms.specs.declared.file.DataFile.{DataFile}
 use Rattle.df_recovery.specs.Plan.{header_or_none, headers_in, if_wanted}
 use Rattle.df_replica.specs.Mending.{IsMended, MayMendOn, header_events, mending_events, mending_steps, needs_sector, sector_puts, sectors_of, sectors_to}
-use Rattle.df_replica.specs.Serving.{Firm, Grade, IsGoodFor, StandingFor, Whole, format}
+use Rattle.df_replica.specs.Keeping.{Firm, Grade, IsGoodFor, StandingFor, Whole, format}
 use Rattle.df_rooms.specs.State.{shape}
 use Rattle.df_superblock.proofs.Laws.{repair_from}
 use Rattle.df_replica.proofs.MendEvents.{sectors_more}

@@ -37,7 +37,7 @@ use Rattle.df_journal.specs.Shows.{Tells}
 use Rattle.df_rooms.specs.declared.file.DataFile.{DataFile}
 use Rattle.df_replica.specs.Mending.{IsPlanned, PlannedMayMend, RestsOnDisk, lies_in, needs_sector, sector_put, sector_puts, sectors_of, sectors_to}
 use Rattle.df_recovery.specs.Plan.{AreDistinct, IsScanOf, copy_mends, header_or_none, headers_in, if_wanted, needs_header, shown_class, slot_mend, slot_mends}
-use Rattle.df_replica.specs.Serving.{Grade, format}
+use Rattle.df_replica.specs.Keeping.{Grade, format}
 use Rattle.df_replica.proofs.Followed.{in_pools}
 use Rattle.df_rooms.specs.State.{shape}
 use Rattle.df_replica.proofs.MendEvents.{sectors_more}

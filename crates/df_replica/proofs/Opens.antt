@@ -36,16 +36,17 @@ use Rattle.df_theory.specs.WholeLaws.{IsStanding}
 use Rattle.df_trailer.specs.Text.{parse_of}
 use Rattle.df_trailer.proofs.Laws.{codec}
 use Rattle.df_units.specs.Meaning.{layout_of}
-use Rattle.df_replica.proofs.Calls.{Front, front_of, good_safe}
-use Rattle.df_replica.proofs.Leaves.{stays_firm, unit_after, unwritten}
-use Rattle.df_replica.specs.Leaving.{AreSettled}
+use Rattle.df_replica.proofs.KeptFiles.{good_safe}
+use Rattle.df_replica.proofs.Fronts.{Front, front_of}
+use Rattle.df_replica.proofs.StepShows.{stays_firm, unit_after, unwritten}
+use Rattle.df_replica.specs.Sparing.{AreSettled}
 use Rattle.df_superblock.specs.Steps.{repaired}
 use Rattle.df_rooms.specs.declared.file.DataFile.{DataFile}
 use Rattle.df_layout.specs.declared.layout.Layout.{Layout}
 use Rattle.df_replica.specs.Surveying.{TellsSurvey}
 use Rattle.df_replica.specs.Following.{MayOpen}
 use Rattle.df_replica.specs.Mending.{IsMended, IsPlanned, live_state, mending_events, mending_steps, sector_puts, sectors_of}
-use Rattle.df_replica.specs.Serving.{Firm, Grade, IsGoodFor, IsKept, Keeps, KeptFor, StandingFor, Whole, format}
+use Rattle.df_replica.specs.Keeping.{Firm, Grade, IsGoodFor, IsKept, Keeps, KeptFor, StandingFor, Whole, format}
 use Rattle.df_rooms.specs.State.{Represents, State, shape, spelling}
 use Rattle.df_recovery.specs.Surveys.{IsOpened}
 

@@ -17,7 +17,8 @@ use Rattle.df_replica.specs.Leaving.{AreSettled}
 use Rattle.df_replica.specs.Serving.{EachIsGood, Firm, Grade, IsGoodFor, IsKept, Keeps, Whole, format, next}
 use Rattle.df_replica.specs.Session.{Act, AnsweredIsThere, EachIsMidway, FaultStopsThem, HasView, HoldsFor, HoldsSome, IsMidway, LeavesEither, LeavesView, NothingIsServed, OneMoreIsServed, answers_of, work_after}
 use Rattle.df_replica.specs.WrittenFor.{IsWrittenIn}
-use Rattle.df_replica.proofs.Calls.{good_safe, firmly, moments}
+use Rattle.df_replica.proofs.Calls.{moments}
+use Rattle.df_replica.proofs.KeptFiles.{good_safe, firmly}
 
 -- ---- the acts with one more
 

@@ -1,11 +1,10 @@
 -- What a survey hands out is planned from what the disk shows behind the barrier.
-use Rattle.std.proofs.Common.{◌≡◌, ℕ, Option, Some, None, sym, ◌∙◌, ap, subst}
-use Rattle.std.specs.Prelude.{Result, Ok, Err, IfOk}
-use Rattle.std.proofs.lemmas.Option.{same_Some}
+use Rattle.std.proofs.Common.{◌≡◌, ℕ, Option, Some, None, sym, ◌∙◌, ap, subst, ◌^◌, ◌≤◌, List, map, refl}
+use Rattle.std.specs.Prelude.{Result, Ok, Err, IfOk, option_map}
+use Rattle.std.proofs.lemmas.Option.{same_Some, slice_get-map}
 use Rattle.df_base.specs.Log.{Sync}
 use Rattle.df_disk.specs.Told.{Told, after, did}
 use Rattle.df_layout.specs.declared.layout.Layout.{Layout}
-use Rattle.df_format.specs.declared.superblock.SuperFields.{SuperFields}
 use Rattle.df_format.specs.Copies.{content_at}
 use Rattle.df_format.specs.SuperRules.{fault_of}
 use Rattle.df_quorum.specs.declared.choice.Chosen.{Chosen}
@@ -25,6 +24,11 @@ use Rattle.df_rooms.specs.State.{State}
 use Rattle.df_replica.specs.Mending.{IsPlanned, IsSettledFrom, live_state}
 use Rattle.df_replica.specs.Replica.{Survey}
 use Rattle.df_replica.specs.Surveying.{IsLawful, TellsSurvey}
+use Rattle.std.specs.List.{slice_get}
+use Rattle.df_journal.specs.Tail.{AreNumbered}
+use Rattle.df_sessions.specs.declared.session.Session as sessions
+use Rattle.df_sessions.specs.Requests.{session_of, sessions_of}
+use Rattle.df_theory.specs.Units.{Session}
 
 pub if_ok_more : {T E : Type 0} → (P Q : T → Type 0) (r : Result T E) → ((x : T) → P x → Q x) → IfOk r P → IfOk r Q
 if_ok_more P Q (Ok x) more is = more x is
@@ -76,3 +80,13 @@ live_answers layout None s r is answer = tt
 live_answers layout (Some t) s r is answer = λ whole.
     let a = answer whole in
     subst (IsOpened layout t.shown) (sym is) (record { has = a.has; of = a.of; view = a.view; found = a.found; stands = a.stands })
+
+-- sessions with the same requests are within the same limit
+pub numbered_by : (before after : List sessions.Session) → sessions_of after ≡ sessions_of before → AreNumbered before → AreNumbered after
+numbered_by before after same within k s at = from (slice_get before k) refl (sym (slice_get-map session_of before k) ∙ sym (ap (λ (ss : List Session). slice_get ss k) same) ∙ slice_get-map session_of after k ∙ ap (option_map session_of) at)
+  where
+    from : (o : Option sessions.Session) → slice_get before k ≡ o → option_map session_of (slice_get before k) ≡ Some (session_of s) → s.request ≤ 2 ^ 62
+    from None there is = absurd (let no : option_map session_of None ≡ Some (session_of s) = subst (λ (x : Option sessions.Session). option_map session_of x ≡ Some (session_of s)) there is in cc)
+    from (Some t) there is =
+        let both : Some (session_of t) ≡ Some (session_of s) = subst (λ (x : Option sessions.Session). option_map session_of x ≡ Some (session_of s)) there is in
+        subst (λ (n : ℕ). n ≤ 2 ^ 62) (ap (λ (x : Session). x.request) (same_Some _ _ both)) (within k t there)

@@ -12,7 +12,7 @@ use Rattle.df_theory.specs.View.{View}
 use Rattle.df_units.specs.Bytes.{unit_at}
 use Rattle.df_rooms.specs.declared.file.DataFile.{DataFile}
 use Rattle.df_rooms.specs.State.{shape}
-use Rattle.df_replica.specs.Serving.{format}
+use Rattle.df_replica.specs.Keeping.{format}
 
 -- a disk that is safe to open: this view is found in what its log leaves, it shows that, and none of its units came about by chance
 pub record MayOpen (file : DataFile) (view : View) (t : Told) : Type 0 where

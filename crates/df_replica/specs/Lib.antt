@@ -1,5 +1,7 @@
 pub mod Formatting
 pub mod WrittenFor
+pub mod Sparing
+pub mod Keeping
 pub mod Leaving
 pub mod Serving
 pub mod Making

@@ -33,7 +33,7 @@ use Rattle.df_recovery.specs.Opening.{HasSuper}
 use Rattle.df_recovery.specs.Plan.{AreDistinct, IsScanOf, OthersAreShown, headers_in, if_wanted, mend_list}
 use Rattle.df_recovery.specs.Starting.{start_of}
 use Rattle.df_replica.specs.Following.{MayOpen}
-use Rattle.df_replica.specs.Serving.{Grade, StandingFor, StandsFor, format}
+use Rattle.df_replica.specs.Keeping.{Grade, StandingFor, StandsFor, format}
 use Rattle.df_recovery.specs.declared.scanned.Scanned.{Scanned}
 use Rattle.df_replica.specs.Replica.{Survey}
 use Rattle.df_rooms.specs.State.{State, shape}

@@ -15,9 +15,9 @@ use Rattle.df_rooms.specs.declared.file.DataFile.{DataFile}
 use Rattle.df_rooms.specs.State.{State, shape}
 use Rattle.df_recovery.specs.Surveys.{IsOpened}
 use Rattle.df_replica.specs.Following.{MayOpen}
-use Rattle.df_replica.specs.Leaving.{AreSettled, SparesReads, image_after}
+use Rattle.df_replica.specs.Sparing.{AreSettled, SparesReads, image_after}
 use Rattle.df_replica.specs.Mending.{IsMended}
-use Rattle.df_replica.specs.Serving.{Grade, IsGoodFor, IsKept, StandsFor, format}
+use Rattle.df_replica.specs.Keeping.{Grade, IsGoodFor, IsKept, StandsFor, format}
 
 -- what the disk tells changed by events alone
 abbrev pub ToldBy : (old new : Option Told) → Type 0

@@ -4,7 +4,7 @@ ghost use Rattle.df_replica.specs.Below.{HasCause, Adds, AreSteps};
 ghost use Rattle.df_replica.specs.Held.{AreAsBefore, AreRoomsOf};
 ghost use Rattle.df_replica.specs.Mending.{live_state, mending_events, mending_steps};
 ghost use Rattle.df_rooms.specs.Parts.{AreWhole, state_in};
-ghost use Rattle.df_replica.specs.Serving.{format};
+ghost use Rattle.df_replica.specs.Keeping.{format};
 
 use crate::DataFile;
 use crate::mending::{are_four, write_mends};

@@ -4,7 +4,7 @@ ghost use Rattle.std.specs.Prelude.{◌≡◌, ◌<◌, ◌/◌, IfOk, length};
 ghost use Rattle.df_replica.specs.Below.{HasCause, Adds, AreSteps, sector_writes};
 ghost use Rattle.df_headers.specs.Ring.{IsTable};
 ghost use Rattle.df_replica.specs.Mending.{header_events, lies_in, mending_events, mending_steps, needs_sector, sectors_of, some_of, wanted_writes};
-ghost use Rattle.df_replica.specs.Serving.{format};
+ghost use Rattle.df_replica.specs.Keeping.{format};
 
 use crate::DataFile;
 use df_base::Failed;

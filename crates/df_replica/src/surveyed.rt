@@ -3,7 +3,7 @@ ghost use Rattle.std.specs.Prelude.{◌≡◌, IfOk, IfErr, slice_get};
 ghost use Rattle.df_replica.specs.Below.{HasCause, EachMoment, Told, Adds, told_after, AreSteps, View, shape};
 ghost use Rattle.df_replica.specs.Replica.{summary_of};
 ghost use Rattle.df_replica.specs.Mending.{IsMended, IsPlanned, RestsOnDisk, live_state, mending_events, mending_steps};
-ghost use Rattle.df_replica.specs.Serving.{Grade, IsGoodFor, format};
+ghost use Rattle.df_replica.specs.Keeping.{Grade, IsGoodFor, format};
 
 use crate::{Replica, Rooms};
 use df_base::Failed;

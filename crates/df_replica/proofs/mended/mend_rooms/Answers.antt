@@ -3,7 +3,7 @@ use Rattle.std.proofs.Common.{List, subst}
 use Rattle.df_layout.specs.declared.damage.Mend.{Mend}
 use Rattle.df_theory.specs.Device.{AreSteps}
 use Rattle.df_replica.specs.Mending.{mending_events, mending_steps}
-use Rattle.df_replica.specs.Serving.{format}
+use Rattle.df_replica.specs.Keeping.{format}
 use Rattle.df_replica.proofs.mended.mend_rooms.Goals as goal
 
 pub returns-clause-steps : goal.returns-clause-steps

@@ -2,7 +2,7 @@
 use Rattle.std.proofs.Common.{◌∙◌, subst, sym}
 use Rattle.df_rooms.specs.State.{AreAsked}
 use Rattle.df_theory.specs.Sessions.{Tracks}
-use Rattle.df_replica.proofs.ReplyTests.{numbered_by}
+use Rattle.df_replica.proofs.SurveyPlans.{numbered_by}
 use Rattle.df_replica.proofs.Settled.{opened, refused}
 use Rattle.df_replica.proofs.surveying.settle.Goals as goal
 

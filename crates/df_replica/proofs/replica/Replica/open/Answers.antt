@@ -13,7 +13,7 @@ use Rattle.df_model.specs.Work.{opened}
 use Rattle.df_rooms.specs.State.{State, shape}
 use Rattle.df_replica.specs.Mending.{live_state, mending_events, mending_steps}
 use Rattle.df_replica.specs.Opened.{MendsAll}
-use Rattle.df_replica.specs.Serving.{IsGoodFor, StandsFor, format}
+use Rattle.df_replica.specs.Keeping.{IsGoodFor, StandsFor, format}
 use Rattle.df_replica.specs.Surveying.{TellsSurvey}
 use Rattle.df_replica.proofs.Barriers.{barrier_rests}
 use Rattle.df_replica.proofs.Hurts.{tells_hurt}

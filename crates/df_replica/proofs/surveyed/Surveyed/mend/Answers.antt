@@ -6,7 +6,7 @@ use Rattle.df_damage.specs.Anew.{told_after}
 use Rattle.df_theory.specs.View.{View}
 use Rattle.df_replica.specs.Mending.{IsMended, IsPlanned, RestsOnDisk, mending_events}
 use Rattle.df_replica.specs.Replica.{Survey}
-use Rattle.df_replica.specs.Serving.{Grade, IsGoodFor, format}
+use Rattle.df_replica.specs.Keeping.{Grade, IsGoodFor, format}
 use Rattle.df_rooms.specs.State.{shape}
 use Rattle.df_replica.proofs.Mendable.{planned_may_mend}
 use Rattle.df_replica.proofs.MendSteps.{all_mended, all_moments}
