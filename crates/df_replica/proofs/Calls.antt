@@ -8,7 +8,7 @@ use Rattle.df_disk.specs.Told as told
 use Rattle.df_disk.specs.Told.{Told, did}
 use Rattle.df_disk.specs.Adds.{AddsPart, after_all}
 use Rattle.df_disk.proofs.Laws.{all_is_part, tells_on}
-use Rattle.df_damage.specs.Written.{IsWritten}
+use Rattle.df_opening.specs.Below.{IsWritten, DataFile, Represents, State, shape, spelling}
 use Rattle.df_journal.specs.Append.{ShowsRing}
 use Rattle.df_theory.specs.Device.{Format, units_log}
 use Rattle.df_theory.specs.Shape.{Shape}
@@ -19,16 +19,13 @@ use Rattle.df_model.specs.OnDisk.{BacksOnDisk, DoesOnDisk, LeadsOnDisk}
 use Rattle.df_model.specs.Sense.{IsBacked, IsWork}
 use Rattle.df_model.specs.Work.{Work, kept}
 use Rattle.df_model.proofs.Laws.{disk_command_law, sense_law}
-use Rattle.df_rooms.specs.declared.file.DataFile.{DataFile}
-use Rattle.df_rooms.specs.State.{Represents, State, shape, spelling}
 use Rattle.df_replica.specs.Serving.{EachIsGood, Firm, GoesOnTo, Grade, IsCall, IsGoodFor, IsKept, Keeps, KeptFor, Whole, format, next}
 use Rattle.df_replica.specs.Supply.{IsSupplied}
 use Rattle.df_replica.specs.WrittenFor.{IsWrittenFor, WritesOn}
-use Rattle.df_replica.proofs.Fronts.{front_of, all_front}
+use Rattle.df_opening.proofs.Laws.{front_of, all_front, good_safe, firmly}
 use Rattle.df_replica.proofs.Leaves.{others_spared, Makes, leaves_copies, leaves_shown, settles_on, spares_held}
 use Rattle.df_replica.proofs.Makes.{HasEach, OfMade, after_has, made_weaker}
 use Rattle.df_replica.proofs.WritesOn.{StandsIn, brought_is_written, stays_written}
-use Rattle.df_replica.proofs.KeptFiles.{good_safe, firmly}
 
 -- ---- logs that go on
 

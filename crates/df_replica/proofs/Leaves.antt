@@ -4,7 +4,7 @@ use Rattle.std.specs.Prelude.{nat_lt}
 use Rattle.std.proofs.lemmas.Bool.{eqb-true, or_cases, or_left, or_right}
 use Rattle.std.proofs.lemmas.Bool.Decides.{nat_tests}
 use Rattle.std.proofs.lemmas.Option.{same_Some}
-use Rattle.df_base.specs.Image.{Image, IsImage, written}
+use Rattle.df_base.specs.Image.{Image, IsImage}
 use Rattle.df_base.specs.Log.{Event, Log, loose}
 use Rattle.df_base.specs.Moments.{adds}
 use Rattle.df_layout.specs.declared.layout.Layout.{Layout}
@@ -24,12 +24,10 @@ use Rattle.df_model.specs.Work.{Running, Work, is_captured, is_held, is_known, i
 use Rattle.df_model.specs.declared.answers.Verdict.{Verdict}
 use Rattle.df_model.specs.declared.answers.Verdict.TheVariants.{Sound, Failing}
 use Rattle.df_model.proofs.Laws.{block_may_law, some_of}
-use Rattle.df_rooms.specs.declared.file.DataFile.{DataFile}
-use Rattle.df_rooms.specs.State.{Represents, State, memory, shape, spelling}
+use Rattle.df_opening.specs.Below.{DataFile, Represents, State, memory, shape, spelling}
 use Rattle.df_replica.specs.Leaving.{AreSettled, IsReadPlace, LeavesCopies, LeavesShown, SparesHeld, WritesNext, image_after, is_durable, SparesOthers}
 use Rattle.df_replica.specs.Serving.{Firm, Keeps, format, next}
-use Rattle.df_replica.proofs.Fronts.{FrontSteps}
-use Rattle.df_replica.proofs.StepShows.{StartSynced, same_class, same_sector, shown_by, stays_firm, stays_whole, synced_first, unit_after, unwritten}
+use Rattle.df_opening.proofs.Laws.{FrontSteps, StartSynced, same_class, same_sector, shown_by, stays_firm, stays_whole, synced_first, unit_after, unwritten}
 
 -- ---- what a command puts at a block that is held
 

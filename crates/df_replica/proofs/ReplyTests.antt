@@ -11,7 +11,7 @@ use Rattle.df_theory.specs.Units.{Session}
 use Rattle.df_model.specs.Making.{place_of_op}
 use Rattle.df_model.specs.Refusals.{first_refusal, reply_refusals}
 use Rattle.df_model.proofs.Laws.{all_pass, op_found}
-use Rattle.df_rooms.specs.State.{IsState, State, memory}
+use Rattle.df_opening.specs.Below.{IsState, State, memory}
 use Rattle.df_replica.specs.Replying.{MayReplyNext, place_waiting, session_waiting}
 
 -- ---- where an op's session is found

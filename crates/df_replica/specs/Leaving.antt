@@ -10,8 +10,8 @@ use Rattle.df_model.specs.Memory.{Memory}
 use Rattle.df_model.specs.Result.{AgreeReads}
 use Rattle.df_model.specs.Supply.{puts_of}
 use Rattle.df_model.specs.Work.{Running, Work, is_held}
-use Rattle.df_rooms.specs.declared.file.DataFile.{DataFile}
-pub use Rattle.df_replica.specs.Sparing.{AreSettled, IsReadPlace, SparesReads, image_after, is_durable, writes_to}
+use Rattle.df_opening.specs.Below.{DataFile}
+pub use Rattle.df_opening.specs.Sparing.{AreSettled, IsReadPlace, SparesReads, image_after, is_durable, writes_to}
 
 -- ---- what is shown
 

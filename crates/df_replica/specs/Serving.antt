@@ -9,12 +9,11 @@ use Rattle.df_theory.specs.View.{View}
 use Rattle.df_units.specs.Within.{AreWithin}
 use Rattle.df_model.specs.Commands.{Answer, Command, Given, IsInput, after, supplied_sum}
 use Rattle.df_model.specs.Work.{Work, kept}
-use Rattle.df_rooms.specs.declared.file.DataFile.{DataFile}
-use Rattle.df_rooms.specs.State.{State, memory, shape, spelling}
+use Rattle.df_opening.specs.Below.{DataFile, State, memory, shape, spelling}
 use Rattle.df_replica.specs.Leaving.{AreSettled, LeavesCopies, LeavesShown, SparesHeld, SparesOthers, image_after}
 use Rattle.df_replica.specs.Supply.{IsSupplied}
 use Rattle.df_replica.specs.WrittenFor.{WritesOn}
-pub use Rattle.df_replica.specs.Keeping.{Firm, Grade, IsGoodFor, IsKept, Keeps, KeptFor, StandingFor, StandsFor, Whole, format}
+pub use Rattle.df_opening.specs.Keeping.{Firm, Grade, IsGoodFor, IsKept, Keeps, KeptFor, StandingFor, StandsFor, Whole, format}
 
 -- at each moment of a call, each image that a stop may leave holds one of two views
 abbrev pub EachIsGood : (g : Grade) (s : State) → (v u : View) → (old new : Option Told) → Type 0
